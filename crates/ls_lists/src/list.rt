@@ -1,0 +1,103 @@
+ghost use Rattle.std.specs.Prelude.{◌≡◌, [], ◌∷◌, ◌++◌, ◌<◌, ◌↔◌, length, slice_get, IsTrue, IfOk, MatchOption, OnOk, OnErr, OnSome};
+ghost use Rattle.std.specs.Option.{option_copied};
+
+use std::alloc::{AllocError, Global};
+use std::marker::Model;
+
+/// A growing list. Contracts see the list of its items, and a type may hold itself through it.
+#[derive(Drop)]
+pub struct List<T> {
+    vec: Vec<T>,
+}
+
+impl<T> Model for List<T> {
+    ghost use Rattle.std.specs.Prelude.{List as Listed};
+    ghost use Rattle.std.specs.Coded.{coded_list};
+
+    ghost Value = { Listed T };
+
+    ghost coded = { coded_list T.code };
+
+    ghost view = { λ list. list.vec.items };
+}
+
+impl<T> List<T> {
+    pub fn new(alloc: Global) -> List<T>
+        ensures { result ≡ [] }
+    {
+        List {
+            vec: Vec::new(alloc),
+        }
+    }
+
+    /// The list that a `Vec` holds.
+    pub fn from_vec(vec: Vec<T>) -> List<T>
+        ensures { result ≡ vec.items }
+    {
+        List { vec }
+    }
+
+    /// The `Vec` that the list holds.
+    pub fn into_vec(self) -> Vec<T>
+        ensures { result.items ≡ self }
+    {
+        let List { vec } = self;
+        vec
+    }
+
+    pub fn as_slice(&self) -> &[T]
+        ensures { result.now ≡ self.now }
+    {
+        self.vec.as_slice()
+    }
+
+    /// How many items there are.
+    pub fn len(&self) -> usize
+        ensures { result ≡ length self.now }
+    {
+        self.vec.len()
+    }
+
+    pub fn is_empty(&self) -> bool
+        ensures { IsTrue result ↔ (self.now ≡ []) }
+    {
+        self.vec.is_empty()
+    }
+
+    pub fn get(&self, at: usize) -> Option<&T>
+        ensures value { option_copied result ≡ slice_get self.now at }
+        ensures within { OnSome result (at < length self.now) }
+    {
+        self.vec.get(at)
+    }
+
+    /// Takes the last item away.
+    pub fn pop(&mut self) -> Option<T>
+        ensures { MatchOption result ((self.old ≡ []) × (self.new ≡ []))
+            (λ last. self.old ≡ self.new ++ last ∷ []) }
+    {
+        self.vec.pop()
+    }
+}
+
+impl<T: Drop> List<T> {
+    /// Puts an item at the end.
+    pub fn push(&mut self, item: T) -> Result<(), AllocError>
+        ensures ok { OnOk result (self.new ≡ self.old ++ item ∷ []) }
+        ensures err { OnErr result (self.new ≡ self.old) }
+    {
+        self.vec.push(item)?;
+        Ok(())
+    }
+}
+
+impl<T: Copy> List<T> {
+    /// A list of its own with the items of a slice.
+    pub fn from_slice(alloc: Global, items: &[T]) -> Result<List<T>, AllocError>
+        ensures { IfOk result (λ list. list ≡ items.now) }
+    {
+        Ok(List {
+            vec: Vec::from_slice(alloc, items)?,
+        })
+    }
+}
