@@ -1,0 +1,42 @@
+-- The texts of replies and notices, as JSON values. Members stand in the order of their keys.
+use Rattle.std.specs.Prelude.{ℕ, ℤ, List, Option, Some, None, codes}
+use Rattle.serde_json.specs.Data.{Data, null, number, string, object, no_members, member}
+use Rattle.serde_json.specs.Find.{of_integer}
+use Rattle.ls_rpc.specs.declared.message.Id.{Id}
+use Rattle.ls_rpc.specs.declared.message.Id.TheVariants.{Number, Text}
+
+abbrev pub id_json : Id → Data
+id_json (Number n) = number (of_integer n)
+id_json (Text s) = string s
+
+-- null where the request's id isn't known
+abbrev pub id_or_null : Option Id → Data
+id_or_null None = null
+id_or_null (Some id) = id_json id
+
+-- a reply with a result
+abbrev pub result_json : Id → Data → Data
+result_json id result =
+    object (member (codes "id") (id_json id)
+    (member (codes "jsonrpc") (string (codes "2.0"))
+    (member (codes "result") result no_members)))
+
+-- a reply with an error, by the JSON of its id
+abbrev pub error_object : Data → ℤ → List ℕ → Data
+error_object id code message =
+    object (member (codes "error") (object
+    (member (codes "code") (number (of_integer code))
+    (member (codes "message") (string message) no_members)))
+    (member (codes "id") id
+    (member (codes "jsonrpc") (string (codes "2.0")) no_members)))
+
+-- a reply with an error
+abbrev pub error_json : Option Id → ℤ → List ℕ → Data
+error_json id code message = error_object (id_or_null id) code message
+
+-- a notice
+abbrev pub notice_json : List ℕ → Data → Data
+notice_json method params =
+    object (member (codes "jsonrpc") (string (codes "2.0"))
+    (member (codes "method") (string method)
+    (member (codes "params") params no_members)))
