@@ -1,0 +1,56 @@
+-- The bodies of what is said. Members of their JSON stand in the order of their keys.
+use Rattle.std.specs.Prelude.{ℕ, List, map, codes, Option, Some, None}
+use Rattle.serde_json.specs.Data.{Data, number, string, array, object, unsigned, member, no_members}
+use Rattle.serde_json.specs.View.{items_of}
+use Rattle.serde_json.specs.Written.{compact_text}
+use Rattle.ls_text.specs.declared.position.Position.{Position}
+use Rattle.ls_text.specs.declared.position.Range.{Range}
+use Rattle.ls_rpc.specs.declared.message.Id.{Id}
+use Rattle.ls_rpc.specs.Reply.{result_json}
+use Rattle.ls_session.specs.Refusal.{error_body}
+use Rattle.ls_session.specs.declared.answer.Symbol.{Symbol}
+use Rattle.ls_session.specs.declared.answer.Answer.{Answer}
+use Rattle.ls_session.specs.declared.answer.Answer.TheVariants as answer
+use Rattle.ls_session.specs.declared.answer.Out.{Out}
+use Rattle.ls_session.specs.declared.answer.Out.TheVariants as out
+use Rattle.ls_session.specs.declared.answer.DeskFault.{DeskFault}
+use Rattle.ls_session.specs.declared.answer.DeskFault.TheVariants as fault
+use Rattle.ls_session.specs.declared.refusal.Refusal.TheVariants as refusal
+
+abbrev pub position_json : Position → Data
+position_json position =
+    object (member (codes "character") (number (unsigned position.character))
+    (member (codes "line") (number (unsigned position.line)) no_members))
+
+abbrev pub range_json : Range → Data
+range_json range =
+    object (member (codes "end") (position_json range.end)
+    (member (codes "start") (position_json range.start) no_members))
+
+-- of the kind 12, a function (LSP 3.17, "Document Symbols Request")
+abbrev pub symbol_json : Symbol → Data
+symbol_json symbol =
+    object (member (codes "kind") (number (unsigned 12))
+    (member (codes "name") (string symbol.name)
+    (member (codes "range") (range_json symbol.range)
+    (member (codes "selectionRange") (range_json symbol.name_range) no_members))))
+
+abbrev pub symbols_json : List Symbol → Data
+symbols_json symbols = array (items_of (map symbol_json symbols))
+
+-- the result that an answer is
+abbrev pub answer_json : Answer → Data
+answer_json (answer.Symbols symbols) = symbols_json symbols
+
+-- the body of what waits to be said
+unfoldable pub body_of : Out → List ℕ
+body_of (out.Said body) = body
+body_of (out.Replied id answer) = compact_text (result_json id (answer_json answer))
+
+-- the body that answers a refused request, where there is one
+unfoldable pub refusal_of : Id → DeskFault → Option (List ℕ)
+refusal_of id fault.NotOpen = Some (error_body (Some id) refusal.DocumentNotOpen)
+refusal_of id fault.AlreadyOpen = None
+refusal_of id fault.TooManyDocuments = None
+refusal_of id fault.TooLarge = None
+refusal_of id fault.Memory = None

@@ -1,0 +1,29 @@
+-- The methods that are known. Each is known as a request alone or as a notice alone.
+use Rattle.std.specs.Prelude.{ℕ, List, [], ◌∷◌, codes, bytes_eq, if◌then◌else◌}
+use Rattle.ls_session.specs.declared.kind.RequestKind.{RequestKind}
+use Rattle.ls_session.specs.declared.kind.RequestKind.TheVariants as request
+use Rattle.ls_session.specs.declared.kind.NoticeKind.{NoticeKind}
+use Rattle.ls_session.specs.declared.kind.NoticeKind.TheVariants as notice
+
+-- the entry of a name in a table, or the default
+abbrev pub entry_of : {A : Type 0} → List (List ℕ × A) → A → List ℕ → A
+entry_of [] other name = other
+entry_of (row ∷ rows) other name = if bytes_eq name row.0 then row.1 else entry_of rows other name
+
+abbrev pub requests : List (List ℕ × RequestKind)
+requests =
+    (codes "initialize", request.Initialize) ∷
+    (codes "shutdown", request.Shutdown) ∷
+    (codes "textDocument/documentSymbol", request.DocumentSymbol) ∷ []
+
+abbrev pub notices : List (List ℕ × NoticeKind)
+notices =
+    (codes "exit", notice.Exit) ∷
+    (codes "textDocument/didOpen", notice.DidOpen) ∷
+    (codes "textDocument/didClose", notice.DidClose) ∷ []
+
+abbrev pub request_named : List ℕ → RequestKind
+request_named name = entry_of requests request.Unknown name
+
+abbrev pub notice_named : List ℕ → NoticeKind
+notice_named name = entry_of notices notice.Unknown name

@@ -1,0 +1,37 @@
+-- The errors that are answered: their codes, their texts and their bodies.
+use Rattle.std.specs.Prelude.{ℕ, ℤ, negsuc, ◌-◌, List, Option, codes, if◌then◌else◌}
+use Rattle.std.specs.Ordering.{int_eq}
+use Rattle.serde_json.specs.Written.{compact_text}
+use Rattle.ls_rpc.specs.declared.message.Id.{Id}
+use Rattle.ls_rpc.specs.Message.{parse_error, invalid_request}
+use Rattle.ls_rpc.specs.Reply.{error_json}
+use Rattle.ls_session.specs.declared.refusal.Refusal.{Refusal}
+use Rattle.ls_session.specs.declared.refusal.Refusal.TheVariants as refusal
+
+-- -n, for an n from 1
+abbrev pub minus : ℕ → ℤ
+minus n = negsuc (n - 1)
+
+abbrev pub code_of : Refusal → ℤ
+code_of refusal.ParseError = parse_error
+code_of refusal.InvalidRequest = invalid_request
+code_of refusal.MethodNotFound = minus 32601
+code_of refusal.InvalidParams = minus 32602
+code_of refusal.DocumentNotOpen = minus 32602
+code_of refusal.NotInitialized = minus 32002
+
+abbrev pub text_of : Refusal → List ℕ
+text_of refusal.ParseError = codes "parse error"
+text_of refusal.InvalidRequest = codes "invalid request"
+text_of refusal.MethodNotFound = codes "method not found"
+text_of refusal.InvalidParams = codes "invalid params"
+text_of refusal.DocumentNotOpen = codes "document not open"
+text_of refusal.NotInitialized = codes "not initialized"
+
+-- the refusal of a body that is no message, by its code
+abbrev pub refusal_of_code : ℤ → Refusal
+refusal_of_code code = if int_eq code parse_error then refusal.ParseError else refusal.InvalidRequest
+
+-- the body of a reply with an error
+abbrev pub error_body : Option Id → Refusal → List ℕ
+error_body id refusal = compact_text (error_json id (code_of refusal) (text_of refusal))

@@ -1,0 +1,98 @@
+-- The turn of a session on a message, and the stage that it leaves.
+use Rattle.std.specs.Prelude.{ℕ, ℤ, List, Bool, Option, Some, None}
+use Rattle.serde_json.specs.Data.{Data, null}
+use Rattle.serde_json.specs.Written.{compact_text}
+use Rattle.ls_rpc.specs.declared.message.Id.{Id}
+use Rattle.ls_rpc.specs.Message.{Message, request, notice, response, bad}
+use Rattle.ls_rpc.specs.Reply.{result_json}
+use Rattle.ls_session.specs.Initialize.{initialize_json}
+use Rattle.ls_session.specs.Kind.{request_named, notice_named}
+use Rattle.ls_session.specs.Params.{event_of, question_of, links_of}
+use Rattle.ls_session.specs.Refusal.{error_body, refusal_of_code}
+use Rattle.ls_session.specs.declared.event.Ask.{Ask}
+use Rattle.ls_session.specs.declared.event.ClientEvent.{ClientEvent}
+use Rattle.ls_session.specs.declared.event.ClientEvent.TheVariants as event
+use Rattle.ls_session.specs.declared.event.Turn.{Turn}
+use Rattle.ls_session.specs.declared.event.Turn.TheVariants.{Nothing, Event, Exit}
+use Rattle.ls_session.specs.declared.event.Status.TheVariants.{Clean, Unclean}
+use Rattle.ls_session.specs.declared.kind.RequestKind.{RequestKind}
+use Rattle.ls_session.specs.declared.kind.RequestKind.TheVariants as kind
+use Rattle.ls_session.specs.declared.kind.NoticeKind.{NoticeKind}
+use Rattle.ls_session.specs.declared.kind.NoticeKind.TheVariants as note
+use Rattle.ls_session.specs.declared.refusal.Refusal.{Refusal}
+use Rattle.ls_session.specs.declared.refusal.Refusal.TheVariants as refusal
+use Rattle.ls_session.specs.declared.session.Stage.{Stage}
+use Rattle.ls_session.specs.declared.session.Stage.TheVariants.{BeforeInitialize, Running, ShutDown, Ended}
+
+-- ---- what is said at once
+
+abbrev pub said : Data → Turn
+said d = Event (event.Say (compact_text d))
+
+abbrev pub refused : Option Id → Refusal → Turn
+refused id refusal = Event (event.Say (error_body id refusal))
+
+-- ---- requests
+
+-- a question, or parameters that can't be read
+abbrev pub asked : Id → Bool → Option (List ℕ × Ask) → Turn
+asked id links (Some question) = Event (event.Request id question.0 question.1 links)
+asked id links None = refused (Some id) refusal.InvalidParams
+
+-- before initialize, only that is served
+abbrev pub first_turn : Id → RequestKind → Data → Turn × Stage
+first_turn id kind.Initialize params = (said (result_json id initialize_json), Running (links_of params))
+first_turn id k params = (refused (Some id) refusal.NotInitialized, BeforeInitialize)
+
+abbrev pub running_turn : Bool → Id → RequestKind → Data → Turn × Stage
+running_turn links id kind.Initialize params = (refused (Some id) refusal.InvalidRequest, Running links)
+running_turn links id kind.Shutdown params = (said (result_json id null), ShutDown)
+running_turn links id kind.Unknown params = (refused (Some id) refusal.MethodNotFound, Running links)
+running_turn links id k params = (asked id links (question_of k params), Running links)
+
+abbrev pub request_turn : Stage → Id → RequestKind → Data → Turn × Stage
+request_turn BeforeInitialize id k params = first_turn id k params
+request_turn (Running links) id k params = running_turn links id k params
+request_turn ShutDown id k params = (refused (Some id) refusal.InvalidRequest, ShutDown)
+request_turn Ended id k params = (Nothing, Ended)
+
+-- ---- notices
+
+-- one that can't be read is dropped
+abbrev pub event_or_nothing : Option ClientEvent → Turn
+event_or_nothing None = Nothing
+event_or_nothing (Some e) = Event e
+
+-- a notice other than exit is taken while the session runs
+abbrev pub stage_event : Stage → NoticeKind → Data → Option ClientEvent
+stage_event BeforeInitialize k params = None
+stage_event (Running links) k params = event_of k params
+stage_event ShutDown k params = None
+stage_event Ended k params = None
+
+-- exit is clean after shutdown alone
+abbrev pub exit_turn : Stage → Turn × Stage
+exit_turn BeforeInitialize = (Exit Unclean, Ended)
+exit_turn (Running links) = (Exit Unclean, Ended)
+exit_turn ShutDown = (Exit Clean, Ended)
+exit_turn Ended = (Nothing, Ended)
+
+abbrev pub notice_turn : Stage → NoticeKind → Data → Turn × Stage
+notice_turn stage note.Exit params = exit_turn stage
+notice_turn stage k params = (event_or_nothing (stage_event stage k params), stage)
+
+-- ---- all messages
+
+-- what is no message is answered in each stage before exit
+abbrev pub bad_turn : Stage → Option Id → ℤ → Turn
+bad_turn BeforeInitialize id code = refused id (refusal_of_code code)
+bad_turn (Running links) id code = refused id (refusal_of_code code)
+bad_turn ShutDown id code = refused id (refusal_of_code code)
+bad_turn Ended id code = Nothing
+
+-- the turn on a message, and the stage after it
+unfoldable pub turn_of : Stage → Message → Turn × Stage
+turn_of stage (request id method params) = request_turn stage id (request_named method) params
+turn_of stage (notice method params) = notice_turn stage (notice_named method) params
+turn_of stage response = (Nothing, stage)
+turn_of stage (bad id code) = (bad_turn stage id code, stage)

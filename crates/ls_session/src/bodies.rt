@@ -1,0 +1,112 @@
+ghost use Rattle.std.specs.Prelude.{◌≡◌, IfOk, option_map, false};
+ghost use Rattle.serde_json.specs.View.{view};
+ghost use Rattle.serde_json.specs.Written.{has_float};
+ghost use Rattle.ls_session.specs.Bodies.{position_json, range_json, symbol_json, symbols_json, answer_json, body_of, refusal_of};
+
+use crate::answer::{Answer, DeskFault, Out, Symbol};
+use crate::refusal::Refusal;
+use ls_rpc::{Id, result_text};
+use ls_text::{Position, Range};
+use serde_json::{Map, Value, put};
+use std::alloc::{AllocError as Memory, Global};
+
+/// `SymbolKind.Function` (LSP 3.17, "Document Symbols Request").
+const FUNCTION: u32 = 12;
+
+/// The body that says what waits. Members of its JSON stand in the order of their keys.
+///
+/// `Memory` says that an allocation was refused.
+#[tactic(auto, using(crate::proofs::NoFloats::answer_has_no_float), unfolding(crate::specs::Bodies::body_of))]
+pub fn body_of(alloc: Global, out: &Out) -> Result<Vec<u8>, Memory>
+    ensures { IfOk result (λ body. body.items ≡ body_of out.now) }
+{
+    match out {
+        Out::Said(body) => Vec::from_slice(alloc, body.as_slice()),
+        Out::Replied { id, answer } => {
+            let value = answer_value(alloc, answer)?;
+            result_text(alloc, id, value)
+        }
+    }
+}
+
+/// The body that answers a request which the keeper of the documents refused. None where there is nothing to
+/// answer: the fault isn't a request's, or is the server's own.
+///
+/// `Memory` says that an allocation was refused.
+#[tactic(auto, unfolding(crate::specs::Bodies::refusal_of))]
+pub fn refusal_body(alloc: Global, id: &Id, fault: DeskFault) -> Result<Option<Vec<u8>>, Memory>
+    ensures { IfOk result (λ body. option_map (λ b. b.items) body ≡ refusal_of id.now fault) }
+{
+    match fault {
+        DeskFault::NotOpen => Ok(Some(Refusal::DocumentNotOpen.body(alloc, Some(id))?)),
+        DeskFault::AlreadyOpen
+        | DeskFault::TooManyDocuments
+        | DeskFault::TooLarge
+        | DeskFault::Memory => Ok(None),
+    }
+}
+
+fn answer_value(alloc: Global, answer: &Answer) -> Result<Value, Memory>
+    ensures { IfOk result (λ value. view value ≡ answer_json answer.now) }
+{
+    match answer {
+        Answer::Symbols(symbols) => symbols_value(alloc, symbols.as_slice()),
+    }
+}
+
+fn symbols_value(alloc: Global, symbols: &[Symbol]) -> Result<Value, Memory>
+    ensures { IfOk result (λ value. view value ≡ symbols_json symbols.now) }
+{
+    let mut list = Vec::new(alloc);
+    for symbol in symbols {
+        list.push(symbol_value(alloc, symbol)?)?;
+    }
+    Ok(Value::Array(list))
+}
+
+fn symbol_value(alloc: Global, symbol: &Symbol) -> Result<Value, Memory>
+    ensures { IfOk result (λ value. view value ≡ symbol_json symbol.now) }
+{
+    let name = Value::try_from_str(alloc, symbol.name.as_str())?;
+    let range = range_value(alloc, symbol.range)?;
+    let name_range = range_value(alloc, symbol.name_range)?;
+    let mut members = Map::new(alloc);
+    put(&mut members, alloc, "kind", Value::from(FUNCTION))?;
+    put(&mut members, alloc, "name", name)?;
+    put(&mut members, alloc, "range", range)?;
+    put(&mut members, alloc, "selectionRange", name_range)?;
+    Ok(Value::Object(members))
+}
+
+fn range_value(alloc: Global, range: Range) -> Result<Value, Memory>
+    ensures { IfOk result (λ value. view value ≡ range_json range) }
+{
+    let mut members = Map::new(alloc);
+    put(
+        &mut members,
+        alloc,
+        "end",
+        position_value(alloc, range.end)?,
+    )?;
+    put(
+        &mut members,
+        alloc,
+        "start",
+        position_value(alloc, range.start)?,
+    )?;
+    Ok(Value::Object(members))
+}
+
+fn position_value(alloc: Global, position: Position) -> Result<Value, Memory>
+    ensures { IfOk result (λ value. view value ≡ position_json position) }
+{
+    let mut members = Map::new(alloc);
+    put(
+        &mut members,
+        alloc,
+        "character",
+        Value::from(position.character),
+    )?;
+    put(&mut members, alloc, "line", Value::from(position.line))?;
+    Ok(Value::Object(members))
+}

@@ -1,0 +1,85 @@
+ghost use Rattle.std.specs.Prelude.{◌≡◌, IfOk};
+
+use ls_frame::FrameFault;
+use ls_lists::{List, Text};
+use ls_rpc::Id;
+use std::alloc::{AllocError as Memory, Global};
+
+/// A question about a document.
+#[derive(Drop)]
+pub enum Ask {
+    /// Its symbols (LSP 3.17, "Document Symbols Request").
+    Symbols,
+}
+
+/// What a message of the client means for the documents and the requests that wait.
+#[derive(Drop)]
+pub enum ClientEvent {
+    /// A document was opened: its uri, the client's version of it, its text.
+    DidOpen(Text, i64, Text),
+    /// The document with this uri was closed.
+    DidClose(Text),
+    /// A request with this id asks about the document with this uri. The last field says whether the client takes
+    /// edits of a workspace as `documentChanges`.
+    Request(Id, Text, Ask, bool),
+    /// A body that is to be said as it stands.
+    Say(List<u8>),
+}
+
+/// How a session ended.
+#[derive(Clone, Copy, Debug, Drop, PartialEq, Eq)]
+pub enum Status {
+    /// By `exit` after `shutdown`.
+    Clean,
+    /// By `exit` without `shutdown`, or by the end of the input.
+    Unclean,
+    /// By bytes that are no frames.
+    BadFrame(FrameFault),
+}
+
+/// What one message of the client comes to.
+#[derive(Drop)]
+pub enum Turn {
+    Nothing,
+    Event(ClientEvent),
+    /// The session has ended. No message is read after it.
+    Exit(Status),
+}
+
+impl Ask {
+    /// A question of its own that is the same.
+    ///
+    /// `Memory` says that an allocation was refused.
+    pub fn copy(&self) -> Result<Ask, Memory>
+        ensures { IfOk result (λ ask. ask ≡ self.now) }
+    {
+        match self {
+            Ask::Symbols => Ok(Ask::Symbols),
+        }
+    }
+}
+
+impl ClientEvent {
+    /// An event of its own that is the same.
+    ///
+    /// `Memory` says that an allocation was refused.
+    pub fn copy(&self, alloc: Global) -> Result<ClientEvent, Memory>
+        ensures { IfOk result (λ event. event ≡ self.now) }
+    {
+        match self {
+            ClientEvent::DidOpen(uri, label, text) => {
+                let uri = uri.copy()?;
+                Ok(ClientEvent::DidOpen(uri, *label, text.copy()?))
+            }
+            ClientEvent::DidClose(uri) => Ok(ClientEvent::DidClose(uri.copy()?)),
+            ClientEvent::Request(id, uri, ask, links) => {
+                let id = id.copy()?;
+                let uri = uri.copy()?;
+                Ok(ClientEvent::Request(id, uri, ask.copy()?, *links))
+            }
+            ClientEvent::Say(body) => {
+                Ok(ClientEvent::Say(List::from_slice(alloc, body.as_slice())?))
+            }
+        }
+    }
+}

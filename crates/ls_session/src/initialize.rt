@@ -1,0 +1,45 @@
+ghost use Rattle.std.specs.Prelude.{◌≡◌, IfOk};
+ghost use Rattle.serde_json.specs.View.{view};
+ghost use Rattle.ls_session.specs.Initialize.{initialize_json, capabilities_json, sync_json};
+
+use serde_json::{Map, Value, put};
+use std::alloc::{AllocError as Memory, Global};
+
+/// `TextDocumentSyncKind.None`: changes of a document aren't taken (LSP 3.17, "Text Document Synchronization").
+const SYNC_NONE: u32 = 0;
+
+/// The result of `initialize` (LSP 3.17, "Initialize Request").
+pub(crate) fn initialize_value(alloc: Global) -> Result<Value, Memory>
+    ensures { IfOk result (λ value. view value ≡ initialize_json) }
+{
+    let capabilities = capabilities_value(alloc)?;
+    let name = Value::try_from_str(alloc, "abnf_ls")?;
+    let mut server = Map::new(alloc);
+    put(&mut server, alloc, "name", name)?;
+    let mut members = Map::new(alloc);
+    put(&mut members, alloc, "capabilities", capabilities)?;
+    put(&mut members, alloc, "serverInfo", Value::Object(server))?;
+    Ok(Value::Object(members))
+}
+
+fn capabilities_value(alloc: Global) -> Result<Value, Memory>
+    ensures { IfOk result (λ value. view value ≡ capabilities_json) }
+{
+    let served = Value::from(true);
+    let encoding = Value::try_from_str(alloc, "utf-16")?;
+    let sync = sync_value(alloc)?;
+    let mut members = Map::new(alloc);
+    put(&mut members, alloc, "documentSymbolProvider", served)?;
+    put(&mut members, alloc, "positionEncoding", encoding)?;
+    put(&mut members, alloc, "textDocumentSync", sync)?;
+    Ok(Value::Object(members))
+}
+
+fn sync_value(alloc: Global) -> Result<Value, Memory>
+    ensures { IfOk result (λ value. view value ≡ sync_json) }
+{
+    let mut members = Map::new(alloc);
+    put(&mut members, alloc, "change", Value::from(SYNC_NONE))?;
+    put(&mut members, alloc, "openClose", Value::from(true))?;
+    Ok(Value::Object(members))
+}

@@ -1,0 +1,48 @@
+ghost use Rattle.std.specs.Prelude.{◌≡◌};
+ghost use Rattle.ls_session.specs.Kind.{request_named, notice_named};
+
+/// The methods that are known as requests.
+#[derive(Clone, Copy, Debug, PartialEq, Eq)]
+pub enum RequestKind {
+    Initialize,
+    Shutdown,
+    DocumentSymbol,
+    Unknown,
+}
+
+/// The methods that are known as notices.
+#[derive(Clone, Copy, Debug, PartialEq, Eq)]
+pub enum NoticeKind {
+    Exit,
+    DidOpen,
+    DidClose,
+    Unknown,
+}
+
+pub(crate) fn request_kind(method: &str) -> RequestKind
+    ensures { result ≡ request_named method.now }
+{
+    if method == "initialize" {
+        RequestKind::Initialize
+    } else if method == "shutdown" {
+        RequestKind::Shutdown
+    } else if method == "textDocument/documentSymbol" {
+        RequestKind::DocumentSymbol
+    } else {
+        RequestKind::Unknown
+    }
+}
+
+pub(crate) fn notice_kind(method: &str) -> NoticeKind
+    ensures { result ≡ notice_named method.now }
+{
+    if method == "exit" {
+        NoticeKind::Exit
+    } else if method == "textDocument/didOpen" {
+        NoticeKind::DidOpen
+    } else if method == "textDocument/didClose" {
+        NoticeKind::DidClose
+    } else {
+        NoticeKind::Unknown
+    }
+}

@@ -1,0 +1,23 @@
+//! What each message of a client means in a session, and the JSON of all that the server says.
+//!
+//! A [`Session`] takes the bodies of a client's messages one after another. Each gives a [`Turn`]: nothing, an event
+//! for the keeper of the documents, or the end of the session. What waits to be said is an [`Out`], and
+//! [`body_of`] is its body. The methods and their JSON are those of LSP 3.17.
+#![tactic(auto)]
+
+mod answer;
+mod bodies;
+mod event;
+mod initialize;
+mod kind;
+mod params;
+mod refusal;
+mod session;
+#[cfg(test)]
+mod tests;
+
+pub use answer::{Answer, DeskFault, Out, Symbol};
+pub use bodies::{body_of, refusal_body};
+pub use event::{Ask, ClientEvent, Status, Turn};
+pub use refusal::Refusal;
+pub use session::{Session, Stage};

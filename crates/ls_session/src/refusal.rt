@@ -1,0 +1,71 @@
+ghost use Rattle.std.specs.Prelude.{◌≡◌, IfOk};
+ghost use Rattle.std.specs.Option.{option_copied};
+ghost use Rattle.ls_session.specs.Refusal.{code_of, text_of, error_body, refusal_of_code};
+
+use ls_rpc::{INVALID_REQUEST, Id, PARSE_ERROR, error_text};
+use std::alloc::{AllocError as Memory, Global};
+
+/// The errors that are answered, each with a code and a text (JSON-RPC 2.0, section 5.1; LSP 3.17, "Response
+/// Message").
+#[derive(Clone, Copy, Debug, PartialEq, Eq)]
+pub enum Refusal {
+    /// The body is no JSON.
+    ParseError,
+    /// The body is no message, or the request doesn't fit the session's stage.
+    InvalidRequest,
+    /// The method isn't known as a request.
+    MethodNotFound,
+    /// The parameters can't be read.
+    InvalidParams,
+    /// The document of the request isn't open.
+    DocumentNotOpen,
+    /// The request came before `initialize`.
+    NotInitialized,
+}
+
+impl Refusal {
+    /// The code of the error.
+    pub fn code(self) -> i32
+        ensures { result ≡ code_of self }
+    {
+        match self {
+            Refusal::ParseError => PARSE_ERROR,
+            Refusal::InvalidRequest => INVALID_REQUEST,
+            Refusal::MethodNotFound => -32601,
+            Refusal::InvalidParams | Refusal::DocumentNotOpen => -32602,
+            Refusal::NotInitialized => -32002,
+        }
+    }
+
+    /// The message of the error.
+    pub fn text(self) -> &'static str
+        ensures { result.now ≡ text_of self }
+    {
+        match self {
+            Refusal::ParseError => "parse error",
+            Refusal::InvalidRequest => "invalid request",
+            Refusal::MethodNotFound => "method not found",
+            Refusal::InvalidParams => "invalid params",
+            Refusal::DocumentNotOpen => "document not open",
+            Refusal::NotInitialized => "not initialized",
+        }
+    }
+
+    /// The refusal of a body that is no message.
+    pub(crate) fn of_code(code: i32) -> Refusal
+        ensures { result ≡ refusal_of_code code }
+    {
+        if code == PARSE_ERROR {
+            Refusal::ParseError
+        } else {
+            Refusal::InvalidRequest
+        }
+    }
+
+    /// The body that answers the error, with a null id where the request's isn't known.
+    pub(crate) fn body(self, alloc: Global, id: Option<&Id>) -> Result<Vec<u8>, Memory>
+        ensures { IfOk result (λ body. body.items ≡ error_body (option_copied id.entry) self) }
+    {
+        error_text(alloc, id, self.code(), self.text())
+    }
+}

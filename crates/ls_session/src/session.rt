@@ -1,0 +1,226 @@
+ghost use Rattle.std.specs.Prelude.{◌≡◌, IfOk, OnErr, false};
+ghost use Rattle.std.specs.Option.{option_copied};
+ghost use Rattle.serde_json.specs.View.{view};
+ghost use Rattle.serde_json.specs.Written.{has_float};
+ghost use Rattle.ls_rpc.specs.Message.{message_of, message_view};
+ghost use Rattle.ls_rpc.specs.Reply.{result_json};
+ghost use Rattle.ls_session.specs.Session.{turn_of, request_turn, running_turn, first_turn, notice_turn, exit_turn, stage_event, bad_turn, asked, refused, said};
+ghost use Rattle.ls_session.specs.declared.session.Stage.TheVariants.{BeforeInitialize};
+
+use crate::event::{Ask, ClientEvent, Status, Turn};
+use crate::initialize::initialize_value;
+use crate::kind::{NoticeKind, RequestKind, notice_kind, request_kind};
+use crate::params;
+use crate::refusal::Refusal;
+use ls_lists::{List, Text};
+use ls_rpc::{Id, Message, read_message, result_text};
+use serde_json::Value;
+use std::alloc::{AllocError as Memory, Global};
+use std::marker::Model;
+
+/// Where a session stands (LSP 3.17, "Server lifecycle").
+#[derive(Clone, Copy, Debug, PartialEq, Eq)]
+pub enum Stage {
+    /// `initialize` hasn't come.
+    BeforeInitialize,
+    /// Between `initialize` and `shutdown`. The field says whether the client takes edits of a workspace as
+    /// `documentChanges`.
+    Running(bool),
+    /// Between `shutdown` and `exit`.
+    ShutDown,
+    /// After `exit`.
+    Ended,
+}
+
+/// A client's session, from before `initialize` to after `exit`. Contracts see its stage.
+#[derive(Drop)]
+pub struct Session {
+    alloc: Global,
+    stage: Stage,
+}
+
+impl Model for Session {
+    ghost use Rattle.ls_session.specs.declared.session.Stage.{Stage};
+
+    ghost Value = { Stage };
+
+    ghost view = { λ session. session.stage };
+}
+
+impl Session {
+    /// A session to which no message has come.
+    pub fn new(alloc: Global) -> Session
+        ensures { result ≡ BeforeInitialize }
+    {
+        Session {
+            alloc,
+            stage: Stage::BeforeInitialize,
+        }
+    }
+
+    /// The turn on the next message, by its body. Every body has one: what is no message is refused to the client.
+    ///
+    /// `Memory` says that an allocation was refused. The session is then as before.
+    pub fn event(&mut self, body: &[u8]) -> Result<Turn, Memory>
+        ensures turn { IfOk result
+            (λ turn. (turn, self.new) ≡ turn_of self.old (message_of body.now)) }
+        ensures err { OnErr result (self.new ≡ self.old) }
+    {
+        let message = read_message(self.alloc, body)?;
+        let (turn, stage) = turn(self.alloc, self.stage, message)?;
+        self.stage = stage;
+        Ok(turn)
+    }
+}
+
+#[tactic(auto, unfolding(crate::specs::Session::turn_of))]
+fn turn(alloc: Global, stage: Stage, message: Message) -> Result<(Turn, Stage), Memory>
+    ensures { IfOk result (λ turn. turn ≡ turn_of stage (message_view message)) }
+{
+    match message {
+        Message::Request { id, method, params } => {
+            request_turn(alloc, stage, id, request_kind(method.as_str()), &params)
+        }
+        Message::Notice { method, params } => {
+            notice_turn(alloc, stage, notice_kind(method.as_str()), &params)
+        }
+        Message::Response => Ok((Turn::Nothing, stage)),
+        Message::Bad { id, code } => Ok((bad_turn(alloc, stage, id, code)?, stage)),
+    }
+}
+
+fn request_turn(
+    alloc: Global,
+    stage: Stage,
+    id: Id,
+    kind: RequestKind,
+    params: &Value,
+) -> Result<(Turn, Stage), Memory>
+    ensures { IfOk result (λ turn. turn ≡ request_turn stage id kind (view params.now)) }
+{
+    match stage {
+        Stage::BeforeInitialize => first_turn(alloc, id, kind, params),
+        Stage::Running(links) => running_turn(alloc, links, id, kind, params),
+        Stage::ShutDown => Ok((refused(alloc, Some(&id), Refusal::InvalidRequest)?, stage)),
+        Stage::Ended => Ok((Turn::Nothing, stage)),
+    }
+}
+
+fn first_turn(
+    alloc: Global,
+    id: Id,
+    kind: RequestKind,
+    params: &Value,
+) -> Result<(Turn, Stage), Memory>
+    ensures { IfOk result (λ turn. turn ≡ first_turn id kind (view params.now)) }
+{
+    match kind {
+        RequestKind::Initialize => {
+            let reply = replied(alloc, &id, initialize_value(alloc)?)?;
+            Ok((reply, Stage::Running(params::links(params))))
+        }
+        _ => {
+            let reply = refused(alloc, Some(&id), Refusal::NotInitialized)?;
+            Ok((reply, Stage::BeforeInitialize))
+        }
+    }
+}
+
+fn running_turn(
+    alloc: Global,
+    links: bool,
+    id: Id,
+    kind: RequestKind,
+    params: &Value,
+) -> Result<(Turn, Stage), Memory>
+    ensures { IfOk result (λ turn. turn ≡ running_turn links id kind (view params.now)) }
+{
+    let stage = Stage::Running(links);
+    match kind {
+        RequestKind::Initialize => {
+            Ok((refused(alloc, Some(&id), Refusal::InvalidRequest)?, stage))
+        }
+        RequestKind::Shutdown => Ok((replied(alloc, &id, Value::Null)?, Stage::ShutDown)),
+        RequestKind::Unknown => Ok((refused(alloc, Some(&id), Refusal::MethodNotFound)?, stage)),
+        _ => {
+            let question = params::question(alloc, kind, params)?;
+            Ok((asked(alloc, id, links, question)?, stage))
+        }
+    }
+}
+
+fn asked(alloc: Global, id: Id, links: bool, question: Option<(Text, Ask)>) -> Result<Turn, Memory>
+    ensures { IfOk result (λ turn. turn ≡ asked id links question) }
+{
+    match question {
+        Some((uri, ask)) => Ok(Turn::Event(ClientEvent::Request(id, uri, ask, links))),
+        None => refused(alloc, Some(&id), Refusal::InvalidParams),
+    }
+}
+
+fn notice_turn(
+    alloc: Global,
+    stage: Stage,
+    kind: NoticeKind,
+    params: &Value,
+) -> Result<(Turn, Stage), Memory>
+    ensures { IfOk result (λ turn. turn ≡ notice_turn stage kind (view params.now)) }
+{
+    match kind {
+        NoticeKind::Exit => Ok(exit_turn(stage)),
+        _ => match stage_event(alloc, stage, kind, params)? {
+            Some(event) => Ok((Turn::Event(event), stage)),
+            None => Ok((Turn::Nothing, stage)),
+        },
+    }
+}
+
+fn exit_turn(stage: Stage) -> (Turn, Stage)
+    ensures { result ≡ exit_turn stage }
+{
+    match stage {
+        Stage::BeforeInitialize | Stage::Running(_) => (Turn::Exit(Status::Unclean), Stage::Ended),
+        Stage::ShutDown => (Turn::Exit(Status::Clean), Stage::Ended),
+        Stage::Ended => (Turn::Nothing, Stage::Ended),
+    }
+}
+
+fn stage_event(
+    alloc: Global,
+    stage: Stage,
+    kind: NoticeKind,
+    params: &Value,
+) -> Result<Option<ClientEvent>, Memory>
+    ensures { IfOk result (λ event. event ≡ stage_event stage kind (view params.now)) }
+{
+    match stage {
+        Stage::Running(_) => params::event(alloc, kind, params),
+        Stage::BeforeInitialize | Stage::ShutDown | Stage::Ended => Ok(None),
+    }
+}
+
+fn bad_turn(alloc: Global, stage: Stage, id: Option<Id>, code: i32) -> Result<Turn, Memory>
+    ensures { IfOk result (λ turn. turn ≡ bad_turn stage id code) }
+{
+    match stage {
+        Stage::Ended => Ok(Turn::Nothing),
+        _ => refused(alloc, id.as_ref(), Refusal::of_code(code)),
+    }
+}
+
+/// A reply with an error.
+fn refused(alloc: Global, id: Option<&Id>, refusal: Refusal) -> Result<Turn, Memory>
+    ensures { IfOk result (λ turn. turn ≡ refused (option_copied id.entry) refusal) }
+{
+    let body = refusal.body(alloc, id)?;
+    Ok(Turn::Event(ClientEvent::Say(List::from_vec(body))))
+}
+
+/// A reply with a result.
+fn replied(alloc: Global, id: &Id, value: Value) -> Result<Turn, Memory>
+    requires { has_float (view value) ≡ false }
+    ensures { IfOk result (λ turn. turn ≡ said (result_json id.now (view value))) }
+{
+    let body = result_text(alloc, id, value)?;
+    Ok(Turn::Event(ClientEvent::Say(List::from_vec(body))))
+}
