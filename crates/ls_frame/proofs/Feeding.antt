@@ -5,9 +5,10 @@ use Rattle.std.proofs.lemmas.List.{append-nil, take-append-drop, take_at}
 use Rattle.ls_frame.specs.Frames.{HasNoFrame, Stream}
 use Rattle.ls_frame.specs.Faults.{least_of, shown, or_first, first_shown, fault_of}
 use Rattle.ls_frame.specs.Feeds.{FeedIs, SoFar, GoesOn}
-use Rattle.ls_frame.specs.Rests.{IsQuiet, IsQuietBelow, RestIs, SplitIs}
+use Rattle.ls_frame.specs.Rests.{IsQuiet, IsQuietBelow, RestIs, SplitIs, TakenIs}
 use Rattle.ls_frame.specs.declared.fault.FrameFault.{FrameFault}
 use Rattle.ls_frame.specs.declared.fault.FrameFault.TheVariants.{HeaderTooLong, BadHeader, NoLength, TwoLengths, BadLength, TooLarge, Truncated, Memory}
+use Rattle.ls_frame.specs.declared.front.Taken.{Taken}
 use Rattle.ls_frame.specs.declared.front.Rest.{Rest}
 use Rattle.ls_frame.specs.declared.front.Rest.TheVariants.{Open, Faulty}
 use Rattle.ls_frame.proofs.Streams.{stream-append, fault-sticks}
@@ -50,8 +51,8 @@ refused old more new true e f = absurd (cc)
 refused old more new false e f = e
 
 -- a growth taken back
-pub cut-back : (old more grown new : List ℕ) (had : ℕ) → grown ≡ old ++ more → had ≡ length old → new ≡ take had grown → new ≡ old
-cut-back old more grown new had e f g = g ∙ (ap (take had) e ∙ take_at old more had (sym f))
+pub cut-back : (old more bytes new : List ℕ) (had : ℕ) (ok : Bool) → bytes ≡ (if ok then old ++ more else old) → ok ≡ true → had ≡ length old → new ≡ take had bytes → new ≡ old
+cut-back old more bytes new had ok e f g h = h ∙ (ap (take had) (grown old more bytes ok e f) ∙ take_at old more had (sym g))
 
 -- what is known of a rest, by another name
 pub kept : (bytes now : List ℕ) (rest other : Rest) → RestIs bytes rest → rest ≡ other → bytes ≡ now → RestIs now other
@@ -79,37 +80,57 @@ feed-stuck old piece before TooLarge e = inl (e, refl, refl)
 feed-stuck old piece before Truncated e = inl (e, refl, refl)
 feed-stuck old piece before Memory e = (refl, refl)
 
--- the frame isn't whole yet
-pub feed-waits : (old piece new : List ℕ) (before : List (List ℕ)) (wanted : ℕ) → RestIs old (Open wanted) → new ≡ old ++ piece → length new < wanted
-    → FeedIs old piece before (Ok 0) new before
-feed-waits old piece new before wanted r e less =
-    let quiet : IsQuiet (old ++ piece) = r.1 piece (omega (arith, less, ap length e)) in
-    let P : List ℕ → Type 0 = λ l. Stream (old ++ piece) [] l in
-    (r.0.0, ap fault_of e ∙ quiet.0, ([], refl, sym (append-nil before), subst P (sym e) (alone-stream (old ++ piece) quiet.1)))
+-- A framer that shows no fault has a piece behind its rest.
+pub record Longer (old piece bytes : List ℕ) (wanted : ℕ) : Type 0 where
+  pub known : RestIs old (Open wanted)
+  pub bytes_are : bytes ≡ old ++ piece
 
-pub rest-waits : (old piece new : List ℕ) (wanted : ℕ) → RestIs old (Open wanted) → new ≡ old ++ piece → length new < wanted → RestIs new (Open wanted)
-rest-waits old piece new wanted r e less =
-    let P : List ℕ → Type 0 = λ l. RestIs l (Open wanted) in
-    let below : IsQuietBelow (old ++ piece) wanted = λ more short.
-      let same : old ++ (piece ++ more) ≡ (old ++ piece) ++ more = sym (append_assoc old piece more) in
-      subst IsQuiet same (r.1 (piece ++ more) (omega (arith, short, ap length same))) in
-    subst P (sym e) (r.1 piece (omega (arith, less, ap length e)), below)
-
-pub split-stream : (bytes : List ℕ) (contents : List (List ℕ)) (used : ℕ) (rest : Rest) → SplitIs bytes contents used rest → Stream bytes contents (drop used bytes)
-split-stream bytes contents used rest s = record {
-  frames = _;
-  whole = s.1;
-  bytes_are = sym (take-append-drop used bytes);
-  partial = rest-no_frame (drop used bytes) rest s.2;
+pub longer : (pending old piece bytes : List ℕ) (rest : Rest) (wanted : ℕ) (ok : Bool) → RestIs pending rest → rest ≡ Open wanted → pending ≡ old
+    → bytes ≡ (if ok then pending ++ piece else pending) → ok ≡ true → Longer old piece bytes wanted
+longer pending old piece bytes rest wanted ok r e same growth done = record {
+  known = kept pending old rest (Open wanted) r e same;
+  bytes_are = grown pending piece bytes ok growth done ∙ ap (λ l. l ++ piece) same;
 }
 
+-- the frame isn't whole yet
+pub feed-waits : (old piece new : List ℕ) (before : List (List ℕ)) (wanted : ℕ) → Longer old piece new wanted → length new < wanted → FeedIs old piece before (Ok 0) new before
+feed-waits old piece new before wanted l less =
+    let quiet : IsQuiet (old ++ piece) = l.known.1 piece (omega (arith, less, ap length l.bytes_are)) in
+    let P : List ℕ → Type 0 = λ x. Stream (old ++ piece) [] x in
+    (l.known.0.0, ap fault_of l.bytes_are ∙ quiet.0, ([], refl, sym (append-nil before), subst P (sym l.bytes_are) (alone-stream (old ++ piece) quiet.1)))
+
+pub rest-waits : (old piece new : List ℕ) (rest : Rest) (wanted : ℕ) → Longer old piece new wanted → length new < wanted → rest ≡ Open wanted → RestIs new rest
+rest-waits old piece new rest wanted l less is =
+    let below : IsQuietBelow (old ++ piece) wanted = λ more short.
+      let same : old ++ (piece ++ more) ≡ (old ++ piece) ++ more = sym (append_assoc old piece more) in
+      subst IsQuiet same (l.known.1 (piece ++ more) (omega (arith, short, ap length same))) in
+    kept (old ++ piece) new (Open wanted) rest (l.known.1 piece (omega (arith, less, ap length l.bytes_are)), below) (sym is) (sym l.bytes_are)
+
+-- the rest behind the frames that have been taken
+pub rest-behind : (bytes whole new : List ℕ) (before after : List (List ℕ)) (taken : Taken) → whole ≡ bytes → TakenIs whole before (Ok taken) after → new ≡ drop taken.used bytes
+    → RestIs new taken.rest
+rest-behind bytes whole new before after taken same t is =
+    kept (drop taken.used whole) new taken.rest taken.rest t.3.2 refl (ap (drop taken.used) same ∙ sym is)
+
+behind-stream : (old piece bytes whole new : List ℕ) (contents : List (List ℕ)) (wanted used : ℕ) (rest : Rest) → Longer old piece bytes wanted → whole ≡ bytes
+    → SplitIs whole contents used rest → new ≡ drop used bytes → Stream (old ++ piece) contents new
+behind-stream old piece bytes whole new contents wanted used rest l same s is =
+    let P : List ℕ → Type 0 = λ x. Stream x contents (drop used whole) in
+    let Q : List ℕ → Type 0 = λ x. Stream (old ++ piece) contents x in
+    let split : Stream whole contents (drop used whole) = record {
+      frames = _;
+      whole = s.1;
+      bytes_are = sym (take-append-drop used whole);
+      partial = rest-no_frame (drop used whole) rest s.2;
+    } in
+    subst Q (ap (drop used) same ∙ sym is) (subst P (same ∙ l.bytes_are) split)
+
 -- frames are whole, and the rest shows no fault
-pub feed-open : (old piece bytes new : List ℕ) (before after contents : List (List ℕ)) (n used wanted : ℕ) → fault_of old ≡ None → bytes ≡ old ++ piece
-    → SplitIs bytes contents used (Open wanted) → new ≡ drop used bytes → length contents ≡ n → after ≡ before ++ contents → FeedIs old piece before (Ok n) new after
-feed-open old piece bytes new before after contents n used wanted none is s rest count given =
-    let P : List ℕ → Type 0 = λ l. Stream l contents (drop used bytes) in
-    let Q : List ℕ → Type 0 = λ l. Stream (old ++ piece) contents l in
-    (none, ap fault_of rest ∙ s.2.0.0, (contents, count, given, subst Q (sym rest) (subst P is (split-stream bytes contents used (Open wanted) s))))
+pub feed-open : (old piece bytes whole new : List ℕ) (before after : List (List ℕ)) (wanted later : ℕ) (taken : Taken) → Longer old piece bytes wanted → whole ≡ bytes
+    → TakenIs whole before (Ok taken) after → taken.rest ≡ Open later → new ≡ drop taken.used bytes → FeedIs old piece before (Ok taken.count) new after
+feed-open old piece bytes whole new before after wanted later taken l same t open_rest is =
+    let rest : RestIs new (Open later) = kept new new taken.rest (Open later) (rest-behind bytes whole new before after taken same t is) open_rest refl in
+    (l.known.0.0, rest.0.0, (t.0, t.1, t.2, behind-stream old piece bytes whole new t.0 wanted taken.used taken.rest l same t.3 is))
 
 feed-shows : (old piece new : List ℕ) (before after contents : List (List ℕ)) (fault : FrameFault) → fault_of old ≡ None → fault_of new ≡ Some fault
     → after ≡ before ++ contents → Stream (old ++ piece) contents new → FeedIs old piece before (Err fault) new after
@@ -123,13 +144,11 @@ feed-shows old piece new before after contents Truncated none some given s = inr
 feed-shows old piece new before after contents Memory none some given s = absurd (never-memory new some)
 
 -- frames are whole, and the rest shows a fault
-pub feed-faulty : (old piece bytes new : List ℕ) (before after contents : List (List ℕ)) (fault : FrameFault) (used : ℕ) → fault_of old ≡ None → bytes ≡ old ++ piece
-    → SplitIs bytes contents used (Faulty fault) → new ≡ drop used bytes → after ≡ before ++ contents → FeedIs old piece before (Err fault) new after
-feed-faulty old piece bytes new before after contents fault used none is s rest given =
-    let P : List ℕ → Type 0 = λ l. Stream l contents (drop used bytes) in
-    let Q : List ℕ → Type 0 = λ l. Stream (old ++ piece) contents l in
-    feed-shows old piece new before after contents fault none (ap fault_of rest ∙ s.2.0) given
-      (subst Q (sym rest) (subst P is (split-stream bytes contents used (Faulty fault) s)))
+pub feed-faulty : (old piece bytes whole new : List ℕ) (before after : List (List ℕ)) (wanted : ℕ) (fault : FrameFault) (taken : Taken) → Longer old piece bytes wanted → whole ≡ bytes
+    → TakenIs whole before (Ok taken) after → taken.rest ≡ Faulty fault → new ≡ drop taken.used bytes → FeedIs old piece before (Err fault) new after
+feed-faulty old piece bytes whole new before after wanted fault taken l same t faulty is =
+    let rest : RestIs new (Faulty fault) = kept new new taken.rest (Faulty fault) (rest-behind bytes whole new before after taken same t is) faulty refl in
+    feed-shows old piece new before after t.0 fault l.known.0.0 rest.0 t.2 (behind-stream old piece bytes whole new t.0 wanted taken.used taken.rest l same t.3 is)
 
 next-seen : (seen old piece new : List ℕ) (given contents : List (List ℕ)) → SoFar seen given old → fault_of old ≡ None → Stream (old ++ piece) contents new
     → SoFar (seen ++ piece) (given ++ contents) new

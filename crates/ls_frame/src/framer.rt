@@ -3,7 +3,7 @@ ghost use Rattle.std.specs.Prelude.{◌≡◌, ◌≤◌, [], ◌++◌, length, 
 ghost use Rattle.ls_frame.specs.Faults.{fault_of};
 ghost use Rattle.ls_frame.specs.Feeds.{contents_of, FeedIs, EndIs, GoesOn, SoFar};
 
-use super::front::{Rest, Taken, split};
+use super::front::{Rest, Taken, take_frames};
 use crate::fault::FrameFault;
 use std::alloc::Global;
 use std::marker::Model;
@@ -84,16 +84,10 @@ impl Framer {
         if self.pending.len() < wanted {
             return Ok(0);
         }
-        let mut found = Vec::new(self.alloc);
-        let Ok(Taken { used, rest }) = split(self.alloc, &self.pending, &mut found) else {
+        let Ok(Taken { count, used, rest }) = take_frames(self.alloc, &self.pending, out) else {
             self.pending.truncate(had);
             return Err(FrameFault::Memory);
         };
-        let count = found.len();
-        if out.append(&mut found).is_err() {
-            self.pending.truncate(had);
-            return Err(FrameFault::Memory);
-        }
         drop_front(&mut self.pending, used);
         self.rest = rest;
         match rest {

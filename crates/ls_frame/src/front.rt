@@ -1,7 +1,7 @@
 //! The whole frames that a list of bytes begins with.
 ghost use Rattle.std.specs.Prelude.{◌≡◌, [], IfOk};
 ghost use Rattle.ls_frame.specs.Feeds.{contents_of};
-ghost use Rattle.ls_frame.specs.Rests.{FrontIs, SplitIs};
+ghost use Rattle.ls_frame.specs.Rests.{FrontIs, SplitIs, TakenIs};
 
 use super::header::{Head, head_of};
 use crate::fault::FrameFault;
@@ -26,6 +26,8 @@ pub enum Front {
 
 /// Frames that have been taken from the front of some bytes.
 pub struct Taken {
+    /// How many frames.
+    pub count: usize,
     /// How many bytes they have.
     pub used: usize,
     /// What is known of the bytes behind them.
@@ -49,16 +51,17 @@ fn front_of(bytes: &[u8]) -> Front
     }
 }
 
-/// Copies the contents of the frames that the bytes begin with.
-pub fn split(alloc: Global, bytes: &[u8], found: &mut Vec<Vec<u8>>) -> Result<Taken, AllocError>
+/// Copies the contents of the frames that the bytes begin with, and answers how many bytes those frames have, and
+/// what is known of the bytes behind them.
+fn split(alloc: Global, bytes: &[u8], found: &mut Vec<Vec<u8>>) -> Result<(usize, Rest), AllocError>
     requires { found.old.items ≡ [] }
-    ensures { IfOk result (λ taken. SplitIs bytes.now (contents_of found.new.items) taken.used taken.rest) }
+    ensures { IfOk result (λ r. SplitIs bytes.now (contents_of found.new.items) r.0 r.1) }
 {
     let mut at = 0;
     'frames: loop {
         let behind = &bytes[at..];
         match front_of(behind) {
-            Front::Rest(rest) => return Ok(Taken { used: at, rest }),
+            Front::Rest(rest) => return Ok((at, rest)),
             Front::Frame(from, end) => {
                 let content = Vec::from_slice(alloc, &behind[from..end])?;
                 found.push(content)?;
@@ -66,4 +69,15 @@ pub fn split(alloc: Global, bytes: &[u8], found: &mut Vec<Vec<u8>>) -> Result<Ta
             }
         }
     }
+}
+
+/// Appends the contents of the frames that the bytes begin with. Where memory is refused `out` is as before.
+pub fn take_frames(alloc: Global, bytes: &[u8], out: &mut Vec<Vec<u8>>) -> Result<Taken, AllocError>
+    ensures { TakenIs bytes.now (contents_of out.old.items) result (contents_of out.new.items) }
+{
+    let mut found = Vec::new(alloc);
+    let (used, rest) = split(alloc, bytes, &mut found)?;
+    let count = found.len();
+    out.append(&mut found)?;
+    Ok(Taken { count, used, rest })
 }
