@@ -1,5 +1,5 @@
 -- What a piece does to the rest of a stream.
-use Rattle.std.proofs.Common.{◌≡◌, ℕ, ◌+◌, ◌<◌, ◌≤◌, Bool, true, false, List, [], ◌∷◌, ◌++◌, length, take, drop, inl, inr, Option, None, Some, Result, Ok, Err, refl, sym, ◌∙◌, ap, subst, arith, append_assoc, length-append}
+use Rattle.std.proofs.Common.{◌≡◌, ℕ, ◌<◌, Bool, true, false, List, [], ◌∷◌, ◌++◌, length, take, drop, inl, inr, Option, None, Some, Result, Ok, Err, refl, sym, ◌∙◌, ap, subst, arith, append_assoc}
 use Rattle.std.specs.Prelude.{◌⊎◌, if◌then◌else◌}
 use Rattle.std.proofs.lemmas.List.{append-nil, take-append-drop, take_at}
 use Rattle.ls_frame.specs.Frames.{HasNoFrame, Stream}
@@ -102,8 +102,8 @@ feed-waits old piece new before wanted l less =
 pub rest-waits : (old piece new : List ℕ) (rest : Rest) (wanted : ℕ) → Longer old piece new wanted → length new < wanted → rest ≡ Open wanted → RestIs new rest
 rest-waits old piece new rest wanted l less is =
     let below : IsQuietBelow (old ++ piece) wanted = λ more short.
-      let same : old ++ (piece ++ more) ≡ (old ++ piece) ++ more = sym (append_assoc old piece more) in
-      subst IsQuiet same (l.known.1 (piece ++ more) (omega (arith, short, ap length same))) in
+    let same : old ++ (piece ++ more) ≡ (old ++ piece) ++ more = sym (append_assoc old piece more) in
+    subst IsQuiet same (l.known.1 (piece ++ more) (omega (arith, short, ap length same))) in
     kept (old ++ piece) new (Open wanted) rest (l.known.1 piece (omega (arith, less, ap length l.bytes_are)), below) (sym is) (sym l.bytes_are)
 
 -- the rest behind the frames that have been taken
@@ -173,7 +173,7 @@ stuck-seen seen old piece given fault s some =
 
 fault-goes : (seen old piece new : List ℕ) (given before after : List (List ℕ)) (fault : FrameFault) → SoFar seen given old
     → ((fault_of old ≡ Some fault) × (new ≡ old) × (after ≡ before))
-      ⊎ ((fault_of old ≡ None) × (fault_of new ≡ Some fault) × ((contents : List (List ℕ)) × (after ≡ before ++ contents) × Stream (old ++ piece) contents new))
+    ⊎ ((fault_of old ≡ None) × (fault_of new ≡ Some fault) × ((contents : List (List ℕ)) × (after ≡ before ++ contents) × Stream (old ++ piece) contents new))
     → (contents : List (List ℕ)) × (after ≡ before ++ contents) × SoFar (seen ++ piece) (given ++ contents) new
 fault-goes seen old piece new given before after fault s (inl (some, same, out)) =
     let P : List ℕ → Type 0 = λ l. SoFar (seen ++ piece) (given ++ []) l in

@@ -1,3 +1,4 @@
+pub mod Known
 pub mod Fronts
 pub mod Quiet
 pub mod Shown

@@ -1,7 +1,7 @@
 -- A list of bytes is a stream in one way.
-use Rattle.std.proofs.Common.{◌≡◌, ℕ, ◌+◌, Bool, true, false, ◌||◌, ◌==◌, List, [], ◌∷◌, ◌++◌, length, filter, refl, sym, ◌∙◌, ap, subst, arith, append_assoc, length-append, not, ◌&&◌}
+use Rattle.std.proofs.Common.{◌≡◌, ℕ, true, false, ◌==◌, List, [], ◌∷◌, ◌++◌, length, filter, refl, sym, ◌∙◌, ap, subst, arith, append_assoc, not}
 use Rattle.std.specs.List.{list_any}
-use Rattle.ls_frame.specs.Frames.{crlf, field_lines, header_part, is_field, is_line_end, is_length, is_number, number_of, AreFields, IsHeader, IsFrame, Frames, HasNoFrame, Stream}
+use Rattle.ls_frame.specs.Frames.{crlf, field_lines, header_part, is_field, is_line_end, is_length, number_of, AreFields, IsHeader, IsFrame, Frames, HasNoFrame, Stream}
 use Rattle.ls_frame.proofs.Fronts.{and_left, not_true, or_left, or_right}
 
 -- no CR
@@ -55,7 +55,7 @@ headers-same (a ∷ these) [] u v p q e =
     absurd (field-not_empty a p.0 (sym parts.0))
 headers-same (a ∷ these) (b ∷ those) u v p q e =
     let parts : (a ≡ b) × (10 ∷ (header_part these ++ u) ≡ 10 ∷ (header_part those ++ v))
-        = first-cr a b (10 ∷ (header_part these ++ u)) (10 ∷ (header_part those ++ v)) (field-no_cr a p.0) (field-no_cr b q.0) (sym (regroup a (field_lines these) u) ∙ (e ∙ regroup b (field_lines those) v)) in
+    = first-cr a b (10 ∷ (header_part these ++ u)) (10 ∷ (header_part those ++ v)) (field-no_cr a p.0) (field-no_cr b q.0) (sym (regroup a (field_lines these) u) ∙ (e ∙ regroup b (field_lines those) v)) in
     let rest : (these ≡ those) × (u ≡ v) = headers-same these those u v p.1 q.1 (tail-same 10 10 (header_part these ++ u) (header_part those ++ v) parts.1) in
     let first : a ≡ b = parts.0 in
     (cc, rest.1)
@@ -92,7 +92,7 @@ frames-front bytes others u rest (x ∷ xs) [] p q n e =
     absurd (n p.0 (p.1 ++ u) x p.2.0 (sym (ap (λ l. l ++ rest) q) ∙ (sym e ∙ (ap (λ l. l ++ u) p.2.1 ∙ append_assoc p.0 p.1 u))))
 frames-front bytes others u rest (x ∷ xs) (y ∷ ys) p q n e =
     let parts : (x ≡ y) × (p.1 ++ u ≡ q.1 ++ rest) = frame-unique p.0 q.0 x y (p.1 ++ u) (q.1 ++ rest) p.2.0 q.2.0
-        (sym (ap (λ l. l ++ u) p.2.1 ∙ append_assoc p.0 p.1 u) ∙ (e ∙ (ap (λ l. l ++ rest) q.2.1 ∙ append_assoc q.0 q.1 rest))) in
+    (sym (ap (λ l. l ++ u) p.2.1 ∙ append_assoc p.0 p.1 u) ∙ (e ∙ (ap (λ l. l ++ rest) q.2.1 ∙ append_assoc q.0 q.1 rest))) in
     let more : (zs : List (List ℕ)) × (ys ≡ xs ++ zs) × Stream u zs rest = frames-front p.1 q.1 u rest xs ys p.2.2 q.2.2 n parts.1 in
     let first : x ≡ y = parts.0 in
     let later : ys ≡ xs ++ more.0 = more.1 in
@@ -103,7 +103,7 @@ pub stream-front : (bytes more rest last : List ℕ) (xs ys : List (List ℕ)) �
     → (zs : List (List ℕ)) × (ys ≡ xs ++ zs) × Stream (rest ++ more) zs last
 stream-front bytes more rest last xs ys s t =
     frames-front s.frames t.frames (rest ++ more) last xs ys s.whole t.whole t.partial
-      (sym (append_assoc s.frames rest more) ∙ (sym (ap (λ l. l ++ more) s.bytes_are) ∙ t.bytes_are))
+    (sym (append_assoc s.frames rest more) ∙ (sym (ap (λ l. l ++ more) s.bytes_are) ∙ t.bytes_are))
 
 alone : (bytes rest frames : List ℕ) (zs : List (List ℕ)) → HasNoFrame bytes → Frames frames zs → bytes ≡ frames ++ rest → (zs ≡ []) × (rest ≡ bytes)
 alone bytes rest frames [] n w e = (refl, sym (e ∙ ap (λ l. l ++ rest) w))

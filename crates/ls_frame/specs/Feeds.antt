@@ -19,7 +19,7 @@ FeedIs old piece before (Err Memory) new after = (new ≡ old) × (after ≡ bef
 FeedIs old piece before (Err fault) new after =
     ((fault_of old ≡ Some fault) × (new ≡ old) × (after ≡ before))
     ⊎ ((fault_of old ≡ None) × (fault_of new ≡ Some fault)
-      × ((contents : List (List ℕ)) × (after ≡ before ++ contents) × Stream (old ++ piece) contents new))
+    × ((contents : List (List ℕ)) × (after ≡ before ++ contents) × Stream (old ++ piece) contents new))
 
 -- Over all pieces: the bytes seen so far are a stream with the contents given so far, the fault that the framer
 -- keeps is the stream's, and while there is none the framer keeps the stream's rest.

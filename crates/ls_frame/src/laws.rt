@@ -13,5 +13,4 @@ pub fn streams_are_unique()
     ensures alone { (bytes rest : List ℕ) (zs : List (List ℕ)) → HasNoFrame bytes → Stream bytes zs rest → (zs ≡ []) × (rest ≡ bytes) }
     ensures faulty { (bytes : List ℕ) (fault : FrameFault) → fault_of bytes ≡ Some fault → HasNoFrame bytes }
     ensures start { SoFar [] [] [] }
-{
-}
+{}

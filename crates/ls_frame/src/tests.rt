@@ -48,7 +48,10 @@ fn takes_the_largest(rt: HostRuntime) -> Result<(), Fail> {
     let mut framer = Framer::new(rt.alloc());
     let mut out = Vec::new(rt.alloc());
     assert_eq!(rt; feed(&mut framer, &header, &mut out), Ok(1));
-    assert_eq!(rt; feed(&mut framer, b"Content-Length: 16777216\r\n\r\n", &mut out), Ok(0));
+    assert_eq!(rt;
+        feed(&mut framer, b"Content-Length: 16777216\r\n\r\n", &mut out),
+        Ok(0)
+    );
     assert_eq!(rt; framer.end(), Err(FrameFault::Truncated));
     Ok(())
 }
@@ -57,11 +60,23 @@ fn takes_the_largest(rt: HostRuntime) -> Result<(), Fail> {
 fn names_faults(rt: HostRuntime) -> Result<(), Fail> {
     let rows = [
         (b"Content-Type: x\r\n\r\n".as_slice(), FrameFault::NoLength),
-        (b"Content-Length: -1\r\n\r\n".as_slice(), FrameFault::BadLength),
-        (b"Content-Length: 16777217\r\n\r\n".as_slice(), FrameFault::TooLarge),
-        (b"Content-Length 2\r\n\r\n".as_slice(), FrameFault::BadHeader),
+        (
+            b"Content-Length: -1\r\n\r\n".as_slice(),
+            FrameFault::BadLength,
+        ),
+        (
+            b"Content-Length: 16777217\r\n\r\n".as_slice(),
+            FrameFault::TooLarge,
+        ),
+        (
+            b"Content-Length 2\r\n\r\n".as_slice(),
+            FrameFault::BadHeader,
+        ),
         (b"Content-Length: 2\n\r\n".as_slice(), FrameFault::BadHeader),
-        (b"Content-Length: 2\r\nContent-Length: 2\r\n\r\n".as_slice(), FrameFault::TwoLengths),
+        (
+            b"Content-Length: 2\r\nContent-Length: 2\r\n\r\n".as_slice(),
+            FrameFault::TwoLengths,
+        ),
         ([b'a'; 4096].as_slice(), FrameFault::HeaderTooLong),
     ];
     for (piece, fault) in rows {
@@ -79,11 +94,17 @@ fn gives_the_frames_before_a_fault(rt: HostRuntime) -> Result<(), Fail> {
     let mut framer = Framer::new(rt.alloc());
     let mut out = Vec::new(rt.alloc());
     let piece = b"Content-Length: 1\r\n\r\naContent-Length: 0\r\n\r\nContent-Type: x\r\n\r\n";
-    assert_eq!(rt; feed(&mut framer, piece, &mut out), Err(FrameFault::NoLength));
+    assert_eq!(rt;
+        feed(&mut framer, piece, &mut out),
+        Err(FrameFault::NoLength)
+    );
     assert_eq!(rt; out.len(), 2);
     assert!(rt; out[0].as_slice() == b"a".as_slice());
     assert!(rt; out[1].is_empty());
-    assert_eq!(rt; feed(&mut framer, b"Content-Length: 0\r\n\r\n", &mut out), Err(FrameFault::NoLength));
+    assert_eq!(rt;
+        feed(&mut framer, b"Content-Length: 0\r\n\r\n", &mut out),
+        Err(FrameFault::NoLength)
+    );
     assert_eq!(rt; framer.end(), Err(FrameFault::NoLength));
     assert_eq!(rt; out.len(), 2);
     Ok(())

@@ -1,4 +1,4 @@
-use Rattle.std.proofs.Common.{◌≡◌, ℕ, ◌+◌, List, [], ◌∷◌, ◌++◌, length, take, map, sym, ◌∙◌, ap, subst}
+use Rattle.std.proofs.Common.{◌≡◌, ℕ, ◌+◌, List, [], ◌∷◌, ◌++◌, take, sym, ◌∙◌, ap, subst}
 use Rattle.std.specs.Prelude.{Vec}
 use Rattle.std.specs.declared.alloc.Global.{Global}
 use Rattle.std.proofs.lemmas.List.{map_push}
@@ -14,10 +14,10 @@ pub frames-preserved : goal.frames-preserved
 frames-preserved c =
     let pushed : c.push.new.self.items ≡ c.frames.found.items ++ c.in_ok-content-in-Frame.content ∷ [] = c.in_ok-push-in-Frame.ensures.items in
     let contents : contents_of c.push.new.self.items ≡ contents_of c.frames.found.items ++ c.in_ok-content-in-Frame.content.items ∷ [] =
-      ap contents_of pushed ∙ map_push (λ (v : Vec ℕ Global). v.items) c.frames.found.items c.in_ok-content-in-Frame.content in
+    ap contents_of pushed ∙ map_push (λ (v : Vec ℕ Global). v.items) c.frames.found.items c.in_ok-content-in-Frame.content in
     let P : List (List ℕ) → Type 0 = λ l. Frames (take (c.frames.at + c.in-Frame.end) c.args.bytes.now) l in
     record {
       within = split-end c.args.bytes.now c.frames.at c.in-Frame.from c.in-Frame.end c.frames.invariant.within c.in-Frame.ensures;
       frames = subst P (sym contents) (split-more c.args.bytes.now c.frames.at c.in-Frame.from c.in-Frame.end (contents_of c.frames.found.items) c.in_ok-content-in-Frame.content.items
-        c.frames.invariant.within c.frames.invariant.frames c.in-Frame.ensures c.in_ok-content-in-Frame.ensures.items);
+          c.frames.invariant.within c.frames.invariant.frames c.in-Frame.ensures c.in_ok-content-in-Frame.ensures.items);
     }

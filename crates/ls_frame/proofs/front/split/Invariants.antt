@@ -1,4 +1,4 @@
-use Rattle.std.proofs.Common.{◌≡◌, ℕ, ◌-◌, ◌≤◌, length, take}
+use Rattle.std.proofs.Common.{◌-◌, ◌≤◌, length, take}
 use Rattle.ls_frame.specs.Frames.{Frames}
 use Rattle.ls_frame.specs.Feeds.{contents_of}
 use Rattle.ls_frame.proofs.front.split.Given as goal

@@ -1,4 +1,4 @@
-use Rattle.std.proofs.Common.{rules, ◌≡◌, ◌<◌, ◌++◌, length, drop, refl, sym, ◌∙◌, ap, arith, Ok, Err}
+use Rattle.std.proofs.Common.{rules, ◌≡◌, length, refl, sym, ◌∙◌, ap, arith, Ok, Err}
 use Rattle.ls_frame.specs.Feeds.{contents_of}
 use Rattle.ls_frame.specs.Rests.{RestIs}
 use Rattle.ls_frame.specs.declared.fault.FrameFault.TheVariants.{Memory}
@@ -35,7 +35,7 @@ returns-then-is_err-clause-stream c seen given s =
 pub invariant_of-self-then-len-wanted : goal.invariant_of-self-then-len-wanted
 invariant_of-self-then-len-wanted c =
     let more : Longer c.self.inside.pending.items c.args.piece.now c.extend_from_slice.new.self.items c.in-Open.wanted =
-      longer c.self.inside.pending.items c.self.inside.pending.items c.args.piece.now c.extend_from_slice.new.self.items c.self.inside.rest c.in-Open.wanted _ c.self.invariant c.in-Open.is refl c.extend_from_slice.ensures.items (search rules) in
+    longer c.self.inside.pending.items c.self.inside.pending.items c.args.piece.now c.extend_from_slice.new.self.items c.self.inside.rest c.in-Open.wanted _ c.self.invariant c.in-Open.is refl c.extend_from_slice.ensures.items (search rules) in
     rest-waits c.self.inside.pending.items c.args.piece.now c.extend_from_slice.new.self.items c.self.inside.rest c.in-Open.wanted more (search rules) c.in-Open.is
 
 pub returns-then-len-wanted-clause-taken : goal.returns-then-len-wanted-clause-taken
@@ -43,7 +43,7 @@ returns-then-len-wanted-clause-taken c =
     let seen = c.self.view_is in
     let view : c.self.inside.pending.items ≡ c.args.self.now = cc in
     let more : Longer c.args.self.now c.args.piece.now c.extend_from_slice.new.self.items c.in-Open.wanted =
-      longer c.self.inside.pending.items c.args.self.now c.args.piece.now c.extend_from_slice.new.self.items c.self.inside.rest c.in-Open.wanted _ c.self.invariant c.in-Open.is view c.extend_from_slice.ensures.items (search rules) in
+    longer c.self.inside.pending.items c.args.self.now c.args.piece.now c.extend_from_slice.new.self.items c.self.inside.rest c.in-Open.wanted _ c.self.invariant c.in-Open.is view c.extend_from_slice.ensures.items (search rules) in
     feed-waits c.args.self.now c.args.piece.now c.extend_from_slice.new.self.items (contents_of c.args.out.now.items) c.in-Open.wanted more (search rules)
 
 pub returns-then-len-wanted-clause-stream : goal.returns-then-len-wanted-clause-stream
@@ -53,7 +53,7 @@ returns-then-len-wanted-clause-stream c seen given s =
 pub invariant_of-self-in_default : goal.invariant_of-self-in_default
 invariant_of-self-in_default c =
     let same : c.truncate.new.self.items ≡ c.self.inside.pending.items =
-      cut-back c.self.inside.pending.items c.args.piece.now c.extend_from_slice.new.self.items c.truncate.new.self.items c.len-had.result _ c.extend_from_slice.ensures.items (search rules) (search rules) c.truncate.ensures.items in
+    cut-back c.self.inside.pending.items c.args.piece.now c.extend_from_slice.new.self.items c.truncate.new.self.items c.len-had.result _ c.extend_from_slice.ensures.items (search rules) (search rules) c.truncate.ensures.items in
     kept c.self.inside.pending.items c.truncate.new.self.items c.self.inside.rest c.self.inside.rest c.self.invariant refl (sym same)
 
 pub returns-in_default-clause-taken : goal.returns-in_default-clause-taken
@@ -61,7 +61,7 @@ returns-in_default-clause-taken c =
     let seen = c.self.view_is in
     let view : c.self.inside.pending.items ≡ c.args.self.now = cc in
     let same : c.truncate.new.self.items ≡ c.self.inside.pending.items =
-      cut-back c.self.inside.pending.items c.args.piece.now c.extend_from_slice.new.self.items c.truncate.new.self.items c.len-had.result _ c.extend_from_slice.ensures.items (search rules) (search rules) c.truncate.ensures.items in
+    cut-back c.self.inside.pending.items c.args.piece.now c.extend_from_slice.new.self.items c.truncate.new.self.items c.len-had.result _ c.extend_from_slice.ensures.items (search rules) (search rules) c.truncate.ensures.items in
     (same ∙ view, c.in_default.ensures)
 
 pub returns-in_default-clause-stream : goal.returns-in_default-clause-stream
@@ -74,16 +74,16 @@ drop_front-requires c = let same : length c.deref.result.now ≡ length c.extend
 pub invariant_of-self-in-Faulty-rest : goal.invariant_of-self-in-Faulty-rest
 invariant_of-self-in-Faulty-rest c =
     rest-behind c.extend_from_slice.new.self.items c.deref.result.now c.drop_front.new.bytes.items (contents_of c.args.out.now.items) (contents_of c.take_frames.new.out.items) c.in-Ok.field-0 c.deref.ensures.value c.in-Ok.ensures
-      c.drop_front.ensures
+    c.drop_front.ensures
 
 pub returns-in-Faulty-rest-clause-taken : goal.returns-in-Faulty-rest-clause-taken
 returns-in-Faulty-rest-clause-taken c =
     let seen = c.self.view_is in
     let view : c.self.inside.pending.items ≡ c.args.self.now = cc in
     let more : Longer c.args.self.now c.args.piece.now c.extend_from_slice.new.self.items c.in-Open.wanted =
-      longer c.self.inside.pending.items c.args.self.now c.args.piece.now c.extend_from_slice.new.self.items c.self.inside.rest c.in-Open.wanted _ c.self.invariant c.in-Open.is view c.extend_from_slice.ensures.items (search rules) in
+    longer c.self.inside.pending.items c.args.self.now c.args.piece.now c.extend_from_slice.new.self.items c.self.inside.rest c.in-Open.wanted _ c.self.invariant c.in-Open.is view c.extend_from_slice.ensures.items (search rules) in
     feed-faulty c.args.self.now c.args.piece.now c.extend_from_slice.new.self.items c.deref.result.now c.drop_front.new.bytes.items (contents_of c.args.out.now.items) (contents_of c.take_frames.new.out.items) c.in-Open.wanted
-      c.in-Faulty-rest.fault c.in-Ok.field-0 more c.deref.ensures.value c.in-Ok.ensures c.in-Faulty-rest.is c.drop_front.ensures
+    c.in-Faulty-rest.fault c.in-Ok.field-0 more c.deref.ensures.value c.in-Ok.ensures c.in-Faulty-rest.is c.drop_front.ensures
 
 pub returns-in-Faulty-rest-clause-stream : goal.returns-in-Faulty-rest-clause-stream
 returns-in-Faulty-rest-clause-stream c seen given s =
@@ -92,16 +92,16 @@ returns-in-Faulty-rest-clause-stream c seen given s =
 pub invariant_of-self-in-Open-rest : goal.invariant_of-self-in-Open-rest
 invariant_of-self-in-Open-rest c =
     rest-behind c.extend_from_slice.new.self.items c.deref.result.now c.make_room.new.bytes.items (contents_of c.args.out.now.items) (contents_of c.take_frames.new.out.items) c.in-Ok.field-0 c.deref.ensures.value c.in-Ok.ensures
-      (c.make_room.ensures ∙ c.drop_front.ensures)
+    (c.make_room.ensures ∙ c.drop_front.ensures)
 
 pub returns-in-Open-rest-clause-taken : goal.returns-in-Open-rest-clause-taken
 returns-in-Open-rest-clause-taken c =
     let seen = c.self.view_is in
     let view : c.self.inside.pending.items ≡ c.args.self.now = cc in
     let more : Longer c.args.self.now c.args.piece.now c.extend_from_slice.new.self.items c.in-Open.wanted =
-      longer c.self.inside.pending.items c.args.self.now c.args.piece.now c.extend_from_slice.new.self.items c.self.inside.rest c.in-Open.wanted _ c.self.invariant c.in-Open.is view c.extend_from_slice.ensures.items (search rules) in
+    longer c.self.inside.pending.items c.args.self.now c.args.piece.now c.extend_from_slice.new.self.items c.self.inside.rest c.in-Open.wanted _ c.self.invariant c.in-Open.is view c.extend_from_slice.ensures.items (search rules) in
     feed-open c.args.self.now c.args.piece.now c.extend_from_slice.new.self.items c.deref.result.now c.make_room.new.bytes.items (contents_of c.args.out.now.items) (contents_of c.take_frames.new.out.items) c.in-Open.wanted
-      c.in-Open-rest.wanted c.in-Ok.field-0 more c.deref.ensures.value c.in-Ok.ensures c.in-Open-rest.is (c.make_room.ensures ∙ c.drop_front.ensures)
+    c.in-Open-rest.wanted c.in-Ok.field-0 more c.deref.ensures.value c.in-Ok.ensures c.in-Open-rest.is (c.make_room.ensures ∙ c.drop_front.ensures)
 
 pub returns-in-Open-rest-clause-stream : goal.returns-in-Open-rest-clause-stream
 returns-in-Open-rest-clause-stream c seen given s =

@@ -1,4 +1,4 @@
-use Rattle.std.proofs.Common.{◌≡◌, refl, sym, []}
+use Rattle.std.proofs.Common.{refl, sym, []}
 use Rattle.ls_frame.specs.declared.front.Rest.TheVariants.{Open}
 use Rattle.ls_frame.proofs.Streams.{none-yet, no-fault}
 use Rattle.ls_frame.proofs.Fills.{open-quiet}
