@@ -150,6 +150,10 @@ feed-faulty old piece bytes whole new before after wanted fault taken l same t f
     let rest : RestIs new (Faulty fault) = kept new new taken.rest (Faulty fault) (rest-behind bytes whole new before after taken same t is) faulty refl in
     feed-shows old piece new before after t.0 fault l.known.0.0 rest.0 t.2 (behind-stream old piece bytes whole new t.0 wanted taken.used taken.rest l same t.3 is)
 
+-- a stream is what has been seen, where nothing was taken behind a fault
+pub stream-so_far : (seen kept : List ℕ) (given : List (List ℕ)) → Stream seen given kept → SoFar seen given kept
+stream-so_far seen kept given s = record { rest = kept; stream = s; fault = refl; keeps = λ e. refl }
+
 next-seen : (seen old piece new : List ℕ) (given contents : List (List ℕ)) → SoFar seen given old → fault_of old ≡ None → Stream (old ++ piece) contents new
     → SoFar (seen ++ piece) (given ++ contents) new
 next-seen seen old piece new given contents s none t =

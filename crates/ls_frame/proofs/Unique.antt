@@ -45,7 +45,7 @@ regroup : (w f u : List ℕ) → (((w ++ crlf) ++ f) ++ crlf) ++ u ≡ w ++ (13 
 regroup w f u = simp append_assoc
 
 -- the field lines of a header part, and what comes behind it
-headers-same : (these those : List (List ℕ)) (u v : List ℕ) → AreFields these → AreFields those → header_part these ++ u ≡ header_part those ++ v → (these ≡ those) × (u ≡ v)
+pub headers-same : (these those : List (List ℕ)) (u v : List ℕ) → AreFields these → AreFields those → header_part these ++ u ≡ header_part those ++ v → (these ≡ those) × (u ≡ v)
 headers-same [] [] u v p q e = (refl, tail-same 10 10 u v (tail-same 13 13 (10 ∷ u) (10 ∷ v) e))
 headers-same [] (b ∷ those) u v p q e =
     let parts : ([] ≡ b) × (10 ∷ u ≡ 10 ∷ (header_part those ++ v)) = first-cr [] b (10 ∷ u) (10 ∷ (header_part those ++ v)) tt (field-no_cr b q.0) (e ∙ regroup b (field_lines those) v) in
@@ -69,7 +69,8 @@ fronts-same (x ∷ a) (y ∷ b) u v n e =
     let first : x ≡ y = head-same x y (a ++ u) (b ++ v) e in
     (cc, rest.1)
 
-lengths-same : (these those : List (List ℕ)) (n m : ℕ) → IsHeader these n → IsHeader those m → these ≡ those → n ≡ m
+-- the same field lines give one length
+pub lengths-same : (these those : List (List ℕ)) (n m : ℕ) → IsHeader these n → IsHeader those m → these ≡ those → n ≡ m
 lengths-same these those n m h k e =
     let one : h.field ∷ [] ≡ k.field ∷ [] = sym h.one ∙ (ap (filter is_length) e ∙ k.one) in
     let same : h.field ≡ k.field = cc in
