@@ -1,0 +1,14 @@
+pub mod Known
+pub mod Fronts
+pub mod Quiet
+pub mod Shown
+pub mod Streams
+pub mod Splits
+pub mod Fields
+pub mod Wholes
+pub mod Cases
+pub mod Ends
+pub mod Windows
+pub mod Fills
+pub mod Feeding
+pub mod Unique
