@@ -1,5 +1,5 @@
 -- No text is in two classes, and a text has one list of tokens.
-use Rattle.std.proofs.Common.{◌≡◌, ℕ, ◌+◌, ◌<◌, Bool, true, List, [], ◌∷◌, ◌++◌, length, take, drop, get_or, Option, Some, None, ⊎_elim, refl, sym, ap, ap₂, subst, ◌∙◌, arith}
+use Rattle.std.proofs.Common.{◌≡◌, ℕ, ◌+◌, ◌<◌, true, List, [], ◌∷◌, ◌++◌, length, take, drop, get_or, Option, Some, None, ⊎_elim, refl, sym, ap, ap₂, subst, ◌∙◌, arith}
 use Rattle.std.specs.Prelude.{nat_eq, if◌then◌else◌}
 use Rattle.abnf_token.specs.declared.token.Token.{Token}
 use Rattle.std.proofs.lemmas.Bool.{eqb-true, cases_order}
@@ -9,7 +9,7 @@ use Rattle.abnf_token.specs.declared.token.Kind.{Kind}
 use Rattle.abnf_token.specs.declared.token.Kind.TheVariants as k
 use Rattle.abnf_token.specs.declared.machine.State.TheVariants as s
 use Rattle.abnf_token.specs.Classes.{Text, is_in, is_character}
-use Rattle.abnf_token.specs.Tokens.{NoLonger, IsNext, Fits, TokensOf, AreApart, HasOneAnswer, AreSlices, HasSlices, joined, HasJoin, GivesToken, GivesTokensOf, after, view}
+use Rattle.abnf_token.specs.Tokens.{NoLonger, IsNext, Fits, TokensOf, AreApart, HasOneAnswer, AreSlices, HasSlices, joined, HasJoin, GivesToken, GivesTokensOf, view}
 use Rattle.abnf_token.specs.Machine.{accepted, run}
 use Rattle.abnf_token.specs.Rest.{Rest}
 use Rattle.std.specs.Iterator.{Yields}

@@ -1,4 +1,4 @@
--- The tokens of a line.
+-- The tokens of a line, by the classes of their texts: what the next token is, and the whole list.
 use Rattle.std.specs.Prelude.{◌≡◌, ℕ, ◌+◌, ◌<◌, ◌≤◌, true, false, List, [], ◌∷◌, ◌++◌, length, take, map, drop, Option, Some, None}
 use Rattle.std.specs.Iterator.{Drains}
 use Rattle.abnf_token.specs.declared.token.Kind.{Kind}
@@ -11,17 +11,13 @@ use Rattle.abnf_token.specs.Classes.{Text, is_in, is_character}
 abbrev pub NoLonger : ℕ → Text → Type 0
 NoLonger n left = (kind : Kind) (m : ℕ) → n < m → m ≤ length left → is_in kind (take m left) ≡ false
 
--- The front with this many bytes is in this class, and no longer one is in any; or no front is in any.
-abbrev pub IsLongest : Option (Kind × ℕ) → Text → Type 0
-IsLongest None left = NoLonger 0 left
-IsLongest (Some f) left = (0 < f.1) × (f.1 ≤ length left) × (is_in f.0 (take f.1 left) ≡ true) × NoLonger f.1 left
-
--- A text of this kind fits: it is in the class, or is one character where no front is in a class.
+-- A text of this kind fits: it is in the class and no longer front is in any; or it is Bad, one character where no front is
+-- in a class.
 abbrev pub Fits : Kind → Text → Text → Type 0
 Fits Bad text left = (is_character text ≡ true) × NoLonger 0 left
 Fits kind text left = (is_in kind text ≡ true) × NoLonger (length text) left
 
--- The text is what comes next of what is left.
+-- The text is a front of what is left, not empty, and fits.
 pub record IsNext (kind : Kind) (text left : Text) : Type 0 where
   pub front : text ≡ take (length text) left
   pub within : length text ≤ length left
@@ -38,7 +34,8 @@ pub record IsToken (t : Token) (at_line at_byte : ℕ) (left : Text) : Type 0 wh
 abbrev pub after : ℕ → Rest → Rest
 after n rest = record { text = drop n rest.text; line = rest.line; start = rest.start + n }
 
--- The tokens of what is left of a line from the byte start on.
+-- The tokens of what is left of a line from the byte start on: each is the next one where those before it end, and none is
+-- missing.
 abbrev pub TokensOf : ℕ → ℕ → Text → List Token → Type 0
 TokensOf line start left [] = left ≡ []
 TokensOf line start left (t ∷ ts) = IsToken t line start left × TokensOf line (start + length t.text.now) (drop (length t.text.now) left) ts
@@ -64,7 +61,7 @@ AreApart = (j kind : Kind) (text : Text) → is_in j text ≡ true → is_in kin
 abbrev pub view : Token → Kind × Text × ℕ × ℕ
 view t = (t.kind, t.text.now, t.line, t.start)
 
--- There is one list of tokens of a text, wherever it stands.
+-- There is one list of tokens of what is left, whatever the line's number and wherever it stands.
 abbrev pub HasOneAnswer : Text → Type 0
 HasOneAnswer left = (line start : ℕ) (ts us : List Token) → TokensOf line start left ts → TokensOf line start left us → map view ts ≡ map view us
 

@@ -1,8 +1,8 @@
 use Rattle.std.proofs.Common.{◌≡◌, ◌+◌, ◌≤◌, length, get_or, Some, ap, sym, subst, ◌∙◌, take}
 use Rattle.std.specs.Str.{IsCharBoundary, continuation_len}
 use Rattle.abnf_token.specs.declared.token.Kind.TheVariants.{Bad}
-use Rattle.abnf_token.specs.Tokens.{IsNext, IsLongest}
-use Rattle.abnf_token.proofs.Longest.{longest_of}
+use Rattle.abnf_token.specs.Tokens.{IsNext}
+use Rattle.abnf_token.proofs.Longest.{IsLongest, longest_of}
 use Rattle.abnf_token.proofs.Cuts.{found_cut, found_next, FirstChar, first_char, bad_next, char_len}
 use Rattle.abnf_token.proofs.scan.scan.Goals as goal
 

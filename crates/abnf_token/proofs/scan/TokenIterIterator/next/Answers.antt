@@ -1,5 +1,4 @@
-use Rattle.std.proofs.Common.{◌+◌, ◌<◌, ◌^◌, length, arith}
-use Rattle.abnf_token.specs.Rest.{HasNoClose}
+use Rattle.std.proofs.Common.{arith}
 use Rattle.abnf_token.proofs.Closing.{no_close_drop}
 use Rattle.abnf_token.proofs.scan.TokenIterIterator.next.Goals as goal
 
