@@ -38,7 +38,7 @@ pub enum Kind {
     /// `;` and the rest of the line (`comment`; RFC 5234 sections 3.9 and 4). RFC 5234 has WSP and VCHAR alone after the
     /// `;`; here any character may stand there. The line's end is no part of it.
     Comment,
-    /// One or more SP and HTAB (`WSP`; RFC 5234 sections 4 and B.1).
+    /// One or more SP and HTAB (`WSP`; RFC 5234 section 4 and appendix B.1).
     Blank,
     /// One character, where no text of another class begins.
     Bad,
