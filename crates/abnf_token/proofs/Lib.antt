@@ -1,0 +1,6 @@
+pub mod Language
+pub mod Longest
+pub mod Cuts
+pub mod Closing
+pub mod Laws
+pub mod Values

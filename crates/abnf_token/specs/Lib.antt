@@ -1,0 +1,6 @@
+pub mod Classes
+pub mod Rest
+pub mod Machine
+pub mod Tokens
+pub mod Numbers
+pub mod Folded
