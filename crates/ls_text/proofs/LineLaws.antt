@@ -1,0 +1,73 @@
+-- Laws of lines and line ends.
+use Rattle.std.proofs.Common.{◌≡◌, ℕ, ◌+◌, ◌<◌, Bool, true, false, not, cond, ◌&&◌, ◌||◌, eqb, List, [], ◌∷◌, ◌++◌, length, refl, arith}
+use Rattle.std.specs.List.{list_any}
+use Rattle.ls_text.specs.Lines.{is_break, starts_with_lf, ends_with_cr, ends_line, line_ends, put_first, lines}
+
+-- of the tests that a plain character and what follows it fail
+pub or_false : (a b s r : Bool) → ((a || b) || r) ≡ false → ((a || (b && s)) ≡ false) × (b ≡ false) × (r ≡ false)
+or_false false false s false e = (refl, refl, refl)
+or_false false false s true e = cc
+or_false false true s r e = cc
+or_false true b s r e = cc
+
+pub plain_parts : (c : ℕ) (t s : List ℕ) → list_any is_break (c ∷ t) ≡ false → (ends_line c s ≡ false) × (eqb c 13 ≡ false) × (list_any is_break t ≡ false)
+plain_parts c t s e = or_false (eqb c 10) (eqb c 13) (not (starts_with_lf s)) (list_any is_break t) e
+
+-- a plain text has no line end
+pub line_ends-plain : (t : List ℕ) → list_any is_break t ≡ false → line_ends t ≡ 0
+unfolding line_ends
+line_ends-plain [] e = refl
+line_ends-plain (c ∷ t) e =
+    let h = plain_parts c t t e in
+    rw (h.0) (omega (arith, line_ends-plain t h.2))
+
+-- a plain text is one line
+pub lines-plain : (t : List ℕ) → list_any is_break t ≡ false → lines t ≡ t ∷ []
+unfolding lines
+lines-plain [] e = refl
+lines-plain (c ∷ t) e =
+    let h = plain_parts c t t e in
+    rw (h.0, h.1, lines-plain t h.2) refl
+
+-- the lines of a plain text before another text
+pub lines-plain_append : (p t l : List ℕ) (ls : List (List ℕ)) → list_any is_break p ≡ false → lines t ≡ l ∷ ls → lines (p ++ t) ≡ (p ++ l) ∷ ls
+unfolding lines
+lines-plain_append [] t l ls e h = h
+lines-plain_append (c ∷ p) t l ls e h =
+    let k = plain_parts c p (p ++ t) e in
+    rw (k.0, k.1, lines-plain_append p t l ls k.2 h) refl
+
+-- a seam that splits no CRLF
+seam_cases : (b s : Bool) → (b && s) ≡ false → (b && not s) ≡ b
+seam_cases false s e = refl
+seam_cases true false e = refl
+seam_cases true true e = cc
+
+pub line_ends-append : (x y : List ℕ) → (ends_with_cr x && starts_with_lf y) ≡ false → line_ends (x ++ y) ≡ line_ends x + line_ends y
+unfolding line_ends
+line_ends-append [] y e = omega arith
+line_ends-append (c ∷ []) y e = rw (seam_cases (eqb c 13) (starts_with_lf y) e) (simp_seam c (line_ends y))
+  where
+    simp_seam : (c n : ℕ) → cond (eqb c 10 || eqb c 13) 1 0 + n ≡ (cond (eqb c 10 || (eqb c 13 && true)) 1 0 + 0) + n
+    simp_seam c n = and_true (eqb c 10) (eqb c 13)
+      where
+        and_true : (a b : Bool) → cond (a || b) 1 0 + n ≡ (cond (a || (b && true)) 1 0 + 0) + n
+        and_true true b = omega arith
+        and_true false true = omega arith
+        and_true false false = omega arith
+line_ends-append (c ∷ d ∷ x) y e = omega (arith, line_ends-append (d ∷ x) y e)
+
+-- a text has one line more than it has line ends
+pub length-put_first : (c : ℕ) (ls : List (List ℕ)) → 0 < length ls → length (put_first c ls) ≡ length ls
+length-put_first c [] h = absurd (omega (arith, h))
+length-put_first c (l ∷ ls) h = refl
+
+length-lines_by : (n : ℕ) (c : ℕ) (ls : List (List ℕ)) (a b : Bool) → length ls ≡ n + 1 → length (cond a ([] ∷ ls) (cond b ls (put_first c ls))) ≡ (cond a 1 0 + n) + 1
+length-lines_by n c ls true b h = omega arith
+length-lines_by n c ls false true h = omega arith
+length-lines_by n c ls false false h = omega (arith, length-put_first c ls (omega arith))
+
+pub length-lines : (t : List ℕ) → length (lines t) ≡ line_ends t + 1
+unfolding lines line_ends
+length-lines [] = refl
+length-lines (c ∷ t) = length-lines_by (line_ends t) c (lines t) (ends_line c t) (eqb c 13) (length-lines t)

@@ -1,0 +1,186 @@
+-- Laws of the position of an offset, over the lines that a snapshot holds.
+use Rattle.std.proofs.Common.{◌≡◌, ℕ, zero, suc, ◌+◌, ◌-◌, ◌<◌, ◌≤◌, min, Bool, true, false, cond, ◌&&◌, List, [], ◌∷◌, ◌++◌, length, take, drop, get_or, refl, sym, ap, subst, ◌∙◌, ⊎_elim, arith, length-append, map}
+use Rattle.std.specs.Prelude.{sum_by}
+use Rattle.std.specs.Str.{chars, IsUtf8, encode_utf8_all as encodes}
+use Rattle.std.proofs.lemmas.Str.{encodes-append, encodes-chars, length-le-encodes}
+use Rattle.std.proofs.Math.Seq.{take-append-add, drop-append-add}
+use Rattle.std.proofs.lemmas.List.{get_or_read, take_all}
+use Rattle.std.proofs.lemmas.Bool.{cases_lt}
+use Rattle.ls_text.specs.Lines.{starts_with_lf, ends_with_cr, splits_crlf, line_at, units_at, lowered}
+use Rattle.ls_text.specs.Cut.{end_text, line_text, text_of, is_end_before, AreLines, start_of, text_at, end_at, IsKept}
+use Rattle.ls_text.specs.Positions.{position_of}
+use Rattle.ls_text.specs.declared.position.Position.{Position}
+use Rattle.ls_text.specs.declared.line_end.LineEnd.{LineEnd}
+use Rattle.ls_text.specs.declared.line_end.LineEnd.TheVariants.{Eof, Lf, Cr, CrLf}
+use Rattle.ls_text.specs.declared.line.Line.{Line}
+use Rattle.ls_text.proofs.OffsetLaws.{take_past, drop_past, ends_with_cr-append, at_line, is_apart, start_le}
+
+cond_no : (b : Bool) (x y : ℕ) → b ≡ false → cond b x y ≡ y
+cond_no false x y e = refl
+cond_no true x y e = cc
+
+cond_yes : (b : Bool) (x y : ℕ) → b ≡ true → cond b x y ≡ x
+cond_yes true x y e = refl
+cond_yes false x y e = cc
+
+-- between CR and LF
+splits_front : (p : List ℕ) (e : LineEnd) (t : List ℕ) (o : ℕ) → length p < o → o < length p + length (end_text e) → splits_crlf (p ++ (end_text e ++ t)) o ≡ true
+splits_front p Eof t o gt lt = absurd (omega (arith, gt, lt))
+splits_front p Lf t o gt lt = absurd (omega (arith, gt, lt))
+splits_front p Cr t o gt lt = absurd (omega (arith, gt, lt))
+splits_front p CrLf t o gt lt =
+    let at : o ≡ length p + 1 = omega (arith, gt, lt) in
+    let front : ends_with_cr (take (length p + 1) (p ++ (13 ∷ 10 ∷ t))) ≡ true = ap ends_with_cr (take-append-add p (13 ∷ 10 ∷ t) 1) ∙ ends_with_cr-append p (13 ∷ []) (omega arith) in
+    let back : starts_with_lf (drop (length p + 1) (p ++ (13 ∷ 10 ∷ t))) ≡ true = ap starts_with_lf (drop-append-add p (13 ∷ 10 ∷ t) 1) in
+    ap (splits_crlf (p ++ (13 ∷ 10 ∷ t))) at ∙ (λ i. front i && back i)
+
+splits_after : (p e t : List ℕ) (x : ℕ) → splits_crlf t x ≡ true → splits_crlf (p ++ (e ++ t)) (length p + (length e + x)) ≡ true
+splits_after p e t zero h = cc
+splits_after p e [] (suc x) h = cc
+splits_after p e (c ∷ t) (suc x) h =
+    let front : ends_with_cr (take (length p + (length e + suc x)) (p ++ (e ++ (c ∷ t)))) ≡ ends_with_cr (take (suc x) (c ∷ t)) = ap ends_with_cr (take_past p e (c ∷ t) (suc x)) ∙ ends_with_cr-append p (e ++ take (suc x) (c ∷ t)) (omega (arith, length-append e (take (suc x) (c ∷ t)))) ∙ ends_with_cr-append e (take (suc x) (c ∷ t)) (omega arith) in
+    let back : starts_with_lf (drop (length p + (length e + suc x)) (p ++ (e ++ (c ∷ t)))) ≡ starts_with_lf (drop (suc x) (c ∷ t)) = ap starts_with_lf (drop_past p e (c ∷ t) (suc x)) in
+    (λ i. front i && back i) ∙ h
+
+-- past the end of a line, and before the next
+pub splits_in : (ls : List Line) (m o : ℕ) → suc m < length ls → start_of ls m + length (text_at ls m) < o → o < start_of ls (suc m) → splits_crlf (text_of ls) o ≡ true
+splits_in [] m o lt gt below = absurd (omega (arith, lt))
+splits_in (l ∷ ls) zero o lt gt below = splits_front (line_text l) l.end (text_of ls) o (omega (arith, gt)) (omega (arith, below, start_zero ls))
+  where
+    start_zero : (ls : List Line) → start_of ls 0 ≡ 0
+    start_zero [] = refl
+    start_zero (l ∷ ls) = refl
+splits_in (l ∷ ls) (suc m) o lt gt below =
+    let x = o - (length (line_text l) + length (end_text l.end)) in
+    let e : o ≡ length (line_text l) + (length (end_text l.end) + (o - (length (line_text l) + length (end_text l.end)))) = omega (arith, gt) in
+    ap (splits_crlf (text_of (l ∷ ls))) e ∙ splits_after (line_text l) (end_text l.end) (text_of ls) (o - (length (line_text l) + length (end_text l.end))) (splits_in ls m (o - (length (line_text l) + length (end_text l.end))) (omega (arith, lt)) (omega (arith, gt)) (omega (arith, below, gt)))
+
+-- the end of a line but the last is two characters at most
+end_short : (e : LineEnd) → length (end_text e) ≤ 2
+end_short Eof = omega arith
+end_short Lf = omega arith
+end_short Cr = omega arith
+end_short CrLf = omega arith
+
+start_next : (ls : List Line) (m : ℕ) → m < length ls → start_of ls (suc m) ≡ start_of ls m + (length (text_at ls m) + length (end_text (end_at ls m)))
+start_next [] m lt = absurd (omega (arith, lt))
+start_next (l ∷ []) zero lt = omega arith
+start_next (l ∷ n ∷ ls) zero lt = omega arith
+start_next (l ∷ ls) (suc m) lt = omega (arith, start_next ls m (omega (arith, lt)))
+
+last_full : (ls : List Line) → AreLines ls → (m : ℕ) → suc m ≡ length ls → start_of ls m + length (text_at ls m) ≡ length (text_of ls)
+last_full [] h m e = absurd h
+last_full (l ∷ []) h zero e = omega (arith, length-append (line_text l) (end_text l.end ++ []), ap (λ x. length (end_text x ++ [])) h.1)
+last_full (l ∷ []) h (suc m) e = absurd (omega (arith, e))
+last_full (l ∷ n ∷ ls) h zero e = absurd (omega (arith, e))
+last_full (l ∷ n ∷ ls) h (suc m) e = omega (arith, last_full (n ∷ ls) h.2 m (omega (arith, e)), length-append (line_text l) (end_text l.end ++ text_of (n ∷ ls)), length-append (end_text l.end) (text_of (n ∷ ls)))
+
+-- the offset, lowered, stands in its line after so many characters
+module _ (ls : List Line) (h : AreLines ls) (m o : ℕ) (lt : m < length ls) (starts : start_of ls m ≤ o) (last : suc m < length ls → o < start_of ls (suc m)) where
+  pub lowered_in : lowered (text_of ls) o ≡ start_of ls m + min (o - start_of ls m) (length (text_at ls m))
+  unfolding lowered
+  lowered_in = ⊎_elim after within (cases_lt (start_of ls m + length (text_at ls m)) o)
+    where
+      within : o ≤ start_of ls m + length (text_at ls m) → cond (splits_crlf (text_of ls) (min o (length (text_of ls)))) (min o (length (text_of ls)) - 1) (min o (length (text_of ls))) ≡ start_of ls m + min (o - start_of ls m) (length (text_at ls m))
+      within le =
+          let is : min o (length (text_of ls)) ≡ start_of ls m + (o - start_of ls m) = omega (arith, le, start_le ls m lt, starts) in
+          cond_no _ _ _ (ap (splits_crlf (text_of ls)) is ∙ is_apart ls h m (o - start_of ls m) lt (omega (arith, le))) ∙ omega (arith, is, le)
+
+      after : start_of ls m + length (text_at ls m) < o → cond (splits_crlf (text_of ls) (min o (length (text_of ls)))) (min o (length (text_of ls)) - 1) (min o (length (text_of ls))) ≡ start_of ls m + min (o - start_of ls m) (length (text_at ls m))
+      after gt = ⊎_elim inner at_last (cases_lt (suc m) (length ls))
+        where
+          at_last : length ls ≤ suc m → cond (splits_crlf (text_of ls) (min o (length (text_of ls)))) (min o (length (text_of ls)) - 1) (min o (length (text_of ls))) ≡ start_of ls m + min (o - start_of ls m) (length (text_at ls m))
+          at_last le =
+              let full = last_full ls h m (omega (arith, le, lt)) in
+              let is : min o (length (text_of ls)) ≡ start_of ls m + length (text_at ls m) = omega (arith, gt, full) in
+              cond_no _ _ _ (ap (splits_crlf (text_of ls)) is ∙ is_apart ls h m (length (text_at ls m)) lt (omega arith)) ∙ omega (arith, is, gt)
+
+          inner : suc m < length ls → cond (splits_crlf (text_of ls) (min o (length (text_of ls)))) (min o (length (text_of ls)) - 1) (min o (length (text_of ls))) ≡ start_of ls m + min (o - start_of ls m) (length (text_at ls m))
+          inner more =
+              let below = last more in
+              let next = start_next ls m lt in
+              let short = end_short (end_at ls m) in
+              let fits : o < length (text_of ls) = omega (arith, below, start_le ls (suc m) more) in
+              let is : min o (length (text_of ls)) ≡ o = omega (arith, fits) in
+              cond_yes _ _ _ (ap (splits_crlf (text_of ls)) is ∙ splits_in ls m o more gt below) ∙ omega (arith, is, gt, below, next, short)
+
+  pub position_in : (w : ℕ → ℕ) (units : ℕ) → units ≡ sum_by w (take (o - start_of ls m) (text_at ls m)) → (line_at (text_of ls) (lowered (text_of ls) o) ≡ m) × (units_at w (text_of ls) (lowered (text_of ls) o) ≡ units)
+  position_in w units units_is =
+      let here = at_line ls h m (min (o - start_of ls m) (length (text_at ls m))) lt (omega arith) in (
+        ap (line_at (text_of ls)) lowered_in ∙ here.line_is,
+        ap (units_at w (text_of ls)) lowered_in ∙ ap (sum_by w) (here.before_is ∙ taken (text_at ls m) (o - start_of ls m)) ∙ sym units_is,
+      )
+    where
+      taken : (xs : List ℕ) (k : ℕ) → take (min k (length xs)) xs ≡ take k xs
+      taken xs k = ⊎_elim (λ below. ap (λ x. take x xs) (omega_min below)) (λ past. ap (λ x. take x xs) (omega_past past) ∙ take_all (length xs) xs (omega arith) ∙ sym (take_all k xs past)) (cases_lt k (length xs))
+        where
+          omega_min : k < length xs → min k (length xs) ≡ k
+          omega_min lt = omega (arith, lt)
+
+          omega_past : length xs ≤ k → min k (length xs) ≡ length xs
+          omega_past le = omega (arith, le)
+
+-- a text has no fewer characters than lines but one
+pub few_lines : (ls : List Line) → AreLines ls → length ls ≤ length (text_of ls) + 1
+few_lines [] h = absurd h
+few_lines (l ∷ []) h = omega arith
+few_lines (l ∷ n ∷ ls) h = omega (arith, few_lines (n ∷ ls) h.2, length-append (line_text l) (end_text l.end ++ text_of (n ∷ ls)), length-append (end_text l.end) (text_of (n ∷ ls)), some l.end _ h.1)
+  where
+    some : (e : LineEnd) (t : List ℕ) → is_end_before e t ≡ true → 0 < length (end_text e)
+    some Eof t h = cc
+    some Lf t h = omega arith
+    some Cr t h = omega arith
+    some CrLf t h = omega arith
+
+-- ---- what `position_of` computes, over the lines and their index
+lines_some : (ls : List Line) → AreLines ls → 0 < length ls
+lines_some [] h = absurd h
+lines_some (l ∷ ls) h = omega arith
+
+start_first : (ls : List Line) → start_of ls 0 ≡ 0
+start_first [] = refl
+start_first (l ∷ ls) = refl
+
+-- the bytes of a line are no more than those of the text
+bytes_le : (x y z : List ℕ) → (length (encodes x) ≤ length (encodes (x ++ (y ++ z)))) × (length (encodes z) ≤ length (encodes (x ++ (y ++ z))))
+bytes_le x y z =
+    let whole = ap length (encodes-append x (y ++ z)) in
+    let whole_length = length-append (encodes x) (encodes (y ++ z)) in
+    let back = ap length (encodes-append y z) in
+    let back_length = length-append (encodes y) (encodes z) in
+    (omega arith, omega arith)
+
+pub text_bytes_le : (ls : List Line) (m : ℕ) → length (encodes (text_at ls m)) ≤ length (encodes (text_of ls))
+text_bytes_le [] m = omega arith
+text_bytes_le (l ∷ ls) zero = (bytes_le (line_text l) (end_text l.end) (text_of ls)).0
+text_bytes_le (l ∷ ls) (suc m) = omega (arith, text_bytes_le ls m, (bytes_le (line_text l) (end_text l.end) (text_of ls)).1)
+
+-- the characters of a line held behind a pointer
+pub text_held : {X : Type 0} (value : X → Line) (held : List X) (m : ℕ) (x : X) → m < length held → x ≡ get_or held m x → text_at (map value held) m ≡ line_text (value x)
+text_held value [] m x lt e = absurd (omega (arith, lt))
+text_held value (l ∷ ls) zero x lt e = ap (λ y. line_text (value y)) (sym e)
+text_held value (l ∷ ls) (suc m) x lt e = text_held value ls m x (omega (arith, lt)) e
+
+same_position : (a b c d : ℕ) → a ≡ c → b ≡ d → ◌≡◌ {A = Position} (record { line = a; character = b }) (record { line = c; character = d })
+same_position a b c d e f = λ i. record { line = e i; character = f i }
+
+module _ (ls : List Line) (starts : List ℕ) (len : ℕ) (kept : IsKept ls starts len) (got : List ℕ) (got_is : got ≡ starts) where
+  pub first_start : get_or got 0 0 ≡ 0
+  first_start = ap (λ x. get_or x 0 0) got_is ∙ kept.index.starts_are 0 (lines_some ls kept.lines) ∙ start_first ls
+
+  pub line_small : (m : ℕ) → m < length got → m < 4_294_967_296
+  line_small m lt = omega (arith, lt, ap length got_is, kept.index.count, few_lines ls kept.lines, length-le-encodes (text_of ls), kept.small)
+
+  pub bytes_small : (m : ℕ) (bytes : List ℕ) → IsUtf8 bytes → text_at ls m ≡ chars bytes → length bytes ≤ 4_194_304
+  bytes_small m bytes u text_is = omega (arith, ap length (encodes-chars bytes u), ap (λ x. length (encodes x)) text_is, text_bytes_le ls m, kept.small)
+
+  pub position_found : (w : ℕ → ℕ) (t : List ℕ) → text_of ls ≡ t → (m o : ℕ) → m < length got → get_or got m 0 ≤ o → (m + 1 < length got → o < get_or got (m + 1) 0) → (bytes : List ℕ) → text_at ls m ≡ chars bytes → (start : ℕ) → start ≡ get_or starts m start → (units : ℕ) → units ≡ sum_by w (take (o - start) (chars bytes)) → ◌≡◌ {A = Position} (record { line = m; character = units }) (position_of w t o)
+  position_found w t view_is m o lt at_start before_next bytes text_is start start_is units units_is =
+      let count = ap length got_is in
+      let lt' : m < length ls = omega (arith, lt, kept.index.count) in
+      let start_at : start ≡ start_of ls m = get_or_read starts m start (omega (arith, lt', kept.index.count)) start_is 0 ∙ kept.index.starts_are m lt' in
+      let from_start : start_of ls m ≤ o = omega (arith, at_start, ap (λ x. get_or x m 0) got_is, kept.index.starts_are m lt') in
+      let after : m + 1 ≡ suc m = omega arith in
+      let next : suc m < length ls → o < start_of ls (suc m) = λ more. subst (λ x. o < x) (ap (λ x. get_or x (suc m) 0) got_is ∙ kept.index.starts_are (suc m) more) (subst (λ k. o < get_or got k 0) after (before_next (omega (arith, more, kept.index.count)))) in
+      let at = position_in ls kept.lines m o lt' from_start next w units (units_is ∙ (λ i. sum_by w (take (o - start_at i) (sym text_is i)))) in
+      same_position m units _ _ (sym at.0) (sym at.1) ∙ ap (λ x. position_of w x o) view_is

@@ -1,0 +1,77 @@
+-- Laws of the units and bytes of the characters at the front of a text.
+use Rattle.std.proofs.Common.{◌≡◌, ℕ, suc, ◌+◌, ◌-◌, ◌<◌, ◌≤◌, cond, leb, List, [], ◌∷◌, ◌++◌, length, take, drop, get_or, sym, ap, ◌∙◌, arith, length-append, take-append-drop}
+use Rattle.std.specs.Prelude.{sum_by}
+use Rattle.std.specs.Char.{len_utf8}
+use Rattle.std.specs.Str.{chars, IsUtf8, encode_utf8_all as encodes}
+use Rattle.std.proofs.lemmas.Str.{encodes-append, encodes-chars, length-encode}
+use Rattle.std.proofs.lemmas.List.{append-nil, take_more, at_drop_more, at_drop_all}
+use Rattle.std.proofs.lemmas.List.Sums.{sum_by-cons, sum_by-append}
+use Rattle.std.proofs.lemmas.Bool.Decides.{nat_tests}
+use Rattle.ls_text.specs.Lines.{fitting, utf16_len}
+use Rattle.ls_text.specs.Cut.{width_of}
+use Rattle.ls_text.specs.declared.units.Units.{Units}
+use Rattle.ls_text.specs.declared.units.Units.TheVariants.{Utf8, Utf16}
+
+-- ---- one character more
+pub taken : (cs : List ℕ) (n c : ℕ) → (n < length cs) × (c ≡ get_or cs n c) → take (n + 1) cs ≡ take n cs ++ c ∷ []
+taken cs n c here = take_more cs n c here.0 ∙ ap (λ x. take n cs ++ x ∷ []) (sym here.1)
+
+pub bytes_more : (cs : List ℕ) (n c : ℕ) → (n < length cs) × (c ≡ get_or cs n c) → length (encodes (take (n + 1) cs)) ≡ length (encodes (take n cs)) + len_utf8 c
+bytes_more cs n c here =
+    omega (arith, ap (λ x. length (encodes x)) (taken cs n c here), ap length (encodes-append (take n cs) (c ∷ [])), length-append (encodes (take n cs)) (encodes (c ∷ [])), length-encode c, ap length (append-nil (encodes (c ∷ []))), one_char c)
+  where
+    one_char : (c : ℕ) → length (encodes (c ∷ [])) ≡ len_utf8 c
+    one_char c = ap length (append-nil _) ∙ length-encode c
+
+pub bytes_fit : (bs : List ℕ) → IsUtf8 bs → (n : ℕ) → length (encodes (take n (chars bs))) ≤ length bs
+bytes_fit bs u n =
+    omega (arith, ap length (encodes-chars bs u), ap (λ x. length (encodes x)) (take-append-drop n (chars bs)), ap length (encodes-append (take n (chars bs)) (drop n (chars bs))), length-append (encodes (take n (chars bs))) (encodes (drop n (chars bs))))
+
+pub units_more : (w : ℕ → ℕ) (cs : List ℕ) (n c : ℕ) → (n < length cs) × (c ≡ get_or cs n c) → sum_by w (take (n + 1) cs) ≡ sum_by w (take n cs) + w c
+units_more w cs n c here =
+    let one : sum_by w (c ∷ []) ≡ w c + sum_by w [] = sum_by-cons w c [] in
+    omega (arith, ap (sum_by w) (taken cs n c here), sum_by-append w (take n cs) (c ∷ []))
+
+-- no width is more than that in bytes
+pub utf16_le : (c : ℕ) → utf16_len c ≤ len_utf8 c
+utf16_le c = grind (arith, nat_tests)
+
+pub width_le : (u : Units) (c : ℕ) → width_of u c ≤ len_utf8 c
+width_le Utf8 c = omega arith
+width_le Utf16 c = utf16_le c
+
+pub units_le : (u : Units) (cs : List ℕ) → sum_by (width_of u) cs ≤ length (encodes cs)
+units_le u [] = omega arith
+units_le u (c ∷ cs) =
+    omega (arith, sum_by-cons (width_of u) c cs, units_le u cs, width_le u c, ap length (encodes-append (c ∷ []) cs), length-append (encodes (c ∷ [])) (encodes cs), ap length (append-nil (encodes (c ∷ []))), one_char c)
+  where
+    one_char : (c : ℕ) → length (encodes (c ∷ [])) ≡ len_utf8 c
+    one_char c = ap length (append-nil _) ∙ length-encode c
+
+-- ---- how many characters fit
+pub fitting-drop : (w : ℕ → ℕ) (cs : List ℕ) (n c left : ℕ) → (n < length cs) × (c ≡ get_or cs n c) → fitting w (drop n cs) left ≡ cond (leb (w c) left) (suc (fitting w (drop (n + 1) cs) (left - w c))) 0
+unfolding fitting
+fitting-drop w cs n c left h = at_drop_more (λ xs. fitting w xs left) cs n c h.0 ∙ ap (λ x. cond (leb (w x) left) (suc (fitting w (drop (n + 1) cs) (left - w x))) 0) (sym h.1)
+
+pub fitting-none : (w : ℕ → ℕ) (left : ℕ) (cs : List ℕ) (n : ℕ) → length cs ≤ n → fitting w (drop n cs) left ≡ 0
+unfolding fitting
+fitting-none w left cs n le = at_drop_all (λ xs. fitting w xs left) cs n le
+
+stops : (w left f n m : ℕ) → left < w → n + cond (leb w left) f 0 ≡ m → n ≡ m
+stops w left f n m lt e = grind (arith, nat_tests)
+
+goes : (w left f n m : ℕ) → w ≤ left → n + cond (leb w left) (suc f) 0 ≡ m → (n + 1) + f ≡ m
+goes w left f n m le e = grind (arith, nat_tests)
+
+pub moved : (cs : List ℕ) (y n c : ℕ) → n ≡ y → (y < length cs) × (c ≡ get_or cs y c) → (n < length cs) × (c ≡ get_or cs n c)
+moved cs y n c count_is turn = (omega (arith, turn.0), turn.1 ∙ ap (λ k. get_or cs k c) (sym count_is))
+
+module _ (w : ℕ → ℕ) (cs : List ℕ) (n c left wide m : ℕ) (here : (n < length cs) × (c ≡ get_or cs n c)) (w_is : wide ≡ w c) (before : n + fitting w (drop n cs) left ≡ m) where
+  at_c : n + cond (leb (w c) left) (suc (fitting w (drop (n + 1) cs) (left - w c))) 0 ≡ m
+  at_c = ap (λ x. n + x) (sym (fitting-drop w cs n c left here)) ∙ before
+
+  pub turn_stops : left < wide → n ≡ m
+  turn_stops lt = stops (w c) left _ n m (omega (arith, lt, w_is)) at_c
+
+  pub turn_goes : wide ≤ left → (n + 1) + fitting w (drop (n + 1) cs) (left - wide) ≡ m
+  turn_goes le = ap (λ x. (n + 1) + fitting w (drop (n + 1) cs) (left - x)) w_is ∙ goes (w c) left _ n m (omega (arith, le, w_is)) at_c

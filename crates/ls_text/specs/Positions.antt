@@ -1,0 +1,22 @@
+-- Positions and places of a text (LSP 3.17, "Position").
+use Rattle.std.specs.Prelude.{ℕ, List}
+use Rattle.std.specs.Char.{len_utf8}
+use Rattle.ls_text.specs.Lines.{line_at, units_at, offset_of, lowered}
+use Rattle.ls_text.specs.declared.position.Position.{Position}
+use Rattle.ls_text.specs.declared.position.Range.{Range}
+use Rattle.ls_text.specs.declared.position.Place.{Place}
+
+-- the position of an offset: its line, and its units there
+abbrev pub position_of : (ℕ → ℕ) → List ℕ → ℕ → Position
+position_of width t o = record { line = line_at t (lowered t o); character = units_at width t (lowered t o) }
+
+-- the offsets of a place's two ends, which count bytes of UTF-8 within their line
+abbrev pub place_start : List ℕ → Place → ℕ
+place_start t p = offset_of len_utf8 t p.line p.start
+
+abbrev pub place_end : List ℕ → Place → ℕ
+place_end t p = offset_of len_utf8 t p.line p.end
+
+-- the positions of a place's two ends
+abbrev pub place_range : (ℕ → ℕ) → List ℕ → Place → Range
+place_range width t p = record { start = position_of width t (place_start t p); end = position_of width t (place_end t p) }

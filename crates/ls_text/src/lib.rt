@@ -1,0 +1,25 @@
+//! Texts of documents, as a language server sees them: lines, places and positions.
+//!
+//! A [`Snapshot`] is a text that doesn't change. Contracts see it as the list of its characters.
+//!
+//! The definitions are those of the Language Server Protocol 3.17, "Text Documents" and "Position":
+//!
+//! - A line end is CRLF, else LF or CR, and nothing else. A text has one line more than it has line ends.
+//! - A [`Position`] is a line from 0, and the UTF-16 units of that line before it.
+//! - A [`Place`] is a line from 0, and bytes of UTF-8 from the start of that line, without its line end.
+//! - An offset is a number of characters (Unicode scalar values) from the start of the text.
+#![tactic(auto)]
+
+mod cut;
+mod fault;
+mod line;
+mod line_end;
+mod position;
+mod snapshot;
+#[cfg(test)]
+mod tests;
+mod units;
+
+pub use fault::TextFault;
+pub use position::{Place, Position, Range};
+pub use snapshot::{MAX_BYTES, Snapshot};

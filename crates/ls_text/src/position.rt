@@ -1,0 +1,30 @@
+/// A position in a text (LSP 3.17, "Position").
+///
+/// It stands between two characters. A character past the line's end means the line's end, before its line end.
+/// A line past the last means the text's end. A character inside a surrogate pair means the start of that pair.
+#[derive(Clone, Copy, Debug, PartialEq, Eq)]
+pub struct Position {
+    /// The line, from 0.
+    pub line: u32,
+    /// The UTF-16 units of the line before the position.
+    pub character: u32,
+}
+
+/// The text from one position to another (LSP 3.17, "Range").
+#[derive(Clone, Copy, Debug, PartialEq, Eq)]
+pub struct Range {
+    pub start: Position,
+    /// The position after the last character of the range.
+    pub end: Position,
+}
+
+/// Characters of one line, by the bytes of UTF-8 before them in that line.
+#[derive(Clone, Copy, Debug, PartialEq, Eq)]
+pub struct Place {
+    /// The line, from 0.
+    pub line: usize,
+    /// The bytes of the line before the place.
+    pub start: usize,
+    /// The bytes of the line up to the end of the place.
+    pub end: usize,
+}

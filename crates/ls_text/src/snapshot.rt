@@ -1,0 +1,208 @@
+ghost use Rattle.std.specs.Prelude.{◌≡◌, ◌+◌, ◌<◌, ◌≤◌, ◌++◌, ◌∷◌, [], length, map, Option, IsTrue, OnOk, IfOk, IfErr, IfSome, slice_index};
+ghost use Rattle.std.specs.Arc.{arc_value};
+ghost use Rattle.std.specs.Str.{chars, encode_utf8_all, IsUtf8};
+ghost use Rattle.std.specs.String.{string_bytes, string_len};
+ghost use Rattle.std.specs.Option.{option_map};
+ghost use Rattle.std.specs.List.{slice_get};
+ghost use Rattle.ls_text.specs.Lines.{line_ends, lines, utf16_len, offset_of};
+ghost use Rattle.ls_text.specs.Positions.{position_of, place_range};
+ghost use Rattle.ls_text.specs.Cut.{AreLines, text_of, width_of};
+
+use crate::cut::lines_of;
+use crate::fault::TextFault;
+use crate::line::Line;
+use crate::position::{Place, Position, Range};
+use crate::units::{Units, fitting, units_before};
+use std::alloc::{AllocError, Global};
+use std::marker::Model;
+use std::sync::Arc;
+
+/// The longest text of a document, in bytes of UTF-8.
+pub const MAX_BYTES: usize = 4_194_304;
+
+/// A text that doesn't change, cut into lines. Contracts see the list of its characters.
+///
+/// It has at most [`MAX_BYTES`] bytes of UTF-8.
+#[derive(Drop)]
+pub struct Snapshot {
+    alloc: Global,
+    lines: Vec<Arc<Line>>,
+    // Where each line starts, and where the text ends, in characters.
+    starts: Vec<usize>,
+    length: usize,
+}
+
+impl Model for Snapshot {
+    ghost use Rattle.std.specs.Prelude.{List, ℕ, map};
+    ghost use Rattle.std.specs.Arc.{arc_value};
+    ghost use Rattle.ls_text.specs.Cut.{text_of, IsKept};
+
+    ghost Value = { List ℕ };
+
+    ghost view = { λ s. text_of (map arc_value s.lines.items) };
+
+    ghost invariant = { λ s. IsKept (map arc_value s.lines.items) s.starts.items s.length };
+}
+
+// Adds the start of a line.
+fn push_start(starts: &mut Vec<usize>, start: usize) -> Result<(), AllocError>
+    ensures { OnOk result (starts.new.items ≡ starts.old.items ++ start ∷ []) }
+{
+    starts.push(start)?;
+    Ok(())
+}
+
+// The snapshot of these lines.
+fn indexed(alloc: Global, lines: Vec<Arc<Line>>) -> Result<Snapshot, TextFault>
+    requires { AreLines (map arc_value lines.items) }
+    ensures ok { let text = text_of (map arc_value lines.items) in
+        IfOk result (λ s. (s ≡ text) × (length (encode_utf8_all s) ≤ MAX_BYTES)) }
+    ensures too_large { let text = text_of (map arc_value lines.items) in
+        IfErr result (λ e. e ≡ TextFault.TooLarge → MAX_BYTES < length (encode_utf8_all text)) }
+{
+    let mut starts = Vec::new(alloc);
+    let mut length = 0;
+    let mut bytes = 0;
+    for line in &lines {
+        push_start(&mut starts, length)?;
+        let ends = line.end.len();
+        let more = line.text.len().saturating_add(ends);
+        if more > MAX_BYTES - bytes {
+            return Err(TextFault::TooLarge);
+        }
+        length += line.char_count + ends;
+        bytes += more;
+    }
+    Ok(Snapshot {
+        alloc,
+        lines,
+        starts,
+        length,
+    })
+}
+
+// The last line that starts at the offset or before it.
+fn line_of(starts: &[usize], offset: usize) -> usize
+    requires first { slice_index starts.now 0 ≡ 0 }
+    requires some { 0 < length starts.now }
+    ensures in_range { result < length starts.now }
+    ensures starts { slice_index starts.now result ≤ offset }
+    ensures last { result + 1 < length starts.now → offset < slice_index starts.now (result + 1) }
+{
+    let mut low = 0;
+    let mut high = starts.len();
+    'halves: while low + 1 < high {
+        let middle = low + (high - low) / 2;
+        if starts[middle] <= offset {
+            low = middle;
+        } else {
+            high = middle;
+        }
+    }
+    low
+}
+
+// Adds the text of these lines.
+fn push_text(text: &mut String, lines: &[Arc<Line>]) -> Result<(), AllocError>
+    ensures { OnOk result
+        (chars (string_bytes text.new) ≡ chars (string_bytes text.old) ++ text_of (map arc_value lines.now)) }
+{
+    for line in lines {
+        text.push_str(line.text.as_str())?;
+        text.push_str(line.end.as_str())?;
+    }
+    Ok(())
+}
+
+impl Snapshot {
+    /// The snapshot of a text.
+    ///
+    /// # Errors
+    ///
+    /// `TooLarge` exactly where the text has more than [`MAX_BYTES`] bytes, and `Memory` where an allocation is refused.
+    pub fn of_text(alloc: Global, text: String) -> Result<Snapshot, TextFault>
+        ensures ok { IfOk result (λ s. (s ≡ chars (string_bytes text)) × (string_len text ≤ MAX_BYTES)) }
+        ensures too_large { IfErr result (λ e. e ≡ TextFault.TooLarge → MAX_BYTES < string_len text) }
+    {
+        if text.len() > MAX_BYTES {
+            return Err(TextFault::TooLarge);
+        }
+        let lines = lines_of(alloc, text.as_str())?;
+        indexed(alloc, lines)
+    }
+
+    /// The number of lines, one more than the text has line ends.
+    pub fn line_count(&self) -> usize
+        ensures { result ≡ line_ends self.now + 1 }
+    {
+        self.lines.len()
+    }
+
+    /// The line `at`, from 0, without its line end. There is none from [`line_count`](Snapshot::line_count) on.
+    pub fn line(&self, at: usize) -> Option<&str>
+        ensures characters { option_map (λ line. chars line.now) result ≡ slice_get (lines self.now) at }
+        ensures bytes { option_map (λ line. line.now) result
+            ≡ option_map encode_utf8_all (slice_get (lines self.now) at) }
+        ensures utf8 { IfSome result (λ line. IsUtf8 line.now) }
+    {
+        match self.lines.get(at) {
+            Some(line) => Some(line.text.as_str()),
+            None => None,
+        }
+    }
+
+    // The offset of so many units in a line.
+    fn offset_in(&self, units: Units, line: usize, count: usize) -> usize
+        ensures { result ≡ offset_of (width_of units) self.now line count }
+    {
+        match self.lines.get(line) {
+            Some(held) => self.starts[line] + fitting(held.text.as_str(), units, count).count,
+            None => self.length,
+        }
+    }
+
+    /// The offset of a position, in characters: the greatest in its line with at most that many UTF-16 units before it
+    /// in the line. Past the last line it is the text's end.
+    pub fn offset_of(&self, at: Position) -> usize
+        ensures { result ≡ offset_of utf16_len self.now at.line at.character }
+    {
+        self.offset_in(Units::Utf16, at.line as usize, at.character as usize)
+    }
+
+    /// The position of an offset, which counts characters. Past the text's end it is that of the end, and between CR and LF
+    /// that before the CR.
+    pub fn position_of(&self, offset: usize) -> Position
+        ensures { result ≡ position_of utf16_len self.now offset }
+    {
+        let line = line_of(&self.starts, offset);
+        let text = self.lines[line].text.as_str();
+        let before = offset - self.starts[line];
+        Position {
+            line: line as u32,
+            character: units_before(text, Units::Utf16, before),
+        }
+    }
+
+    /// The positions of a place's two ends.
+    ///
+    /// An end past the line's end is taken for the line's end, and one inside a character for that character's start.
+    pub fn range_of(&self, place: &Place) -> Range
+        ensures { result ≡ place_range utf16_len self.now place.now }
+    {
+        let start = self.offset_in(Units::Utf8, place.line, place.start);
+        let end = self.offset_in(Units::Utf8, place.line, place.end);
+        Range {
+            start: self.position_of(start),
+            end: self.position_of(end),
+        }
+    }
+
+    /// The whole text.
+    pub fn to_text(&self) -> Result<String, AllocError>
+        ensures { IfOk result (λ text. chars (string_bytes text) ≡ self.now) }
+    {
+        let mut text = String::new(self.alloc);
+        push_text(&mut text, &self.lines)?;
+        Ok(text)
+    }
+}
