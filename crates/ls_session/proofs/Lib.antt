@@ -1,1 +1,3 @@
 pub mod NoFloats
+pub mod Heads
+pub mod Outlines

@@ -8,8 +8,10 @@
 mod answer;
 mod bodies;
 mod event;
+mod head;
 mod initialize;
 mod kind;
+mod outline;
 mod params;
 mod refusal;
 mod session;
@@ -19,5 +21,6 @@ mod tests;
 pub use answer::{Answer, DeskFault, Out, Symbol};
 pub use bodies::{body_of, refusal_body};
 pub use event::{Ask, ClientEvent, Status, Turn};
+pub use outline::symbols;
 pub use refusal::Refusal;
 pub use session::{Session, Stage};

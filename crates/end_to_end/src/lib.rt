@@ -1,0 +1,13 @@
+//! Whole sessions, from the bytes of a client to the bytes of the server.
+//!
+//! The crates below prove what each call answers. Here are the bytes of worked sessions, and devices that fail,
+//! which no contract can show.
+#![tactic(auto)]
+
+mod devices;
+#[cfg(test)]
+mod sessions;
+#[cfg(test)]
+mod support;
+
+pub use devices::{FailingSink, FailingSource};

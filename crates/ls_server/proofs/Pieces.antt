@@ -1,0 +1,139 @@
+-- Pieces of the input.
+use Rattle.std.proofs.Common.{◌≡◌, ℕ, ◌⊎◌, inl, inr, Bool, true, false, List, [], ◌∷◌, ◌++◌, Option, None, Some, Result, Ok, Err, refl, sym, ◌∙◌, ap, subst, append_assoc}
+use Rattle.std.specs.Io.KnownBytes.{Appends, Consumes, Keeps}
+use Rattle.ls_frame.specs.Frames.{Frames, HasNoFrame, Stream}
+use Rattle.ls_frame.specs.Faults.{fault_of, first_shown, shown}
+use Rattle.ls_frame.specs.Feeds.{FeedIs}
+use Rattle.ls_frame.proofs.Streams.{frames-append, stream-append, none-yet}
+use Rattle.ls_frame.specs.declared.fault.FrameFault.{FrameFault}
+use Rattle.ls_frame.specs.declared.fault.FrameFault.TheVariants.{HeaderTooLong, BadHeader, NoLength, TwoLengths, BadLength, TooLarge, Truncated, Memory as NoMemory}
+use Rattle.ls_server.specs.Talk.{Talk, start}
+use Rattle.ls_server.specs.Runs.{said, exited, after_all}
+use Rattle.ls_server.specs.Runs.{AppendsFront, AnswersIs, GoesOn, Ends, Stops, PieceIs, outcome, or_else, status_at}
+use Rattle.ls_server.specs.declared.serve.ServeFault.{ServeFault}
+use Rattle.ls_server.specs.declared.serve.ServeFault.TheVariants.{Read, Write, Memory}
+use Rattle.ls_session.specs.declared.event.Status.{Status}
+use Rattle.ls_session.specs.declared.event.Status.TheVariants.{BadFrame}
+use Rattle.ls_server.proofs.Known.{append-nil, appends-appends, answers-more, IsStop}
+
+some-none : {A : Type 0} {X : Type 0} (o : Option A) (x : A) → o ≡ None → o ≡ Some x → X
+some-none o x e f = absurd (cc)
+
+-- what a fed piece says of the rest
+abbrev Fed : List ℕ → List ℕ → Result ℕ FrameFault → List ℕ → List (List ℕ) → Type 0
+Fed old piece (Ok n) new after = (fault_of new ≡ None) × Stream (old ++ piece) after new
+Fed old piece (Err NoMemory) new after = after ≡ []
+Fed old piece (Err fault) new after = (fault_of new ≡ Some fault) × Stream (old ++ piece) after new
+
+fed-err : (old piece new : List ℕ) (after : List (List ℕ)) (fault : FrameFault) → fault_of old ≡ None
+    → ((fault_of old ≡ Some fault) × (new ≡ old) × (after ≡ []))
+      ⊎ ((fault_of old ≡ None) × (fault_of new ≡ Some fault) × ((contents : List (List ℕ)) × (after ≡ contents) × Stream (old ++ piece) contents new))
+    → (fault_of new ≡ Some fault) × Stream (old ++ piece) after new
+fed-err old piece new after fault e (inl h) = some-none (fault_of old) fault e h.0
+fed-err old piece new after fault e (inr h) = (h.1, rw h.2.1 h.2.2)
+
+fed-is : (old piece new : List ℕ) (after : List (List ℕ)) (fed : Result ℕ FrameFault) → fault_of old ≡ None → FeedIs old piece [] fed new after → Fed old piece fed new after
+fed-is old piece new after (Ok n) e h = (h.1, rw h.2.2 h.2.3)
+fed-is old piece new after (Err HeaderTooLong) e h = fed-err old piece new after HeaderTooLong e h
+fed-is old piece new after (Err BadHeader) e h = fed-err old piece new after BadHeader e h
+fed-is old piece new after (Err NoLength) e h = fed-err old piece new after NoLength e h
+fed-is old piece new after (Err TwoLengths) e h = fed-err old piece new after TwoLengths e h
+fed-is old piece new after (Err BadLength) e h = fed-err old piece new after BadLength e h
+fed-is old piece new after (Err TooLarge) e h = fed-err old piece new after TooLarge e h
+fed-is old piece new after (Err Truncated) e h = fed-err old piece new after Truncated e h
+fed-is old piece new after (Err NoMemory) e h = h.1
+
+-- a rest without frames is a stream without contents
+pub no-stream : (rest : List ℕ) → HasNoFrame rest → Stream rest [] rest
+no-stream rest p = record { frames = []; whole = refl; bytes_are = refl; partial = p }
+
+-- nothing of the piece has been answered
+pub stops-before : (old piece : List ℕ) (state : Talk) (after : List (List ℕ)) (a b : Option (List ℕ)) → HasNoFrame old → after ≡ [] → AppendsFront a b (said state after) → Stops old piece state a b
+stops-before old piece state after a b p e f = record {
+  part = old;
+  more = piece;
+  bytes_are = refl;
+  contents = [];
+  last = old;
+  stream = no-stream old p;
+  written = let P : List (List ℕ) → Type 0 = λ l. AppendsFront a b (said state l) in subst P e f;
+}
+
+stops-here : (old piece new : List ℕ) (state : Talk) (after : List (List ℕ)) (a b : Option (List ℕ)) → Stream (old ++ piece) after new → AppendsFront a b (said state after) → Stops old piece state a b
+stops-here old piece new state after a b s f = record {
+  part = old ++ piece;
+  more = [];
+  bytes_are = sym (append-nil (old ++ piece));
+  contents = after;
+  last = new;
+  stream = s;
+  written = f;
+}
+
+pub as-front : (a b : Option (List ℕ)) (bytes : List ℕ) → Appends a b bytes → AppendsFront a b bytes
+as-front a b bytes w = (bytes, [], (sym (append-nil bytes), w))
+
+faulty : (old piece new : List ℕ) (state now : Talk) (after : List (List ℕ)) (fault : FrameFault) (a b : Option (List ℕ)) → (fault_of new ≡ Some fault) × Stream (old ++ piece) after new
+    → AnswersIs state after a (Ok None) now b → Ends old piece state a (BadFrame fault) b
+faulty old piece new state now after fault a b f h = record { contents = after; last = new; stream = f.1; status = rw (h.0, f.0) refl; written = h.2 }
+
+pub outcome-of : (old piece new : List ℕ) (state now : Talk) (after : List (List ℕ)) (fed : Result ℕ FrameFault) (a b : Option (List ℕ)) → HasNoFrame old
+    → Fed old piece fed new after → AnswersIs state after a (Ok None) now b → PieceIs old piece state a (outcome fed) new now b
+outcome-of old piece new state now after (Ok n) a b p f h = record { contents = after; stream = f.1; fault = f.0; answered = h }
+outcome-of old piece new state now after (Err HeaderTooLong) a b p f h = faulty old piece new state now after HeaderTooLong a b f h
+outcome-of old piece new state now after (Err BadHeader) a b p f h = faulty old piece new state now after BadHeader a b f h
+outcome-of old piece new state now after (Err NoLength) a b p f h = faulty old piece new state now after NoLength a b f h
+outcome-of old piece new state now after (Err TwoLengths) a b p f h = faulty old piece new state now after TwoLengths a b f h
+outcome-of old piece new state now after (Err BadLength) a b p f h = faulty old piece new state now after BadLength a b f h
+outcome-of old piece new state now after (Err TooLarge) a b p f h = faulty old piece new state now after TooLarge a b f h
+outcome-of old piece new state now after (Err Truncated) a b p f h = faulty old piece new state now after Truncated a b f h
+outcome-of old piece new state now after (Err NoMemory) a b p f h = stops-before old piece state after a b p f (as-front a b (said state after) h.2)
+
+-- all that a piece completes has been answered
+pub piece-answered : (old piece new : List ℕ) (state now : Talk) (before after given : List (List ℕ)) (fed : Result ℕ FrameFault) (r : Result (Option Status) ServeFault) (a b : Option (List ℕ))
+    → HasNoFrame old → fault_of old ≡ None → FeedIs old piece before fed new after → before ≡ [] → given ≡ after → r ≡ outcome fed
+    → AnswersIs state given a (Ok None) now b → PieceIs old piece state a r new now b
+piece-answered old piece new state now before after given fed r a b p e f none same is h =
+    let F : List (List ℕ) → Type 0 = λ l. FeedIs old piece l fed new after in
+    let A : List (List ℕ) → Type 0 = λ l. AnswersIs state l a (Ok None) now b in
+    let P : Result (Option Status) ServeFault → Type 0 = λ o. PieceIs old piece state a o new now b in
+    subst P (sym is) (outcome-of old piece new state now after fed a b p (fed-is old piece new after fed e (subst F none f)) (subst A same h))
+
+-- the bodies are those of the piece, or there are none
+fed-stream : (old piece new : List ℕ) (after : List (List ℕ)) (fed : Result ℕ FrameFault) → Fed old piece fed new after → Stream (old ++ piece) after new ⊎ (after ≡ [])
+fed-stream old piece new after (Ok n) f = inl f.1
+fed-stream old piece new after (Err HeaderTooLong) f = inl f.1
+fed-stream old piece new after (Err BadHeader) f = inl f.1
+fed-stream old piece new after (Err NoLength) f = inl f.1
+fed-stream old piece new after (Err TwoLengths) f = inl f.1
+fed-stream old piece new after (Err BadLength) f = inl f.1
+fed-stream old piece new after (Err TooLarge) f = inl f.1
+fed-stream old piece new after (Err Truncated) f = inl f.1
+fed-stream old piece new after (Err NoMemory) f = inr f
+
+stops-there : (old piece new : List ℕ) (state : Talk) (after : List (List ℕ)) (a b : Option (List ℕ)) → HasNoFrame old → Stream (old ++ piece) after new ⊎ (after ≡ [])
+    → AppendsFront a b (said state after) → Stops old piece state a b
+stops-there old piece new state after a b p (inl s) f = stops-here old piece new state after a b s f
+stops-there old piece new state after a b p (inr e) f = stops-before old piece state after a b p e f
+
+exits : (old piece new : List ℕ) (state : Talk) (after : List (List ℕ)) (status : Status) (a b : Option (List ℕ)) → Stream (old ++ piece) after new ⊎ (after ≡ [])
+    → (exited state after ≡ Some status) × Appends a b (said state after) → Ends old piece state a status b
+exits old piece new state after status a b (inl s) h = record { contents = after; last = new; stream = s; status = rw h.0 refl; written = h.1 }
+exits old piece new state after status a b (inr e) h = some-none (exited state after) status (rw e refl) h.0
+
+stopped : (old piece new : List ℕ) (state now : Talk) (after : List (List ℕ)) (r : Result (Option Status) ServeFault) (a b : Option (List ℕ)) → HasNoFrame old
+    → Stream (old ++ piece) after new ⊎ (after ≡ []) → IsStop r → AnswersIs state after a r now b → PieceIs old piece state a r new now b
+stopped old piece new state now after (Ok None) a b p f s h = absurd s
+stopped old piece new state now after (Ok (Some status)) a b p f s h = exits old piece new state after status a b f h
+stopped old piece new state now after (Err Read) a b p f s h = absurd h
+stopped old piece new state now after (Err Write) a b p f s h = stops-there old piece new state after a b p f h
+stopped old piece new state now after (Err Memory) a b p f s h = stops-there old piece new state after a b p f h
+
+-- an exit or a fault came before all was answered
+pub piece-stopped : (old piece new : List ℕ) (state now : Talk) (before after given : List (List ℕ)) (fed : Result ℕ FrameFault) (r : Result (Option Status) ServeFault) (a b : Option (List ℕ))
+    → HasNoFrame old → fault_of old ≡ None → FeedIs old piece before fed new after → before ≡ [] → given ≡ after → IsStop r
+    → AnswersIs state given a r now b → PieceIs old piece state a r new now b
+piece-stopped old piece new state now before after given fed r a b p e f none same s h =
+    let F : List (List ℕ) → Type 0 = λ l. FeedIs old piece l fed new after in
+    let A : List (List ℕ) → Type 0 = λ l. AnswersIs state l a r now b in
+    stopped old piece new state now after r a b p (fed-stream old piece new after fed (fed-is old piece new after fed e (subst F none f))) s (subst A same h)

@@ -1,0 +1,171 @@
+-- The whole run.
+use Rattle.std.proofs.Common.{◌≡◌, ℕ, ◌+◌, ◌<◌, ◌⊎◌, ◌||◌, inl, inr, Bool, true, false, List, [], ◌∷◌, ◌++◌, length, take, Option, None, Some, Result, Ok, Err, refl, sym, ◌∙◌, ap, subst, append_assoc}
+use Rattle.std.specs.Io.KnownBytes.{Appends, Consumes, Keeps, IsAtEnd, ReadConsumes}
+use Rattle.ls_frame.specs.Frames.{Frames, HasNoFrame, Stream}
+use Rattle.ls_frame.specs.Faults.{fault_of, first_shown, shown, ended, has_stray_cr}
+use Rattle.ls_frame.proofs.Streams.{frames-append, stream-append, none-yet}
+use Rattle.ls_frame.specs.declared.fault.FrameFault.{FrameFault}
+use Rattle.ls_frame.specs.declared.fault.FrameFault.TheVariants.{Truncated}
+use Rattle.ls_frame.specs.Feeds.{EndIs}
+use Rattle.ls_server.specs.Talk.{Talk, start}
+use Rattle.ls_server.specs.Runs.{said, exited, after_all, end_status}
+use Rattle.ls_server.specs.Runs.{AppendsFront, AnswersIs, GoesOn, Ends, Stops, Finishes, PieceIs, ServedIs, is_write, or_else, status_at}
+use Rattle.ls_server.specs.declared.serve.ServeFault.{ServeFault}
+use Rattle.ls_server.specs.declared.serve.ServeFault.TheVariants.{Read, Write, Memory}
+use Rattle.ls_session.specs.declared.event.Status.{Status}
+use Rattle.ls_session.specs.declared.event.Status.TheVariants.{Unclean, BadFrame}
+use Rattle.ls_server.proofs.Known.{append-nil, appends-appends, answers-more, said-append, exited-append, after-append, front-more}
+use Rattle.ls_server.proofs.Pieces.{no-stream, as-front}
+
+pub consumes-consumes : (a b c : Option (List ℕ)) (x y : List ℕ) → Consumes a b x → Consumes b c y → Consumes a c (x ++ y)
+consumes-consumes None b c x y p q = tt
+consumes-consumes (Some xs) None c x y p q = absurd p
+consumes-consumes (Some xs) (Some ys) None x y p q = absurd q
+consumes-consumes (Some xs) (Some ys) (Some zs) x y p q = p ∙ (ap (λ l. x ++ l) q ∙ sym (append_assoc x y zs))
+
+pub consumes-keeps : (a b c : Option (List ℕ)) (x : List ℕ) → Consumes a b x → Keeps b c → Consumes a c x
+consumes-keeps None b c x p q = tt
+consumes-keeps (Some xs) None c x p q = absurd p
+consumes-keeps (Some xs) (Some ys) None x p q = absurd q
+consumes-keeps (Some xs) (Some ys) (Some zs) x p q = p ∙ ap (λ l. x ++ l) (sym q)
+
+pub consumes-none : (a : Option (List ℕ)) → Consumes a a []
+consumes-none None = tt
+consumes-none (Some xs) = refl
+
+pub appends-none : (a : Option (List ℕ)) → Appends a a []
+appends-none None = tt
+appends-none (Some xs) = sym (append-nil xs)
+
+-- frames, and then a stream
+pub stream-behind : (frames bytes last : List ℕ) (xs ys : List (List ℕ)) → Frames frames xs → Stream bytes ys last → Stream (frames ++ bytes) (xs ++ ys) last
+stream-behind frames bytes last xs ys f s = record {
+  frames = frames ++ s.frames;
+  whole = frames-append frames s.frames xs ys f s.whole;
+  bytes_are = ap (λ l. frames ++ l) s.bytes_are ∙ sym (append_assoc frames s.frames last);
+  partial = s.partial;
+}
+
+-- what is written of a piece is a front of what all the bytes ask for
+pub stops-more : (read rest piece : List ℕ) (state : Talk) (a b c : Option (List ℕ)) → GoesOn [] read start a rest state b → Stops rest piece state b c → Stops [] (read ++ piece) start a c
+stops-more read rest piece state a b c g p = record {
+  part = g.stream.frames ++ p.part;
+  more = p.more;
+  bytes_are = ap (λ l. l ++ piece) g.stream.bytes_are ∙ (append_assoc g.stream.frames rest piece
+    ∙ (ap (λ l. g.stream.frames ++ l) p.bytes_are ∙ sym (append_assoc g.stream.frames p.part p.more)));
+  contents = g.contents ++ p.contents;
+  last = p.last;
+  stream = stream-behind g.stream.frames p.part p.last g.contents p.contents g.stream.whole p.stream;
+  written = front-more start state g.contents p.contents a b c g.answered.0 g.answered.1 g.answered.2 p.written;
+}
+
+-- a piece comes after what has been read
+pub piece-more : (read rest piece last : List ℕ) (state now : Talk) (r : Result (Option Status) ServeFault) (a b c : Option (List ℕ))
+    → GoesOn [] read start a rest state b → PieceIs rest piece state b r last now c → PieceIs [] (read ++ piece) start a r last now c
+piece-more read rest piece last state now (Ok None) a b c g p = record {
+  contents = g.contents ++ p.contents;
+  stream = stream-append read piece rest last g.contents p.contents g.stream p.stream;
+  fault = p.fault;
+  answered = answers-more start state g.contents p.contents (Ok None) now a b c g.answered.0 g.answered.1 g.answered.2 p.answered;
+}
+piece-more read rest piece last state now (Ok (Some status)) a b c g p = record {
+  contents = g.contents ++ p.contents;
+  last = p.last;
+  stream = stream-append read piece rest p.last g.contents p.contents g.stream p.stream;
+  status = rw (exited-append start g.contents p.contents g.answered.0, ← g.answered.1) p.status;
+  written = rw (said-append start g.contents p.contents g.answered.0, ← g.answered.1) (appends-appends a b c _ _ g.answered.2 p.written);
+}
+piece-more read rest piece last state now (Err Read) a b c g p = absurd p
+piece-more read rest piece last state now (Err Write) a b c g p = stops-more read rest piece state a b c g p
+piece-more read rest piece last state now (Err Memory) a b c g p = stops-more read rest piece state a b c g p
+
+-- at the start nothing has been read
+pub begins : (rest : List ℕ) (state : Talk) (a : Option (List ℕ)) → rest ≡ [] → state ≡ start → GoesOn [] [] start a rest state a
+unfolding fault_of first_shown shown ended has_stray_cr
+begins rest state a e s = record {
+  contents = [];
+  stream = rw e (no-stream [] none-yet);
+  fault = rw e refl;
+  answered = (refl, s, appends-none a);
+}
+
+-- a front of nothing is written
+pub stops-start : (a : Option (List ℕ)) → Stops [] [] start a a
+stops-start a = record {
+  part = [];
+  more = [];
+  bytes_are = refl;
+  contents = [];
+  last = [];
+  stream = no-stream [] none-yet;
+  written = as-front a a [] (appends-none a);
+}
+
+-- the input ends in a good rest
+pub finished : (input before left : Option (List ℕ)) (spent failed : Type 0) (read none rest : List ℕ) (state : Talk) (a b : Option (List ℕ)) (answer : Status) → none ≡ []
+    → Consumes input before read → GoesOn [] read start a rest state b → Consumes before left none → IsAtEnd left → answer ≡ end_status None rest
+    → ServedIs input left spent failed a (Ok answer) b
+finished input before left spent failed read none rest state a b answer n c g d at_end e = (
+  read,
+  (let P : List ℕ → Type 0 = λ l. Consumes input left l in subst P (ap (λ l. read ++ l) n ∙ append-nil read) (consumes-consumes input before left read none c d)),
+  inr (at_end, record {
+      contents = g.contents;
+      last = rest;
+      stream = g.stream;
+      runs = rw (g.answered.0, g.fault) refl;
+      status = e;
+      written = g.answered.2;
+    }),
+)
+
+ok-err : (x : Unit {0}) (y : FrameFault) → Ok x ≡ Err y → ⊥
+ok-err x y e = cc
+
+err-ok : (x : Unit {0}) (y : FrameFault) → Err y ≡ Ok x → ⊥
+err-ok x y e = cc
+
+unit-err : FrameFault → Result Unit FrameFault
+unit-err fault = Err fault
+
+err-err : (x y : FrameFault) → unit-err x ≡ unit-err y → x ≡ y
+unfolding unit-err
+err-err x y e = cc
+
+pub end-ok : (rest : List ℕ) → fault_of rest ≡ None → EndIs (fault_of rest) rest (Ok tt) → Unclean ≡ end_status None rest
+end-ok [] e h = refl
+end-ok (b ∷ rest) e h = let P : Option FrameFault → Type 0 = λ o. EndIs o (b ∷ rest) (Ok tt) in absurd (ok-err tt Truncated (subst P e h))
+
+pub end-err : (rest : List ℕ) (fault : FrameFault) → fault_of rest ≡ None → EndIs (fault_of rest) rest (Err fault) → BadFrame fault ≡ end_status None rest
+unfolding unit-err
+end-err [] fault e h = let P : Option FrameFault → Type 0 = λ o. EndIs o [] (Err fault) in absurd (err-ok tt fault (subst P e h))
+end-err (b ∷ rest) fault e h = let P : Option FrameFault → Type 0 = λ o. EndIs o (b ∷ rest) (Err fault) in ap BadFrame (err-err fault Truncated (subst P e h))
+
+-- a piece gives a status
+pub served-status : (input before left : Option (List ℕ)) (spent failed : Type 0) (read piece rest last : List ℕ) (state now : Talk) (status : Status) (a b c : Option (List ℕ))
+    → Consumes input before read → GoesOn [] read start a rest state b → Consumes before left piece → PieceIs rest piece state b (Ok (Some status)) last now c
+    → ServedIs input left spent failed a (Ok status) c
+served-status input before left spent failed read piece rest last state now status a b c q g d p =
+    (read ++ piece, consumes-consumes input before left read piece q d, inl (piece-more read rest piece last state now (Ok (Some status)) a b c g p))
+
+-- a piece gives a fault
+pub served-fault : (input before left : Option (List ℕ)) (spent failed : Type 0) (read piece rest last : List ℕ) (state now : Talk) (fault : ServeFault) (a b c : Option (List ℕ))
+    → Consumes input before read → GoesOn [] read start a rest state b → Consumes before left piece → PieceIs rest piece state b (Err fault) last now c
+    → (fault ≡ Write → failed) → ServedIs input left spent failed a (Err fault) c
+served-fault input before left spent failed read piece rest last state now Read a b c q g d p f = absurd p
+served-fault input before left spent failed read piece rest last state now Write a b c q g d p f =
+    (f refl, (read ++ piece, consumes-consumes input before left read piece q d, stops-more read rest piece state a b c g p))
+served-fault input before left spent failed read piece rest last state now Memory a b c q g d p f =
+    (read ++ piece, consumes-consumes input before left read piece q d, stops-more read rest piece state a b c g p)
+
+pub or-true : (a b : Bool) → a ≡ (b || true) → a ≡ true
+or-true a true e = e
+or-true a false e = e
+
+pub or-false : (a b : Bool) → b ≡ false → a ≡ (b || false) → a ≡ false
+or-false a true f e = cc
+or-false a false f e = e
+
+pub write-failed : (fault : ServeFault) (a b : Bool) → a ≡ (b || is_write {A = Option Status} (Err fault)) → fault ≡ Write → a ≡ true
+write-failed Read a b e f = absurd (cc)
+write-failed Write a b e f = or-true a b e
+write-failed Memory a b e f = absurd (cc)

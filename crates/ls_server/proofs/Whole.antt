@@ -1,0 +1,126 @@
+-- A run on a whole input.
+use Rattle.std.proofs.Common.{◌≡◌, ℕ, ◌⊎◌, inl, inr, Bool, true, false, List, [], ◌∷◌, ◌++◌, Option, None, Some, Result, Ok, Err, refl, sym, ◌∙◌, ap, subst, append_assoc}
+use Rattle.std.specs.Prelude.{unwrap_or}
+use Rattle.std.specs.Io.KnownBytes.{Appends, Consumes, IsAtEnd}
+use Rattle.ls_frame.specs.Frames.{HasNoFrame, Stream}
+use Rattle.ls_frame.specs.Faults.{fault_of}
+use Rattle.ls_frame.proofs.Streams.{fault-sticks}
+use Rattle.ls_frame.proofs.Unique.{stream-front, rest-alone}
+use Rattle.ls_frame.proofs.Wholes.{fault-no_frame}
+use Rattle.ls_frame.specs.declared.fault.FrameFault.{FrameFault}
+use Rattle.ls_server.specs.Talk.{Talk, start}
+use Rattle.ls_server.specs.Runs.{said, exited, end_status}
+use Rattle.ls_server.specs.Runs.{AppendsFront, AnswersIs, GoesOn, Ends, Stops, Finishes, ServedIs, RunIs, or_else, status_at, last_status}
+use Rattle.ls_server.specs.declared.serve.ServeFault.{ServeFault}
+use Rattle.ls_server.specs.declared.serve.ServeFault.TheVariants.{Read, Write, Memory}
+use Rattle.ls_session.specs.declared.event.Status.{Status}
+use Rattle.ls_session.specs.declared.event.Status.TheVariants.{BadFrame}
+use Rattle.ls_server.proofs.Known.{append-nil, exited-stays, said-grows, front-longer}
+
+lists-nil : (xs : List (List ℕ)) → xs ++ [] ≡ xs
+lists-nil [] = refl
+lists-nil (x ∷ xs) = ap (λ l. x ∷ l) (lists-nil xs)
+
+consumed : (input read : List ℕ) (left : Option (List ℕ)) → Consumes (Some input) left read → (unread : List ℕ) × (left ≡ Some unread) × (input ≡ read ++ unread)
+consumed input read None c = absurd c
+consumed input read (Some unread) c = (unread, refl, c)
+
+some-same : (x y : Status) → Some x ≡ Some y → x ≡ y
+some-same x y e = cc
+
+none-some : (x : Status) → None ≡ Some x → ⊥
+none-some x e = cc
+
+-- what a whole run is where it ends with a status
+abbrev EndsIs : List (List ℕ) → List ℕ → Option (List ℕ) → Status → Option (List ℕ) → Type 0
+EndsIs contents rest old status new = (status ≡ last_status contents rest) × Appends old new (said start contents)
+
+-- nothing stands behind what has been read
+at-last : (contents known zs : List (List ℕ)) (rest last : List ℕ) (status : Status) (old new : Option (List ℕ)) → contents ≡ known ++ zs → zs ≡ []
+    → exited start known ≡ None → status ≡ end_status (fault_of rest) rest → Appends old new (said start known) → EndsIs contents rest old status new
+at-last contents known zs rest last status old new e none x s w =
+    let same : contents ≡ known = e ∙ (ap (λ l. known ++ l) none ∙ lists-nil known) in
+    let P : List (List ℕ) → Type 0 = λ l. EndsIs l rest old status new in
+    subst P (sym same) (rw x s, w)
+
+by-fault : (contents known zs : List (List ℕ)) (rest last more : List ℕ) (o : Option FrameFault) (status : Status) (old new : Option (List ℕ)) → contents ≡ known ++ zs
+    → Stream (last ++ more) zs rest → exited start known ≡ None → fault_of last ≡ o → or_else None o ≡ Some status → Appends old new (said start known) → EndsIs contents rest old status new
+by-fault contents known zs rest last more None status old new e s x f h w = absurd (none-some status h)
+by-fault contents known zs rest last more (Some fault) status old new e s x f h w =
+    let sticks : fault_of (last ++ more) ≡ Some fault = fault-sticks last more fault f in
+    let alone : (zs ≡ []) × (rest ≡ last ++ more) = rest-alone (last ++ more) rest zs (fault-no_frame (last ++ more) fault sticks) s in
+    let here : fault_of rest ≡ Some fault = ap fault_of alone.1 ∙ sticks in
+    at-last contents known zs rest last status old new e alone.0 x (sym (some-same (BadFrame fault) status h) ∙ sym (ap (λ o. end_status o rest) here)) w
+
+by-exit : (contents known zs : List (List ℕ)) (rest last more : List ℕ) (o : Option Status) (status : Status) (old new : Option (List ℕ)) → contents ≡ known ++ zs
+    → Stream (last ++ more) zs rest → exited start known ≡ o → or_else o (fault_of last) ≡ Some status → Appends old new (said start known) → EndsIs contents rest old status new
+by-exit contents known zs rest last more None status old new e s x h w = by-fault contents known zs rest last more (fault_of last) status old new e s x refl h w
+by-exit contents known zs rest last more (Some other) status old new e s x h w =
+    let stays : (exited start (known ++ zs) ≡ Some other) × (said start (known ++ zs) ≡ said start known) = exited-stays start known zs other x in
+    let P : List (List ℕ) → Type 0 = λ l. EndsIs l rest old status new in
+    subst P (sym e) (rw stays.0 (sym (some-same other status h)), rw stays.1 w)
+
+behind : (input read more rest last : List ℕ) (contents known : List (List ℕ)) → Stream input contents rest → input ≡ read ++ more → Stream read known last
+    → (zs : List (List ℕ)) × (contents ≡ known ++ zs) × Stream (last ++ more) zs rest
+behind input read more rest last contents known s e k =
+    let P : List ℕ → Type 0 = λ l. Stream l contents rest in stream-front read more last rest known contents k (subst P e s)
+
+or-none : (o : Option Status) (f : Option FrameFault) → or_else o f ≡ None → (o ≡ None) × (f ≡ None)
+or-none None None e = (refl, refl)
+or-none None (Some fault) e = absurd (cc)
+or-none (Some status) f e = absurd (cc)
+
+by-end : (input : List ℕ) (contents : List (List ℕ)) (rest read more : List ℕ) (status : Status) (old new : Option (List ℕ)) → Stream input contents rest → input ≡ read ++ more → more ≡ []
+    → Finishes read old status new → EndsIs contents rest old status new
+by-end input contents rest read more status old new s e none f =
+    let parts : (zs : List (List ℕ)) × (contents ≡ f.contents ++ zs) × Stream (f.last ++ more) zs rest = behind input read more rest f.last contents f.contents s e f.stream in
+    let last : f.last ++ more ≡ f.last = ap (λ l. f.last ++ l) none ∙ append-nil f.last in
+    let P : List ℕ → Type 0 = λ l. HasNoFrame l in
+    let alone : (parts.0 ≡ []) × (rest ≡ f.last ++ more) = rest-alone (f.last ++ more) rest parts.0 (subst P (sym last) f.stream.partial) parts.2 in
+    let same : rest ≡ f.last = alone.1 ∙ last in
+    let runs : (exited start f.contents ≡ None) × (fault_of f.last ≡ None) = or-none (exited start f.contents) (fault_of f.last) f.runs in
+    let status_is : status ≡ end_status (fault_of f.last) f.last = f.status ∙ sym (ap (λ o. end_status o f.last) runs.1) in
+    at-last contents f.contents parts.0 rest f.last status old new parts.1 alone.0 runs.0 (status_is ∙ sym (ap (λ l. end_status (fault_of l) l) same)) f.written
+
+-- a front of what all the contents ask for
+by-stop : (input rest read more : List ℕ) (contents : List (List ℕ)) (old new : Option (List ℕ)) → Stream input contents rest → input ≡ read ++ more → Stops [] read start old new
+    → AppendsFront old new (said start contents)
+by-stop input rest read more contents old new s e t =
+    let all : input ≡ t.part ++ (t.more ++ more) = e ∙ (ap (λ l. l ++ more) t.bytes_are ∙ append_assoc t.part t.more more) in
+    let parts : (zs : List (List ℕ)) × (contents ≡ t.contents ++ zs) × Stream (t.last ++ (t.more ++ more)) zs rest = behind input t.part (t.more ++ more) rest t.last contents t.contents s all t.stream in
+    let grows : (tail : List ℕ) × (said start (t.contents ++ parts.0) ≡ said start t.contents ++ tail) = said-grows start t.contents parts.0 in
+    front-longer old new (said start t.contents) (said start contents) grows.0 (ap (said start) parts.1 ∙ grows.1) t.written
+
+by-status : (input rest : List ℕ) (contents : List (List ℕ)) (read unread : List ℕ) (left : Option (List ℕ)) (status : Status) (old new : Option (List ℕ)) → Stream input contents rest
+    → left ≡ Some unread → input ≡ read ++ unread → Ends [] read start old status new ⊎ (IsAtEnd left × Finishes read old status new) → EndsIs contents rest old status new
+by-status input rest contents read unread left status old new s l e (inl h) =
+    let parts : (zs : List (List ℕ)) × (contents ≡ h.contents ++ zs) × Stream (h.last ++ unread) zs rest = behind input read unread rest h.last contents h.contents s e h.stream in
+    by-exit contents h.contents parts.0 rest h.last unread (exited start h.contents) status old new parts.1 parts.2 refl h.status h.written
+by-status input rest contents read unread left status old new s l e (inr h) =
+    let P : Option (List ℕ) → Type 0 = λ o. IsAtEnd o in
+    by-end input contents rest read unread status old new s e (subst P l h.0) h.1
+
+-- what was served of an input is what the run on the whole of it is
+pub whole : (input rest : List ℕ) (contents : List (List ℕ)) (left : Option (List ℕ)) (spent failed : Type 0) (old : Option (List ℕ)) (r : Result Status ServeFault) (new : Option (List ℕ))
+    → Stream input contents rest → ServedIs (Some input) left spent failed old r new → RunIs input contents rest left old r new
+whole input rest contents left spent failed old (Ok status) new s h =
+    let c : (unread : List ℕ) × (left ≡ Some unread) × (input ≡ h.0 ++ unread) = consumed input h.0 left h.1 in
+    by-status input rest contents h.0 c.0 left status old new s c.1 c.2 h.2
+whole input rest contents left spent failed old (Err Read) new s h =
+    let g : GoesOn [] h.1.0 start old h.1.1 h.1.2 new = h.1.4 in
+    let c : (unread : List ℕ) × (left ≡ Some unread) × (input ≡ h.1.0 ++ unread) = consumed input h.1.0 left h.1.3 in
+    let parts : (zs : List (List ℕ)) × (contents ≡ g.contents ++ zs) × Stream (h.1.1 ++ c.0) zs rest = behind input h.1.0 c.0 rest h.1.1 contents g.contents s c.2 g.stream in
+    (h.1.0, c.0, g.contents, h.1.1, parts.0, (c.1, c.2, g.stream, parts.1, g.answered.2))
+whole input rest contents left spent failed old (Err Write) new s h =
+    let c : (unread : List ℕ) × (left ≡ Some unread) × (input ≡ h.1.0 ++ unread) = consumed input h.1.0 left h.1.1 in
+    by-stop input rest h.1.0 c.0 contents old new s c.2 h.1.2
+whole input rest contents left spent failed old (Err Memory) new s h =
+    let c : (unread : List ℕ) × (left ≡ Some unread) × (input ≡ h.0 ++ unread) = consumed input h.0 left h.1 in
+    by-stop input rest h.0 c.0 contents old new s c.2 h.2
+
+-- the same, of an input that is told
+pub whole-told : (told : Option (List ℕ)) (left : Option (List ℕ)) (spent failed : Type 0) (old : Option (List ℕ)) (r : Result Status ServeFault) (new : Option (List ℕ)) → ServedIs told left spent failed old r new
+    → (input rest : List ℕ) (contents : List (List ℕ)) → told ≡ Some input → Stream input contents rest → RunIs input contents rest left old r new
+whole-told told left spent failed old r new h input rest contents e s =
+    let P : Option (List ℕ) → Type 0 = λ o. ServedIs o left spent failed old r new in
+    whole input rest contents left spent failed old r new s (subst P e h)

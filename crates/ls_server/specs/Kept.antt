@@ -1,0 +1,72 @@
+-- The documents that a client has open (LSP 3.17, "Text Document Synchronization"), and the answers on them.
+use Rattle.std.specs.Prelude.{ℕ, ℤ, ◌+◌, ◌-◌, ◌^◌, min, List, [], ◌∷◌, ◌++◌, length, find, position, remove, Bool, ◌||◌, nat_le, nat_lt, is_some, Option, None, Some, if◌then◌else◌, bytes_eq}
+use Rattle.std.specs.Str.{chars}
+use Rattle.ls_rpc.specs.declared.message.Id.{Id}
+use Rattle.ls_session.specs.Bodies.{body_of, refusal_of}
+use Rattle.ls_session.specs.Outline.{symbols_of}
+use Rattle.ls_session.specs.declared.event.Ask.{Ask}
+use Rattle.ls_session.specs.declared.event.Ask.TheVariants as ask
+use Rattle.ls_session.specs.declared.answer.Answer.{Answer}
+use Rattle.ls_session.specs.declared.answer.Answer.TheVariants as answer
+use Rattle.ls_session.specs.declared.answer.Out.TheVariants.{Replied}
+use Rattle.ls_session.specs.declared.answer.DeskFault.TheVariants.{NotOpen}
+use Rattle.ls_server.specs.declared.keeper.Document.{Document}
+
+-- the open documents, in the order of their opening, and how many versions there have been
+pub record Kept : Type 0 where
+  pub documents : List Document
+  pub versions : ℕ
+
+abbrev pub nothing_kept : Kept
+nothing_kept = record { documents = []; versions = 0 }
+
+-- the document has this name; names are compared byte by byte
+abbrev pub is_named : List ℕ → Document → Bool
+is_named uri document = bytes_eq document.uri uri
+
+abbrev pub place_of : List ℕ → List Document → Option ℕ
+place_of uri documents = position (is_named uri) documents
+
+abbrev pub document_at : List ℕ → List Document → Option Document
+document_at uri documents = find (is_named uri) documents
+
+-- a document isn't opened where it is open, where 256 are, or where its text has more than 4,194,304 bytes
+abbrev pub is_refused : List ℕ → List ℕ → Kept → Bool
+is_refused uri text kept =
+    is_some (place_of uri kept.documents) || (nat_le 256 (length kept.documents) || nat_lt 4194304 (length text))
+
+-- the version's number: one more than the last, as far as 64 bits go
+abbrev pub next_version : Kept → ℕ
+next_version kept = min (kept.versions + 1) (2 ^ 64 - 1)
+
+abbrev pub document_of : List ℕ → ℤ → ℕ → List ℕ → Document
+document_of uri label version text = record { uri = uri; label = label; version = version; snapshot = chars text }
+
+-- what is kept once a document has been opened
+unfoldable pub opened : List ℕ → ℤ → List ℕ → Kept → Kept
+opened uri label text kept =
+    if is_refused uri text kept then kept
+    else (record {
+      documents = kept.documents ++ document_of uri label (next_version kept) text ∷ [];
+      versions = next_version kept;
+    })
+
+abbrev pub without : List Document → Option ℕ → List Document
+without documents None = documents
+without documents (Some at) = remove documents at
+
+-- what is kept once a document has been closed
+unfoldable pub closed : List ℕ → Kept → Kept
+closed uri kept = record kept { documents = without kept.documents (place_of uri kept.documents) }
+
+-- the answer on a text
+abbrev pub answer_of : List ℕ → Ask → Answer
+answer_of text ask.Symbols = answer.Symbols (symbols_of text)
+
+abbrev pub answered_on : Id → Ask → Option Document → Option (List ℕ)
+answered_on id ask None = refusal_of id NotOpen
+answered_on id ask (Some document) = Some (body_of (Replied id (answer_of document.snapshot ask)))
+
+-- the body that answers a request
+unfoldable pub answered : Id → List ℕ → Ask → Kept → Option (List ℕ)
+answered id uri ask kept = answered_on id ask (document_at uri kept.documents)

@@ -1,0 +1,5 @@
+pub mod Devices
+pub mod Kept
+pub mod Talk
+pub mod Runs
+pub mod Endings

@@ -1,0 +1,79 @@
+//! A client's messages, one after the other.
+ghost use Rattle.std.specs.Prelude.{◌≡◌, IfOk};
+ghost use Rattle.ls_server.specs.Talk.{ActIs, TurnIs, start};
+
+use crate::keeper::Keeper;
+use ls_session::{ClientEvent, Session, Status, Turn};
+use std::alloc::{AllocError, Global};
+use std::marker::Model;
+
+/// The session of a client, and the documents that it has open.
+#[derive(Drop)]
+pub struct Conversation {
+    session: Session,
+    keeper: Keeper,
+}
+
+impl Model for Conversation {
+    ghost use Rattle.ls_server.specs.Talk.{Talk};
+
+    ghost Value = { Talk };
+
+    ghost view = { λ c. record { stage = c.session; kept = c.keeper } };
+}
+
+/// What one body comes to.
+#[derive(Drop)]
+pub enum Reply {
+    Nothing,
+    /// A body to be written.
+    Body(Vec<u8>),
+    Exit(Status),
+}
+
+impl Conversation {
+    pub fn new(alloc: Global) -> Conversation
+        ensures { result ≡ start }
+    {
+        Conversation {
+            session: Session::new(alloc),
+            keeper: Keeper::new(alloc),
+        }
+    }
+
+    /// Takes one body.
+    #[tactic(
+        auto,
+        unfolding(crate::specs::Talk::after, crate::specs::Talk::reply_to, crate::specs::Talk::exit_of)
+    )]
+    pub fn turn(&mut self, body: &[u8]) -> Result<Reply, AllocError>
+        ensures { IfOk result (λ reply. TurnIs self.old body.now reply self.new) }
+    {
+        match self.session.event(body)? {
+            Turn::Nothing => Ok(Reply::Nothing),
+            Turn::Exit(status) => Ok(Reply::Exit(status)),
+            Turn::Event(event) => act(&mut self.keeper, event),
+        }
+    }
+}
+
+/// Does what a message asks for.
+fn act(keeper: &mut Keeper, event: ClientEvent) -> Result<Reply, AllocError>
+    ensures { IfOk result (λ reply. ActIs event keeper.old reply keeper.new) }
+{
+    match event {
+        ClientEvent::DidOpen(uri, label, text) => {
+            keeper.open(uri, label, text)?;
+            Ok(Reply::Nothing)
+        }
+        ClientEvent::DidClose(uri) => {
+            keeper.close(uri.as_str());
+            Ok(Reply::Nothing)
+        }
+        ClientEvent::Request(id, uri, ask, _) => match keeper.answer(id, uri.as_str(), &ask)? {
+            Some(body) => Ok(Reply::Body(body)),
+            None => Ok(Reply::Nothing),
+        },
+        ClientEvent::Say(body) => Ok(Reply::Body(body.into_vec())),
+    }
+}

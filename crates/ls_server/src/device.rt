@@ -1,0 +1,153 @@
+//! Where bytes come from and go to.
+ghost use Rattle.std.specs.Prelude.{◌≡◌, ◌≢◌, ℕ, ◌+◌, ◌≤◌, ◌<◌, ◌||◌, ◌^◌, Bool, true, false, List, length, take, Option, None, Some, Result, IfOk, IfErr, OnOk, OnErr};
+ghost use Rattle.std.specs.Io.KnownBytes.{Keeps, ReadConsumes, WriteAppends};
+ghost use Rattle.ls_server.specs.Devices.{is_failed};
+
+use std::io::{ErrorKind, Read, Write};
+
+/// Why a call on a device gave nothing.
+#[derive(Clone, Copy, Debug, Drop, PartialEq, Eq)]
+pub enum DeviceFault {
+    /// The call may be made again.
+    Interrupted,
+    Failed,
+}
+
+/// Gives bytes.
+pub trait Source {
+    // The bytes that reads will give from here on, where they are known.
+    ghost remaining: { Self → Option (List ℕ) };
+
+    // How many reads it has answered.
+    ghost reads: { Self → ℕ };
+
+    // Whether it has answered Failed.
+    ghost failed: { Self → Bool };
+
+    /// Puts the next bytes at the front of `buf`, and answers how many; 0 says that there are no more.
+    fn read(&mut self, buf: &mut [u8]) -> Result<usize, DeviceFault>
+        requires { reads self.old < 18446744073709551615 }
+        ensures bound { IfOk result (λ n. n ≤ length buf.new) }
+        ensures bytes { ReadConsumes (remaining self.old) (remaining self.new) result buf.new }
+        ensures counted { reads self.new ≡ reads self.old + 1 }
+        ensures failed { failed self.new ≡ (failed self.old || is_failed result) };
+}
+
+/// Takes bytes.
+pub trait Sink {
+    // The bytes that it holds, where they are known.
+    ghost contents: { Self → Option (List ℕ) };
+
+    // Whether it has answered Failed.
+    ghost failed: { Self → Bool };
+
+    /// Takes bytes from the front of `buf`, at least one where there is one, and answers how many. Its one fault is
+    /// `Failed`.
+    fn write(&mut self, buf: &[u8]) -> Result<usize, DeviceFault>
+        ensures bound { IfOk result (λ n. n ≤ length buf.now) }
+        ensures some { IfOk result (λ n. 0 < length buf.now → 0 < n) }
+        ensures fault { IfErr result (λ e. e ≡ DeviceFault.Failed) }
+        ensures bytes { WriteAppends (contents self.old) (contents self.new) result buf.now }
+        ensures failed { failed self.new ≡ (failed self.old || is_failed result) };
+
+    /// Hands on all bytes taken so far. Its one fault is `Failed`.
+    fn flush(&mut self) -> Result<(), DeviceFault>
+        ensures fault { IfErr result (λ e. e ≡ DeviceFault.Failed) }
+        ensures bytes { Keeps (contents self.old) (contents self.new) }
+        ensures failed { failed self.new ≡ (failed self.old || is_failed result) };
+}
+
+/// A source over a reader of std.
+#[derive(Drop)]
+pub struct ReadFrom<R> {
+    pub reader: R,
+    /// How many reads it has answered.
+    pub reads: u64,
+    /// Whether it has answered `Failed`.
+    pub failed: bool,
+}
+
+impl<R: Read> ReadFrom<R> {
+    /// A source that has answered no read.
+    pub fn new(reader: R) -> Self
+        ensures reads { result.reads ≡ 0 }
+        ensures failed { result.failed ≡ false }
+        ensures reader { result.reader ≡ reader }
+    {
+        ReadFrom {
+            reader,
+            reads: 0,
+            failed: false,
+        }
+    }
+}
+
+impl<R: Read> Source for ReadFrom<R> {
+    ghost remaining = { λ s. R.remaining s.reader };
+
+    ghost reads = { λ s. s.reads };
+
+    ghost failed = { λ s. s.failed };
+
+    fn read(&mut self, buf: &mut [u8]) -> Result<usize, DeviceFault> {
+        self.reads += 1;
+        match self.reader.read(buf) {
+            Ok(count) => Ok(count),
+            Err(error) => {
+                if error.kind() == ErrorKind::Interrupted {
+                    Err(DeviceFault::Interrupted)
+                } else {
+                    self.failed = true;
+                    Err(DeviceFault::Failed)
+                }
+            }
+        }
+    }
+}
+
+/// A sink over a writer of std. A write that takes no byte has failed, and so has one that was interrupted.
+#[derive(Drop)]
+pub struct WriteTo<W> {
+    pub writer: W,
+    /// Whether it has answered `Failed`.
+    pub failed: bool,
+}
+
+impl<W: Write> WriteTo<W> {
+    /// A sink that hasn't failed.
+    pub fn new(writer: W) -> Self
+        ensures failed { result.failed ≡ false }
+        ensures writer { result.writer ≡ writer }
+    {
+        WriteTo {
+            writer,
+            failed: false,
+        }
+    }
+}
+
+impl<W: Write> Sink for WriteTo<W> {
+    ghost contents = { λ s. W.contents s.writer };
+
+    ghost failed = { λ s. s.failed };
+
+    fn write(&mut self, buf: &[u8]) -> Result<usize, DeviceFault> {
+        match self.writer.write(buf) {
+            Ok(count) if count > 0 || buf.is_empty() => Ok(count),
+            _ => {
+                self.failed = true;
+                Err(DeviceFault::Failed)
+            }
+        }
+    }
+
+    fn flush(&mut self) -> Result<(), DeviceFault> {
+        match self.writer.flush() {
+            Ok(()) => Ok(()),
+            Err(_) => {
+                self.failed = true;
+                Err(DeviceFault::Failed)
+            }
+        }
+    }
+}

@@ -1,0 +1,132 @@
+//! The documents that a client has open.
+ghost use Rattle.std.specs.Prelude.{◌≡◌, [], IfOk, OnOk, option_map};
+ghost use Rattle.ls_server.specs.Kept.{answer_of, answered, closed, document_at, is_named, nothing_kept, opened, place_of};
+ghost use Rattle.ls_session.specs.Bodies.{body_of, refusal_of};
+
+use ls_lists::{List, Text};
+use ls_rpc::Id;
+use ls_session::{Answer, Ask, DeskFault, Out, body_of, refusal_body, symbols};
+use ls_text::{Snapshot, TextFault};
+use std::alloc::{AllocError, Global};
+use std::marker::Model;
+
+/// The most documents that are open at once.
+pub const DOCUMENTS_MOST: usize = 256;
+
+/// An open document.
+#[derive(Drop)]
+pub struct Document {
+    /// Its name, as the client gave it.
+    pub uri: Text,
+    /// The client's own number of the version.
+    pub label: i64,
+    /// This server's number of the version, from 1 over the session.
+    pub version: u64,
+    pub snapshot: Snapshot,
+}
+
+/// Keeps the open documents, and answers a request as soon as it comes.
+#[derive(Drop)]
+pub struct Keeper {
+    alloc: Global,
+    documents: List<Document>,
+    versions: u64,
+}
+
+impl Model for Keeper {
+    ghost use Rattle.ls_server.specs.Kept.{Kept};
+
+    ghost Value = { Kept };
+
+    ghost view = { λ k. record { documents = k.documents; versions = k.versions } };
+}
+
+impl Keeper {
+    pub fn new(alloc: Global) -> Keeper
+        ensures { result ≡ nothing_kept }
+    {
+        Keeper {
+            alloc,
+            documents: List::new(alloc),
+            versions: 0,
+        }
+    }
+
+    /// Opens a document. Nothing happens where it is open, where too many are, or where its text is too large.
+    #[tactic(auto, unfolding(crate::specs::Kept::opened))]
+    pub fn open(&mut self, uri: Text, label: i64, text: Text) -> Result<(), AllocError>
+        ensures { OnOk result (self.new ≡ opened uri label text self.old) }
+    {
+        if place_of(self.documents.as_slice(), uri.as_str()).is_some() {
+            return Ok(());
+        }
+        if self.documents.len() >= DOCUMENTS_MOST {
+            return Ok(());
+        }
+        let snapshot = match Snapshot::of_text(self.alloc, text.into_string()) {
+            Ok(snapshot) => snapshot,
+            Err(TextFault::TooLarge) => return Ok(()),
+            Err(TextFault::Memory) => return Err(AllocError),
+        };
+        let version = self.versions.saturating_add(1);
+        self.documents.push(Document {
+            uri,
+            label,
+            version,
+            snapshot,
+        })?;
+        self.versions = version;
+        Ok(())
+    }
+
+    /// Closes a document, if it is open.
+    #[tactic(auto, unfolding(crate::specs::Kept::closed))]
+    pub fn close(&mut self, uri: &str)
+        ensures { self.new ≡ closed uri.now self.old }
+    {
+        if let Some(at) = place_of(self.documents.as_slice(), uri) {
+            self.documents.remove(at);
+        }
+    }
+
+    /// The body that answers a request.
+    #[tactic(auto, unfolding(crate::specs::Kept::answered))]
+    pub fn answer(&self, id: Id, uri: &str, ask: &Ask) -> Result<Option<Vec<u8>>, AllocError>
+        ensures { IfOk result (λ body. option_map (λ bytes. bytes.items) body
+            ≡ answered id uri.now ask.now self.now) }
+    {
+        let Some(document) = document_at(self.documents.as_slice(), uri) else {
+            return refusal_body(self.alloc, &id, DeskFault::NotOpen);
+        };
+        let answer = answer_of(self.alloc, &document.snapshot, ask)?;
+        let body = body_of(self.alloc, &Out::Replied { id, answer })?;
+        Ok(Some(body))
+    }
+}
+
+/// Where the document of this name stands.
+fn place_of(documents: &[Document], uri: &str) -> Option<usize>
+    ensures { result ≡ place_of uri.now documents.now }
+{
+    documents
+        .iter()
+        .position(|document| document.uri.as_str() == uri)
+}
+
+/// The document of this name.
+fn document_at<'d>(documents: &'d [Document], uri: &str) -> Option<&'d Document>
+    ensures { option_map (λ document. document.now) result ≡ document_at uri.now documents.now }
+{
+    documents
+        .iter()
+        .find(|document| document.uri.as_str() == uri)
+}
+
+/// The answer on a text.
+fn answer_of(alloc: Global, snapshot: &Snapshot, ask: &Ask) -> Result<Answer, AllocError>
+    ensures { IfOk result (λ answer. answer ≡ answer_of snapshot.now ask.now) }
+{
+    match ask {
+        Ask::Symbols => Ok(Answer::Symbols(symbols(alloc, snapshot)?)),
+    }
+}

@@ -1,0 +1,14 @@
+//! The server: it reads frames from a source, keeps the documents that the client opens, and writes its
+//! answers to a sink.
+#![tactic(auto)]
+
+mod conversation;
+mod device;
+mod ending;
+mod keeper;
+mod serve;
+
+pub use device::{DeviceFault, ReadFrom, Sink, Source, WriteTo};
+pub use ending::Ending;
+pub use ls_session::{Session, Status, Turn};
+pub use serve::{ServeFault, serve_limited, serve_plain};

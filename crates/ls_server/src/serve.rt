@@ -1,0 +1,238 @@
+//! The run on one thread: frames in, frames out.
+ghost use Rattle.std.specs.Prelude.{◌≡◌, ◌+◌, ◌<◌, ◌⊎◌, ◌||◌, true, false, List, [], ◌∷◌, ℕ, length, Some, OnOk, IfErr, None, IfOk};
+ghost use Rattle.std.specs.Io.KnownBytes.{Appends};
+ghost use Rattle.ls_frame.specs.Frames.{HasNoFrame, Stream, frame_of};
+ghost use Rattle.ls_frame.specs.Faults.{fault_of};
+ghost use Rattle.ls_frame.specs.Feeds.{contents_of};
+ghost use Rattle.ls_server.specs.Devices.{is_failed};
+ghost use Rattle.ls_server.specs.Runs.{AnswersIs, AppendsFront, PieceIs, RunIs, ServedIs, is_write, outcome};
+ghost use Rattle.ls_server.specs.Talk.{start};
+
+use crate::conversation::{Conversation, Reply};
+use crate::device::{DeviceFault, Sink, Source};
+use ls_frame::{FrameFault, Framer, write_frame};
+use ls_session::Status;
+use std::alloc::{AllocError, Global};
+use thiserror::Error;
+
+/// The most bytes that one read takes.
+const READ_MOST: usize = 65_536;
+
+/// A session makes fewer reads than this: the read with this number is answered as `Read`.
+pub const READS_END: u64 = 1_099_511_627_776;
+
+/// Why a run broke off.
+#[derive(Clone, Copy, Debug, Drop, PartialEq, Eq, Error)]
+pub enum ServeFault {
+    #[error("the source failed")]
+    Read,
+    #[error("the sink failed")]
+    Write,
+    #[error("out of memory")]
+    Memory,
+}
+
+/// Writes all the bytes.
+fn write_all<W: Sink>(writer: &mut W, bytes: &[u8]) -> Result<(), DeviceFault>
+    ensures ok { OnOk result (Appends (W.contents writer.old) (W.contents writer.new) bytes.now) }
+    ensures front { AppendsFront (W.contents writer.old) (W.contents writer.new) bytes.now }
+    ensures failed { W.failed writer.new ≡ (W.failed writer.old || is_failed result) }
+    ensures fault { IfErr result (λ e. e ≡ DeviceFault.Failed) }
+{
+    let mut at = 0;
+    'writes: while at < bytes.len() {
+        at += writer.write(&bytes[at..])?;
+    }
+    Ok(())
+}
+
+/// The frame with this content.
+fn framed(alloc: Global, body: &[u8]) -> Result<Vec<u8>, AllocError>
+    ensures { IfOk result (λ bytes. bytes.items ≡ frame_of body.now) }
+{
+    let mut bytes = Vec::new(alloc);
+    match write_frame(alloc, body, &mut bytes) {
+        Ok(()) => Ok(bytes),
+        Err(_) => Err(AllocError),
+    }
+}
+
+/// Answers one body.
+fn answer<W: Sink>(
+    alloc: Global,
+    talk: &mut Conversation,
+    body: &[u8],
+    writer: &mut W,
+) -> Result<Option<Status>, ServeFault>
+    ensures answers { AnswersIs talk.old (body.now ∷ []) (W.contents writer.old) result talk.new
+        (W.contents writer.new) }
+    ensures failed { W.failed writer.new ≡ (W.failed writer.old || is_write result) }
+{
+    let Ok(reply) = talk.turn(body) else {
+        return Err(ServeFault::Memory);
+    };
+    match reply {
+        Reply::Nothing => Ok(None),
+        Reply::Exit(status) => Ok(Some(status)),
+        Reply::Body(body) => {
+            let Ok(bytes) = framed(alloc, &body) else {
+                return Err(ServeFault::Memory);
+            };
+            if write_all(writer, &bytes).is_err() {
+                return Err(ServeFault::Write);
+            }
+            if writer.flush().is_err() {
+                return Err(ServeFault::Write);
+            }
+            Ok(None)
+        }
+    }
+}
+
+/// Answers the bodies in order, up to an exit.
+fn answer_all<W: Sink>(
+    alloc: Global,
+    talk: &mut Conversation,
+    bodies: &[Vec<u8>],
+    writer: &mut W,
+) -> Result<Option<Status>, ServeFault>
+    ensures answers { AnswersIs talk.old (contents_of bodies.now) (W.contents writer.old) result talk.new
+        (W.contents writer.new) }
+    ensures failed { W.failed writer.new ≡ (W.failed writer.old || is_write result) }
+{
+    for body in bodies {
+        match answer(alloc, talk, body, writer) {
+            Ok(None) => {}
+            Ok(Some(status)) => return Ok(Some(status)),
+            Err(fault) => return Err(fault),
+        }
+    }
+    Ok(None)
+}
+
+/// What a fed piece means for the run, once its contents have been answered.
+fn status_of(fed: Result<usize, FrameFault>) -> Result<Option<Status>, ServeFault>
+    ensures { result ≡ outcome fed }
+{
+    match fed {
+        Ok(_) => Ok(None),
+        Err(FrameFault::Memory) => Err(ServeFault::Memory),
+        Err(fault) => Ok(Some(Status::BadFrame(fault))),
+    }
+}
+
+/// Takes a piece and answers what it completes.
+fn serve_piece<W: Sink>(
+    alloc: Global,
+    framer: &mut Framer,
+    talk: &mut Conversation,
+    piece: &[u8],
+    writer: &mut W,
+) -> Result<Option<Status>, ServeFault>
+    requires partial { HasNoFrame framer.old }
+    requires fault { fault_of framer.old ≡ None }
+    ensures piece { PieceIs framer.old piece.now talk.old (W.contents writer.old) result framer.new talk.new
+        (W.contents writer.new) }
+    ensures failed { W.failed writer.new ≡ (W.failed writer.old || is_write result) }
+{
+    let mut bodies = Vec::new(alloc);
+    let fed = framer.feed(piece, &mut bodies);
+    match answer_all(alloc, talk, &bodies, writer) {
+        Ok(None) => status_of(fed),
+        Ok(Some(status)) => Ok(Some(status)),
+        Err(fault) => Err(fault),
+    }
+}
+
+/// Serves with this buffer.
+#[tactic(none)]
+fn serve_from<R: Source, W: Sink>(
+    alloc: Global,
+    framer: &mut Framer,
+    talk: &mut Conversation,
+    reader: &mut R,
+    writer: &mut W,
+    buffer: &mut [u8],
+    reads: u64,
+) -> Result<Status, ServeFault>
+    requires start { framer.old ≡ [] }
+    requires state { talk.old ≡ start }
+    requires none { R.reads reader.old ≡ 0 }
+    requires source { R.failed reader.old ≡ false }
+    requires sink { W.failed writer.old ≡ false }
+    requires room { 0 < length buffer.old }
+    requires some { 0 < reads }
+    ensures { ServedIs (R.remaining reader.old) (R.remaining reader.new)
+        ((R.failed reader.new ≡ true) ⊎ (R.reads reader.new + 1 ≡ reads)) (W.failed writer.new ≡ true)
+        (W.contents writer.old) result (W.contents writer.new) }
+{
+    for i in 1..reads {
+        let _ = i;
+        let count = match reader.read(buffer) {
+            Ok(count) => count,
+            Err(DeviceFault::Interrupted) => continue,
+            Err(DeviceFault::Failed) => return Err(ServeFault::Read),
+        };
+        if count == 0 {
+            match framer.end() {
+                Ok(()) => return Ok(Status::Unclean),
+                Err(fault) => return Ok(Status::BadFrame(fault)),
+            }
+        }
+        match serve_piece(alloc, framer, talk, &buffer[..count], writer) {
+            Ok(None) => {}
+            Ok(Some(status)) => return Ok(status),
+            Err(fault) => return Err(fault),
+        }
+    }
+    Err(ServeFault::Read)
+}
+
+/// Serves as [`serve_plain`] does, with fewer than this many reads: the read with this number isn't made, and
+/// is answered as `Read`.
+pub fn serve_limited<R: Source, W: Sink>(
+    alloc: Global,
+    reader: &mut R,
+    writer: &mut W,
+    reads: u64,
+) -> Result<Status, ServeFault>
+    requires none { R.reads reader.old ≡ 0 }
+    requires source { R.failed reader.old ≡ false }
+    requires sink { W.failed writer.old ≡ false }
+    requires some { 0 < reads }
+    ensures served { ServedIs (R.remaining reader.old) (R.remaining reader.new)
+        ((R.failed reader.new ≡ true) ⊎ (R.reads reader.new + 1 ≡ reads)) (W.failed writer.new ≡ true)
+        (W.contents writer.old) result (W.contents writer.new) }
+    ensures whole { (input rest : List ℕ) (contents : List (List ℕ)) → R.remaining reader.old ≡ Some input
+        → Stream input contents rest
+        → RunIs input contents rest (R.remaining reader.new) (W.contents writer.old) result
+            (W.contents writer.new) }
+{
+    let Ok(mut buffer) = vec![in alloc; 0u8; READ_MOST] else {
+        return Err(ServeFault::Memory);
+    };
+    let mut framer = Framer::new(alloc);
+    let mut talk = Conversation::new(alloc);
+    serve_from(alloc, &mut framer, &mut talk, reader, writer, &mut buffer, reads)
+}
+
+/// Serves one client: reads its messages and writes the answers, until it exits, its input ends or a fault
+/// stops the run.
+pub fn serve_plain<R: Source, W: Sink>(
+    alloc: Global,
+    reader: &mut R,
+    writer: &mut W,
+) -> Result<Status, ServeFault>
+    requires none { R.reads reader.old ≡ 0 }
+    requires source { R.failed reader.old ≡ false }
+    requires sink { W.failed writer.old ≡ false }
+    ensures served { ServedIs (R.remaining reader.old) (R.remaining reader.new)
+        ((R.failed reader.new ≡ true) ⊎ (R.reads reader.new + 1 ≡ READS_END)) (W.failed writer.new ≡ true)
+        (W.contents writer.old) result (W.contents writer.new) }
+    ensures whole { (input rest : List ℕ) (contents : List (List ℕ)) → R.remaining reader.old ≡ Some input
+        → Stream input contents rest
+        → RunIs input contents rest (R.remaining reader.new) (W.contents writer.old) result
+            (W.contents writer.new) }
+{
+    serve_limited(alloc, reader, writer, READS_END)
+}
