@@ -109,4 +109,13 @@ impl<T: Copy> List<T> {
             vec: Vec::from_slice(alloc, items)?,
         })
     }
+
+    /// A list of its own with the same items.
+    pub fn copy(&self) -> Result<List<T>, AllocError>
+        ensures { IfOk result (λ list. list ≡ self.now) }
+    {
+        Ok(List {
+            vec: Vec::from_slice(*self.vec.allocator(), &self.vec)?,
+        })
+    }
 }

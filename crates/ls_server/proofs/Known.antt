@@ -1,11 +1,11 @@
 -- Known bytes that grow.
-use Rattle.std.proofs.Common.{ℕ, ◌+◌, ◌<◌, length, map, get_or, ◌≡◌, Bool, true, false, List, [], ◌∷◌, ◌++◌, take, drop, Option, None, Some, refl, sym, ◌∙◌, ap, append_assoc, cond}
+use Rattle.std.proofs.Common.{ℕ, ◌+◌, ◌<◌, length, get_or, ◌≡◌, Bool, true, false, List, [], ◌∷◌, ◌++◌, take, drop, Option, None, Some, refl, sym, ◌∙◌, ap, append_assoc, cond}
 use Rattle.std.specs.Prelude.{is_some, Vec}
 use Rattle.std.specs.declared.alloc.Global.{Global}
 use Rattle.std.proofs.lemmas.List.{take_more, take-append-drop, map-append}
 use Rattle.ls_frame.specs.Feeds.{contents_of}
 use Rattle.std.specs.Io.KnownBytes.{Appends, Keeps}
-use Rattle.ls_server.specs.Talk.{Talk, start}
+use Rattle.ls_server.specs.Talk.{Talk}
 use Rattle.ls_server.specs.Talk.{exit_of, reply_to, after}
 use Rattle.ls_server.specs.Runs.{said, exited, after_all, frames_for}
 use Rattle.std.specs.Prelude.{Result, Ok, Err}
@@ -42,7 +42,7 @@ said-append state [] ys e = refl
 said-append state (x ∷ xs) ys e =
     let parts : (exit_of state x ≡ None) × (exited (after state x) xs ≡ None) = exited-cons state x xs (exit_of state x) refl e in
     rw parts.0 (ap (λ l. frames_for (reply_to state x) ++ l) (said-append (after state x) xs ys parts.1)
-      ∙ sym (append_assoc (frames_for (reply_to state x)) (said (after state x) xs) (said (after_all (after state x) xs) ys)))
+    ∙ sym (append_assoc (frames_for (reply_to state x)) (said (after state x) xs) (said (after_all (after state x) xs) ys)))
 
 pub exited-append : (state : Talk) (xs ys : List (List ℕ)) → exited state xs ≡ None → exited state (xs ++ ys) ≡ exited (after_all state xs) ys
 exited-append state [] ys e = refl
@@ -66,18 +66,21 @@ pub front-more : (state now : Talk) (xs ys : List (List ℕ)) (first old new : O
 front-more state now xs ys first old new e s w f = (
   said state xs ++ f.0,
   f.1,
-  (said-append state xs ys e ∙ (ap (λ t. said state xs ++ said t ys) (sym s) ∙ (ap (λ l. said state xs ++ l) f.2.0 ∙ sym (append_assoc (said state xs) f.0 f.1))),
-    appends-appends _ _ _ _ _ w f.2.1),
+  (
+    said-append state xs ys e ∙ (ap (λ t. said state xs ++ said t ys) (sym s) ∙ (ap (λ l. said state xs ++ l) f.2.0 ∙ sym (append_assoc (said state xs) f.0 f.1))),
+    appends-appends _ _ _ _ _ w f.2.1,
+  ),
 )
 
 -- more bodies are answered after those that have been
 pub answers-more : (state now : Talk) (xs ys : List (List ℕ)) (r : Result (Option Status) ServeFault) (after_it : Talk) (first old new : Option (List ℕ))
     → exited state xs ≡ None → now ≡ after_all state xs → Appends first old (said state xs) → AnswersIs now ys old r after_it new
     → AnswersIs state (xs ++ ys) first r after_it new
-answers-more state now xs ys (Ok None) after_it first old new e s w a =
-    (exited-append state xs ys e ∙ (ap (λ t. exited t ys) (sym s) ∙ a.0),
-      a.1 ∙ (ap (λ t. after_all t ys) s ∙ sym (after-append state xs ys)),
-      rw (said-append state xs ys e, ← s) (appends-appends _ _ _ _ _ w a.2))
+answers-more state now xs ys (Ok None) after_it first old new e s w a = (
+  exited-append state xs ys e ∙ (ap (λ t. exited t ys) (sym s) ∙ a.0),
+  a.1 ∙ (ap (λ t. after_all t ys) s ∙ sym (after-append state xs ys)),
+  rw (said-append state xs ys e, ← s) (appends-appends _ _ _ _ _ w a.2),
+)
 answers-more state now xs ys (Ok (Some status)) after_it first old new e s w a =
     (exited-append state xs ys e ∙ (ap (λ t. exited t ys) (sym s) ∙ a.0), rw (said-append state xs ys e, ← s) (appends-appends _ _ _ _ _ w a.1))
 answers-more state now xs ys (Err Read) after_it first old new e s w a = absurd a
@@ -110,7 +113,7 @@ pub exited-stays : (state : Talk) (xs ys : List (List ℕ)) (status : Status) �
 exited-stays state [] ys status e = absurd (cc)
 exited-stays state (x ∷ xs) ys status e =
     stay-if (exit_of state x) (exited (after state x) xs) (exited (after state x) (xs ++ ys)) (frames_for (reply_to state x)) (said (after state x) xs) (said (after state x) (xs ++ ys)) status
-      (exited-stays (after state x) xs ys status) e
+    (exited-stays (after state x) xs ys status) e
 
 pub front-longer : (old new : Option (List ℕ)) (short long tail : List ℕ) → long ≡ short ++ tail → AppendsFront old new short → AppendsFront old new long
 front-longer old new short long tail e f =
@@ -137,8 +140,8 @@ take-next : (bodies : List (Vec ℕ Global)) (i : ℕ) (body : Vec ℕ Global) (
     → contents_of (take (i + 1) bodies) ≡ contents_of (take i bodies) ++ text ∷ []
 take-next bodies i body text h at e =
     ap contents_of (take_more bodies i body h)
-      ∙ (map-append (λ content. content.items) (take i bodies) (get_or bodies i body ∷ [])
-        ∙ ap (λ l. contents_of (take i bodies) ++ l ∷ []) (ap (λ (v : Vec ℕ Global). v.items) (sym at) ∙ sym e))
+    ∙ (map-append (λ content. content.items) (take i bodies) (get_or bodies i body ∷ [])
+    ∙ ap (λ l. contents_of (take i bodies) ++ l ∷ []) (ap (λ (v : Vec ℕ Global). v.items) (sym at) ∙ sym e))
 
 -- the next body is answered
 pub answers-next : (state now later : Talk) (bodies : List (Vec ℕ Global)) (i : ℕ) (body : Vec ℕ Global) (text : List ℕ) (r : Result (Option Status) ServeFault) (first old new : Option (List ℕ))
@@ -155,6 +158,6 @@ pub answers-stop : (state now later : Talk) (bodies : List (Vec ℕ Global)) (i 
     → AnswersIs state (contents_of bodies) first r later new
 answers-stop state now later bodies i body text r first old new h at e s a b =
     let all : contents_of bodies ≡ contents_of (take (i + 1) bodies) ++ contents_of (drop (i + 1) bodies)
-        = ap contents_of (sym (take-append-drop (i + 1) bodies)) ∙ map-append (λ content. content.items) (take (i + 1) bodies) (drop (i + 1) bodies) in
+    = ap contents_of (sym (take-append-drop (i + 1) bodies)) ∙ map-append (λ content. content.items) (take (i + 1) bodies) (drop (i + 1) bodies) in
     rw all (answers-stay state later (contents_of (take (i + 1) bodies)) (contents_of (drop (i + 1) bodies)) r first new s
-      (answers-next state now later bodies i body text r first old new h at e a b))
+    (answers-next state now later bodies i body text r first old new h at e a b))

@@ -1,20 +1,19 @@
 -- Pieces of the input.
-use Rattle.std.proofs.Common.{◌≡◌, ℕ, ◌⊎◌, inl, inr, Bool, true, false, List, [], ◌∷◌, ◌++◌, Option, None, Some, Result, Ok, Err, refl, sym, ◌∙◌, ap, subst, append_assoc}
-use Rattle.std.specs.Io.KnownBytes.{Appends, Consumes, Keeps}
-use Rattle.ls_frame.specs.Frames.{Frames, HasNoFrame, Stream}
-use Rattle.ls_frame.specs.Faults.{fault_of, first_shown, shown}
+use Rattle.std.proofs.Common.{◌≡◌, ℕ, ◌⊎◌, inl, inr, List, [], ◌++◌, Option, None, Some, Result, Ok, Err, refl, sym, subst}
+use Rattle.std.specs.Io.KnownBytes.{Appends}
+use Rattle.ls_frame.specs.Frames.{HasNoFrame, Stream}
+use Rattle.ls_frame.specs.Faults.{fault_of}
 use Rattle.ls_frame.specs.Feeds.{FeedIs}
-use Rattle.ls_frame.proofs.Streams.{frames-append, stream-append, none-yet}
 use Rattle.ls_frame.specs.declared.fault.FrameFault.{FrameFault}
 use Rattle.ls_frame.specs.declared.fault.FrameFault.TheVariants.{HeaderTooLong, BadHeader, NoLength, TwoLengths, BadLength, TooLarge, Truncated, Memory as NoMemory}
-use Rattle.ls_server.specs.Talk.{Talk, start}
-use Rattle.ls_server.specs.Runs.{said, exited, after_all}
-use Rattle.ls_server.specs.Runs.{AppendsFront, AnswersIs, GoesOn, Ends, Stops, PieceIs, outcome, or_else, status_at}
+use Rattle.ls_server.specs.Talk.{Talk}
+use Rattle.ls_server.specs.Runs.{said, exited}
+use Rattle.ls_server.specs.Runs.{AppendsFront, AnswersIs, Ends, Stops, PieceIs, outcome}
 use Rattle.ls_server.specs.declared.serve.ServeFault.{ServeFault}
 use Rattle.ls_server.specs.declared.serve.ServeFault.TheVariants.{Read, Write, Memory}
 use Rattle.ls_session.specs.declared.event.Status.{Status}
 use Rattle.ls_session.specs.declared.event.Status.TheVariants.{BadFrame}
-use Rattle.ls_server.proofs.Known.{append-nil, appends-appends, answers-more, IsStop}
+use Rattle.ls_server.proofs.Known.{append-nil, IsStop}
 
 some-none : {A : Type 0} {X : Type 0} (o : Option A) (x : A) → o ≡ None → o ≡ Some x → X
 some-none o x e f = absurd (cc)
@@ -27,7 +26,7 @@ Fed old piece (Err fault) new after = (fault_of new ≡ Some fault) × Stream (o
 
 fed-err : (old piece new : List ℕ) (after : List (List ℕ)) (fault : FrameFault) → fault_of old ≡ None
     → ((fault_of old ≡ Some fault) × (new ≡ old) × (after ≡ []))
-      ⊎ ((fault_of old ≡ None) × (fault_of new ≡ Some fault) × ((contents : List (List ℕ)) × (after ≡ contents) × Stream (old ++ piece) contents new))
+    ⊎ ((fault_of old ≡ None) × (fault_of new ≡ Some fault) × ((contents : List (List ℕ)) × (after ≡ contents) × Stream (old ++ piece) contents new))
     → (fault_of new ≡ Some fault) × Stream (old ++ piece) after new
 fed-err old piece new after fault e (inl h) = some-none (fault_of old) fault e h.0
 fed-err old piece new after fault e (inr h) = (h.1, rw h.2.1 h.2.2)

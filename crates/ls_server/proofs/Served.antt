@@ -1,20 +1,20 @@
 -- The whole run.
-use Rattle.std.proofs.Common.{◌≡◌, ℕ, ◌+◌, ◌<◌, ◌⊎◌, ◌||◌, inl, inr, Bool, true, false, List, [], ◌∷◌, ◌++◌, length, take, Option, None, Some, Result, Ok, Err, refl, sym, ◌∙◌, ap, subst, append_assoc}
-use Rattle.std.specs.Io.KnownBytes.{Appends, Consumes, Keeps, IsAtEnd, ReadConsumes}
-use Rattle.ls_frame.specs.Frames.{Frames, HasNoFrame, Stream}
+use Rattle.std.proofs.Common.{◌≡◌, ℕ, ◌||◌, inl, inr, Bool, true, false, List, [], ◌∷◌, ◌++◌, Option, None, Some, Result, Ok, Err, refl, sym, ◌∙◌, ap, subst, append_assoc}
+use Rattle.std.specs.Io.KnownBytes.{Appends, Consumes, Keeps, IsAtEnd}
+use Rattle.ls_frame.specs.Frames.{Frames, Stream}
 use Rattle.ls_frame.specs.Faults.{fault_of, first_shown, shown, ended, has_stray_cr}
 use Rattle.ls_frame.proofs.Streams.{frames-append, stream-append, none-yet}
 use Rattle.ls_frame.specs.declared.fault.FrameFault.{FrameFault}
 use Rattle.ls_frame.specs.declared.fault.FrameFault.TheVariants.{Truncated}
 use Rattle.ls_frame.specs.Feeds.{EndIs}
 use Rattle.ls_server.specs.Talk.{Talk, start}
-use Rattle.ls_server.specs.Runs.{said, exited, after_all, end_status}
-use Rattle.ls_server.specs.Runs.{AppendsFront, AnswersIs, GoesOn, Ends, Stops, Finishes, PieceIs, ServedIs, is_write, or_else, status_at}
+use Rattle.ls_server.specs.Runs.{end_status}
+use Rattle.ls_server.specs.Runs.{GoesOn, Stops, PieceIs, ServedIs, is_write}
 use Rattle.ls_server.specs.declared.serve.ServeFault.{ServeFault}
 use Rattle.ls_server.specs.declared.serve.ServeFault.TheVariants.{Read, Write, Memory}
 use Rattle.ls_session.specs.declared.event.Status.{Status}
 use Rattle.ls_session.specs.declared.event.Status.TheVariants.{Unclean, BadFrame}
-use Rattle.ls_server.proofs.Known.{append-nil, appends-appends, answers-more, said-append, exited-append, after-append, front-more}
+use Rattle.ls_server.proofs.Known.{append-nil, appends-appends, answers-more, said-append, exited-append, front-more}
 use Rattle.ls_server.proofs.Pieces.{no-stream, as-front}
 
 pub consumes-consumes : (a b c : Option (List ℕ)) (x y : List ℕ) → Consumes a b x → Consumes b c y → Consumes a c (x ++ y)
@@ -52,7 +52,7 @@ stops-more read rest piece state a b c g p = record {
   part = g.stream.frames ++ p.part;
   more = p.more;
   bytes_are = ap (λ l. l ++ piece) g.stream.bytes_are ∙ (append_assoc g.stream.frames rest piece
-    ∙ (ap (λ l. g.stream.frames ++ l) p.bytes_are ∙ sym (append_assoc g.stream.frames p.part p.more)));
+      ∙ (ap (λ l. g.stream.frames ++ l) p.bytes_are ∙ sym (append_assoc g.stream.frames p.part p.more)));
   contents = g.contents ++ p.contents;
   last = p.last;
   stream = stream-behind g.stream.frames p.part p.last g.contents p.contents g.stream.whole p.stream;
@@ -108,14 +108,17 @@ pub finished : (input before left : Option (List ℕ)) (spent failed : Type 0) (
 finished input before left spent failed read none rest state a b answer n c g d at_end e = (
   read,
   (let P : List ℕ → Type 0 = λ l. Consumes input left l in subst P (ap (λ l. read ++ l) n ∙ append-nil read) (consumes-consumes input before left read none c d)),
-  inr (at_end, record {
+  inr (
+    at_end,
+    record {
       contents = g.contents;
       last = rest;
       stream = g.stream;
       runs = rw (g.answered.0, g.fault) refl;
       status = e;
       written = g.answered.2;
-    }),
+    },
+  ),
 )
 
 ok-err : (x : Unit {0}) (y : FrameFault) → Ok x ≡ Err y → ⊥

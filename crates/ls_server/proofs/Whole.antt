@@ -1,6 +1,5 @@
 -- A run on a whole input.
-use Rattle.std.proofs.Common.{◌≡◌, ℕ, ◌⊎◌, inl, inr, Bool, true, false, List, [], ◌∷◌, ◌++◌, Option, None, Some, Result, Ok, Err, refl, sym, ◌∙◌, ap, subst, append_assoc}
-use Rattle.std.specs.Prelude.{unwrap_or}
+use Rattle.std.proofs.Common.{◌≡◌, ℕ, ◌⊎◌, inl, inr, List, [], ◌∷◌, ◌++◌, Option, None, Some, Result, Ok, Err, refl, sym, ◌∙◌, ap, subst, append_assoc}
 use Rattle.std.specs.Io.KnownBytes.{Appends, Consumes, IsAtEnd}
 use Rattle.ls_frame.specs.Frames.{HasNoFrame, Stream}
 use Rattle.ls_frame.specs.Faults.{fault_of}
@@ -8,9 +7,9 @@ use Rattle.ls_frame.proofs.Streams.{fault-sticks}
 use Rattle.ls_frame.proofs.Unique.{stream-front, rest-alone}
 use Rattle.ls_frame.proofs.Wholes.{fault-no_frame}
 use Rattle.ls_frame.specs.declared.fault.FrameFault.{FrameFault}
-use Rattle.ls_server.specs.Talk.{Talk, start}
+use Rattle.ls_server.specs.Talk.{start}
 use Rattle.ls_server.specs.Runs.{said, exited, end_status}
-use Rattle.ls_server.specs.Runs.{AppendsFront, AnswersIs, GoesOn, Ends, Stops, Finishes, ServedIs, RunIs, or_else, status_at, last_status}
+use Rattle.ls_server.specs.Runs.{AppendsFront, GoesOn, Ends, Stops, Finishes, ServedIs, RunIs, or_else, last_status}
 use Rattle.ls_server.specs.declared.serve.ServeFault.{ServeFault}
 use Rattle.ls_server.specs.declared.serve.ServeFault.TheVariants.{Read, Write, Memory}
 use Rattle.ls_session.specs.declared.event.Status.{Status}

@@ -1,6 +1,6 @@
 -- What a run has read and written.
 use Rattle.std.specs.Prelude.{if◌then◌else◌, is_some, ◌≡◌, ℕ, ◌⊎◌, Bool, true, false, List, [], ◌∷◌, ◌++◌, Option, None, Some, Result, Ok, Err, unwrap_or}
-use Rattle.std.specs.Io.KnownBytes.{Appends, Consumes, IsAtEnd, Keeps}
+use Rattle.std.specs.Io.KnownBytes.{Appends, Consumes, IsAtEnd}
 use Rattle.ls_frame.specs.Frames.{Stream}
 use Rattle.ls_frame.specs.Faults.{fault_of}
 use Rattle.ls_frame.specs.declared.fault.FrameFault.{FrameFault}

@@ -206,14 +206,22 @@ pub fn serve_limited<R: Source, W: Sink>(
     ensures whole { (input rest : List ℕ) (contents : List (List ℕ)) → R.remaining reader.old ≡ Some input
         → Stream input contents rest
         → RunIs input contents rest (R.remaining reader.new) (W.contents writer.old) result
-            (W.contents writer.new) }
+        (W.contents writer.new) }
 {
     let Ok(mut buffer) = vec![in alloc; 0u8; READ_MOST] else {
         return Err(ServeFault::Memory);
     };
     let mut framer = Framer::new(alloc);
     let mut talk = Conversation::new(alloc);
-    serve_from(alloc, &mut framer, &mut talk, reader, writer, &mut buffer, reads)
+    serve_from(
+        alloc,
+        &mut framer,
+        &mut talk,
+        reader,
+        writer,
+        &mut buffer,
+        reads,
+    )
 }
 
 /// Serves one client: reads its messages and writes the answers, until it exits, its input ends or a fault
@@ -232,7 +240,7 @@ pub fn serve_plain<R: Source, W: Sink>(
     ensures whole { (input rest : List ℕ) (contents : List (List ℕ)) → R.remaining reader.old ≡ Some input
         → Stream input contents rest
         → RunIs input contents rest (R.remaining reader.new) (W.contents writer.old) result
-            (W.contents writer.new) }
+        (W.contents writer.new) }
 {
     serve_limited(alloc, reader, writer, READS_END)
 }

@@ -1,5 +1,5 @@
 -- A head's name is cut where characters begin.
-use Rattle.std.proofs.Common.{◌≡◌, ℕ, zero, suc, ◌+◌, ◌-◌, ◌<◌, ◌≤◌, Bool, true, false, ◌&&◌, List, [], ◌∷◌, length, get_or, drop, Option, None, Some, IsUtf8, cond, refl, sym, ◌∙◌, ap, subst, arith, length-drop}
+use Rattle.std.proofs.Common.{◌≡◌, ℕ, zero, suc, ◌+◌, ◌-◌, ◌<◌, ◌≤◌, Bool, true, false, ◌&&◌, List, [], ◌∷◌, length, get_or, drop, None, Some, IsUtf8, cond, refl, sym, ◌∙◌, ap, subst, arith, length-drop}
 use Rattle.std.specs.Char.{is_ascii_alphabetic}
 use Rattle.std.specs.List.{take_while}
 use Rattle.std.specs.Prelude.{nat_lt}
@@ -8,7 +8,7 @@ use Rattle.std.proofs.lemmas.Bool.Decides.{nat_tests}
 use Rattle.std.proofs.lemmas.List.{get_or-drop}
 use Rattle.std.proofs.lemmas.List.Sums.{take_while-cons}
 use Rattle.std.proofs.lemmas.Str.{IsCharBoundary-after_ascii, IsCharBoundary-before_ascii}
-use Rattle.ls_session.specs.Outline.{head_of, is_name_part, name_length, begins_with_equals, without_blanks, is_blank, IsCut}
+use Rattle.ls_session.specs.Outline.{head_of, is_name_part, name_length, is_blank, IsCut}
 use Rattle.ls_session.specs.declared.head.Head.{Head}
 
 passes : (b : Bool) (x i : ℕ) (ys : List ℕ) → i < length (cond b (x ∷ ys) []) → b ≡ true

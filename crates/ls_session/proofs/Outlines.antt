@@ -1,12 +1,11 @@
 -- The outline of the first lines.
-use Rattle.std.proofs.Common.{◌≡◌, ℕ, zero, suc, ◌+◌, ◌<◌, ◌≤◌, List, [], ◌∷◌, ◌++◌, length, take, Option, None, Some, option_map, refl, sym, ◌∙◌, ap, arith}
-use Rattle.std.specs.Prelude.{slice_get, encode_utf8_all}
+use Rattle.std.proofs.Common.{◌≡◌, ℕ, zero, suc, ◌+◌, ◌<◌, List, [], ◌∷◌, ◌++◌, length, take, Option, None, Some, refl, ◌∙◌, ap, arith}
+use Rattle.std.specs.Prelude.{slice_get}
 use Rattle.std.specs.List.{enumerate_from, filter_map}
 use Rattle.std.proofs.lemmas.List.Elements.{filter_map-append}
 use Rattle.std.proofs.Math.Seq.{take-length}
-use native.Mathlib.Numerals.{unary_clauses}
 use Rattle.ls_text.specs.Lines.{lines}
-use Rattle.ls_session.specs.Outline.{as_list, symbol_at, symbol_in, symbols_at}
+use Rattle.ls_session.specs.Outline.{as_list, symbol_at, symbols_at}
 use Rattle.ls_session.specs.declared.answer.Symbol.{Symbol}
 
 -- the outline of the first so many lines
@@ -38,11 +37,11 @@ outline-next text count h =
     let at : 0 + length (take count (lines text)) ≡ count = omega (arith, found.3) in
     let shown : as_list (symbol_at text (count, found.0)) ≡ symbols_at text count = rw found.1 refl in
     ap (λ n. outline_of text n) suc_is
-      ∙ (ap (λ ls. filter_map (symbol_at text) (enumerate_from 0 ls)) found.2
-      ∙ (ap (filter_map (symbol_at text)) (enumerate-next 0 (take count (lines text)) found.0)
-      ∙ (filter_map-append (symbol_at text) (enumerate_from 0 (take count (lines text))) ((0 + length (take count (lines text)), found.0) ∷ [])
-      ∙ (ap (λ n. outline_of text count ++ filter_map (symbol_at text) ((n, found.0) ∷ [])) at
-      ∙ ap (λ ss. outline_of text count ++ ss) (one text (count, found.0) (symbol_at text (count, found.0)) refl ∙ shown)))))
+    ∙ (ap (λ ls. filter_map (symbol_at text) (enumerate_from 0 ls)) found.2
+    ∙ (ap (filter_map (symbol_at text)) (enumerate-next 0 (take count (lines text)) found.0)
+    ∙ (filter_map-append (symbol_at text) (enumerate_from 0 (take count (lines text))) ((0 + length (take count (lines text)), found.0) ∷ [])
+    ∙ (ap (λ n. outline_of text count ++ filter_map (symbol_at text) ((n, found.0) ∷ [])) at
+    ∙ ap (λ ss. outline_of text count ++ ss) (one text (count, found.0) (symbol_at text (count, found.0)) refl ∙ shown)))))
 
 -- all lines have come
 pub outline-whole : (text : List ℕ) (count : ℕ) → count ≡ length (lines text) → outline_of text count ≡ filter_map (symbol_at text) (enumerate_from 0 (lines text))

@@ -46,10 +46,10 @@ place_of line start end = record { line = line; start = start; end = end }
 -- the symbol of a head
 abbrev pub symbol_of : List ℕ → ℕ → List ℕ → Head → Symbol
 symbol_of text number bytes head = record {
-    name = take (head.name_end - head.start) (drop head.start bytes);
-    range = place_range utf16_len text (place_of number head.start head.end);
-    name_range = place_range utf16_len text (place_of number head.start head.name_end);
-  }
+  name = take (head.name_end - head.start) (drop head.start bytes);
+  range = place_range utf16_len text (place_of number head.start head.end);
+  name_range = place_range utf16_len text (place_of number head.start head.name_end);
+}
 
 -- the symbol of a line, which has this number and these bytes
 abbrev pub symbol_in : List ℕ → ℕ → List ℕ → Option Symbol

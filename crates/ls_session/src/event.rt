@@ -3,7 +3,7 @@ ghost use Rattle.std.specs.Prelude.{◌≡◌, IfOk};
 use ls_frame::FrameFault;
 use ls_lists::{List, Text};
 use ls_rpc::Id;
-use std::alloc::{AllocError as Memory, Global};
+use std::alloc::AllocError as Memory;
 
 /// A question about a document.
 #[derive(Drop)]
@@ -63,7 +63,7 @@ impl ClientEvent {
     /// An event of its own that is the same.
     ///
     /// `Memory` says that an allocation was refused.
-    pub fn copy(&self, alloc: Global) -> Result<ClientEvent, Memory>
+    pub fn copy(&self) -> Result<ClientEvent, Memory>
         ensures { IfOk result (λ event. event ≡ self.now) }
     {
         match self {
@@ -77,9 +77,7 @@ impl ClientEvent {
                 let uri = uri.copy()?;
                 Ok(ClientEvent::Request(id, uri, ask.copy()?, *links))
             }
-            ClientEvent::Say(body) => {
-                Ok(ClientEvent::Say(List::from_slice(alloc, body.as_slice())?))
-            }
+            ClientEvent::Say(body) => Ok(ClientEvent::Say(body.copy()?)),
         }
     }
 }

@@ -33,7 +33,11 @@ fn blanks_before(bytes: &[u8]) -> usize
 fn blanks_after(bytes: &[u8]) -> usize
     ensures { result ≡ length (take_while spec_is_blank (reverse bytes.now)) }
 {
-    bytes.iter().rev().take_while(|byte| is_blank(**byte)).count()
+    bytes
+        .iter()
+        .rev()
+        .take_while(|byte| is_blank(**byte))
+        .count()
 }
 
 /// How many parts of a name the bytes begin with.

@@ -97,7 +97,7 @@ fn events(rt: HostRuntime) -> Result<(), Fail> {
     )?;
     assert!(rt; says(&links, INITIALIZED));
     match &session.event(opening)? {
-        Turn::Event(event) => match &event.copy(alloc)? {
+        Turn::Event(event) => match &event.copy()? {
             ClientEvent::DidOpen(uri, label, text) => {
                 assert!(rt; uri.as_str() == "file:///g" && *label == 7 && text.as_str() == "a");
             }

@@ -1,4 +1,4 @@
-use Rattle.std.proofs.Common.{rules, ◌≡◌, Ok, Err, Some, None}
+use Rattle.std.proofs.Common.{rules, Ok, Err, Some, None}
 use Rattle.ls_server.proofs.Known.{answers-next, answers-stop}
 use Rattle.ls_server.proofs.serve.answer_all.Goals as goal
 
@@ -6,12 +6,12 @@ pub returns-in-Ok-Some-clause-answers : goal.returns-in-Ok-Some-clause-answers
 returns-in-Ok-Some-clause-answers g c =
     let before = c.loop-body.invariant.answered in
     answers-stop _ c.loop-body.talk c.answer.new.talk c.args.bodies.now c.loop-body.body-index c.body-item.result c.deref.result.now (Ok (Some c.in-Ok-Some.status)) _ _ _
-      c.loop-body-test.true c.body-item.is c.deref.ensures.value tt before (rw c.in-Ok-Some.field-0-is at c.in-Ok-Some.ensures.answers)
+    c.loop-body-test.true c.body-item.is c.deref.ensures.value tt before (rw c.in-Ok-Some.field-0-is at c.in-Ok-Some.ensures.answers)
 
 pub returns-in-Err-clause-answers : goal.returns-in-Err-clause-answers
 returns-in-Err-clause-answers g c =
     answers-stop _ c.loop-body.talk _ c.args.bodies.now c.loop-body.body-index c.body-item.result c.deref.result.now (Err c.in-Err.fault) _ _ _
-      c.loop-body-test.true c.body-item.is c.deref.ensures.value tt c.loop-body.invariant.answered c.in-Err.ensures.answers
+    c.loop-body-test.true c.body-item.is c.deref.ensures.value tt c.loop-body.invariant.answered c.in-Err.ensures.answers
 
 pub loop-body-preserved : goal.loop-body-preserved
 loop-body-preserved g c = record {

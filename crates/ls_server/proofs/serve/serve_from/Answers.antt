@@ -1,6 +1,5 @@
-use Rattle.std.proofs.Common.{rules, arith, length, ◌<◌, ◌≤◌, ◌≡◌, Ok, Err, Some, None, ap, [], List, ℕ, inl, inr, take, refl, length-take}
-use Rattle.ls_server.proofs.Known.{append-nil}
-use Rattle.ls_server.proofs.Served.{begins, stops-start, consumes-none, consumes-keeps, consumes-consumes, finished, end-ok, end-err, served-status, served-fault, piece-more, or-true, or-false, write-failed}
+use Rattle.std.proofs.Common.{rules, arith, Ok, None, [], inl, inr, take, refl, length-take}
+use Rattle.ls_server.proofs.Served.{begins, consumes-none, consumes-keeps, consumes-consumes, finished, end-ok, end-err, served-status, served-fault, piece-more, or-true, or-false, write-failed}
 use Rattle.ls_server.proofs.serve.serve_from.Goals as goal
 
 pub loop-i-init : goal.loop-i-init
@@ -16,29 +15,29 @@ read-requires g c = omega (arith, c.loop-i.invariant.reads, c.ranges.reads.fits)
 
 pub loop-i-preserved-in-Err-Interrupted : goal.loop-i-preserved-in-Err-Interrupted
 loop-i-preserved-in-Err-Interrupted g c =
-  let before = c.loop-i.invariant.read in
-  record {
-  read = (before.0, consumes-keeps _ _ _ before.0 before.1 c.in-Err-Interrupted.ensures.bytes, before.2);
-  reads = omega (arith, c.loop-i.invariant.reads, c.read.ensures.counted);
-  source = search rules;
-  sink = c.loop-i.invariant.sink;
-}
+    let before = c.loop-i.invariant.read in
+    record {
+      read = (before.0, consumes-keeps _ _ _ before.0 before.1 c.in-Err-Interrupted.ensures.bytes, before.2);
+      reads = omega (arith, c.loop-i.invariant.reads, c.read.ensures.counted);
+      source = search rules;
+      sink = c.loop-i.invariant.sink;
+    }
 
 pub returns-in-Err-Failed : goal.returns-in-Err-Failed
 returns-in-Err-Failed g c =
-  let before = c.loop-i.invariant.read in
-  (inl (or-true _ (g.R.Source.failed c.loop-i.reader) (rw c.in-Err-Failed.field-0-is at c.in-Err-Failed.ensures.failed)), (before.0, _, _, consumes-keeps _ _ _ before.0 before.1 c.in-Err-Failed.ensures.bytes, before.2))
+    let before = c.loop-i.invariant.read in
+    (inl (or-true _ (g.R.Source.failed c.loop-i.reader) (rw c.in-Err-Failed.field-0-is at c.in-Err-Failed.ensures.failed)), (before.0, _, _, consumes-keeps _ _ _ before.0 before.1 c.in-Err-Failed.ensures.bytes, before.2))
 
 pub returns-in-Ok-end : goal.returns-in-Ok-end
 returns-in-Ok-end g c =
-  let before = c.loop-i.invariant.read in
-  finished _ _ _ (Unit {0}) (Unit {0}) before.0 (take c.in-Ok.count c.read.new.buf) c.loop-i.framer c.loop-i.talk _ _ _
+    let before = c.loop-i.invariant.read in
+    finished _ _ _ (Unit {0}) (Unit {0}) before.0 (take c.in-Ok.count c.read.new.buf) c.loop-i.framer c.loop-i.talk _ _ _
     (rw c.if-count-eq0.true refl) before.1 before.2 c.in-Ok.ensures.bytes.0 (c.in-Ok.ensures.bytes.1 c.if-count-eq0.true (omega (arith, c.requires.room, c.loop-i.auto.buffer, c.read.auto.buf))) (end-ok c.loop-i.framer before.2.fault c.in-Ok-end.ensures)
 
 pub returns-in-Err : goal.returns-in-Err
 returns-in-Err g c =
-  let before = c.loop-i.invariant.read in
-  finished _ _ _ (Unit {0}) (Unit {0}) before.0 (take c.in-Ok.count c.read.new.buf) c.loop-i.framer c.loop-i.talk _ _ _
+    let before = c.loop-i.invariant.read in
+    finished _ _ _ (Unit {0}) (Unit {0}) before.0 (take c.in-Ok.count c.read.new.buf) c.loop-i.framer c.loop-i.talk _ _ _
     (rw c.if-count-eq0.true refl) before.1 before.2 c.in-Ok.ensures.bytes.0 (c.in-Ok.ensures.bytes.1 c.if-count-eq0.true (omega (arith, c.requires.room, c.loop-i.auto.buffer, c.read.auto.buf))) (end-err c.loop-i.framer c.in-Err.fault before.2.fault c.in-Err.ensures)
 
 pub slice_bounds-serve_piece-end : goal.slice_bounds-serve_piece-end
@@ -52,33 +51,36 @@ serve_piece-requires-clause-fault g c = c.loop-i.invariant.read.2.fault
 
 pub returns-in-Ok-Some : goal.returns-in-Ok-Some
 returns-in-Ok-Some g c =
-  let before = c.loop-i.invariant.read in
-  served-status _ _ _ (Unit {0}) (Unit {0}) before.0 (take c.in-Ok.count c.read.new.buf) c.loop-i.framer c.serve_piece.new.framer c.loop-i.talk c.serve_piece.new.talk c.in-Ok-Some.status _ _ _
+    let before = c.loop-i.invariant.read in
+    served-status _ _ _ (Unit {0}) (Unit {0}) before.0 (take c.in-Ok.count c.read.new.buf) c.loop-i.framer c.serve_piece.new.framer c.loop-i.talk c.serve_piece.new.talk c.in-Ok-Some.status _ _ _
     before.1 before.2 c.in-Ok.ensures.bytes.0 (rw c.in-Ok-Some.field-0-is at c.in-Ok-Some.ensures.piece)
 
 pub returns-in-Err-serve_piece : goal.returns-in-Err-serve_piece
 returns-in-Err-serve_piece g c =
-  let before = c.loop-i.invariant.read in
-  served-fault _ _ _ _ _ before.0 (take c.in-Ok.count c.read.new.buf) c.loop-i.framer c.serve_piece.new.framer c.loop-i.talk c.serve_piece.new.talk c.in-Err-serve_piece.fault _ _ _
+    let before = c.loop-i.invariant.read in
+    served-fault _ _ _ _ _ before.0 (take c.in-Ok.count c.read.new.buf) c.loop-i.framer c.serve_piece.new.framer c.loop-i.talk c.serve_piece.new.talk c.in-Err-serve_piece.fault _ _ _
     before.1 before.2 c.in-Ok.ensures.bytes.0 c.in-Err-serve_piece.ensures.piece
     (write-failed c.in-Err-serve_piece.fault _ (g.W.Sink.failed c.loop-i.writer) c.in-Err-serve_piece.ensures.failed)
 
 pub loop-i-preserved : goal.loop-i-preserved
 loop-i-preserved g c =
-  let before = c.loop-i.invariant.read in
-  record {
-  read = (_, consumes-consumes _ _ _ before.0 (take c.in-Ok.count c.read.new.buf) before.1 c.in-Ok.ensures.bytes.0,
-    piece-more before.0 c.loop-i.framer (take c.in-Ok.count c.read.new.buf) c.serve_piece.new.framer c.loop-i.talk c.serve_piece.new.talk (Ok None) _ _ _ before.2
-      (rw c.in-Ok-None.field-0-is at c.in-Ok-None.ensures.piece));
-  reads = omega (arith, c.loop-i.invariant.reads, c.read.ensures.counted);
-  source = search rules;
-  sink = or-false _ (g.W.Sink.failed c.loop-i.writer) c.loop-i.invariant.sink c.in-Ok-None.ensures.failed;
-}
+    let before = c.loop-i.invariant.read in
+    record {
+      read = (
+        _,
+        consumes-consumes _ _ _ before.0 (take c.in-Ok.count c.read.new.buf) before.1 c.in-Ok.ensures.bytes.0,
+        piece-more before.0 c.loop-i.framer (take c.in-Ok.count c.read.new.buf) c.serve_piece.new.framer c.loop-i.talk c.serve_piece.new.talk (Ok None) _ _ _ before.2
+            (rw c.in-Ok-None.field-0-is at c.in-Ok-None.ensures.piece),
+      );
+      reads = omega (arith, c.loop-i.invariant.reads, c.read.ensures.counted);
+      source = search rules;
+      sink = or-false _ (g.W.Sink.failed c.loop-i.writer) c.loop-i.invariant.sink c.in-Ok-None.ensures.failed;
+    }
 
 pub returns : goal.returns
 returns g c =
-  let before = c.loop-i.invariant.read in
-  (inr (omega (arith, c.loop-i.invariant.reads, c.loop-i-test.false, c.loop-i.auto.i-end, c.requires.some)), (before.0, _, _, before.1, before.2))
+    let before = c.loop-i.invariant.read in
+    (inr (omega (arith, c.loop-i.invariant.reads, c.loop-i-test.false, c.loop-i.auto.i-end, c.requires.some)), (before.0, _, _, before.1, before.2))
 
 pub slice_bounds-serve_piece-end-in-loop-i : goal.slice_bounds-serve_piece-end-in-loop-i
 slice_bounds-serve_piece-end-in-loop-i g c = omega (arith, c.in-Ok.ensures.bound, length-take c.in-Ok.count c.read.new.buf)

@@ -1,5 +1,3 @@
-use Rattle.std.proofs.Common.{rules, arith}
-use Rattle.ls_session.proofs.Heads.{head_of-cut}
 use Rattle.ls_session.proofs.outline.symbol.Goals as goal
 
 pub range-name-requires-clause-start_boundary : goal.range-name-requires-clause-start_boundary

@@ -1,0 +1,114 @@
+#!/usr/bin/env python3
+"""Drives the built program over pipes and prints how long it takes.
+
+Run it from anywhere: bench/bench.py [PROGRAM], where PROGRAM is out/abnf_ls if left out. Times are wall-clock
+milliseconds, the best of five runs; sizes are bytes. Beside each time stands that of a plain measure of the same
+bytes: `cat` through the same pipes, or one copy in memory.
+"""
+import json
+import os
+import subprocess
+import sys
+import threading
+import time
+
+TOP = os.path.dirname(os.path.dirname(os.path.abspath(__file__)))
+PROGRAM = sys.argv[1] if len(sys.argv) > 1 else os.path.join(TOP, "out", "abnf_ls")
+RUNS = 5
+
+
+def frame(message):
+    body = message if isinstance(message, bytes) else json.dumps(message).encode()
+    return b"Content-Length: %d\r\n\r\n%b" % (len(body), body)
+
+
+def request(number, method, **params):
+    return frame({"jsonrpc": "2.0", "id": number, "method": method, "params": params})
+
+
+def notice(method, **params):
+    return frame({"jsonrpc": "2.0", "method": method, "params": params})
+
+
+def opened(text, uri="file:///g"):
+    return notice("textDocument/didOpen",
+                  textDocument={"uri": uri, "languageId": "abnf", "version": 1, "text": text})
+
+
+INITIALIZE = request(0, "initialize", capabilities={})
+SYMBOLS = request(1, "textDocument/documentSymbol", textDocument={"uri": "file:///g"})
+END = request(2, "shutdown") + notice("exit")
+
+
+def through(command, given):
+    """Writes the bytes, reads all that comes back, and answers the seconds and the bytes read."""
+    start = time.perf_counter()
+    process = subprocess.Popen(command, stdin=subprocess.PIPE, stdout=subprocess.PIPE)
+
+    def feed():
+        with process.stdin as pipe:
+            pipe.write(given)
+
+    writer = threading.Thread(target=feed)
+    writer.start()
+    output = process.stdout.read()
+    writer.join()
+    process.wait()
+    return time.perf_counter() - start, output
+
+
+def best(command, given):
+    return min((through(command, given) for _ in range(RUNS)), key=lambda it: it[0])
+
+
+def copied(data):
+    """The seconds of one copy of the bytes in memory."""
+    times = []
+    for _ in range(RUNS):
+        start = time.perf_counter()
+        bytearray(data)
+        times.append(time.perf_counter() - start)
+    return min(times)
+
+
+def row(name, given):
+    ours, output = best([PROGRAM], given)
+    plain, _ = best(["cat"], given)
+    print(f"{name:<46} {ours * 1e3:9.1f} ms   {ours / plain:6.1f} x cat ({plain * 1e3:.1f} ms)"
+          f"   in {len(given):>10} bytes, out {len(output):>10} bytes")
+    return ours
+
+
+def first_reply():
+    times = []
+    for _ in range(RUNS):
+        start = time.perf_counter()
+        process = subprocess.Popen([PROGRAM], stdin=subprocess.PIPE, stdout=subprocess.PIPE)
+        process.stdin.write(INITIALIZE)
+        process.stdin.flush()
+        process.stdout.read(1)
+        times.append(time.perf_counter() - start)
+        process.stdin.close()
+        process.stdout.read()
+        process.wait()
+    print(f"{'start to the first reply':<46} {min(times) * 1e3:9.1f} ms")
+
+
+def main():
+    first_reply()
+    big = b'{"jsonrpc":"2.0","method":"$/nothing","params":"' + b"x" * (16777216 - 60) + b'"}'
+    seconds = row("one frame of 16 MB, an unknown notice", INITIALIZE + frame(big) + END)
+    print(f"{'':<46} {seconds / copied(big):9.1f} x one copy of its bytes in memory")
+    rest = INITIALIZE + opened('a = "x"') + SYMBOLS * 100_000 + END
+    seconds = row("100,000 requests for a small outline", rest)
+    print(f"{'':<46} {seconds * 1e6 / 100_000:9.1f} us a request")
+    line = 'rule-{:06d} = "some text" / other    ; c\n'
+    text = "".join(line.format(number) for number in range(100_000))
+    text += ";" + "x" * (4_194_304 - len(text) - 1)
+    seconds = row("open of 4 MB with 100,000 lines", INITIALIZE + opened(text) + END)
+    print(f"{'':<46} {seconds / copied(text.encode()):9.1f} x one copy of its bytes in memory")
+    row("the same and its outline", INITIALIZE + opened(text) + SYMBOLS + END)
+
+
+if __name__ == "__main__":
+    main()
