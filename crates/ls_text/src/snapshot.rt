@@ -272,6 +272,19 @@ impl Snapshot {
         })
     }
 
+    // The text after these edits, each on the text that the ones before it left.
+    fn edited_all(self, edits: &[Edit]) -> Result<Snapshot, TextFault>
+        ensures ok { IfOk result (λ s. edited_all utf16_len self edits.now ≡ Some s) }
+        ensures too_large { IfErr result
+            (λ e. e ≡ TextFault.TooLarge → edited_all utf16_len self edits.now ≡ None) }
+    {
+        let mut text = self;
+        for edit in edits {
+            text = text.edited(edit)?;
+        }
+        Ok(text)
+    }
+
     /// The text after these edits, each on the text that the ones before it left. This text stays as it is.
     ///
     /// Lines that no edit comes near are shared and not copied.
@@ -285,10 +298,9 @@ impl Snapshot {
         ensures too_large { IfErr result
             (λ e. e ≡ TextFault.TooLarge → edited_all utf16_len self.now edits.now ≡ None) }
     {
-        let mut text = self.share()?;
-        for edit in edits {
-            text = text.edited(edit)?;
+        match edits {
+            [] => Ok(self.share()?),
+            [first, rest @ ..] => self.edited(first)?.edited_all(rest),
         }
-        Ok(text)
     }
 }
