@@ -8,7 +8,7 @@ use Rattle.std.proofs.lemmas.List.{append-nil, take-append-le, drop-append-le}
 use Rattle.std.proofs.lemmas.Str.{chars-append, IsUtf8-take, IsUtf8-drop, IsUtf8-string_bytes, chars-nil}
 use Rattle.ls_text.specs.Lines.{is_break, starts_with_lf, ends_with_cr}
 use Rattle.ls_text.specs.Cut.{end_text, line_text, text_of, IsPlain, is_end_before, AreLines, AreLinesBefore, IsCut, IsCutFrom, IsCutSoFar, IsCutOnto, IsPushed, start_of, text_at, end_at}
-use Rattle.ls_text.specs.Spots.{bytes_at, IsSpot, front_of, back_of, spot_offset}
+use Rattle.ls_text.specs.Spots.{bytes_at, IsSpot, front_of, back_of}
 use Rattle.ls_text.specs.declared.line_end.LineEnd.{LineEnd}
 use Rattle.ls_text.specs.declared.line_end.LineEnd.TheVariants.{Eof, Lf, Cr, CrLf}
 use Rattle.ls_text.specs.declared.line.Line.{Line}
@@ -175,11 +175,11 @@ module _ (ls : List Line) (s : Spot) (spot : IsSpot ls s) where
   front_le : length (front_of ls s) ≤ length (text_at ls s.line)
   front_le = omega (arith, ap length spot_text, length-append (front_of ls s) (back_of ls s))
 
-  pub take_spot : take (spot_offset ls s) (text_of ls) ≡ text_of (take s.line ls) ++ front_of ls s
-  take_spot = take_at ls s.line (length (front_of ls s)) spot.line_in_range front_le ∙ ap (λ x. text_of (take s.line ls) ++ x) (ap (take (length (front_of ls s))) spot_text ∙ take-append_seam (front_of ls s) (back_of ls s))
+  pub take_spot : take s.offset (text_of ls) ≡ text_of (take s.line ls) ++ front_of ls s
+  take_spot = ap (λ o. take o (text_of ls)) spot.offset_is ∙ take_at ls s.line (length (front_of ls s)) spot.line_in_range front_le ∙ ap (λ x. text_of (take s.line ls) ++ x) (ap (take (length (front_of ls s))) spot_text ∙ take-append_seam (front_of ls s) (back_of ls s))
 
-  pub drop_spot : drop (spot_offset ls s) (text_of ls) ≡ back_of ls s ++ (end_text (end_at ls s.line) ++ text_of (drop (suc s.line) ls))
-  drop_spot = drop_at ls s.line (length (front_of ls s)) spot.line_in_range front_le ∙ ap (λ x. x ++ (end_text (end_at ls s.line) ++ text_of (drop (suc s.line) ls))) (ap (drop (length (front_of ls s))) spot_text ∙ drop_seam (front_of ls s) (back_of ls s))
+  pub drop_spot : drop s.offset (text_of ls) ≡ back_of ls s ++ (end_text (end_at ls s.line) ++ text_of (drop (suc s.line) ls))
+  drop_spot = ap (λ o. drop o (text_of ls)) spot.offset_is ∙ drop_at ls s.line (length (front_of ls s)) spot.line_in_range front_le ∙ ap (λ x. x ++ (end_text (end_at ls s.line) ++ text_of (drop (suc s.line) ls))) (ap (drop (length (front_of ls s))) spot_text ∙ drop_seam (front_of ls s) (back_of ls s))
     where
       drop_seam : (x y : List ℕ) → drop (length x) (x ++ y) ≡ y
       drop_seam [] y = refl
@@ -241,7 +241,7 @@ abbrev pub middle_text : List Line → ℕ → Spot → Spot → List ℕ → Li
 middle_text ls kept from to new = text_of (take (from.line - kept) (drop kept ls)) ++ (front_of ls from ++ (new ++ (back_of ls to ++ end_text (end_at ls to.line))))
 
 abbrev pub wanted_text : List Line → Spot → Spot → List ℕ → List ℕ
-wanted_text ls from to new = take (spot_offset ls from) (text_of ls) ++ (new ++ drop (spot_offset ls to) (text_of ls))
+wanted_text ls from to new = take from.offset (text_of ls) ++ (new ++ drop to.offset (text_of ls))
 
 regroup : (a b f n k e c : List ℕ) → a ++ ((b ++ (f ++ (n ++ (k ++ e)))) ++ c) ≡ ((a ++ b) ++ f) ++ (n ++ (k ++ (e ++ c)))
 regroup a b f n k e c = simp append_assoc refl

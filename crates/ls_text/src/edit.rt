@@ -3,8 +3,8 @@ ghost use Rattle.std.specs.Arc.{arc_value};
 ghost use Rattle.std.specs.Str.{chars};
 ghost use Rattle.std.specs.String.{string_bytes};
 ghost use Rattle.ls_text.specs.Lines.{utf16_len, offset_of};
-ghost use Rattle.ls_text.specs.Cut.{end_text, end_at, AreLines, text_of, IsCut};
-ghost use Rattle.ls_text.specs.Spots.{IsSpot, front_of, back_of, spot_offset};
+ghost use Rattle.ls_text.specs.Cut.{end_text, end_at, AreLines, text_of, IsCut, IsKept};
+ghost use Rattle.ls_text.specs.Spots.{IsSpot, front_of, back_of};
 
 use ls_lists::Text;
 use std::alloc::{AllocError, Global};
@@ -37,30 +37,38 @@ impl Edit {
     }
 }
 
-// A place between two characters of a line, by the bytes before it there.
+// A place between two characters of a line.
 #[derive(Clone, Copy, Debug, PartialEq, Eq)]
 pub struct Spot {
     pub line: usize,
+    // The bytes of the line before it.
     pub bytes: usize,
+    // The characters of the text before it.
+    pub offset: usize,
 }
 
-// Where a position stands.
-pub fn spot_of(lines: &[Arc<Line>], at: Position) -> Spot
-    requires { AreLines (map arc_value lines.now) }
+// Where a position stands in these lines, which start at these offsets and have so many characters with their line ends.
+pub fn spot_of(lines: &[Arc<Line>], starts: &[usize], count: usize, at: Position) -> Spot
+    requires { IsKept (map arc_value lines.now) starts.now count }
     ensures spot { IsSpot (map arc_value lines.now) result }
-    ensures offset { spot_offset (map arc_value lines.now) result
+    ensures position { result.offset
         ≡ offset_of utf16_len (text_of (map arc_value lines.now)) at.line at.character }
 {
     match lines.get(at.line as usize) {
-        Some(line) => Spot {
-            line: at.line as usize,
-            bytes: fitting(line.text.as_str(), Units::Utf16, at.character as usize).bytes,
-        },
+        Some(line) => {
+            let fit = fitting(line, Units::Utf16, at.character as usize);
+            Spot {
+                line: at.line as usize,
+                bytes: fit.bytes,
+                offset: starts[at.line as usize] + fit.count,
+            }
+        }
         None => {
             let last = lines.len() - 1;
             Spot {
                 line: last,
                 bytes: lines[last].text.len(),
+                offset: count,
             }
         }
     }
@@ -119,7 +127,7 @@ pub fn spliced(alloc: Global, lines: &[Arc<Line>], from: Spot, to: Spot, new: &s
     requires to { IsSpot (map arc_value lines.now) to }
     ensures { let held = map arc_value lines.now in
         IfOk result (λ v. IsCut
-            (take (spot_offset held from) (text_of held) ++ (chars new.now ++ drop (spot_offset held to) (text_of held)))
+            (take from.offset (text_of held) ++ (chars new.now ++ drop to.offset (text_of held)))
             (map arc_value v.items)) }
 {
     let kept = from.line.saturating_sub(1);

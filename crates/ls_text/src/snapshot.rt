@@ -62,7 +62,7 @@ fn indexed(alloc: Global, lines: Vec<Arc<Line>>) -> Result<Snapshot, TextFault>
     ensures too_large { let text = text_of (map arc_value lines.items) in
         IfErr result (λ e. e ≡ TextFault.TooLarge → MAX_BYTES < length (encode_utf8_all text)) }
 {
-    let mut starts = Vec::new(alloc);
+    let mut starts = Vec::with_capacity(alloc, lines.len())?;
     let mut length = 0;
     let mut bytes = 0;
     for line in &lines {
@@ -170,7 +170,7 @@ impl Snapshot {
         ensures { result ≡ offset_of (width_of units) self.now line count }
     {
         match self.lines.get(line) {
-            Some(held) => self.starts[line] + fitting(held.text.as_str(), units, count).count,
+            Some(held) => self.starts[line] + fitting(held, units, count).count,
             None => self.length,
         }
     }
@@ -189,11 +189,10 @@ impl Snapshot {
         ensures { result ≡ position_of utf16_len self.now offset }
     {
         let line = line_of(&self.starts, offset);
-        let text = self.lines[line].text.as_str();
         let before = offset - self.starts[line];
         Position {
             line: line as u32,
-            character: units_before(text, Units::Utf16, before),
+            character: units_before(&self.lines[line], Units::Utf16, before),
         }
     }
 
@@ -236,9 +235,9 @@ impl Snapshot {
                 (chars new.now))
             (map arc_value v.items)) }
     {
-        let start = spot_of(&self.lines, range.start);
-        let end = spot_of(&self.lines, range.end);
-        if self.offset_of(range.start) <= self.offset_of(range.end) {
+        let start = spot_of(&self.lines, &self.starts, self.length, range.start);
+        let end = spot_of(&self.lines, &self.starts, self.length, range.end);
+        if start.offset <= end.offset {
             spliced(self.alloc, &self.lines, start, end, new)
         } else {
             spliced(self.alloc, &self.lines, end, start, new)
