@@ -4,3 +4,7 @@ pub mod OffsetLaws
 pub mod UnitLaws
 pub mod HeldLaws
 pub mod PositionLaws
+pub mod SpliceLaws
+pub mod SpotLaws
+pub mod SameLaws
+pub mod EditLaws

@@ -68,7 +68,7 @@ start_next (l ∷ []) zero lt = omega arith
 start_next (l ∷ n ∷ ls) zero lt = omega arith
 start_next (l ∷ ls) (suc m) lt = omega (arith, start_next ls m (omega (arith, lt)))
 
-last_full : (ls : List Line) → AreLines ls → (m : ℕ) → suc m ≡ length ls → start_of ls m + length (text_at ls m) ≡ length (text_of ls)
+pub last_full : (ls : List Line) → AreLines ls → (m : ℕ) → suc m ≡ length ls → start_of ls m + length (text_at ls m) ≡ length (text_of ls)
 last_full [] h m e = absurd h
 last_full (l ∷ []) h zero e = omega (arith, length-append (line_text l) (end_text l.end ++ []), ap (λ x. length (end_text x ++ [])) h.1)
 last_full (l ∷ []) h (suc m) e = absurd (omega (arith, e))
@@ -133,7 +133,7 @@ few_lines (l ∷ n ∷ ls) h = omega (arith, few_lines (n ∷ ls) h.2, length-ap
     some CrLf t h = omega arith
 
 -- ---- what `position_of` computes, over the lines and their index
-lines_some : (ls : List Line) → AreLines ls → 0 < length ls
+pub lines_some : (ls : List Line) → AreLines ls → 0 < length ls
 lines_some [] h = absurd h
 lines_some (l ∷ ls) h = omega arith
 

@@ -1,14 +1,16 @@
 -- Laws of the units and bytes of the characters at the front of a text.
-use Rattle.std.proofs.Common.{◌≡◌, ℕ, suc, ◌+◌, ◌-◌, ◌<◌, ◌≤◌, cond, leb, List, [], ◌∷◌, ◌++◌, length, take, drop, get_or, sym, ap, ◌∙◌, arith, length-append, take-append-drop}
+use Rattle.std.proofs.Common.{zero, suc, min, ◌≡◌, ℕ, ◌+◌, ◌-◌, ◌<◌, ◌≤◌, cond, leb, List, [], ◌∷◌, ◌++◌, length, take, drop, get_or, sym, ap, ◌∙◌, arith, length-append, take-append-drop}
 use Rattle.std.specs.Prelude.{sum_by}
 use Rattle.std.specs.Char.{len_utf8}
 use Rattle.std.specs.Str.{chars, IsUtf8, encode_utf8_all as encodes}
-use Rattle.std.proofs.lemmas.Str.{encodes-append, encodes-chars, length-encode}
+use Rattle.std.proofs.lemmas.Str.{encodes-append, encodes-chars, length-encode, len_utf8_bounds, length-le-encodes, IsUtf8-string_bytes}
 use Rattle.std.proofs.lemmas.List.{append-nil, take_more, at_drop_more, at_drop_all}
 use Rattle.std.proofs.lemmas.List.Sums.{sum_by-cons, sum_by-append}
 use Rattle.std.proofs.lemmas.Bool.Decides.{nat_tests}
 use Rattle.ls_text.specs.Lines.{fitting, utf16_len}
-use Rattle.ls_text.specs.Cut.{width_of}
+use Rattle.ls_text.specs.Cut.{line_text, width_of}
+use Rattle.ls_text.specs.declared.line.Line.{Line}
+use Rattle.std.specs.String.{string_bytes}
 use Rattle.ls_text.specs.declared.units.Units.{Units}
 use Rattle.ls_text.specs.declared.units.Units.TheVariants.{Utf8, Utf16}
 
@@ -75,3 +77,50 @@ module _ (w : ℕ → ℕ) (cs : List ℕ) (n c left wide m : ℕ) (here : (n < 
 
   pub turn_goes : wide ≤ left → (n + 1) + fitting w (drop (n + 1) cs) (left - wide) ≡ m
   turn_goes le = ap (λ x. (n + 1) + fitting w (drop (n + 1) cs) (left - x)) w_is ∙ goes (w c) left _ n m (omega (arith, le, w_is)) at_c
+
+-- ---- a text whose characters are a byte each
+one_byte : (c : ℕ) (cs : List ℕ) → length (encodes (c ∷ cs)) ≡ length (c ∷ cs) → (len_utf8 c ≡ 1) × (length (encodes cs) ≡ length cs)
+one_byte c cs e =
+    let both = ap length (encodes-append (c ∷ []) cs) in
+    let sum = length-append (encodes (c ∷ [])) (encodes cs) in
+    let first : length (encodes (c ∷ [])) ≡ len_utf8 c = ap length (append-nil _) ∙ length-encode c in
+    let some = len_utf8_bounds c in
+    let rest = length-le-encodes cs in
+    (omega arith, omega arith)
+
+one_unit : (u : Units) (c : ℕ) → len_utf8 c ≡ 1 → width_of u c ≡ 1
+one_unit Utf8 c e = e
+one_unit Utf16 c e =
+    let le = utf16_le c in
+    let some : 0 < utf16_len c = grind (arith, nat_tests) in
+    omega arith
+
+fit_more : (x k f n : ℕ) → x ≡ 1 → f ≡ min (k - x) n → cond (leb x k) (suc f) 0 ≡ min k (suc n)
+fit_more x k f n e h = grind (arith, nat_tests)
+
+pub fitting-ascii : (u : Units) (cs : List ℕ) (k : ℕ) → length (encodes cs) ≡ length cs → fitting (width_of u) cs k ≡ min k (length cs)
+unfolding fitting
+fitting-ascii u [] k e = omega arith
+fitting-ascii u (c ∷ cs) k e =
+    let parts = one_byte c cs e in
+    fit_more (width_of u c) k (fitting (width_of u) cs (k - width_of u c)) (length cs) (one_unit u c parts.0) (fitting-ascii u cs (k - width_of u c) parts.1)
+
+pub units-ascii : (u : Units) (cs : List ℕ) (k : ℕ) → length (encodes cs) ≡ length cs → sum_by (width_of u) (take k cs) ≡ min k (length cs)
+units-ascii u [] zero e = omega arith
+units-ascii u [] (suc k) e = omega arith
+units-ascii u (c ∷ cs) zero e = omega arith
+units-ascii u (c ∷ cs) (suc k) e =
+    let parts = one_byte c cs e in
+    omega (arith, sum_by-cons (width_of u) c (take k cs), one_unit u c parts.0, units-ascii u cs k parts.1)
+
+pub bytes-ascii : (cs : List ℕ) (k : ℕ) → length (encodes cs) ≡ length cs → length (encodes (take k cs)) ≡ min k (length cs)
+bytes-ascii [] zero e = omega arith
+bytes-ascii [] (suc k) e = omega arith
+bytes-ascii (c ∷ cs) zero e = omega arith
+bytes-ascii (c ∷ cs) (suc k) e =
+    let parts = one_byte c cs e in
+    let first : length (encodes (c ∷ [])) ≡ len_utf8 c = ap length (append-nil _) ∙ length-encode c in
+    omega (arith, parts.0, first, ap length (encodes-append (c ∷ []) (take k cs)), length-append (encodes (c ∷ [])) (encodes (take k cs)), bytes-ascii cs k parts.1)
+
+pub line-ascii : (l : Line) (bytes : List ℕ) → bytes ≡ string_bytes l.text → length bytes ≡ l.char_count → length (encodes (line_text l)) ≡ length (line_text l)
+line-ascii l bytes bytes_are same = ap length (encodes-chars (string_bytes l.text) (IsUtf8-string_bytes l.text)) ∙ sym (ap length bytes_are) ∙ same ∙ l.counted

@@ -1,3 +1,5 @@
 pub mod Lines
 pub mod Cut
 pub mod Positions
+pub mod Spots
+pub mod Edits

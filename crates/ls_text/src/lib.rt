@@ -11,6 +11,7 @@
 #![tactic(auto)]
 
 mod cut;
+mod edit;
 mod fault;
 mod line;
 mod line_end;
@@ -20,6 +21,7 @@ mod snapshot;
 mod tests;
 mod units;
 
+pub use edit::Edit;
 pub use fault::TextFault;
 pub use position::{Place, Position, Range};
 pub use snapshot::{MAX_BYTES, Snapshot};

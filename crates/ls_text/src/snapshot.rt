@@ -1,4 +1,4 @@
-ghost use Rattle.std.specs.Prelude.{◌≡◌, ◌+◌, ◌<◌, ◌≤◌, ◌++◌, ◌∷◌, [], length, map, Option, IsTrue, OnOk, IfOk, IfErr, IfSome, slice_index};
+ghost use Rattle.std.specs.Prelude.{◌≡◌, ◌+◌, ◌<◌, ◌≤◌, ◌++◌, ◌↔◌, ◌∷◌, [], length, map, Option, true, false, Some, None, IsTrue, OnOk, IfOk, IfErr, IfSome, slice_index};
 ghost use Rattle.std.specs.Arc.{arc_value};
 ghost use Rattle.std.specs.Str.{chars, encode_utf8_all, IsUtf8};
 ghost use Rattle.std.specs.String.{string_bytes, string_len};
@@ -6,9 +6,11 @@ ghost use Rattle.std.specs.Option.{option_map};
 ghost use Rattle.std.specs.List.{slice_get};
 ghost use Rattle.ls_text.specs.Lines.{line_ends, lines, utf16_len, offset_of};
 ghost use Rattle.ls_text.specs.Positions.{position_of, place_range};
-ghost use Rattle.ls_text.specs.Cut.{AreLines, text_of, width_of};
+ghost use Rattle.ls_text.specs.Edits.{position_offset, replaced, edited, edited_all, is_too_large};
+ghost use Rattle.ls_text.specs.Cut.{AreLines, IsCut, text_of, width_of};
 
 use crate::cut::lines_of;
+use crate::edit::{Edit, push_shared, push_text, spliced, spot_of};
 use crate::fault::TextFault;
 use crate::line::Line;
 use crate::position::{Place, Position, Range};
@@ -60,7 +62,7 @@ fn indexed(alloc: Global, lines: Vec<Arc<Line>>) -> Result<Snapshot, TextFault>
     ensures too_large { let text = text_of (map arc_value lines.items) in
         IfErr result (λ e. e ≡ TextFault.TooLarge → MAX_BYTES < length (encode_utf8_all text)) }
 {
-    let mut starts = Vec::new(alloc);
+    let mut starts = Vec::with_capacity(alloc, lines.len())?;
     let mut length = 0;
     let mut bytes = 0;
     for line in &lines {
@@ -102,16 +104,28 @@ fn line_of(starts: &[usize], offset: usize) -> usize
     low
 }
 
-// Adds the text of these lines.
-fn push_text(text: &mut String, lines: &[Arc<Line>]) -> Result<(), AllocError>
-    ensures { OnOk result
-        (chars (string_bytes text.new) ≡ chars (string_bytes text.old) ++ text_of (map arc_value lines.now)) }
+// Whether two lines have the same text and line end.
+fn same_line(a: &Line, b: &Line) -> bool
+    ensures { IsTrue result ↔ ((string_bytes a.now.text ≡ string_bytes b.now.text) × (a.now.end ≡ b.now.end)) }
 {
-    for line in lines {
-        text.push_str(line.text.as_str())?;
-        text.push_str(line.end.as_str())?;
+    a.end == b.end && a.text.as_str() == b.text.as_str()
+}
+
+// Whether the lines of two texts are the same.
+fn same_lines(a: &[Arc<Line>], b: &[Arc<Line>]) -> bool
+    requires a { AreLines (map arc_value a.now) }
+    requires b { AreLines (map arc_value b.now) }
+    ensures { IsTrue result ↔ (text_of (map arc_value a.now) ≡ text_of (map arc_value b.now)) }
+{
+    if a.len() != b.len() {
+        return false;
     }
-    Ok(())
+    for (i, line) in a.iter().enumerate() {
+        if !same_line(line, &b[i]) {
+            return false;
+        }
+    }
+    true
 }
 
 impl Snapshot {
@@ -156,7 +170,7 @@ impl Snapshot {
         ensures { result ≡ offset_of (width_of units) self.now line count }
     {
         match self.lines.get(line) {
-            Some(held) => self.starts[line] + fitting(held.text.as_str(), units, count).count,
+            Some(held) => self.starts[line] + fitting(held, units, count).count,
             None => self.length,
         }
     }
@@ -175,11 +189,10 @@ impl Snapshot {
         ensures { result ≡ position_of utf16_len self.now offset }
     {
         let line = line_of(&self.starts, offset);
-        let text = self.lines[line].text.as_str();
         let before = offset - self.starts[line];
         Position {
             line: line as u32,
-            character: units_before(text, Units::Utf16, before),
+            character: units_before(&self.lines[line], Units::Utf16, before),
         }
     }
 
@@ -204,5 +217,89 @@ impl Snapshot {
         let mut text = String::new(self.alloc);
         push_text(&mut text, &self.lines)?;
         Ok(text)
+    }
+
+    /// Whether both texts have the same characters.
+    pub fn same_text(&self, other: &Snapshot) -> bool
+        ensures { IsTrue result ↔ (self.now ≡ other.now) }
+    {
+        same_lines(&self.lines, &other.lines)
+    }
+
+    // The lines with a range replaced.
+    fn replaced(&self, range: Range, new: &str) -> Result<Vec<Arc<Line>>, AllocError>
+        ensures { IfOk result (λ v. IsCut
+            (replaced self.now
+                (position_offset utf16_len self.now range.start)
+                (position_offset utf16_len self.now range.end)
+                (chars new.now))
+            (map arc_value v.items)) }
+    {
+        let start = spot_of(&self.lines, &self.starts, self.length, range.start);
+        let end = spot_of(&self.lines, &self.starts, self.length, range.end);
+        if start.offset <= end.offset {
+            spliced(self.alloc, &self.lines, start, end, new)
+        } else {
+            spliced(self.alloc, &self.lines, end, start, new)
+        }
+    }
+
+    // The text after one edit.
+    fn edited(&self, edit: &Edit) -> Result<Snapshot, TextFault>
+        ensures ok { IfOk result (λ s. (s ≡ edited utf16_len self.now edit.now) × (is_too_large s ≡ false)) }
+        ensures too_large { IfErr result
+            (λ e. e ≡ TextFault.TooLarge → is_too_large (edited utf16_len self.now edit.now) ≡ true) }
+    {
+        let lines = match edit.range {
+            None => lines_of(self.alloc, edit.text.as_str())?,
+            Some(range) => self.replaced(range, edit.text.as_str())?,
+        };
+        indexed(self.alloc, lines)
+    }
+
+    // This text, without a copy of its lines.
+    fn share(&self) -> Result<Snapshot, AllocError>
+        ensures { IfOk result (λ s. s ≡ self.now) }
+    {
+        let mut lines = Vec::new(self.alloc);
+        push_shared(&mut lines, &self.lines)?;
+        Ok(Snapshot {
+            alloc: self.alloc,
+            lines,
+            starts: self.starts.clone()?,
+            length: self.length,
+        })
+    }
+
+    // The text after these edits, each on the text that the ones before it left.
+    fn edited_all(self, edits: &[Edit]) -> Result<Snapshot, TextFault>
+        ensures ok { IfOk result (λ s. edited_all utf16_len self edits.now ≡ Some s) }
+        ensures too_large { IfErr result
+            (λ e. e ≡ TextFault.TooLarge → edited_all utf16_len self edits.now ≡ None) }
+    {
+        let mut text = self;
+        for edit in edits {
+            text = text.edited(edit)?;
+        }
+        Ok(text)
+    }
+
+    /// The text after these edits, each on the text that the ones before it left. This text stays as it is.
+    ///
+    /// Lines that no edit comes near are shared and not copied.
+    ///
+    /// # Errors
+    ///
+    /// `TooLarge` exactly where the text after one of the edits has more than [`MAX_BYTES`] bytes, also where a later edit would
+    /// shrink it, and `Memory` where an allocation is refused.
+    pub fn apply(&self, edits: &[Edit]) -> Result<Snapshot, TextFault>
+        ensures ok { IfOk result (λ s. edited_all utf16_len self.now edits.now ≡ Some s) }
+        ensures too_large { IfErr result
+            (λ e. e ≡ TextFault.TooLarge → edited_all utf16_len self.now edits.now ≡ None) }
+    {
+        match edits {
+            [] => Ok(self.share()?),
+            [first, rest @ ..] => self.edited(first)?.edited_all(rest),
+        }
     }
 }

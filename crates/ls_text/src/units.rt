@@ -1,8 +1,10 @@
 ghost use Rattle.std.specs.Prelude.{◌≡◌, ◌≤◌, length, take, sum_by};
 ghost use Rattle.std.specs.Str.{chars, encode_utf8_all};
 ghost use Rattle.ls_text.specs.Lines.{fitting};
-ghost use Rattle.ls_text.specs.Cut.{width_of};
+ghost use Rattle.std.specs.String.{string_len};
+ghost use Rattle.ls_text.specs.Cut.{line_text, width_of};
 
+use crate::line::Line;
 use crate::snapshot::MAX_BYTES;
 
 // What a place or a position counts within its line.
@@ -39,7 +41,7 @@ pub fn char_count(text: &str) -> usize
 }
 
 // The characters at the front of the text that fit into these units.
-pub fn fitting(text: &str, units: Units, limit: usize) -> Fit
+fn chars_fitting(text: &str, units: Units, limit: usize) -> Fit
     ensures count { result.count ≡ fitting (width_of units) (chars text.now) limit }
     ensures bytes { result.bytes ≡ length (encode_utf8_all (take result.count (chars text.now))) }
 {
@@ -58,8 +60,21 @@ pub fn fitting(text: &str, units: Units, limit: usize) -> Fit
     Fit { count, bytes }
 }
 
+// The characters at the front of the line that fit into these units. In ASCII they are counted at once.
+pub fn fitting(line: &Line, units: Units, limit: usize) -> Fit
+    ensures count { result.count ≡ fitting (width_of units) (line_text line.now) limit }
+    ensures bytes { result.bytes ≡ length (encode_utf8_all (take result.count (line_text line.now))) }
+{
+    let text = line.text.as_str();
+    if text.len() == line.char_count {
+        let count = limit.min(line.char_count);
+        return Fit { count, bytes: count };
+    }
+    chars_fitting(text, units, limit)
+}
+
 // The units of so many characters at the front of the text, or of all where it has fewer.
-pub fn units_before(text: &str, units: Units, count: usize) -> u32
+fn units_of_chars(text: &str, units: Units, count: usize) -> u32
     requires { length text.now ≤ MAX_BYTES }
     ensures { result ≡ sum_by (width_of units) (take count (chars text.now)) }
 {
@@ -73,4 +88,16 @@ pub fn units_before(text: &str, units: Units, count: usize) -> u32
         total += width(units, c);
     }
     total
+}
+
+// The units of so many characters at the front of the line, or of all where it has fewer. In ASCII they are counted at once.
+pub fn units_before(line: &Line, units: Units, count: usize) -> u32
+    requires { string_len line.now.text ≤ MAX_BYTES }
+    ensures { result ≡ sum_by (width_of units) (take count (line_text line.now)) }
+{
+    let text = line.text.as_str();
+    if text.len() == line.char_count {
+        return count.min(line.char_count) as u32;
+    }
+    units_of_chars(text, units, count)
 }

@@ -14,8 +14,8 @@ returns-in-None c = offset_past (width_of c.args.units) _ _ _ _ _ _ _ c.self.inv
 
 pub overflow_add-result : goal.overflow_add-result
 overflow_add-result c =
-    omega (arith, offset_bound (width_of c.args.units) _ _ _ _ _ _ _ c.self.invariant.lines c.self.invariant.index c.self.view_is (ap (map arc_value) c.deref.ensures.value) _ _ _ _ (subst (λ n. c.args.line < n) (sym (length-map c.deref.result.now arc_value)) c.in-Some.ensures.lookup.3.0) (ap arc_value c.in-Some.ensures.lookup.1 ∙ sym (get_or-map arc_value c.deref.result.now c.args.line c.in-Some.held.now)) (c.as_str.ensures.value ∙ ap (λ (l : Line). string_bytes l.text) c.deref-in-Some.ensures) c.index.ensures c.fitting.ensures.count, c.self.invariant.small, c.self.invariant.index.len_is, length-le-encodes (text_of (map arc_value c.self.inside.lines.items)))
+    omega (arith, offset_bound (width_of c.args.units) _ _ _ _ _ _ _ c.self.invariant.lines c.self.invariant.index c.self.view_is (ap (map arc_value) c.deref.ensures.value) _ _ _ _ (subst (λ n. c.args.line < n) (sym (length-map c.deref.result.now arc_value)) c.in-Some.ensures.lookup.3.0) (ap arc_value c.in-Some.ensures.lookup.1 ∙ sym (get_or-map arc_value c.deref.result.now c.args.line c.in-Some.held.now)) (ap (λ (l : Line). string_bytes l.text) c.deref-in-Some.ensures) c.index.ensures c.fitting.ensures.count, c.self.invariant.small, c.self.invariant.index.len_is, length-le-encodes (text_of (map arc_value c.self.inside.lines.items)))
 
 pub returns-in-Some : goal.returns-in-Some
 returns-in-Some c =
-    offset_found (width_of c.args.units) _ _ _ _ _ _ _ c.self.invariant.lines c.self.invariant.index c.self.view_is (ap (map arc_value) c.deref.ensures.value) _ _ _ _ (subst (λ n. c.args.line < n) (sym (length-map c.deref.result.now arc_value)) c.in-Some.ensures.lookup.3.0) (ap arc_value c.in-Some.ensures.lookup.1 ∙ sym (get_or-map arc_value c.deref.result.now c.args.line c.in-Some.held.now)) (c.as_str.ensures.value ∙ ap (λ (l : Line). string_bytes l.text) c.deref-in-Some.ensures) c.index.ensures c.fitting.ensures.count
+    offset_found (width_of c.args.units) _ _ _ _ _ _ _ c.self.invariant.lines c.self.invariant.index c.self.view_is (ap (map arc_value) c.deref.ensures.value) _ _ _ _ (subst (λ n. c.args.line < n) (sym (length-map c.deref.result.now arc_value)) c.in-Some.ensures.lookup.3.0) (ap arc_value c.in-Some.ensures.lookup.1 ∙ sym (get_or-map arc_value c.deref.result.now c.args.line c.in-Some.held.now)) (ap (λ (l : Line). string_bytes l.text) c.deref-in-Some.ensures) c.index.ensures c.fitting.ensures.count

@@ -2,7 +2,7 @@ use Rattle.std.proofs.Common.{◌≡◌, ◌+◌, length, take, drop}
 use Rattle.std.specs.Str.{chars, encode_utf8_all}
 use Rattle.ls_text.specs.Lines.{fitting}
 use Rattle.ls_text.specs.Cut.{width_of}
-use Rattle.ls_text.proofs.units.fitting.Given as goal
+use Rattle.ls_text.proofs.units.chars_fitting.Given as goal
 
 abbrev pub invariant-loop-c : goal.invariant-loop-c
 invariant-loop-c l = record {

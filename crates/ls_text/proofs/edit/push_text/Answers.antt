@@ -6,7 +6,7 @@ use Rattle.std.proofs.lemmas.Str.{IsUtf8-string_bytes}
 use Rattle.ls_text.specs.Cut.{end_text}
 use Rattle.ls_text.specs.declared.line.Line.{Line}
 use Rattle.ls_text.proofs.HeldLaws.{text_more}
-use Rattle.ls_text.proofs.snapshot.push_text.Goals as goal
+use Rattle.ls_text.proofs.edit.push_text.Goals as goal
 
 pub loop-line-preserved : goal.loop-line-preserved
 loop-line-preserved c =

@@ -2,7 +2,7 @@ use Rattle.std.proofs.Common.{◌≡◌, ◌+◌, length, take}
 use Rattle.std.specs.Prelude.{sum_by}
 use Rattle.std.specs.Str.{chars}
 use Rattle.ls_text.specs.Cut.{width_of}
-use Rattle.ls_text.proofs.units.units_before.Given as goal
+use Rattle.ls_text.proofs.units.units_of_chars.Given as goal
 
 abbrev pub invariant-loop-c : goal.invariant-loop-c
 invariant-loop-c l = record {

@@ -1,0 +1,8 @@
+use Rattle.std.proofs.Common.{◌≡◌, drop, map}
+use Rattle.std.specs.Arc.{arc_value}
+use Rattle.ls_text.specs.Lines.{utf16_len}
+use Rattle.ls_text.specs.Edits.{edited_all}
+use Rattle.ls_text.proofs.snapshot.Snapshot.edited_all.Given as goal
+
+abbrev pub invariant-loop-edit : goal.invariant-loop-edit
+invariant-loop-edit l = edited_all utf16_len l.fn.self l.edits ≡ edited_all utf16_len l.text (drop l.edit-index l.edits)
