@@ -94,6 +94,56 @@ def first_reply():
     print(f"{'start to the first reply':<46} {min(times) * 1e3:9.1f} ms")
 
 
+BARRIER = request(9, "barrier")
+
+
+class Server:
+    """The program, talked to message by message."""
+
+    def __init__(self):
+        self.process = subprocess.Popen([PROGRAM], stdin=subprocess.PIPE, stdout=subprocess.PIPE)
+
+    def until_answered(self, given):
+        """Sends the bytes and one request that is refused at once, and answers the seconds until that is refused."""
+        start = time.perf_counter()
+        self.process.stdin.write(given + BARRIER)
+        self.process.stdin.flush()
+        left = 0
+        while True:
+            line = self.process.stdout.readline()
+            if line.startswith(b"Content-Length: "):
+                left = int(line[16:])
+            elif line == b"\r\n":
+                if b'"id":9,' in self.process.stdout.read(left):
+                    return time.perf_counter() - start
+
+    def memory(self):
+        """The most kibibytes of memory that the program has had."""
+        with open(f"/proc/{self.process.pid}/status", encoding="ascii") as status:
+            return next(int(line.split()[1]) for line in status if line.startswith("VmHWM"))
+
+    def end(self):
+        self.process.stdin.write(END)
+        self.process.stdin.close()
+        self.process.stdout.read()
+        self.process.wait()
+
+
+def edited(text, name, line, character):
+    """1,000 insertions of one character at a place of a text, each a message of its own."""
+    server = Server()
+    server.until_answered(INITIALIZE + opened(text))
+    before = server.memory()
+    at = {"line": line, "character": character}
+    change = notice("textDocument/didChange", textDocument={"uri": "file:///g", "version": 2},
+                    contentChanges=[{"range": {"start": at, "end": at}, "text": "x"}])
+    seconds = server.until_answered(change * 1000)
+    more = server.memory() - before
+    server.end()
+    print(f"{'1,000 edits ' + name:<46} {seconds * 1e3:9.1f} ms   {seconds * 1e3:9.1f} us an edit"
+          f"   {seconds / 1000 / copied(text.encode()):6.2f} x one copy of the text   {more} KiB more memory in all")
+
+
 def main():
     first_reply()
     big = b'{"jsonrpc":"2.0","method":"$/nothing","params":"' + b"x" * (16777216 - 60) + b'"}'
@@ -104,10 +154,14 @@ def main():
     print(f"{'':<46} {seconds * 1e6 / 100_000:9.1f} us a request")
     line = 'rule-{:06d} = "some text" / other    ; c\n'
     text = "".join(line.format(number) for number in range(100_000))
-    text += ";" + "x" * (4_194_304 - len(text) - 1)
+    text += ";" + "x" * (4_192_000 - len(text))
     seconds = row("open of 4 MB with 100,000 lines", INITIALIZE + opened(text) + END)
     print(f"{'':<46} {seconds / copied(text.encode()):9.1f} x one copy of its bytes in memory")
     row("the same and its outline", INITIALIZE + opened(text) + SYMBOLS + END)
+    short = "".join(line.format(number) for number in range(100_000))
+    edited(short, "at the start of 4 MB", 0, 0)
+    edited(short, "in the middle", 50_000, 10)
+    edited(short, "at the end", 100_000, 0)
 
 
 if __name__ == "__main__":

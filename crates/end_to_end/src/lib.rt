@@ -6,6 +6,8 @@
 
 mod devices;
 #[cfg(test)]
+mod edits;
+#[cfg(test)]
 mod sessions;
 #[cfg(test)]
 mod support;

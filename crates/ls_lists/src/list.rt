@@ -1,4 +1,4 @@
-ghost use Rattle.std.specs.Prelude.{◌≡◌, [], ◌∷◌, ◌++◌, ◌<◌, ◌↔◌, length, slice_get, remove, IsTrue, IfOk, MatchOption, OnOk, OnErr, OnSome};
+ghost use Rattle.std.specs.Prelude.{◌≡◌, [], ◌∷◌, ◌++◌, ◌<◌, ◌↔◌, length, slice_get, slice_set, remove, IsTrue, IfOk, MatchOption, OnOk, OnErr, OnSome};
 ghost use Rattle.std.specs.Option.{option_copied};
 
 use std::alloc::{AllocError, Global};
@@ -27,6 +27,15 @@ impl<T> List<T> {
     {
         List {
             vec: Vec::new(alloc),
+        }
+    }
+
+    /// An empty list with this list's allocator.
+    pub fn new_alike(&self) -> List<T>
+        ensures { result ≡ [] }
+    {
+        List {
+            vec: Vec::new(*self.vec.allocator()),
         }
     }
 
@@ -88,6 +97,14 @@ impl<T: Drop> List<T> {
         ensures rest { self.new ≡ remove self.old at }
     {
         self.vec.remove(at)
+    }
+
+    /// Puts an item in the place of another.
+    pub fn set(&mut self, at: usize, item: T)
+        requires { at < length self.old }
+        ensures { self.new ≡ slice_set self.old at item }
+    {
+        self.vec[at] = item;
     }
 
     /// Puts an item at the end.

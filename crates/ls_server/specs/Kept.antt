@@ -1,7 +1,10 @@
 -- The documents that a client has open (LSP 3.17, "Text Document Synchronization"), and the answers on them.
-use Rattle.std.specs.Prelude.{ℕ, ℤ, ◌+◌, ◌-◌, ◌^◌, min, List, [], ◌∷◌, ◌++◌, length, find, position, remove, Bool, ◌||◌, nat_le, nat_lt, is_some, Option, None, Some, if◌then◌else◌, bytes_eq}
+use Rattle.std.specs.Prelude.{ℕ, ℤ, ◌+◌, ◌-◌, ◌^◌, min, List, [], ◌∷◌, ◌++◌, length, find, position, remove, slice_get, slice_set, Bool, ◌||◌, nat_le, nat_lt, is_some, Option, None, Some, if◌then◌else◌, bytes_eq}
 use Rattle.std.specs.Str.{chars}
 use Rattle.ls_rpc.specs.declared.message.Id.{Id}
+use Rattle.ls_text.specs.Edits.{edited_all}
+use Rattle.ls_text.specs.Lines.{utf16_len}
+use Rattle.ls_text.specs.declared.edit.Edit.{Edit}
 use Rattle.ls_session.specs.Bodies.{body_of, refusal_of}
 use Rattle.ls_session.specs.Outline.{symbols_of}
 use Rattle.ls_session.specs.declared.event.Ask.{Ask}
@@ -39,15 +42,16 @@ is_refused uri text kept =
 abbrev pub next_version : Kept → ℕ
 next_version kept = min (kept.versions + 1) (2 ^ 64 - 1)
 
+-- a document whose text has these characters
 abbrev pub document_of : List ℕ → ℤ → ℕ → List ℕ → Document
-document_of uri label version text = record { uri = uri; label = label; version = version; snapshot = chars text }
+document_of uri label version text = record { uri = uri; label = label; version = version; snapshot = text }
 
 -- what is kept once a document has been opened
 unfoldable pub opened : List ℕ → ℤ → List ℕ → Kept → Kept
 opened uri label text kept =
     if is_refused uri text kept then kept
     else (record {
-      documents = kept.documents ++ document_of uri label (next_version kept) text ∷ [];
+      documents = kept.documents ++ document_of uri label (next_version kept) (chars text) ∷ [];
       versions = next_version kept;
     })
 
@@ -58,6 +62,26 @@ without documents (Some at) = remove documents at
 -- what is kept once a document has been closed
 unfoldable pub closed : List ℕ → Kept → Kept
 closed uri kept = record kept { documents = without kept.documents (place_of uri kept.documents) }
+
+-- what is kept once the document at a place has this text, or none that isn't too large
+abbrev pub changed_to : ℤ → Kept → ℕ → Document → Option (List ℕ) → Kept
+changed_to label kept at document None = record kept { documents = remove kept.documents at }
+changed_to label kept at document (Some text) = record {
+    documents = slice_set kept.documents at (document_of document.uri label (next_version kept) text);
+    versions = next_version kept;
+  }
+
+abbrev pub changed_in : ℤ → List Edit → Kept → ℕ → Option Document → Kept
+changed_in label edits kept at None = kept
+changed_in label edits kept at (Some document) = changed_to label kept at document (edited_all utf16_len document.snapshot edits)
+
+abbrev pub changed_at : ℤ → List Edit → Kept → Option ℕ → Kept
+changed_at label edits kept None = kept
+changed_at label edits kept (Some at) = changed_in label edits kept at (slice_get kept.documents at)
+
+-- what is kept once a document has been changed
+unfoldable pub changed : List ℕ → ℤ → List Edit → Kept → Kept
+changed uri label edits kept = changed_at label edits kept (place_of uri kept.documents)
 
 -- the answer on a text
 abbrev pub answer_of : List ℕ → Ask → Answer

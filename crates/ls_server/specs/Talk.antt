@@ -3,13 +3,13 @@ use Rattle.std.specs.Prelude.{◌≡◌, ℕ, List, Option, None, Some}
 use Rattle.ls_rpc.specs.Message.{message_of}
 use Rattle.ls_session.specs.Session.{turn_of}
 use Rattle.ls_session.specs.declared.event.ClientEvent.{ClientEvent}
-use Rattle.ls_session.specs.declared.event.ClientEvent.TheVariants.{DidOpen, DidClose, Request, Say}
+use Rattle.ls_session.specs.declared.event.ClientEvent.TheVariants.{DidOpen, DidChange, DidClose, Request, Say}
 use Rattle.ls_session.specs.declared.event.Status.{Status}
 use Rattle.ls_session.specs.declared.event.Turn.{Turn}
 use Rattle.ls_session.specs.declared.event.Turn.TheVariants as turn
 use Rattle.ls_session.specs.declared.session.Stage.{Stage}
 use Rattle.ls_session.specs.declared.session.Stage.TheVariants.{BeforeInitialize}
-use Rattle.ls_server.specs.Kept.{Kept, nothing_kept, opened, closed, answered}
+use Rattle.ls_server.specs.Kept.{Kept, nothing_kept, opened, changed, closed, answered}
 use Rattle.ls_server.specs.declared.conversation.Reply.{Reply}
 use Rattle.ls_server.specs.declared.conversation.Reply.TheVariants as reply
 
@@ -24,6 +24,7 @@ start = record { stage = BeforeInitialize; kept = nothing_kept }
 -- what is kept after an event
 abbrev pub kept_after : ClientEvent → Kept → Kept
 kept_after (DidOpen uri label text) kept = opened uri label text kept
+kept_after (DidChange uri label edits) kept = changed uri label edits kept
 kept_after (DidClose uri) kept = closed uri kept
 kept_after (Request id uri ask links) kept = kept
 kept_after (Say body) kept = kept
@@ -31,6 +32,7 @@ kept_after (Say body) kept = kept
 -- the body that an event is answered with
 abbrev pub body_after : ClientEvent → Kept → Option (List ℕ)
 body_after (DidOpen uri label text) kept = None
+body_after (DidChange uri label edits) kept = None
 body_after (DidClose uri) kept = None
 body_after (Request id uri ask links) kept = answered id uri ask kept
 body_after (Say body) kept = Some body

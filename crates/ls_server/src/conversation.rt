@@ -63,6 +63,10 @@ fn act(keeper: &mut Keeper, event: ClientEvent) -> Result<Reply, AllocError>
             keeper.open(uri, label, text)?;
             Ok(Reply::Nothing)
         }
+        ClientEvent::DidChange(uri, label, edits) => {
+            keeper.change(uri.as_str(), label, edits.as_slice())?;
+            Ok(Reply::Nothing)
+        }
         ClientEvent::DidClose(uri) => {
             keeper.close(uri.as_str());
             Ok(Reply::Nothing)

@@ -1,12 +1,12 @@
 //! The documents that a client has open.
 ghost use Rattle.std.specs.Prelude.{◌≡◌, [], IfOk, OnOk, option_map};
-ghost use Rattle.ls_server.specs.Kept.{answer_of, answered, closed, document_at, is_named, nothing_kept, opened, place_of};
+ghost use Rattle.ls_server.specs.Kept.{answer_of, answered, changed, closed, document_at, is_named, next_version, nothing_kept, opened, place_of};
 ghost use Rattle.ls_session.specs.Bodies.{body_of, refusal_of};
 
 use ls_lists::{List, Text};
 use ls_rpc::Id;
 use ls_session::{Answer, Ask, DeskFault, Out, body_of, refusal_body, symbols};
-use ls_text::{Snapshot, TextFault};
+use ls_text::{Edit, Snapshot, TextFault};
 use std::alloc::{AllocError, Global};
 use std::marker::Model;
 
@@ -68,13 +68,46 @@ impl Keeper {
             Err(TextFault::TooLarge) => return Ok(()),
             Err(TextFault::Memory) => return Err(AllocError),
         };
-        let version = self.versions.saturating_add(1);
+        let version = self.next_version();
         self.documents.push(Document {
             uri,
             label,
             version,
             snapshot,
         })?;
+        self.versions = version;
+        Ok(())
+    }
+
+    /// Changes a document by edits, each on the text that the ones before it left. It is closed where one of these
+    /// texts is too large. Nothing happens where it isn't open.
+    #[tactic(auto, unfolding(crate::specs::Kept::changed))]
+    pub fn change(&mut self, uri: &str, label: i64, edits: &[Edit]) -> Result<(), AllocError>
+        ensures { OnOk result (self.new ≡ changed uri.now label edits.now self.old) }
+    {
+        let Some(at) = place_of(self.documents.as_slice(), uri) else {
+            return Ok(());
+        };
+        let Some(document) = self.documents.get(at) else {
+            return Ok(());
+        };
+        let snapshot = match document.snapshot.apply(edits) {
+            Ok(snapshot) => snapshot,
+            Err(TextFault::TooLarge) => {
+                self.documents.remove(at);
+                return Ok(());
+            }
+            Err(TextFault::Memory) => return Err(AllocError),
+        };
+        let version = self.next_version();
+        let uri = document.uri.copy()?;
+        let changed = Document {
+            uri,
+            label,
+            version,
+            snapshot,
+        };
+        self.documents.set(at, changed);
         self.versions = version;
         Ok(())
     }
@@ -87,6 +120,12 @@ impl Keeper {
         if let Some(at) = place_of(self.documents.as_slice(), uri) {
             self.documents.remove(at);
         }
+    }
+
+    fn next_version(&self) -> u64
+        ensures { result ≡ next_version self.now }
+    {
+        self.versions.saturating_add(1)
     }
 
     /// The body that answers a request.

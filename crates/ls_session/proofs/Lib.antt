@@ -1,3 +1,4 @@
 pub mod NoFloats
 pub mod Heads
 pub mod Outlines
+pub mod Changes

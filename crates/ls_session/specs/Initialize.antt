@@ -2,10 +2,10 @@
 use Rattle.std.specs.Prelude.{true, codes}
 use Rattle.serde_json.specs.Data.{Data, boolean, number, string, object, unsigned, member, no_members}
 
--- documents are opened and closed, and changes aren't taken
+-- documents are opened and closed, and changes come as edits
 abbrev pub sync_json : Data
 sync_json =
-    object (member (codes "change") (number (unsigned 0))
+    object (member (codes "change") (number (unsigned 2))
     (member (codes "openClose") (boolean true) no_members))
 
 abbrev pub capabilities_json : Data

@@ -20,6 +20,7 @@ abbrev pub notices : List (List ℕ × NoticeKind)
 notices =
     (codes "exit", notice.Exit) ∷
     (codes "textDocument/didOpen", notice.DidOpen) ∷
+    (codes "textDocument/didChange", notice.DidChange) ∷
     (codes "textDocument/didClose", notice.DidClose) ∷ []
 
 abbrev pub request_named : List ℕ → RequestKind

@@ -1,7 +1,10 @@
 -- What is read of a message's parameters. `None` means that they can't be read.
-use Rattle.std.specs.Prelude.{ℕ, ℤ, pos, List, Bool, false, Option, Some, None, codes, option_map, option_and_then, unwrap_or}
-use Rattle.serde_json.specs.Data.{Data}
-use Rattle.serde_json.specs.Find.{get, as_str, as_bool, as_number, as_i64}
+use Rattle.std.specs.Prelude.{ℕ, ℤ, pos, min, List, [], ◌∷◌, Bool, false, Option, Some, None, codes, option_map, option_and_then, unwrap_or}
+use Rattle.serde_json.specs.Data.{Data, null, boolean, number, string, array, object, Items, no_items, item}
+use Rattle.serde_json.specs.Find.{get, as_str, as_bool, as_number, as_array, as_u64, as_i64}
+use Rattle.ls_text.specs.declared.position.Position.{Position}
+use Rattle.ls_text.specs.declared.position.Range.{Range}
+use Rattle.ls_text.specs.declared.edit.Edit.{Edit}
 use Rattle.ls_session.specs.declared.event.Ask.{Ask}
 use Rattle.ls_session.specs.declared.event.Ask.TheVariants as ask
 use Rattle.ls_session.specs.declared.event.ClientEvent.{ClientEvent}
@@ -27,6 +30,48 @@ uri_of params = document_member (codes "uri") params >>= as_str
 abbrev pub label_of : Data → ℤ
 label_of params = unwrap_or (document_member (codes "version") params >>= as_number >>= as_i64) (pos 0)
 
+-- an integer from 0; one above the greatest u32 counts as that
+abbrev pub count_of : Data → Option ℕ
+count_of value = option_map (min 4294967295) (as_number value >>= as_u64)
+
+abbrev pub position_of : Data → Option Position
+position_of value = do
+  line ← get (codes "line") value >>= count_of
+  character ← get (codes "character") value >>= count_of
+  Some (record { line = line; character = character })
+
+abbrev pub range_of : Data → Option Range
+range_of value = do
+  start ← get (codes "start") value >>= position_of
+  end ← get (codes "end") value >>= position_of
+  Some (record { start = start; end = end })
+
+-- a range of null is as none
+abbrev pub range_or_none : Data → Option (Option Range)
+range_or_none null = Some None
+range_or_none (boolean b) = None
+range_or_none (number n) = None
+range_or_none (string s) = None
+range_or_none (array ds) = None
+range_or_none (object ms) = option_map Some (range_of (object ms))
+
+abbrev pub edit_of : Data → Option Edit
+edit_of value = do
+  text ← get (codes "text") value >>= as_str
+  range ← range_or_none (unwrap_or (get (codes "range") value) null)
+  Some (record { range = range; text = text })
+
+-- all of them, or nothing
+abbrev pub edits_of : Items → Option (List Edit)
+edits_of no_items = Some []
+edits_of (item value values) = do
+  edit ← edit_of value
+  edits ← edits_of values
+  Some (edit ∷ edits)
+
+abbrev pub changes_of : Data → Option (List Edit)
+changes_of params = get (codes "contentChanges") params >>= as_array >>= edits_of
+
 -- ---- notices
 
 abbrev pub did_open_of : Data → Option ClientEvent
@@ -35,6 +80,12 @@ did_open_of params = do
   text ← document_member (codes "text") params >>= as_str
   Some (event.DidOpen uri (label_of params) text)
 
+-- where the uri can be read and the changes can't, the document is closed: its text isn't known any more
+abbrev pub did_change_of : Data → Option ClientEvent
+did_change_of params = do
+  uri ← uri_of params
+  Some (unwrap_or (option_map (event.DidChange uri (label_of params)) (changes_of params)) (event.DidClose uri))
+
 abbrev pub did_close_of : Data → Option ClientEvent
 did_close_of params = option_map event.DidClose (uri_of params)
 
@@ -42,6 +93,7 @@ did_close_of params = option_map event.DidClose (uri_of params)
 abbrev pub event_of : NoticeKind → Data → Option ClientEvent
 event_of notice.Exit params = None
 event_of notice.DidOpen params = did_open_of params
+event_of notice.DidChange params = did_change_of params
 event_of notice.DidClose params = did_close_of params
 event_of notice.Unknown params = None
 

@@ -3,6 +3,7 @@ ghost use Rattle.std.specs.Prelude.{◌≡◌, IfOk};
 use ls_frame::FrameFault;
 use ls_lists::{List, Text};
 use ls_rpc::Id;
+use ls_text::Edit;
 use std::alloc::AllocError as Memory;
 
 /// A question about a document.
@@ -17,6 +18,9 @@ pub enum Ask {
 pub enum ClientEvent {
     /// A document was opened: its uri, the client's version of it, its text.
     DidOpen(Text, i64, Text),
+    /// The document with this uri was changed: its uri, the client's version of it, and edits, each on the text that
+    /// the ones before it left.
+    DidChange(Text, i64, List<Edit>),
     /// The document with this uri was closed.
     DidClose(Text),
     /// A request with this id asks about the document with this uri. The last field says whether the client takes
@@ -71,6 +75,10 @@ impl ClientEvent {
                 let uri = uri.copy()?;
                 Ok(ClientEvent::DidOpen(uri, *label, text.copy()?))
             }
+            ClientEvent::DidChange(uri, label, edits) => {
+                let uri = uri.copy()?;
+                Ok(ClientEvent::DidChange(uri, *label, copy_of(edits)?))
+            }
             ClientEvent::DidClose(uri) => Ok(ClientEvent::DidClose(uri.copy()?)),
             ClientEvent::Request(id, uri, ask, links) => {
                 let id = id.copy()?;
@@ -80,4 +88,14 @@ impl ClientEvent {
             ClientEvent::Say(body) => Ok(ClientEvent::Say(body.copy()?)),
         }
     }
+}
+
+fn copy_of(edits: &List<Edit>) -> Result<List<Edit>, Memory>
+    ensures { IfOk result (λ copy. copy ≡ edits.now) }
+{
+    let mut copy = edits.new_alike();
+    for edit in edits.as_slice() {
+        copy.push(edit.copy()?)?;
+    }
+    Ok(copy)
 }

@@ -5,8 +5,9 @@ ghost use Rattle.ls_session.specs.Initialize.{initialize_json, capabilities_json
 use serde_json::{Map, Value, put};
 use std::alloc::{AllocError as Memory, Global};
 
-/// `TextDocumentSyncKind.None`: changes of a document aren't taken (LSP 3.17, "Text Document Synchronization").
-const SYNC_NONE: u32 = 0;
+/// `TextDocumentSyncKind.Incremental`: changes of a document come as edits (LSP 3.17, "Text Document
+/// Synchronization").
+const SYNC_INCREMENTAL: u32 = 2;
 
 /// The result of `initialize` (LSP 3.17, "Initialize Request").
 pub(crate) fn initialize_value(alloc: Global) -> Result<Value, Memory>
@@ -39,7 +40,7 @@ fn sync_value(alloc: Global) -> Result<Value, Memory>
     ensures { IfOk result (λ value. view value ≡ sync_json) }
 {
     let mut members = Map::new(alloc);
-    put(&mut members, alloc, "change", Value::from(SYNC_NONE))?;
+    put(&mut members, alloc, "change", Value::from(SYNC_INCREMENTAL))?;
     put(&mut members, alloc, "openClose", Value::from(true))?;
     Ok(Value::Object(members))
 }

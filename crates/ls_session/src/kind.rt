@@ -15,6 +15,7 @@ pub enum RequestKind {
 pub enum NoticeKind {
     Exit,
     DidOpen,
+    DidChange,
     DidClose,
     Unknown,
 }
@@ -40,6 +41,8 @@ pub(crate) fn notice_kind(method: &str) -> NoticeKind
         NoticeKind::Exit
     } else if method == "textDocument/didOpen" {
         NoticeKind::DidOpen
+    } else if method == "textDocument/didChange" {
+        NoticeKind::DidChange
     } else if method == "textDocument/didClose" {
         NoticeKind::DidClose
     } else {

@@ -1,11 +1,13 @@
 //! What is read of a message's parameters. `None` says that they can't be read.
-ghost use Rattle.std.specs.Prelude.{◌≡◌, IfOk, option_map};
-ghost use Rattle.serde_json.specs.View.{view};
-ghost use Rattle.ls_session.specs.Params.{document_member, uri_of, label_of, did_open_of, did_close_of, event_of, ask_of, question_of, named_links, links_of};
+ghost use Rattle.std.specs.Prelude.{◌≡◌, IfOk, option_map, unwrap_or};
+ghost use Rattle.serde_json.specs.View.{view, items_view};
+ghost use Rattle.serde_json.specs.Data.{null};
+ghost use Rattle.ls_session.specs.Params.{document_member, uri_of, label_of, count_of, position_of, range_of, range_or_none, edit_of, edits_of, changes_of, did_open_of, did_change_of, did_close_of, event_of, ask_of, question_of, named_links, links_of};
 
 use crate::event::{Ask, ClientEvent};
 use crate::kind::{NoticeKind, RequestKind};
-use ls_lists::Text;
+use ls_lists::{List, Text};
+use ls_text::{Edit, Position, Range};
 use serde_json::Value;
 use std::alloc::{AllocError as Memory, Global};
 
@@ -31,6 +33,78 @@ fn label(params: &Value) -> i64
     }
 }
 
+fn count(value: &Value) -> Option<u32>
+    ensures { result ≡ count_of (view value.now) }
+{
+    let number = value.as_u64()?;
+    Some(number.min(u32::MAX as u64) as u32)
+}
+
+fn position(value: &Value) -> Option<Position>
+    ensures { result ≡ position_of (view value.now) }
+{
+    let line = count(value.get("line")?)?;
+    let character = count(value.get("character")?)?;
+    Some(Position { line, character })
+}
+
+fn range(value: &Value) -> Option<Range>
+    ensures { result ≡ range_of (view value.now) }
+{
+    let start = position(value.get("start")?)?;
+    let end = position(value.get("end")?)?;
+    Some(Range { start, end })
+}
+
+fn range_or_none(value: Option<&Value>) -> Option<Option<Range>>
+    ensures { result
+        ≡ range_or_none (unwrap_or (option_map (λ value. view value.now) value.entry) null) }
+{
+    let Some(value) = value else {
+        return Some(None);
+    };
+    match value {
+        Value::Null => Some(None),
+        Value::Object(_) => Some(Some(range(value)?)),
+        _ => None,
+    }
+}
+
+fn edit(alloc: Global, value: &Value) -> Result<Option<Edit>, Memory>
+    ensures { IfOk result (λ edit. edit ≡ edit_of (view value.now)) }
+{
+    let Some(text) = value.get("text").and_then(Value::as_str) else {
+        return Ok(None);
+    };
+    let Some(range) = range_or_none(value.get("range")) else {
+        return Ok(None);
+    };
+    let text = Text::from_str(alloc, text)?;
+    Ok(Some(Edit { range, text }))
+}
+
+fn edits(alloc: Global, values: &Vec<Value>) -> Result<Option<List<Edit>>, Memory>
+    ensures { IfOk result (λ edits. edits ≡ edits_of (items_view values.now.items)) }
+{
+    let mut found = Vec::new(alloc);
+    for value in values {
+        match edit(alloc, value)? {
+            Some(edit) => found.push(edit)?,
+            None => return Ok(None),
+        }
+    }
+    Ok(Some(List::from_vec(found)))
+}
+
+fn changes(alloc: Global, params: &Value) -> Result<Option<List<Edit>>, Memory>
+    ensures { IfOk result (λ edits. edits ≡ changes_of (view params.now)) }
+{
+    match params.get("contentChanges").and_then(Value::as_array) {
+        Some(values) => edits(alloc, values),
+        None => Ok(None),
+    }
+}
+
 fn did_open(alloc: Global, params: &Value) -> Result<Option<ClientEvent>, Memory>
     ensures { IfOk result (λ event. event ≡ did_open_of (view params.now)) }
 {
@@ -43,6 +117,20 @@ fn did_open(alloc: Global, params: &Value) -> Result<Option<ClientEvent>, Memory
     let uri = Text::from_str(alloc, uri)?;
     let text = Text::from_str(alloc, text)?;
     Ok(Some(ClientEvent::DidOpen(uri, label(params), text)))
+}
+
+/// A change that can't be read closes its document, since its text isn't known any more.
+fn did_change(alloc: Global, params: &Value) -> Result<Option<ClientEvent>, Memory>
+    ensures { IfOk result (λ event. event ≡ did_change_of (view params.now)) }
+{
+    let Some(uri) = uri(params) else {
+        return Ok(None);
+    };
+    let uri = Text::from_str(alloc, uri)?;
+    match changes(alloc, params)? {
+        Some(edits) => Ok(Some(ClientEvent::DidChange(uri, label(params), edits))),
+        None => Ok(Some(ClientEvent::DidClose(uri))),
+    }
 }
 
 fn did_close(alloc: Global, params: &Value) -> Result<Option<ClientEvent>, Memory>
@@ -64,6 +152,7 @@ pub(crate) fn event(
 {
     match kind {
         NoticeKind::DidOpen => did_open(alloc, params),
+        NoticeKind::DidChange => did_change(alloc, params),
         NoticeKind::DidClose => did_close(alloc, params),
         NoticeKind::Exit | NoticeKind::Unknown => Ok(None),
     }
