@@ -230,9 +230,9 @@ impl Snapshot {
     fn replaced(&self, range: Range, new: &str) -> Result<Vec<Arc<Line>>, AllocError>
         ensures { IfOk result (λ v. IsCut
             (replaced self.now
-                (position_offset utf16_len self.now range.start)
-                (position_offset utf16_len self.now range.end)
-                (chars new.now))
+            (position_offset utf16_len self.now range.start)
+            (position_offset utf16_len self.now range.end)
+            (chars new.now))
             (map arc_value v.items)) }
     {
         let start = spot_of(&self.lines, &self.starts, self.length, range.start);
