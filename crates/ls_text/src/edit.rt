@@ -143,7 +143,7 @@ pub fn spliced(
         (map arc_value v.items)) }
 {
     let kept = from.line.saturating_sub(1);
-    let mut result = Vec::new(alloc);
+    let mut result = Vec::with_capacity(alloc, lines.len())?;
     push_shared(&mut result, &lines[..kept])?;
     let text = middle(alloc, lines, kept, from, to, new)?;
     let rest = push_lines(alloc, &mut result, text.as_str())?;

@@ -17,7 +17,7 @@ returns c =
     let end_is : end_at (map arc_value c.args.lines.now) c.args.to.line ≡ c.deref.result.now.end = end_found arc_value c.args.lines.now c.args.to.line c.index-lines-to.result lt c.index-lines-to.is ∙ ap (λ (l : Line). l.end) (sym c.deref.ensures) in
     let kept_is : c.saturating_sub-kept.result ≡ c.args.from.line - 1 = omega (arith, c.saturating_sub-kept.ensures) in
     let old_is : map arc_value c.push_shared.new.shared.items ≡ take c.saturating_sub-kept.result (map arc_value c.args.lines.now) =
-    c.in_ok-push_shared.ensures ∙ ap (λ v. map arc_value v ++ map arc_value (take c.saturating_sub-kept.result c.args.lines.now)) c.new-result.ensures.items ∙ sym (take-map arc_value c.saturating_sub-kept.result c.args.lines.now) in
+    c.in_ok-push_shared.ensures ∙ ap (λ v. map arc_value v ++ map arc_value (take c.saturating_sub-kept.result c.args.lines.now)) c.in_ok-result.ensures.items ∙ sym (take-map arc_value c.saturating_sub-kept.result c.args.lines.now) in
     let after : c.args.to.line + 1 ≡ suc c.args.to.line = omega arith in
     let text_is = ap chars c.as_str.ensures.value ∙ c.in_ok-text.ensures in
     elim c.match-deref.branch [
