@@ -172,9 +172,9 @@ impl Snapshot {
         ensures { result ≡ offset_of utf16_len self.now at.line at.character }
     {
         let line = at.line as usize;
+        let units = at.character as usize;
         match self.lines.get(line) {
-            Some(held) => self.starts[line]
-                + fitting(held, Units::Utf16, at.character as usize).count,
+            Some(held) => self.starts[line] + fitting(held, Units::Utf16, units).count,
             None => self.length,
         }
     }
