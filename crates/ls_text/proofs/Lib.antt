@@ -8,3 +8,4 @@ pub mod SpliceLaws
 pub mod SpotLaws
 pub mod SameLaws
 pub mod EditLaws
+pub mod PlaceLaws

@@ -161,7 +161,7 @@ text_held value [] m x lt e = absurd (omega (arith, lt))
 text_held value (l ∷ ls) zero x lt e = ap (λ y. line_text (value y)) (sym e)
 text_held value (l ∷ ls) (suc m) x lt e = text_held value ls m x (omega (arith, lt)) e
 
-same_position : (a b c d : ℕ) → a ≡ c → b ≡ d → ◌≡◌ {A = Position} (record { line = a; character = b }) (record { line = c; character = d })
+pub same_position : (a b c d : ℕ) → a ≡ c → b ≡ d → ◌≡◌ {A = Position} (record { line = a; character = b }) (record { line = c; character = d })
 same_position a b c d e f = λ i. record { line = e i; character = f i }
 
 module _ (ls : List Line) (starts : List ℕ) (len : ℕ) (kept : IsKept ls starts len) (got : List ℕ) (got_is : got ≡ starts) where

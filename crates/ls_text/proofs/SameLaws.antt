@@ -1,8 +1,8 @@
 -- Laws of lines that make the same text.
-use Rattle.std.proofs.Common.{◌≡◌, ℕ, zero, suc, ◌+◌, ◌<◌, ◌≤◌, Bool, true, false, not, List, [], ◌∷◌, ◌++◌, length, get_or, refl, sym, ap, subst, ◌∙◌, arith, map}
+use Rattle.std.proofs.Common.{◌≡◌, ℕ, zero, suc, ◌+◌, ◌<◌, true, false, not, List, [], ◌∷◌, ◌++◌, length, get_or, refl, sym, ap, ◌∙◌, arith, map}
 use Rattle.std.specs.String.{string_bytes}
-use Rattle.std.specs.Str.{chars, IsUtf8}
-use Rattle.std.proofs.lemmas.List.{length-map, append_cancel_left}
+use Rattle.std.specs.Str.{chars}
+use Rattle.std.proofs.lemmas.List.{append_cancel_left}
 use Rattle.std.proofs.lemmas.Str.{encodes-chars, IsUtf8-string_bytes}
 use Rattle.std.specs.Str.{encode_utf8_all as encodes}
 use Rattle.ls_text.specs.Lines.{starts_with_lf, lines, line_ends}
@@ -101,6 +101,7 @@ module _ {X : Type 0} (value : X → Line) (xs ys : List X) (i : ℕ) (x y : X) 
 
   pub held_same : IsSameAt (map value xs) (map value ys) i → (string_bytes (value x).text ≡ string_bytes (value y).text) × ((value x).end ≡ (value y).end)
   held_same same =
-      let chars_are : chars (string_bytes (value x).text) ≡ chars (string_bytes (value y).text) = sym (text_held value xs i x x_lt x_is) ∙ same.text ∙ text_held value ys i y y_lt y_is in
-      (sym (encodes-chars (string_bytes (value x).text) (IsUtf8-string_bytes (value x).text)) ∙ ap encodes chars_are ∙ encodes-chars (string_bytes (value y).text) (IsUtf8-string_bytes (value y).text),
-      sym (end_found value xs i x x_lt x_is) ∙ same.end ∙ end_found value ys i y y_lt y_is)
+      let chars_are : chars (string_bytes (value x).text) ≡ chars (string_bytes (value y).text) = sym (text_held value xs i x x_lt x_is) ∙ same.text ∙ text_held value ys i y y_lt y_is in (
+        sym (encodes-chars (string_bytes (value x).text) (IsUtf8-string_bytes (value x).text)) ∙ ap encodes chars_are ∙ encodes-chars (string_bytes (value y).text) (IsUtf8-string_bytes (value y).text),
+        sym (end_found value xs i x x_lt x_is) ∙ same.end ∙ end_found value ys i y y_lt y_is,
+      )

@@ -1,13 +1,11 @@
 -- Laws of lines of which a part is replaced.
-use Rattle.std.proofs.Common.{◌≡◌, ℕ, zero, suc, ◌+◌, ◌-◌, ◌<◌, ◌≤◌, Bool, true, false, not, ◌&&◌, ◌||◌, eqb, List, [], ◌∷◌, ◌++◌, length, take, drop, refl, sym, ap, subst, ◌∙◌, ◌⊎◌, inl, inr, ⊎_elim, arith, append_assoc, length-append, map, zero-add, take-append-drop, length-drop}
-use Rattle.std.specs.List.{list_any}
-use Rattle.std.specs.Str.{chars, IsUtf8, IsCharBoundary}
-use Rattle.std.specs.String.{string_bytes}
-use Rattle.std.proofs.Math.Seq.{take-append-add, drop-append-add, take-append_seam}
+use Rattle.std.proofs.Common.{◌≡◌, ℕ, zero, suc, ◌+◌, ◌-◌, ◌<◌, ◌≤◌, Bool, true, false, not, ◌&&◌, ◌||◌, List, [], ◌∷◌, ◌++◌, length, take, drop, refl, sym, ap, subst, ◌∙◌, arith, append_assoc, length-append, zero-add, take-append-drop, length-drop}
+use Rattle.std.specs.Str.{chars, IsUtf8}
+use Rattle.std.proofs.Math.Seq.{take-append_seam}
 use Rattle.std.proofs.lemmas.List.{append-nil, take-append-le, drop-append-le}
-use Rattle.std.proofs.lemmas.Str.{chars-append, IsUtf8-take, IsUtf8-drop, IsUtf8-string_bytes, chars-nil}
+use Rattle.std.proofs.lemmas.Str.{chars-append, IsUtf8-take, IsUtf8-string_bytes}
 use Rattle.ls_text.specs.Lines.{is_break, starts_with_lf, ends_with_cr}
-use Rattle.ls_text.specs.Cut.{end_text, line_text, text_of, IsPlain, is_end_before, AreLines, AreLinesBefore, IsCut, IsCutFrom, IsCutSoFar, IsCutOnto, IsPushed, start_of, text_at, end_at}
+use Rattle.ls_text.specs.Cut.{end_text, line_text, text_of, IsPlain, is_end_before, AreLines, AreLinesBefore, IsCut, IsCutOnto, IsPushed, start_of, text_at, end_at}
 use Rattle.ls_text.specs.Spots.{bytes_at, IsSpot, front_of, back_of}
 use Rattle.ls_text.specs.declared.line_end.LineEnd.{LineEnd}
 use Rattle.ls_text.specs.declared.line_end.LineEnd.TheVariants.{Eof, Lf, Cr, CrLf}
@@ -260,9 +258,10 @@ module _ (ls : List Line) (h : AreLines ls) (from to : Spot) (at_from : IsSpot l
   before_all t = subst (AreLinesBefore (take kept ls)) (sym (append_assoc (text_of (take (from.line - kept) (drop kept ls))) (front_of ls from ++ (new ++ (back_of ls to ++ end_text (end_at ls to.line)))) t)) (kept_before ls h from.line kept at_from.line_in_range kept_is ((front_of ls from ++ (new ++ (back_of ls to ++ end_text (end_at ls to.line)))) ++ t))
 
   spliced_any : (ms : List Line) → AreLines ms → text_of ms ≡ middle_text ls kept from to new ++ text_of (drop (suc to.line) ls) → IsCut (wanted_text ls from to new) (take kept ls ++ ms)
-  spliced_any ms lines text =
-      (lines_join (take kept ls) ms (subst (AreLinesBefore (take kept ls)) (sym text) (before_all (text_of (drop (suc to.line) ls)))) lines,
-      text_of-append (take kept ls) ms ∙ ap (λ x. text_of (take kept ls) ++ x) text ∙ whole_text)
+  spliced_any ms lines text = (
+    lines_join (take kept ls) ms (subst (AreLinesBefore (take kept ls)) (sym text) (before_all (text_of (drop (suc to.line) ls)))) lines,
+    text_of-append (take kept ls) ms ∙ ap (λ x. text_of (take kept ls) ++ x) text ∙ whole_text,
+  )
 
   pub spliced_last : (ms : List Line) (l : Line) → text_of ms ++ line_text l ≡ middle_text ls kept from to new → AreLinesBefore ms (line_text l) → IsPlain (line_text l) → l.end ≡ Eof → end_at ls to.line ≡ Eof → IsCut (wanted_text ls from to new) (take kept ls ++ (ms ++ l ∷ []))
   spliced_last ms l joins before plain eof last =

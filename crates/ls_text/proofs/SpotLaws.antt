@@ -1,19 +1,17 @@
 -- Laws of spots, over lines held behind pointers.
-use Rattle.std.proofs.Common.{Bool, true, false, ◌&&◌, ◌≡◌, ℕ, zero, suc, ◌+◌, ◌-◌, ◌<◌, ◌≤◌, List, [], ◌∷◌, ◌++◌, length, take, drop, get_or, refl, sym, ap, subst, ◌∙◌, arith, append_assoc, length-append, map, take-append-drop}
+use Rattle.std.proofs.Common.{Bool, true, false, ◌&&◌, ◌≡◌, ℕ, zero, suc, ◌+◌, ◌-◌, ◌<◌, ◌≤◌, List, [], ◌∷◌, ◌++◌, length, take, drop, get_or, refl, sym, ap, subst, ◌∙◌, arith, append_assoc, map, take-append-drop}
 use Rattle.std.specs.Str.{chars, IsUtf8, IsCharBoundary, encode_utf8_all as encodes}
 use Rattle.std.specs.String.{string_bytes}
 use Rattle.std.proofs.Math.Seq.{take-append_seam}
 use Rattle.std.proofs.Math.Utf8.{scalars, scalar}
 use Rattle.std.proofs.lemmas.Str.{encodes-append, encodes-chars, scalars-chars, chars-append, chars_from_encodes, IsCharBoundary-at_seam, IsCharBoundary-end, IsUtf8-string_bytes, length-le-encodes}
-use Rattle.std.proofs.lemmas.List.{length-map, append-nil, length-take-le, take_all}
+use Rattle.std.proofs.lemmas.List.{length-map, length-take-le, take_all}
 use Rattle.ls_text.specs.Lines.{offset_of, fitting}
 use Rattle.ls_text.specs.Spots.{IsSpot}
-use Rattle.ls_text.specs.declared.edit.Spot.{Spot}
 use Rattle.ls_text.proofs.OffsetLaws.{offset_of-line, offset_of-past, fitting_le, start_le}
 use Rattle.ls_text.proofs.PositionLaws.{last_full, text_held, lines_some}
-use Rattle.ls_text.specs.Cut.{end_text, line_text, text_of, text_at, end_at, start_of, AreLines, IsKept}
+use Rattle.ls_text.specs.Cut.{line_text, text_of, text_at, end_at, start_of, AreLines, IsKept}
 use Rattle.ls_text.specs.Spots.{bytes_at}
-use Rattle.ls_text.specs.declared.line_end.LineEnd.{LineEnd}
 use Rattle.ls_text.specs.declared.line.Line.{Line}
 
 pub bytes_found : {X : Type 0} (value : X → Line) (held : List X) (m : ℕ) (x : X) → m < length held → x ≡ get_or held m x → bytes_at (map value held) m ≡ string_bytes (value x).text

@@ -1,7 +1,7 @@
 -- Positions and places of a text (LSP 3.17, "Position").
-use Rattle.std.specs.Prelude.{ℕ, List}
+use Rattle.std.specs.Prelude.{ℕ, List, sum_by, take}
 use Rattle.std.specs.Char.{len_utf8}
-use Rattle.ls_text.specs.Lines.{line_at, units_at, offset_of, lowered}
+use Rattle.ls_text.specs.Lines.{line_at, units_at, offset_of, lowered, fitting}
 use Rattle.ls_text.specs.declared.position.Position.{Position}
 use Rattle.ls_text.specs.declared.position.Range.{Range}
 use Rattle.ls_text.specs.declared.position.Place.{Place}
@@ -9,6 +9,12 @@ use Rattle.ls_text.specs.declared.position.Place.{Place}
 -- the position of an offset: its line, and its units there
 abbrev pub position_of : (ℕ → ℕ) → List ℕ → ℕ → Position
 position_of width t o = record { line = line_at t (lowered t o); character = units_at width t (lowered t o) }
+
+-- the position of so many bytes in line l, which has this text. Bytes past the line's end mean its end, and bytes inside a
+-- character mean its start
+abbrev pub position_in : (ℕ → ℕ) → ℕ → List ℕ → ℕ → Position
+position_in width l text bytes =
+    record { line = l; character = sum_by width (take (fitting len_utf8 text bytes) text) }
 
 -- the offsets of a place's two ends, which count bytes of UTF-8 within their line
 abbrev pub place_start : List ℕ → Place → ℕ

@@ -6,15 +6,14 @@ ghost use Rattle.ls_text.specs.Lines.{utf16_len, offset_of};
 ghost use Rattle.ls_text.specs.Cut.{end_text, end_at, AreLines, text_of, IsCut, IsKept};
 ghost use Rattle.ls_text.specs.Spots.{IsSpot, front_of, back_of};
 
-use ls_lists::Text;
-use std::alloc::{AllocError, Global};
-use std::sync::Arc;
-
 use crate::cut::{push_line, push_lines};
 use crate::line::Line;
 use crate::line_end::LineEnd;
 use crate::position::{Position, Range};
 use crate::units::{Units, fitting};
+use ls_lists::Text;
+use std::alloc::{AllocError, Global};
+use std::sync::Arc;
 
 /// A change of a text (LSP 3.17, "TextDocumentContentChangeEvent").
 #[derive(Drop)]
@@ -99,14 +98,21 @@ pub fn push_text(text: &mut String, lines: &[Arc<Line>]) -> Result<(), AllocErro
 
 // The text of the lines from `kept` up to the first spot's, then the front of that line, the new text, and the rest of the
 // second spot's line with its line end.
-fn middle(alloc: Global, lines: &[Arc<Line>], kept: usize, from: Spot, to: Spot, new: &str) -> Result<String, AllocError>
+fn middle(
+    alloc: Global,
+    lines: &[Arc<Line>],
+    kept: usize,
+    from: Spot,
+    to: Spot,
+    new: &str,
+) -> Result<String, AllocError>
     requires kept { kept ≤ from.line }
     requires from { IsSpot (map arc_value lines.now) from }
     requires to { IsSpot (map arc_value lines.now) to }
     ensures { let held = map arc_value lines.now in
         IfOk result (λ text. chars (string_bytes text)
-            ≡ text_of (take (from.line - kept) (drop kept held))
-            ++ (front_of held from ++ (chars new.now ++ (back_of held to ++ end_text (end_at held to.line))))) }
+        ≡ text_of (take (from.line - kept) (drop kept held))
+        ++ (front_of held from ++ (chars new.now ++ (back_of held to ++ end_text (end_at held to.line))))) }
 {
     let mut text = String::new(alloc);
     push_text(&mut text, &lines[kept..from.line])?;
@@ -121,17 +127,23 @@ fn middle(alloc: Global, lines: &[Arc<Line>], kept: usize, from: Spot, to: Spot,
 
 // The lines with what stands between two spots replaced. The lines before the one before the first spot, and those after the
 // second spot's, are shared. The line before is cut anew, since its CR and a new LF are one line end.
-pub fn spliced(alloc: Global, lines: &[Arc<Line>], from: Spot, to: Spot, new: &str) -> Result<Vec<Arc<Line>>, AllocError>
+pub fn spliced(
+    alloc: Global,
+    lines: &[Arc<Line>],
+    from: Spot,
+    to: Spot,
+    new: &str,
+) -> Result<Vec<Arc<Line>>, AllocError>
     requires lines { AreLines (map arc_value lines.now) }
     requires from { IsSpot (map arc_value lines.now) from }
     requires to { IsSpot (map arc_value lines.now) to }
     ensures { let held = map arc_value lines.now in
         IfOk result (λ v. IsCut
-            (take from.offset (text_of held) ++ (chars new.now ++ drop to.offset (text_of held)))
-            (map arc_value v.items)) }
+        (take from.offset (text_of held) ++ (chars new.now ++ drop to.offset (text_of held)))
+        (map arc_value v.items)) }
 {
     let kept = from.line.saturating_sub(1);
-    let mut result = Vec::new(alloc);
+    let mut result = Vec::with_capacity(alloc, lines.len())?;
     push_shared(&mut result, &lines[..kept])?;
     let text = middle(alloc, lines, kept, from, to, new)?;
     let rest = push_lines(alloc, &mut result, text.as_str())?;

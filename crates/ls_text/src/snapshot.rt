@@ -1,13 +1,14 @@
 ghost use Rattle.std.specs.Prelude.{◌≡◌, ◌+◌, ◌<◌, ◌≤◌, ◌++◌, ◌↔◌, ◌∷◌, [], length, map, Option, true, false, Some, None, IsTrue, OnOk, IfOk, IfErr, IfSome, slice_index};
 ghost use Rattle.std.specs.Arc.{arc_value};
+ghost use Rattle.std.specs.Char.{len_utf8};
 ghost use Rattle.std.specs.Str.{chars, encode_utf8_all, IsUtf8};
 ghost use Rattle.std.specs.String.{string_bytes, string_len};
 ghost use Rattle.std.specs.Option.{option_map};
 ghost use Rattle.std.specs.List.{slice_get};
 ghost use Rattle.ls_text.specs.Lines.{line_ends, lines, utf16_len, offset_of};
-ghost use Rattle.ls_text.specs.Positions.{position_of, place_range};
+ghost use Rattle.ls_text.specs.Positions.{position_of, position_in, place_range};
 ghost use Rattle.ls_text.specs.Edits.{position_offset, replaced, edited, edited_all, is_too_large};
-ghost use Rattle.ls_text.specs.Cut.{AreLines, IsCut, text_of, width_of};
+ghost use Rattle.ls_text.specs.Cut.{AreLines, IsCut, text_of};
 
 use crate::cut::lines_of;
 use crate::edit::{Edit, push_shared, push_text, spliced, spot_of};
@@ -165,22 +166,17 @@ impl Snapshot {
         }
     }
 
-    // The offset of so many units in a line.
-    fn offset_in(&self, units: Units, line: usize, count: usize) -> usize
-        ensures { result ≡ offset_of (width_of units) self.now line count }
-    {
-        match self.lines.get(line) {
-            Some(held) => self.starts[line] + fitting(held, units, count).count,
-            None => self.length,
-        }
-    }
-
     /// The offset of a position, in characters: the greatest in its line with at most that many UTF-16 units before it
     /// in the line. Past the last line it is the text's end.
     pub fn offset_of(&self, at: Position) -> usize
         ensures { result ≡ offset_of utf16_len self.now at.line at.character }
     {
-        self.offset_in(Units::Utf16, at.line as usize, at.character as usize)
+        let line = at.line as usize;
+        let units = at.character as usize;
+        match self.lines.get(line) {
+            Some(held) => self.starts[line] + fitting(held, Units::Utf16, units).count,
+            None => self.length,
+        }
     }
 
     /// The position of an offset, which counts characters. Past the text's end it is that of the end, and between CR and LF
@@ -196,17 +192,39 @@ impl Snapshot {
         }
     }
 
+    // The position of so many bytes in a line.
+    fn position_in(&self, line: usize, bytes: usize) -> Position
+        ensures position { result ≡ position_of utf16_len self.now (offset_of len_utf8 self.now line bytes) }
+        ensures in_line { IfSome (slice_get (lines self.now) line)
+            (λ text. result ≡ position_in utf16_len line text bytes) }
+    {
+        match self.lines.get(line) {
+            Some(held) => {
+                let before = fitting(held, Units::Utf8, bytes).count;
+                Position {
+                    line: line as u32,
+                    character: units_before(held, Units::Utf16, before),
+                }
+            }
+            None => self.position_of(self.length),
+        }
+    }
+
     /// The positions of a place's two ends.
     ///
     /// An end past the line's end is taken for the line's end, and one inside a character for that character's start.
     pub fn range_of(&self, place: &Place) -> Range
-        ensures { result ≡ place_range utf16_len self.now place.now }
+        ensures range { result ≡ place_range utf16_len self.now place.now }
+
+        // In a line of the text, these are the UTF-16 units before the place's two ends in that line.
+        ensures start { IfSome (slice_get (lines self.now) place.now.line)
+            (λ text. result.start ≡ position_in utf16_len place.now.line text place.now.start) }
+        ensures end { IfSome (slice_get (lines self.now) place.now.line)
+            (λ text. result.end ≡ position_in utf16_len place.now.line text place.now.end) }
     {
-        let start = self.offset_in(Units::Utf8, place.line, place.start);
-        let end = self.offset_in(Units::Utf8, place.line, place.end);
         Range {
-            start: self.position_of(start),
-            end: self.position_of(end),
+            start: self.position_in(place.line, place.start),
+            end: self.position_in(place.line, place.end),
         }
     }
 
@@ -230,9 +248,9 @@ impl Snapshot {
     fn replaced(&self, range: Range, new: &str) -> Result<Vec<Arc<Line>>, AllocError>
         ensures { IfOk result (λ v. IsCut
             (replaced self.now
-                (position_offset utf16_len self.now range.start)
-                (position_offset utf16_len self.now range.end)
-                (chars new.now))
+            (position_offset utf16_len self.now range.start)
+            (position_offset utf16_len self.now range.end)
+            (chars new.now))
             (map arc_value v.items)) }
     {
         let start = spot_of(&self.lines, &self.starts, self.length, range.start);
@@ -261,7 +279,7 @@ impl Snapshot {
     fn share(&self) -> Result<Snapshot, AllocError>
         ensures { IfOk result (λ s. s ≡ self.now) }
     {
-        let mut lines = Vec::new(self.alloc);
+        let mut lines = Vec::with_capacity(self.alloc, self.lines.len())?;
         push_shared(&mut lines, &self.lines)?;
         Ok(Snapshot {
             alloc: self.alloc,

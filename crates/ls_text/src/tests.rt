@@ -136,12 +136,22 @@ fn refuses_large_texts(rt: HostRuntime) -> Result<(), Fail> {
     Ok(())
 }
 
-fn edit(alloc: Global, range: Option<((u32, u32), (u32, u32))>, text: &str) -> Result<Edit, TextFault> {
+fn edit(
+    alloc: Global,
+    range: Option<((u32, u32), (u32, u32))>,
+    text: &str,
+) -> Result<Edit, TextFault> {
     let range = match range {
         None => None,
         Some((start, end)) => Some(Range {
-            start: Position { line: start.0, character: start.1 },
-            end: Position { line: end.0, character: end.1 },
+            start: Position {
+                line: start.0,
+                character: start.1,
+            },
+            end: Position {
+                line: end.0,
+                character: end.1,
+            },
         }),
     };
     Ok(Edit {
@@ -176,11 +186,15 @@ fn applies_edits(rt: HostRuntime) -> Result<(), Fail> {
         let mut edits = Vec::new(alloc);
         edits.push(edit(alloc, Some((start, end)), new)?)?;
         let text = snapshot(alloc, before)?;
+        let after = String::from_str(alloc, after)?;
         let changed = text.apply(edits.as_slice())?;
-        assert_eq!(rt; changed.to_text()?.as_str(), after);
+        assert_eq!(rt; changed.to_text()?, after);
         assert_eq!(rt; changed.line_count(), lines, "{after}");
-        assert!(rt; changed.same_text(&snapshot(alloc, after)?), "{after}");
-        assert_eq!(rt; text.to_text()?.as_str(), before);
+        assert!(rt;
+            changed.same_text(&snapshot(alloc, after.as_str())?),
+            "{after}"
+        );
+        assert!(rt; text.same_text(&snapshot(alloc, before)?));
     }
     Ok(())
 }
@@ -226,7 +240,9 @@ fn below(state: &mut u64, below: u64) -> u64
     requires { 0 < below }
     ensures { result < below }
 {
-    *state = state.wrapping_mul(6_364_136_223_846_793_005).wrapping_add(1_442_695_040_888_963_407);
+    *state = state
+        .wrapping_mul(6_364_136_223_846_793_005)
+        .wrapping_add(1_442_695_040_888_963_407);
     (*state >> 33) % below
 }
 
@@ -248,7 +264,13 @@ fn random_position(state: &mut u64) -> (u32, u32) {
 }
 
 // The text with the characters between two offsets replaced.
-fn replaced(alloc: Global, text: &str, from: usize, to: usize, new: &str) -> Result<String, AllocError> {
+fn replaced(
+    alloc: Global,
+    text: &str,
+    from: usize,
+    to: usize,
+    new: &str,
+) -> Result<String, AllocError> {
     let mut result = String::new(alloc);
     for c in text.chars().take(from) {
         result.push(c)?;
@@ -273,19 +295,43 @@ fn agrees_with_a_plain_cut(rt: HostRuntime) -> Result<(), Fail> {
             let (start, end) = (random_position(&mut state), random_position(&mut state));
             let new = random_text(alloc, &mut state)?;
             let before = snapshot(alloc, plain.as_str())?;
-            let from = before.offset_of(Position { line: start.0, character: start.1 });
-            let to = before.offset_of(Position { line: end.0, character: end.1 });
-            plain = replaced(alloc, plain.as_str(), from.min(to), from.max(to), new.as_str())?;
+            let from = before.offset_of(Position {
+                line: start.0,
+                character: start.1,
+            });
+            let to = before.offset_of(Position {
+                line: end.0,
+                character: end.1,
+            });
+            plain = replaced(
+                alloc,
+                plain.as_str(),
+                from.min(to),
+                from.max(to),
+                new.as_str(),
+            )?;
             edits.push(edit(alloc, Some((start, end)), new.as_str())?)?;
         }
         let changed = text.apply(edits.as_slice())?;
         let whole = snapshot(alloc, plain.as_str())?;
-        assert_eq!(rt; changed.to_text()?.as_str(), plain.as_str(), "round {round}");
+        assert_eq!(rt;
+            changed.to_text()?.as_str(),
+            plain.as_str(),
+            "round {round}"
+        );
         assert_eq!(rt; changed.line_count(), whole.line_count(), "round {round}");
         for line in 0..64u32 {
             let start = Position { line, character: 0 };
-            assert_eq!(rt; changed.offset_of(start), whole.offset_of(start), "round {round}, line {line}");
-            assert_eq!(rt; changed.line(line as usize), whole.line(line as usize), "round {round}, line {line}");
+            assert_eq!(rt;
+                changed.offset_of(start),
+                whole.offset_of(start),
+                "round {round}, line {line}"
+            );
+            assert_eq!(rt;
+                changed.line(line as usize),
+                whole.line(line as usize),
+                "round {round}, line {line}"
+            );
         }
         assert!(rt; changed.same_text(&whole), "round {round}");
     }

@@ -68,7 +68,10 @@ pub fn fitting(line: &Line, units: Units, limit: usize) -> Fit
     let text = line.text.as_str();
     if text.len() == line.char_count {
         let count = limit.min(line.char_count);
-        return Fit { count, bytes: count };
+        return Fit {
+            count,
+            bytes: count,
+        };
     }
     chars_fitting(text, units, limit)
 }

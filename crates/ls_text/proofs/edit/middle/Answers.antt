@@ -1,4 +1,4 @@
-use Rattle.std.proofs.Common.{◌≡◌, ◌<◌, ◌-◌, ◌++◌, arith, ap, sym, subst, ◌∙◌, length, map, take, drop}
+use Rattle.std.proofs.Common.{◌<◌, ◌-◌, ◌++◌, arith, ap, sym, subst, ◌∙◌, length, map, take, drop}
 use Rattle.std.specs.Arc.{arc_value}
 use Rattle.std.specs.Str.{chars, IsUtf8, IsCharBoundary}
 use Rattle.std.specs.String.{string_bytes}

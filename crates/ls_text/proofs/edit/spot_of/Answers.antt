@@ -1,10 +1,10 @@
-use Rattle.std.proofs.Common.{◌≡◌, ◌<◌, ◌≤◌, ◌+◌, refl, ◌∙◌, ap, sym, arith, length, map, take, get_or}
+use Rattle.std.proofs.Common.{◌≡◌, ◌<◌, ◌+◌, refl, ◌∙◌, ap, arith, length, map, take}
 use Rattle.std.specs.Arc.{arc_value}
-use Rattle.std.specs.Str.{chars, encode_utf8_all}
+use Rattle.std.specs.Str.{encode_utf8_all}
 use Rattle.std.specs.String.{string_bytes, string_len}
 use Rattle.std.proofs.lemmas.List.{length-map}
 use Rattle.ls_text.specs.Lines.{utf16_len, fitting}
-use Rattle.ls_text.specs.Cut.{line_text, start_of, text_at}
+use Rattle.ls_text.specs.Cut.{line_text}
 use Rattle.ls_text.specs.declared.line.Line.{Line}
 use Rattle.ls_text.proofs.PositionLaws.{text_held}
 use Rattle.ls_text.proofs.SpotLaws.{offset_small, spot_some, offset_some, spot_none, offset_none}
@@ -13,9 +13,13 @@ use Rattle.ls_text.proofs.edit.spot_of.Goals as goal
 pub overflow_add-result : goal.overflow_add-result
 overflow_add-result c =
     let inside : c.args.at.line < length (map arc_value c.args.lines.now) = omega (arith, c.in-Some.ensures.lookup.3.0, length-map c.args.lines.now arc_value) in
-    omega (arith, offset_small _ _ _ c.requires utf16_len c.args.at.line c.args.at.character inside, c.fitting-fit.ensures.count,
-    ap (λ (l : Line). fitting utf16_len (line_text l) c.args.at.character) c.deref.ensures,
-    ap (λ t. fitting utf16_len t c.args.at.character) (text_held arc_value c.args.lines.now c.args.at.line c.in-Some.line.now c.in-Some.ensures.lookup.3.0 c.in-Some.ensures.lookup.1))
+    omega (
+      arith,
+      offset_small _ _ _ c.requires utf16_len c.args.at.line c.args.at.character inside,
+      c.fitting-fit.ensures.count,
+      ap (λ (l : Line). fitting utf16_len (line_text l) c.args.at.character) c.deref.ensures,
+      ap (λ t. fitting utf16_len t c.args.at.character) (text_held arc_value c.args.lines.now c.args.at.line c.in-Some.line.now c.in-Some.ensures.lookup.3.0 c.in-Some.ensures.lookup.1),
+    )
 
 pub returns-in-Some-clause-spot : goal.returns-in-Some-clause-spot
 returns-in-Some-clause-spot c =

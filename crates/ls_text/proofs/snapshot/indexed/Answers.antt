@@ -18,7 +18,7 @@ returns-then-more-bytes-clause-too_large c = λ e.
       c.loop-line.invariant.small,
       held_bytes arc_value c.deref-line-items.result.now c.loop-line.line-index c.line-item.result c.loop-line-test.true c.line-item.is (IsUtf8-string_bytes (arc_value c.line-item.result).text),
       held_bytes_le arc_value c.deref-line-items.result.now c.loop-line.line-index c.line-item.result c.loop-line-test.true c.line-item.is,
-      c.len.ensures ∙ ap (λ (l : Line). string_len l.text) c.deref-in-loop-line.ensures,
+      c.len-in-loop-line.ensures ∙ ap (λ (l : Line). string_len l.text) c.deref-in-loop-line.ensures,
       c.len-ends.ensures ∙ ap (λ (l : Line). length (end_text l.end)) c.deref.ensures,
       ap (λ z. length (encode_utf8_all (text_of (map arc_value z)))) c.deref-line-items.ensures.value,
     )
@@ -29,7 +29,7 @@ overflow_add-length c =
       arith,
       c.saturating_add-more.ensures,
       c.if-more-bytes.false,
-      c.len.ensures ∙ ap (λ (l : Line). string_len l.text) c.deref-in-loop-line.ensures,
+      c.len-in-loop-line.ensures ∙ ap (λ (l : Line). string_len l.text) c.deref-in-loop-line.ensures,
       ap (λ (l : Line). l.char_count) c.deref-in-loop-line-2.ensures ∙ (arc_value c.line-item.result).counted,
       chars_le (string_bytes (arc_value c.line-item.result).text) (IsUtf8-string_bytes (arc_value c.line-item.result).text),
       c.loop-line.invariant.within,
@@ -42,7 +42,7 @@ overflow_add-length-in-loop-line c =
       arith,
       c.saturating_add-more.ensures,
       c.if-more-bytes.false,
-      c.len.ensures ∙ ap (λ (l : Line). string_len l.text) c.deref-in-loop-line.ensures,
+      c.len-in-loop-line.ensures ∙ ap (λ (l : Line). string_len l.text) c.deref-in-loop-line.ensures,
       ap (λ (l : Line). l.char_count) c.deref-in-loop-line-2.ensures ∙ (arc_value c.line-item.result).counted,
       chars_le (string_bytes (arc_value c.line-item.result).text) (IsUtf8-string_bytes (arc_value c.line-item.result).text),
       c.loop-line.invariant.within,
@@ -51,9 +51,9 @@ overflow_add-length-in-loop-line c =
 
 pub loop-line-preserved : goal.loop-line-preserved
 loop-line-preserved c =
-    let bytes_are : c.len.result ≡ string_len (arc_value c.line-item.result).text = c.len.ensures ∙ ap (λ (l : Line). string_len l.text) c.deref-in-loop-line.ensures in
+    let bytes_are : c.len-in-loop-line.result ≡ string_len (arc_value c.line-item.result).text = c.len-in-loop-line.ensures ∙ ap (λ (l : Line). string_len l.text) c.deref-in-loop-line.ensures in
     let ends_are : c.len-ends.result ≡ length (end_text (arc_value c.line-item.result).end) = c.len-ends.ensures ∙ ap (λ (l : Line). length (end_text l.end)) c.deref.ensures in
-    let more_is : c.saturating_add-more.result ≡ c.len.result + c.len-ends.result = omega (arith, c.saturating_add-more.ensures, c.if-more-bytes.false) in
+    let more_is : c.saturating_add-more.result ≡ c.len-in-loop-line.result + c.len-ends.result = omega (arith, c.saturating_add-more.ensures, c.if-more-bytes.false) in
     let count_is : c.deref-in-loop-line-2.result.now.char_count ≡ length (line_text (arc_value c.line-item.result)) = ap (λ (l : Line). l.char_count) c.deref-in-loop-line-2.ensures ∙ (arc_value c.line-item.result).counted in
     record {
       index = indexed_more arc_value c.deref-line-items.result.now c.loop-line.line-index c.line-item.result c.loop-line-test.true c.line-item.is _ _ _ _ _ c.loop-line.invariant.index c.in_ok-push_start.ensures count_is ends_are;

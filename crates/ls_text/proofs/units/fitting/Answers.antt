@@ -1,6 +1,5 @@
-use Rattle.std.proofs.Common.{◌≡◌, arith, length, take}
-use Rattle.std.specs.Str.{encode_utf8_all}
-use Rattle.ls_text.specs.Cut.{line_text, width_of}
+use Rattle.std.proofs.Common.{arith}
+use Rattle.ls_text.specs.Cut.{line_text}
 use Rattle.ls_text.proofs.UnitLaws.{fitting-ascii, bytes-ascii, line-ascii}
 use Rattle.ls_text.proofs.units.fitting.Goals as goal
 

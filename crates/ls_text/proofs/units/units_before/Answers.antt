@@ -1,5 +1,5 @@
-use Rattle.std.proofs.Common.{◌≡◌, arith, length, take}
-use Rattle.ls_text.specs.Cut.{line_text, width_of}
+use Rattle.std.proofs.Common.{arith}
+use Rattle.ls_text.specs.Cut.{line_text}
 use Rattle.ls_text.proofs.UnitLaws.{units-ascii, line-ascii}
 use Rattle.ls_text.proofs.units.units_before.Goals as goal
 

@@ -1,10 +1,10 @@
-use Rattle.std.proofs.Common.{◌≡◌, ◌<◌, ◌≤◌, ◌+◌, ◌∙◌, ap, sym, arith, length, length-drop, take, drop, ◌-◌, true, false, List, ℕ}
+use Rattle.std.proofs.Common.{◌≡◌, ◌∙◌, ap, sym, arith, length, length-drop, take, drop, ◌-◌, List, ℕ}
 use Rattle.std.specs.Prelude.{Some, None}
 use Rattle.std.proofs.lemmas.Result.{err_from_is_err_and, IfOk-weaker, IfErr-weaker}
 use Rattle.std.proofs.lemmas.List.{take_all}
 use Rattle.ls_text.specs.declared.edit.Edit.{Edit}
 use Rattle.ls_text.specs.Lines.{utf16_len}
-use Rattle.ls_text.specs.Edits.{edited, edited_all, is_too_large}
+use Rattle.ls_text.specs.Edits.{edited_all, is_too_large}
 use Rattle.ls_text.specs.declared.fault.TextFault.TheVariants.{TooLarge}
 use Rattle.ls_text.proofs.EditLaws.{all_end, all_more, all_none}
 use Rattle.ls_text.proofs.snapshot.Snapshot.apply.Goals as goal

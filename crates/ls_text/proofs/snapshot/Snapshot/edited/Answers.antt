@@ -1,4 +1,4 @@
-use Rattle.std.proofs.Common.{◌≡◌, ◌<◌, ◌≤◌, ◌∙◌, ap, sym, subst, arith, length, map, true, false, Vec, Global, ℕ, List}
+use Rattle.std.proofs.Common.{◌≡◌, ◌∙◌, ap, sym, subst, length, map, true, false, Vec, Global, ℕ, List}
 use Rattle.std.specs.Arc.{arc_value}
 use Rattle.std.specs.declared.sync.Arc.{Arc}
 use Rattle.std.specs.Str.{chars, encode_utf8_all}
@@ -15,16 +15,16 @@ use Rattle.ls_text.proofs.snapshot.Snapshot.edited.Goals.{in-None+in_ok-lines-in
 lines_are : (c : goal.After-indexed) → IsCut (edited utf16_len c.args.self.now c.args.edit.now) (map arc_value c.match-edit.lines.items)
 lines_are c =
     elim c.match-edit.branch [
-      in-None+in_ok-lines-in-None w ↦
-        let text_is : chars w.as_str.result.now ≡ edited utf16_len c.args.self.now c.args.edit.now = ap chars w.as_str.ensures ∙ sym (edited-none utf16_len c.args.self.now c.args.edit.now w.in-None.is) in
-        let cut : IsCut (chars w.as_str.result.now) (map arc_value w.in_ok-lines-in-None.lines.items) = w.in_ok-lines-in-None.ensures in
-        subst (λ (v : Vec (Arc Line Global) Global). IsCut (edited utf16_len c.args.self.now c.args.edit.now) (map arc_value v.items)) (sym w.lines-is) (cut.0, cut.1 ∙ text_is)
-    | in-Some+in_ok-lines-in-Some w ↦
-        let r = w.in-Some.range in
-        let text_is : replaced c.args.self.now (position_offset utf16_len c.args.self.now r.start) (position_offset utf16_len c.args.self.now r.end) (chars w.as_str-in-Some.result.now) ≡ edited utf16_len c.args.self.now c.args.edit.now =
-            ap (λ x. replaced c.args.self.now (position_offset utf16_len c.args.self.now r.start) (position_offset utf16_len c.args.self.now r.end) (chars x)) w.as_str-in-Some.ensures ∙ sym (edited-some utf16_len c.args.self.now c.args.edit.now w.in-Some.range w.in-Some.is) in
-        let cut : IsCut (replaced c.args.self.now (position_offset utf16_len c.args.self.now w.in-Some.range.start) (position_offset utf16_len c.args.self.now w.in-Some.range.end) (chars w.as_str-in-Some.result.now)) (map arc_value w.in_ok-lines-in-Some.lines.items) = w.in_ok-lines-in-Some.ensures in
-        subst (λ (v : Vec (Arc Line Global) Global). IsCut (edited utf16_len c.args.self.now c.args.edit.now) (map arc_value v.items)) (sym w.lines-is) (cut.0, cut.1 ∙ text_is)
+      | in-None+in_ok-lines-in-None w ↦
+          let text_is : chars w.as_str.result.now ≡ edited utf16_len c.args.self.now c.args.edit.now = ap chars w.as_str.ensures ∙ sym (edited-none utf16_len c.args.self.now c.args.edit.now w.in-None.is) in
+          let cut : IsCut (chars w.as_str.result.now) (map arc_value w.in_ok-lines-in-None.lines.items) = w.in_ok-lines-in-None.ensures in
+          subst (λ (v : Vec (Arc Line Global) Global). IsCut (edited utf16_len c.args.self.now c.args.edit.now) (map arc_value v.items)) (sym w.lines-is) (cut.0, cut.1 ∙ text_is)
+      | in-Some+in_ok-lines-in-Some w ↦
+          let r = w.in-Some.range in
+          let text_is : replaced c.args.self.now (position_offset utf16_len c.args.self.now r.start) (position_offset utf16_len c.args.self.now r.end) (chars w.as_str-in-Some.result.now) ≡ edited utf16_len c.args.self.now c.args.edit.now =
+          ap (λ x. replaced c.args.self.now (position_offset utf16_len c.args.self.now r.start) (position_offset utf16_len c.args.self.now r.end) (chars x)) w.as_str-in-Some.ensures ∙ sym (edited-some utf16_len c.args.self.now c.args.edit.now w.in-Some.range w.in-Some.is) in
+          let cut : IsCut (replaced c.args.self.now (position_offset utf16_len c.args.self.now w.in-Some.range.start) (position_offset utf16_len c.args.self.now w.in-Some.range.end) (chars w.as_str-in-Some.result.now)) (map arc_value w.in_ok-lines-in-Some.lines.items) = w.in_ok-lines-in-Some.ensures in
+          subst (λ (v : Vec (Arc Line Global) Global). IsCut (edited utf16_len c.args.self.now c.args.edit.now) (map arc_value v.items)) (sym w.lines-is) (cut.0, cut.1 ∙ text_is)
     ]
 
 pub returns-clause-ok : goal.returns-clause-ok

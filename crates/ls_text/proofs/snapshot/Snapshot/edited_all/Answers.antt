@@ -1,8 +1,7 @@
-use Rattle.std.proofs.Common.{rules, ◌≡◌, ◌<◌, ◌≤◌, ◌+◌, ◌∙◌, ap, sym, subst, arith, length, drop, true, false}
-use Rattle.std.specs.Prelude.{Some, None}
+use Rattle.std.proofs.Common.{◌+◌, ◌∙◌, ap, sym, drop}
 use Rattle.std.proofs.lemmas.Result.{err_from_is_err_and}
 use Rattle.ls_text.specs.Lines.{utf16_len}
-use Rattle.ls_text.specs.Edits.{edited, edited_all, is_too_large}
+use Rattle.ls_text.specs.Edits.{edited_all, is_too_large}
 use Rattle.ls_text.proofs.EditLaws.{all_end, all_more, all_none}
 use Rattle.ls_text.proofs.snapshot.Snapshot.edited_all.Goals as goal
 

@@ -1,5 +1,4 @@
-use Rattle.std.proofs.Common.{◌≡◌, drop, map}
-use Rattle.std.specs.Arc.{arc_value}
+use Rattle.std.proofs.Common.{◌≡◌, drop}
 use Rattle.ls_text.specs.Lines.{utf16_len}
 use Rattle.ls_text.specs.Edits.{edited_all}
 use Rattle.ls_text.proofs.snapshot.Snapshot.edited_all.Given as goal

@@ -1,12 +1,10 @@
 use Rattle.std.proofs.Common.{◌≡◌, ◌<◌, ap, sym, ◌∙◌, arith, length, map}
 use Rattle.std.specs.Arc.{arc_value}
-use Rattle.std.specs.Str.{chars}
 use Rattle.std.proofs.lemmas.List.{length-map}
 use Rattle.std.proofs.lemmas.Str.{IsUtf8-string_bytes}
 use Rattle.std.specs.String.{string_bytes}
 use Rattle.ls_text.specs.Cut.{line_text, text_at}
 use Rattle.ls_text.specs.Lines.{utf16_len}
-use Rattle.ls_text.specs.declared.line.Line.{Line}
 use Rattle.ls_text.proofs.PositionLaws.{first_start, line_small, bytes_small, position_found, text_held}
 use Rattle.ls_text.proofs.snapshot.Snapshot.position_of.Goals as goal
 
