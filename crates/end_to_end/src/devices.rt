@@ -113,7 +113,8 @@ impl Sink for FailingSink {
     fn write(&mut self, buf: &[u8]) -> Result<usize, DeviceFault> {
         let count = self.step.max(1).min(buf.len());
         if is_call(&mut self.calls, self.fails_at)
-            || self.bytes.extend_from_slice(&buf[..count]).is_err() {
+            || self.bytes.extend_from_slice(&buf[..count]).is_err()
+        {
             self.failed = true;
             return Err(DeviceFault::Failed);
         }

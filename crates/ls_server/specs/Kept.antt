@@ -67,9 +67,9 @@ closed uri kept = record kept { documents = without kept.documents (place_of uri
 abbrev pub changed_to : ℤ → Kept → ℕ → Document → Option (List ℕ) → Kept
 changed_to label kept at document None = record kept { documents = remove kept.documents at }
 changed_to label kept at document (Some text) = record {
-    documents = slice_set kept.documents at (document_of document.uri label (next_version kept) text);
-    versions = next_version kept;
-  }
+  documents = slice_set kept.documents at (document_of document.uri label (next_version kept) text);
+  versions = next_version kept;
+}
 
 abbrev pub changed_in : ℤ → List Edit → Kept → ℕ → Option Document → Kept
 changed_in label edits kept at None = kept
