@@ -1,7 +1,7 @@
 use Rattle.std.proofs.Common.{Some, ap, sym, ◌∙◌, arith}
 use Rattle.serde_json.specs.View.{items_view}
 use Rattle.ls_session.specs.Params.{edits_of}
-use Rattle.ls_session.proofs.Changes.{Found, Found-start, Found-some, Found-none, Found-end}
+use Rattle.ls_session.proofs.Changes.{Found-start, Found-some, Found-none, Found-end}
 use Rattle.ls_session.proofs.params.edits.Goals as goal
 
 pub loop-value-init : goal.loop-value-init
