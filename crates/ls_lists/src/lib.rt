@@ -5,6 +5,8 @@
 #![tactic(auto)]
 
 mod list;
+#[cfg(test)]
+mod tests;
 mod text;
 
 pub use list::List;
