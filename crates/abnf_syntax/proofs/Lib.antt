@@ -1,0 +1,9 @@
+pub mod Front
+pub mod Rows
+pub mod Opened
+pub mod Sound
+pub mod Complete
+pub mod FaultSide
+pub mod Stack
+pub mod Whole
+pub mod NumberLaws
