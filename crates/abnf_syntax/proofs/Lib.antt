@@ -7,3 +7,6 @@ pub mod FaultSide
 pub mod Stack
 pub mod Whole
 pub mod NumberLaws
+pub mod BlockLaws
+pub mod GatherLaws
+pub mod ContentLaws

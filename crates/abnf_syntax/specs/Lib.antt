@@ -4,3 +4,7 @@ pub mod Grammar
 pub mod Faults
 pub mod Machine
 pub mod Fitting
+pub mod Blocks
+pub mod Items
+pub mod Gather
+pub mod Bounds

@@ -5,6 +5,15 @@ ghost use Rattle.abnf_syntax.specs.Kinds as kinds;
 
 use abnf_token::Kind;
 
+pub(crate) fn is_item(kind: Kind) -> bool
+    ensures { result ≡ kinds.is_item kind }
+{
+    match kind {
+        Kind::Comment | Kind::Blank => false,
+        _ => true,
+    }
+}
+
 pub(crate) fn is_bad(kind: Kind) -> bool
     ensures { result ≡ kinds.is_bad kind }
 {

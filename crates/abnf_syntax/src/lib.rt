@@ -15,7 +15,7 @@ mod parse;
 mod parser;
 mod tree;
 
-pub use block::Block;
+pub use block::{Block, blocks};
 pub use fault::SyntaxFault;
 pub use item::Item;
 pub use parse::parse_block;
