@@ -14,9 +14,9 @@ use Rattle.abnf_syntax.specs.Faults.{rows_of, least, open_after, open_from, last
 use Rattle.abnf_syntax.specs.Machine.{State, brackets, finish, close_in, shift, shift_by, fault_at, unless, run}
 
 -- the state knows the front's last item and its open brackets
-record Tracks (defined : Item) (front : List Item) (s : State) : Type 0 where
-  last : s.last ≡ last_of defined front
-  left : brackets s.outer ≡ open_from [] front
+pub record Tracks (defined : Item) (front : List Item) (s : State) : Type 0 where
+  pub last : s.last ≡ last_of defined front
+  pub left : brackets s.outer ≡ open_from [] front
 
 open_more : (bs : List Token) (front : List Item) (item : Item) → open_from bs (front ++ item ∷ []) ≡ open_after (open_from bs front) item
 open_more bs [] item = refl
@@ -68,7 +68,7 @@ shift_last k.Comment s item = refl
 shift_last k.Blank s item = refl
 shift_last k.Bad s item = refl
 
-tracks_more : (defined : Item) (front : List Item) (s : State) (item : Item) → Tracks defined front s → Tracks defined (front ++ item ∷ []) (shift s item)
+pub tracks_more : (defined : Item) (front : List Item) (s : State) (item : Item) → Tracks defined front s → Tracks defined (front ++ item ∷ []) (shift s item)
 unfolding shift
 tracks_more defined front s item t = record {
   last = shift_last (kind_of item) s item ∙ sym (last_more defined front item);
@@ -76,7 +76,7 @@ tracks_more defined front s item t = record {
 }
 
 -- what the table shows is what the state shows
-same_fault : (defined : Item) (front rest : List Item) (s : State) → Tracks defined front s → fault_at s rest ≡ least (rows_of (last_of defined front) (open_from [] front) rest)
+pub same_fault : (defined : Item) (front rest : List Item) (s : State) → Tracks defined front s → fault_at s rest ≡ least (rows_of (last_of defined front) (open_from [] front) rest)
 unfolding fault_at
 same_fault defined front rest s t = λ i. least (rows_of (t.last i) (t.left i) rest)
 
@@ -108,7 +108,7 @@ here head defined front rest s fault t h = record {
   first = λ xs ys e lt. absurd (omega arith);
 }
 
-earlier : (head defined : Item) (front rest : List Item) (item : Item) (n : ℕ) → shown (head ∷ defined ∷ front) (item ∷ rest) ≡ None →
+pub earlier : (head defined : Item) (front rest : List Item) (item : Item) (n : ℕ) → shown (head ∷ defined ∷ front) (item ∷ rest) ≡ None →
     ((xs ys : List Item) → rest ≡ xs ++ ys → length xs < n → shown (head ∷ defined ∷ (front ++ item ∷ []) ++ xs) ys ≡ None) →
     (xs ys : List Item) → item ∷ rest ≡ xs ++ ys → length xs < suc n → shown (head ∷ defined ∷ front ++ xs) ys ≡ None
 earlier head defined front rest item n none first [] ys e lt = rw (append-nil front) (subst (λ l. shown (head ∷ defined ∷ front) l ≡ None) e none)
@@ -138,7 +138,7 @@ comes head defined front (item ∷ rest) s fault t h =
     ]
 
 -- The first two items are a head: then no fault stands before them.
-head_earlier : (head defined : Item) (rest : List Item) (n : ℕ) → shown [] (head ∷ defined ∷ rest) ≡ None → shown (head ∷ []) (defined ∷ rest) ≡ None →
+pub head_earlier : (head defined : Item) (rest : List Item) (n : ℕ) → shown [] (head ∷ defined ∷ rest) ≡ None → shown (head ∷ []) (defined ∷ rest) ≡ None →
     ((xs ys : List Item) → rest ≡ xs ++ ys → length xs < n → shown (head ∷ defined ∷ xs) ys ≡ None) →
     (xs ys : List Item) → head ∷ defined ∷ rest ≡ xs ++ ys → length xs < suc (suc n) → shown xs ys ≡ None
 head_earlier head defined rest n none one first [] ys e lt = subst (λ l. shown [] l ≡ None) e none

@@ -10,3 +10,4 @@ pub mod NumberLaws
 pub mod BlockLaws
 pub mod GatherLaws
 pub mod ContentLaws
+pub mod Exact

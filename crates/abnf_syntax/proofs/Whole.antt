@@ -37,7 +37,7 @@ fresh k.Defines h = refl
 fresh k.Adds h = refl
 fresh _ h = never h
 
-chosen_ok : (b : Bool) (x : Result Rule SyntaxFault) (fault : SyntaxFault) (rule : Rule) → (if b then x else Err fault) ≡ Ok rule → (b ≡ true) × (x ≡ Ok rule)
+pub chosen_ok : (b : Bool) (x : Result Rule SyntaxFault) (fault : SyntaxFault) (rule : Rule) → (if b then x else Err fault) ≡ Ok rule → (b ≡ true) × (x ≡ Ok rule)
 chosen_ok true x fault rule h = (refl, h)
 chosen_ok false x fault rule h = absurd (cc)
 
@@ -48,7 +48,7 @@ chosen_err false x fault other h = inr (refl, cc)
 at_start : (defined : Item) (body : List Item) → is_defined_as (kind_of defined) ≡ true → Stands body body (start defined)
 at_start defined body d = record { room = max_nesting; start = body; nest = (refl, refl); sum = refl; phase = is_ready (needs _ d) (fresh _ d) refl (ready_at_start max_nesting body) }
 
-rule_ok : (head defined : Item) (r : Result Alternation SyntaxFault) (rule : Rule) → rule_with head defined r ≡ Ok rule → (a : Alternation) × (r ≡ Ok a) × (rule.name ≡ head.token) × (rule.adds ≡ is_adds (kind_of defined)) × (rule.body ≡ a)
+pub rule_ok : (head defined : Item) (r : Result Alternation SyntaxFault) (rule : Rule) → rule_with head defined r ≡ Ok rule → (a : Alternation) × (r ≡ Ok a) × (rule.name ≡ head.token) × (rule.adds ≡ is_adds (kind_of defined)) × (rule.body ≡ a)
 rule_ok head defined (Ok a) rule h = (a, refl, cc, cc, cc)
 rule_ok head defined (Err fault) rule h = absurd (cc)
 
@@ -56,7 +56,7 @@ rule_err : (head defined : Item) (r : Result Alternation SyntaxFault) (fault : S
 rule_err head defined (Ok a) fault h = absurd (cc)
 rule_err head defined (Err other) fault h = cc
 
-neither : {A : Type 0} (b : Bool) (x y : SyntaxFault) (rule : Rule) → (if b then Err x else Err y) ≡ Ok rule → A
+pub neither : {A : Type 0} (b : Bool) (x y : SyntaxFault) (rule : Rule) → (if b then Err x else Err y) ≡ Ok rule → A
 neither true x y rule h = absurd (cc)
 neither false x y rule h = absurd (cc)
 
@@ -131,7 +131,7 @@ pub ok_of_gives : (items : List Item) (r : Result Rule SyntaxFault) → GivesRul
 ok_of_gives items (Ok rule) h = parse_sound items rule h
 ok_of_gives items (Err fault) h = tt
 
-err_not_ok : {A : Type 0} (x : Result Rule SyntaxFault) (rule : Rule) (fault : SyntaxFault) → x ≡ Ok rule → x ≡ Err fault → A
+pub err_not_ok : {A : Type 0} (x : Result Rule SyntaxFault) (rule : Rule) (fault : SyntaxFault) → x ≡ Ok rule → x ≡ Err fault → A
 err_not_ok x rule fault a b = absurd (cc)
 
 pub only_of_gives : (items : List Item) (r : Result Rule SyntaxFault) → GivesRule r (parse items) → (rule : Rule) → Derives items rule → (r ≡ Ok rule) ⊎ (r ≡ Err f.Memory)

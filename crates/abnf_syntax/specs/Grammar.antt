@@ -75,3 +75,7 @@ pub record Derives (items : List Item) (rule : Rule) : Type 0 where
   pub name : rule.name ≡ head.token
   pub adds : kind_of defined ≡ defined_as rule.adds
   pub alternation : IsAlternation max_nesting body [] rule.body
+
+-- The items derive at most one rule.
+abbrev pub HasOneRule : List Item → Type 0
+HasOneRule items = (r s : Rule) → Derives items r → Derives items s → r ≡ s

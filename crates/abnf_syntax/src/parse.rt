@@ -1,7 +1,7 @@
 //! The parse of a block.
 
 ghost use Rattle.std.specs.Prelude.{◌≡◌, ◌⊎◌, ◌<◌, length, IfOk, IfErr, Ok, Err};
-ghost use Rattle.abnf_syntax.specs.Grammar.{Derives};
+ghost use Rattle.abnf_syntax.specs.Grammar.{Derives, HasOneRule};
 ghost use Rattle.abnf_syntax.specs.Faults.{Faults};
 ghost use Rattle.abnf_syntax.specs.Machine as spec;
 ghost use Rattle.abnf_syntax.specs.declared.tree.Rule.{Rule};
@@ -52,14 +52,17 @@ fn parsed<'t>(alloc: Global, items: &[Item<'t>]) -> Result<Rule<'t>, SyntaxFault
 pub fn parse_block<'t>(alloc: Global, block: &Block<'t>) -> Result<Rule<'t>, SyntaxFault>
     requires { 0 < length block.now.items }
 
-    // A rule that is given is derived.
+    // A rule that is given is derived; and a rule that is derived is given, unless memory runs out. There is at most one.
     ensures derives { IfOk result (λ rule. Derives block.now.items rule) }
+    ensures derived { (rule : Rule) → Derives block.now.items rule
+        → (result ≡ Ok rule) ⊎ (result ≡ Err SyntaxFault.Memory) }
+    ensures one { HasOneRule block.now.items }
 
-    // A rule that is derived is given, unless memory runs out.
-    ensures only { (rule : Rule) → Derives block.now.items rule → (result ≡ Ok rule) ⊎ (result ≡ Err SyntaxFault.Memory) }
-
-    // A fault is the one that the block shows first.
-    ensures fault { IfErr result (λ fault. (fault ≡ SyntaxFault.Memory) ⊎ Faults block.now.items fault) }
+    // A fault but for memory is the one that the block shows first; and where it shows one that is answered, unless memory
+    // runs out.
+    ensures shows { IfErr result (λ fault. (fault ≡ SyntaxFault.Memory) ⊎ Faults block.now.items fault) }
+    ensures shown { (fault : SyntaxFault) → Faults block.now.items fault
+        → (result ≡ Err fault) ⊎ (result ≡ Err SyntaxFault.Memory) }
 {
     parsed(alloc, block.items.as_slice())
 }
