@@ -13,6 +13,8 @@ mod kinds;
 mod number;
 mod parse;
 mod parser;
+#[cfg(test)]
+mod tests;
 mod tree;
 
 pub use block::{Block, blocks};
