@@ -7,13 +7,14 @@ use Rattle.ls_frame.specs.Feeds.{FeedIs}
 use Rattle.ls_frame.specs.declared.fault.FrameFault.{FrameFault}
 use Rattle.ls_frame.specs.declared.fault.FrameFault.TheVariants.{HeaderTooLong, BadHeader, NoLength, TwoLengths, BadLength, TooLarge, Truncated, Memory as NoMemory}
 use Rattle.ls_server.specs.Talk.{Talk}
-use Rattle.ls_server.specs.Runs.{said, exited}
-use Rattle.ls_server.specs.Runs.{AppendsFront, AnswersIs, Ends, Stops, PieceIs, outcome}
+use Rattle.ls_server.specs.Runs.{exited}
+use Rattle.ls_server.specs.Runs.{AnswersIs, Written, WrittenFront, Ends, Stops, PieceIs, outcome}
 use Rattle.ls_server.specs.declared.serve.ServeFault.{ServeFault}
 use Rattle.ls_server.specs.declared.serve.ServeFault.TheVariants.{Read, Write, Memory}
 use Rattle.ls_session.specs.declared.event.Status.{Status}
 use Rattle.ls_session.specs.declared.event.Status.TheVariants.{BadFrame}
-use Rattle.ls_server.proofs.Known.{append-nil, IsStop}
+use Rattle.ls_server.proofs.Known.{append-nil}
+use Rattle.ls_server.proofs.Writing.{front-whole, IsStop}
 
 some-none : {A : Type 0} {X : Type 0} (o : Option A) (x : A) → o ≡ None → o ≡ Some x → X
 some-none o x e f = absurd (cc)
@@ -47,7 +48,7 @@ pub no-stream : (rest : List ℕ) → HasNoFrame rest → Stream rest [] rest
 no-stream rest p = record { frames = []; whole = refl; bytes_are = refl; partial = p }
 
 -- nothing of the piece has been answered
-pub stops-before : (old piece : List ℕ) (state : Talk) (after : List (List ℕ)) (a b : Option (List ℕ)) → HasNoFrame old → after ≡ [] → AppendsFront a b (said state after) → Stops old piece state a b
+pub stops-before : (old piece : List ℕ) (state : Talk) (after : List (List ℕ)) (a b : Option (List ℕ)) → HasNoFrame old → after ≡ [] → WrittenFront state after a b → Stops old piece state a b
 stops-before old piece state after a b p e f = record {
   part = old;
   more = piece;
@@ -55,10 +56,10 @@ stops-before old piece state after a b p e f = record {
   contents = [];
   last = old;
   stream = no-stream old p;
-  written = let P : List (List ℕ) → Type 0 = λ l. AppendsFront a b (said state l) in subst P e f;
+  written = let P : List (List ℕ) → Type 0 = λ l. WrittenFront state l a b in subst P e f;
 }
 
-stops-here : (old piece new : List ℕ) (state : Talk) (after : List (List ℕ)) (a b : Option (List ℕ)) → Stream (old ++ piece) after new → AppendsFront a b (said state after) → Stops old piece state a b
+stops-here : (old piece new : List ℕ) (state : Talk) (after : List (List ℕ)) (a b : Option (List ℕ)) → Stream (old ++ piece) after new → WrittenFront state after a b → Stops old piece state a b
 stops-here old piece new state after a b s f = record {
   part = old ++ piece;
   more = [];
@@ -69,8 +70,6 @@ stops-here old piece new state after a b s f = record {
   written = f;
 }
 
-pub as-front : (a b : Option (List ℕ)) (bytes : List ℕ) → Appends a b bytes → AppendsFront a b bytes
-as-front a b bytes w = (bytes, [], (sym (append-nil bytes), w))
 
 faulty : (old piece new : List ℕ) (state now : Talk) (after : List (List ℕ)) (fault : FrameFault) (a b : Option (List ℕ)) → (fault_of new ≡ Some fault) × Stream (old ++ piece) after new
     → AnswersIs state after a (Ok None) now b → Ends old piece state a (BadFrame fault) b
@@ -86,7 +85,7 @@ outcome-of old piece new state now after (Err TwoLengths) a b p f h = faulty old
 outcome-of old piece new state now after (Err BadLength) a b p f h = faulty old piece new state now after BadLength a b f h
 outcome-of old piece new state now after (Err TooLarge) a b p f h = faulty old piece new state now after TooLarge a b f h
 outcome-of old piece new state now after (Err Truncated) a b p f h = faulty old piece new state now after Truncated a b f h
-outcome-of old piece new state now after (Err NoMemory) a b p f h = stops-before old piece state after a b p f (as-front a b (said state after) h.2)
+outcome-of old piece new state now after (Err NoMemory) a b p f h = stops-before old piece state after a b p f (front-whole state after a b h.2)
 
 -- all that a piece completes has been answered
 pub piece-answered : (old piece new : List ℕ) (state now : Talk) (before after given : List (List ℕ)) (fed : Result ℕ FrameFault) (r : Result (Option Status) ServeFault) (a b : Option (List ℕ))
@@ -111,12 +110,12 @@ fed-stream old piece new after (Err Truncated) f = inl f.1
 fed-stream old piece new after (Err NoMemory) f = inr f
 
 stops-there : (old piece new : List ℕ) (state : Talk) (after : List (List ℕ)) (a b : Option (List ℕ)) → HasNoFrame old → Stream (old ++ piece) after new ⊎ (after ≡ [])
-    → AppendsFront a b (said state after) → Stops old piece state a b
+    → WrittenFront state after a b → Stops old piece state a b
 stops-there old piece new state after a b p (inl s) f = stops-here old piece new state after a b s f
 stops-there old piece new state after a b p (inr e) f = stops-before old piece state after a b p e f
 
 exits : (old piece new : List ℕ) (state : Talk) (after : List (List ℕ)) (status : Status) (a b : Option (List ℕ)) → Stream (old ++ piece) after new ⊎ (after ≡ [])
-    → (exited state after ≡ Some status) × Appends a b (said state after) → Ends old piece state a status b
+    → (exited state after ≡ Some status) × Written state after a b → Ends old piece state a status b
 exits old piece new state after status a b (inl s) h = record { contents = after; last = new; stream = s; status = rw h.0 refl; written = h.1 }
 exits old piece new state after status a b (inr e) h = some-none (exited state after) status (rw e refl) h.0
 

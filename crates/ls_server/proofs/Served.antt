@@ -14,8 +14,9 @@ use Rattle.ls_server.specs.declared.serve.ServeFault.{ServeFault}
 use Rattle.ls_server.specs.declared.serve.ServeFault.TheVariants.{Read, Write, Memory}
 use Rattle.ls_session.specs.declared.event.Status.{Status}
 use Rattle.ls_session.specs.declared.event.Status.TheVariants.{Unclean, BadFrame}
-use Rattle.ls_server.proofs.Known.{append-nil, appends-appends, answers-more, said-append, exited-append, front-more}
-use Rattle.ls_server.proofs.Pieces.{no-stream, as-front}
+use Rattle.ls_server.proofs.Known.{append-nil}
+use Rattle.ls_server.proofs.Writing.{answers-more, exited-append, front-append, front-none, written-append, written-none}
+use Rattle.ls_server.proofs.Pieces.{no-stream}
 
 pub consumes-consumes : (a b c : Option (List ℕ)) (x y : List ℕ) → Consumes a b x → Consumes b c y → Consumes a c (x ++ y)
 consumes-consumes None b c x y p q = tt
@@ -32,10 +33,6 @@ consumes-keeps (Some xs) (Some ys) (Some zs) x p q = p ∙ ap (λ l. x ++ l) (sy
 pub consumes-none : (a : Option (List ℕ)) → Consumes a a []
 consumes-none None = tt
 consumes-none (Some xs) = refl
-
-pub appends-none : (a : Option (List ℕ)) → Appends a a []
-appends-none None = tt
-appends-none (Some xs) = sym (append-nil xs)
 
 -- frames, and then a stream
 pub stream-behind : (frames bytes last : List ℕ) (xs ys : List (List ℕ)) → Frames frames xs → Stream bytes ys last → Stream (frames ++ bytes) (xs ++ ys) last
@@ -56,7 +53,7 @@ stops-more read rest piece state a b c g p = record {
   contents = g.contents ++ p.contents;
   last = p.last;
   stream = stream-behind g.stream.frames p.part p.last g.contents p.contents g.stream.whole p.stream;
-  written = front-more start state g.contents p.contents a b c g.answered.0 g.answered.1 g.answered.2 p.written;
+  written = front-append start state g.contents p.contents a b c g.answered.0 g.answered.1 g.answered.2 p.written;
 }
 
 -- a piece comes after what has been read
@@ -73,7 +70,7 @@ piece-more read rest piece last state now (Ok (Some status)) a b c g p = record 
   last = p.last;
   stream = stream-append read piece rest p.last g.contents p.contents g.stream p.stream;
   status = rw (exited-append start g.contents p.contents g.answered.0, ← g.answered.1) p.status;
-  written = rw (said-append start g.contents p.contents g.answered.0, ← g.answered.1) (appends-appends a b c _ _ g.answered.2 p.written);
+  written = written-append start state g.contents p.contents a b c g.answered.0 g.answered.1 g.answered.2 p.written;
 }
 piece-more read rest piece last state now (Err Read) a b c g p = absurd p
 piece-more read rest piece last state now (Err Write) a b c g p = stops-more read rest piece state a b c g p
@@ -86,7 +83,7 @@ begins rest state a e s = record {
   contents = [];
   stream = rw e (no-stream [] none-yet);
   fault = rw e refl;
-  answered = (refl, s, appends-none a);
+  answered = (refl, s, written-none start a);
 }
 
 -- a front of nothing is written
@@ -98,7 +95,7 @@ stops-start a = record {
   contents = [];
   last = [];
   stream = no-stream [] none-yet;
-  written = as-front a a [] (appends-none a);
+  written = front-none start [] a;
 }
 
 -- the input ends in a good rest

@@ -8,17 +8,14 @@ use Rattle.ls_frame.proofs.Unique.{stream-front, rest-alone}
 use Rattle.ls_frame.proofs.Wholes.{fault-no_frame}
 use Rattle.ls_frame.specs.declared.fault.FrameFault.{FrameFault}
 use Rattle.ls_server.specs.Talk.{start}
-use Rattle.ls_server.specs.Runs.{said, exited, end_status}
-use Rattle.ls_server.specs.Runs.{AppendsFront, GoesOn, Ends, Stops, Finishes, ServedIs, RunIs, or_else, last_status}
+use Rattle.ls_server.specs.Runs.{exited, end_status}
+use Rattle.ls_server.specs.Runs.{Written, WrittenFront, GoesOn, Ends, Stops, Finishes, ServedIs, RunIs, or_else, last_status}
 use Rattle.ls_server.specs.declared.serve.ServeFault.{ServeFault}
 use Rattle.ls_server.specs.declared.serve.ServeFault.TheVariants.{Read, Write, Memory}
 use Rattle.ls_session.specs.declared.event.Status.{Status}
 use Rattle.ls_session.specs.declared.event.Status.TheVariants.{BadFrame}
-use Rattle.ls_server.proofs.Known.{append-nil, exited-stays, said-grows, front-longer}
-
-lists-nil : (xs : List (List ℕ)) → xs ++ [] ≡ xs
-lists-nil [] = refl
-lists-nil (x ∷ xs) = ap (λ l. x ∷ l) (lists-nil xs)
+use Rattle.ls_server.proofs.Known.{append-nil}
+use Rattle.ls_server.proofs.Writing.{lists-nil, exited-stays, written-stays, front-longer}
 
 consumed : (input read : List ℕ) (left : Option (List ℕ)) → Consumes (Some input) left read → (unread : List ℕ) × (left ≡ Some unread) × (input ≡ read ++ unread)
 consumed input read None c = absurd c
@@ -32,18 +29,18 @@ none-some x e = cc
 
 -- what a whole run is where it ends with a status
 abbrev EndsIs : List (List ℕ) → List ℕ → Option (List ℕ) → Status → Option (List ℕ) → Type 0
-EndsIs contents rest old status new = (status ≡ last_status contents rest) × Appends old new (said start contents)
+EndsIs contents rest old status new = (status ≡ last_status contents rest) × Written start contents old new
 
 -- nothing stands behind what has been read
 at-last : (contents known zs : List (List ℕ)) (rest last : List ℕ) (status : Status) (old new : Option (List ℕ)) → contents ≡ known ++ zs → zs ≡ []
-    → exited start known ≡ None → status ≡ end_status (fault_of rest) rest → Appends old new (said start known) → EndsIs contents rest old status new
+    → exited start known ≡ None → status ≡ end_status (fault_of rest) rest → Written start known old new → EndsIs contents rest old status new
 at-last contents known zs rest last status old new e none x s w =
     let same : contents ≡ known = e ∙ (ap (λ l. known ++ l) none ∙ lists-nil known) in
     let P : List (List ℕ) → Type 0 = λ l. EndsIs l rest old status new in
     subst P (sym same) (rw x s, w)
 
 by-fault : (contents known zs : List (List ℕ)) (rest last more : List ℕ) (o : Option FrameFault) (status : Status) (old new : Option (List ℕ)) → contents ≡ known ++ zs
-    → Stream (last ++ more) zs rest → exited start known ≡ None → fault_of last ≡ o → or_else None o ≡ Some status → Appends old new (said start known) → EndsIs contents rest old status new
+    → Stream (last ++ more) zs rest → exited start known ≡ None → fault_of last ≡ o → or_else None o ≡ Some status → Written start known old new → EndsIs contents rest old status new
 by-fault contents known zs rest last more None status old new e s x f h w = absurd (none-some status h)
 by-fault contents known zs rest last more (Some fault) status old new e s x f h w =
     let sticks : fault_of (last ++ more) ≡ Some fault = fault-sticks last more fault f in
@@ -52,12 +49,12 @@ by-fault contents known zs rest last more (Some fault) status old new e s x f h 
     at-last contents known zs rest last status old new e alone.0 x (sym (some-same (BadFrame fault) status h) ∙ sym (ap (λ o. end_status o rest) here)) w
 
 by-exit : (contents known zs : List (List ℕ)) (rest last more : List ℕ) (o : Option Status) (status : Status) (old new : Option (List ℕ)) → contents ≡ known ++ zs
-    → Stream (last ++ more) zs rest → exited start known ≡ o → or_else o (fault_of last) ≡ Some status → Appends old new (said start known) → EndsIs contents rest old status new
+    → Stream (last ++ more) zs rest → exited start known ≡ o → or_else o (fault_of last) ≡ Some status → Written start known old new → EndsIs contents rest old status new
 by-exit contents known zs rest last more None status old new e s x h w = by-fault contents known zs rest last more (fault_of last) status old new e s x refl h w
 by-exit contents known zs rest last more (Some other) status old new e s x h w =
-    let stays : (exited start (known ++ zs) ≡ Some other) × (said start (known ++ zs) ≡ said start known) = exited-stays start known zs other x in
+    let stays : exited start (known ++ zs) ≡ Some other = exited-stays start known zs other x in
     let P : List (List ℕ) → Type 0 = λ l. EndsIs l rest old status new in
-    subst P (sym e) (rw stays.0 (sym (some-same other status h)), rw stays.1 w)
+    subst P (sym e) (rw stays (sym (some-same other status h)), written-stays start known zs other old new x w)
 
 behind : (input read more rest last : List ℕ) (contents known : List (List ℕ)) → Stream input contents rest → input ≡ read ++ more → Stream read known last
     → (zs : List (List ℕ)) × (contents ≡ known ++ zs) × Stream (last ++ more) zs rest
@@ -83,12 +80,12 @@ by-end input contents rest read more status old new s e none f =
 
 -- a front of what all the contents ask for
 by-stop : (input rest read more : List ℕ) (contents : List (List ℕ)) (old new : Option (List ℕ)) → Stream input contents rest → input ≡ read ++ more → Stops [] read start old new
-    → AppendsFront old new (said start contents)
+    → WrittenFront start contents old new
 by-stop input rest read more contents old new s e t =
     let all : input ≡ t.part ++ (t.more ++ more) = e ∙ (ap (λ l. l ++ more) t.bytes_are ∙ append_assoc t.part t.more more) in
     let parts : (zs : List (List ℕ)) × (contents ≡ t.contents ++ zs) × Stream (t.last ++ (t.more ++ more)) zs rest = behind input t.part (t.more ++ more) rest t.last contents t.contents s all t.stream in
-    let grows : (tail : List ℕ) × (said start (t.contents ++ parts.0) ≡ said start t.contents ++ tail) = said-grows start t.contents parts.0 in
-    front-longer old new (said start t.contents) (said start contents) grows.0 (ap (said start) parts.1 ∙ grows.1) t.written
+    let P : List (List ℕ) → Type 0 = λ l. WrittenFront start l old new in
+    subst P (sym parts.1) (front-longer start t.contents parts.0 old new t.written)
 
 by-status : (input rest : List ℕ) (contents : List (List ℕ)) (read unread : List ℕ) (left : Option (List ℕ)) (status : Status) (old new : Option (List ℕ)) → Stream input contents rest
     → left ≡ Some unread → input ≡ read ++ unread → Ends [] read start old status new ⊎ (IsAtEnd left × Finishes read old status new) → EndsIs contents rest old status new

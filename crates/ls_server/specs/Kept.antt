@@ -1,5 +1,5 @@
 -- The documents that a client has open (LSP 3.17, "Text Document Synchronization"), and the answers on them.
-use Rattle.std.specs.Prelude.{ℕ, ℤ, ◌+◌, ◌-◌, ◌^◌, min, List, [], ◌∷◌, ◌++◌, length, find, position, remove, slice_get, slice_set, Bool, ◌||◌, nat_le, nat_lt, is_some, Option, None, Some, if◌then◌else◌, bytes_eq}
+use Rattle.std.specs.Prelude.{◌≡◌, ℕ, ℤ, ◌+◌, ◌-◌, ◌^◌, min, List, [], ◌∷◌, ◌++◌, length, find, position, remove, slice_get, slice_set, Bool, ◌||◌, nat_le, nat_lt, is_some, Option, None, Some, if◌then◌else◌, bytes_eq}
 use Rattle.std.specs.Str.{chars}
 use Rattle.ls_rpc.specs.declared.message.Id.{Id}
 use Rattle.ls_text.specs.Edits.{edited_all}
@@ -87,10 +87,10 @@ changed uri label edits kept = changed_at label edits kept (place_of uri kept.do
 abbrev pub answer_of : List ℕ → Ask → Answer
 answer_of text ask.Symbols = answer.Symbols (symbols_of text)
 
-abbrev pub answered_on : Id → Ask → Option Document → Option (List ℕ)
-answered_on id ask None = refusal_of id NotOpen
-answered_on id ask (Some document) = Some (body_of (Replied id (answer_of document.snapshot ask)))
+abbrev pub IsRepliedOn : Id → Ask → Option Document → Option (List ℕ) → Type 0
+IsRepliedOn id ask None reply = reply ≡ refusal_of id NotOpen
+IsRepliedOn id ask (Some document) reply = reply ≡ Some (body_of (Replied id (answer_of document.snapshot ask)))
 
--- the body that answers a request
-unfoldable pub answered : Id → List ℕ → Ask → Kept → Option (List ℕ)
-answered id uri ask kept = answered_on id ask (document_at uri kept.documents)
+-- what a request is answered with: the refusal where its document isn't open, else the body of the answer on its text
+unfoldable pub IsReplied : Id → List ℕ → Ask → Kept → Option (List ℕ) → Type 0
+IsReplied id uri ask kept reply = IsRepliedOn id ask (document_at uri kept.documents) reply

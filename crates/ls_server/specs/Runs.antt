@@ -6,7 +6,7 @@ use Rattle.ls_frame.specs.Faults.{fault_of}
 use Rattle.ls_frame.specs.declared.fault.FrameFault.{FrameFault}
 use Rattle.ls_frame.specs.declared.fault.FrameFault.TheVariants.{Truncated, Memory as NoMemory}
 use Rattle.ls_frame.specs.Frames.{frame_of}
-use Rattle.ls_server.specs.Talk.{Talk, start, after, reply_to, exit_of}
+use Rattle.ls_server.specs.Talk.{Talk, start, after, IsReply, exit_of}
 use Rattle.ls_session.specs.declared.event.Status.{Status}
 use Rattle.ls_session.specs.declared.event.Status.TheVariants.{BadFrame, Unclean}
 use Rattle.ls_server.specs.declared.serve.ServeFault.{ServeFault}
@@ -17,11 +17,13 @@ abbrev pub frames_for : Option (List ℕ) → List ℕ
 frames_for None = []
 frames_for (Some body) = frame_of body
 
--- what is written from a state on: the frames of the replies, in the order of the messages, up to an exit
-abbrev pub said : Talk → List (List ℕ) → List ℕ
-said state [] = []
-said state (body ∷ bodies) =
-    if is_some (exit_of state body) then [] else frames_for (reply_to state body) ++ said (after state body) bodies
+-- What is said on bodies from a state on: the frames of the replies, in the order of the messages, up to an exit.
+abbrev pub Says : Talk → List (List ℕ) → List ℕ → Type 0
+Says state [] bytes = bytes ≡ []
+Says state (body ∷ bodies) bytes =
+    ((status : Status) × (exit_of state body ≡ Some status) × (bytes ≡ []))
+    ⊎ ((reply : Option (List ℕ)) × (later : List ℕ) × ((exit_of state body ≡ None) × IsReply state body reply × Says (after state body) bodies later
+      × (bytes ≡ frames_for reply ++ later)))
 
 -- the status of the first exit
 abbrev pub exited : Talk → List (List ℕ) → Option Status
@@ -43,6 +45,21 @@ end_status None (b ∷ rest) = BadFrame Truncated
 abbrev pub AppendsFront : Option (List ℕ) → Option (List ℕ) → List ℕ → Type 0
 AppendsFront old new bytes = (part : List ℕ) × (more : List ℕ) × ((bytes ≡ part ++ more) × Appends old new part)
 
+-- What is said on contents from a state on has been written.
+pub record Written (state : Talk) (contents : List (List ℕ)) (old new : Option (List ℕ)) : Type 0 where
+  pub bytes : List ℕ
+  pub said : Says state contents bytes
+  pub written : Appends old new bytes
+
+-- A front of what is said on the first of these contents has been written.
+pub record WrittenFront (state : Talk) (contents : List (List ℕ)) (old new : Option (List ℕ)) : Type 0 where
+  pub answered : List (List ℕ)
+  pub left : List (List ℕ)
+  pub contents_are : contents ≡ answered ++ left
+  pub bytes : List ℕ
+  pub said : Says state answered bytes
+  pub written : AppendsFront old new bytes
+
 abbrev pub or_else : Option Status → Option FrameFault → Option Status
 or_else (Some status) fault = Some status
 or_else None None = None
@@ -54,11 +71,11 @@ status_at state contents rest = or_else (exited state contents) (fault_of rest)
 
 -- From a state the contents are answered: what r says, what the state is then, and what is written.
 abbrev pub AnswersIs : Talk → List (List ℕ) → Option (List ℕ) → Result (Option Status) ServeFault → Talk → Option (List ℕ) → Type 0
-AnswersIs state contents old (Ok None) after new = (exited state contents ≡ None) × (after ≡ after_all state contents) × Appends old new (said state contents)
-AnswersIs state contents old (Ok (Some status)) after new = (exited state contents ≡ Some status) × Appends old new (said state contents)
+AnswersIs state contents old (Ok None) after new = (exited state contents ≡ None) × (after ≡ after_all state contents) × Written state contents old new
+AnswersIs state contents old (Ok (Some status)) after new = (exited state contents ≡ Some status) × Written state contents old new
 AnswersIs state contents old (Err Read) after new = ⊥
-AnswersIs state contents old (Err Write) after new = AppendsFront old new (said state contents)
-AnswersIs state contents old (Err Memory) after new = AppendsFront old new (said state contents)
+AnswersIs state contents old (Err Write) after new = WrittenFront state contents old new
+AnswersIs state contents old (Err Memory) after new = WrittenFront state contents old new
 
 abbrev pub is_write : {A : Type 0} → Result A ServeFault → Bool
 is_write (Ok x) = false
@@ -79,7 +96,7 @@ pub record Ends (rest bytes : List ℕ) (state : Talk) (old : Option (List ℕ))
   pub last : List ℕ
   pub stream : Stream (rest ++ bytes) contents last
   pub status : status_at state contents last ≡ Some answer
-  pub written : Appends old new (said state contents)
+  pub written : Written state contents old new
 
 -- Bytes come after a rest, and a front of what a front of them asks for is written.
 pub record Stops (rest bytes : List ℕ) (state : Talk) (old new : Option (List ℕ)) : Type 0 where
@@ -89,7 +106,7 @@ pub record Stops (rest bytes : List ℕ) (state : Talk) (old new : Option (List 
   pub contents : List (List ℕ)
   pub last : List ℕ
   pub stream : Stream part contents last
-  pub written : AppendsFront old new (said state contents)
+  pub written : WrittenFront state contents old new
 
 -- A piece is taken after a rest, and what it completes is answered.
 abbrev pub PieceIs : List ℕ → List ℕ → Talk → Option (List ℕ) → Result (Option Status) ServeFault → List ℕ → Talk → Option (List ℕ) → Type 0
@@ -112,7 +129,7 @@ pub record Finishes (bytes : List ℕ) (old : Option (List ℕ)) (answer : Statu
   pub stream : Stream bytes contents last
   pub runs : status_at start contents last ≡ None
   pub status : answer ≡ end_status None last
-  pub written : Appends old new (said start contents)
+  pub written : Written start contents old new
 
 -- What a run has read of the input and written: spent and failed say where Read and Write may stand.
 abbrev pub ServedIs : Option (List ℕ) → Option (List ℕ) → Type 0 → Type 0 → Option (List ℕ) → Result Status ServeFault → Option (List ℕ) → Type 0
@@ -128,8 +145,8 @@ last_status contents rest = unwrap_or (exited start contents) (end_status (fault
 
 -- A run on a whole input that is a stream with these contents and this rest: what is left of it, and what is written.
 abbrev pub RunIs : List ℕ → List (List ℕ) → List ℕ → Option (List ℕ) → Option (List ℕ) → Result Status ServeFault → Option (List ℕ) → Type 0
-RunIs input contents rest left old (Ok status) new = (status ≡ last_status contents rest) × Appends old new (said start contents)
+RunIs input contents rest left old (Ok status) new = (status ≡ last_status contents rest) × Written start contents old new
 RunIs input contents rest left old (Err Read) new = (read : List ℕ) × (unread : List ℕ) × (answered : List (List ℕ)) × (last : List ℕ) × (more : List (List ℕ))
-    × ((left ≡ Some unread) × (input ≡ read ++ unread) × Stream read answered last × (contents ≡ answered ++ more) × Appends old new (said start answered))
-RunIs input contents rest left old (Err Write) new = AppendsFront old new (said start contents)
-RunIs input contents rest left old (Err Memory) new = AppendsFront old new (said start contents)
+    × ((left ≡ Some unread) × (input ≡ read ++ unread) × Stream read answered last × (contents ≡ answered ++ more) × Written start answered old new)
+RunIs input contents rest left old (Err Write) new = WrittenFront start contents old new
+RunIs input contents rest left old (Err Memory) new = WrittenFront start contents old new

@@ -42,7 +42,7 @@ impl Conversation {
     }
 
     /// Takes one body.
-    #[tactic(auto, unfolding(crate::specs::Talk::after, crate::specs::Talk::reply_to, crate::specs::Talk::exit_of))]
+    #[tactic(auto, unfolding(crate::specs::Talk::after, crate::specs::Talk::IsReply, crate::specs::Talk::exit_of))]
     pub fn turn(&mut self, body: &[u8]) -> Result<Reply, AllocError>
         ensures { IfOk result (λ reply. TurnIs self.old body.now reply self.new) }
     {

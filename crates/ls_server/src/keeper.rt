@@ -1,6 +1,6 @@
 //! The documents that a client has open.
 ghost use Rattle.std.specs.Prelude.{◌≡◌, [], IfOk, OnOk, option_map};
-ghost use Rattle.ls_server.specs.Kept.{answer_of, answered, changed, closed, document_at, is_named, next_version, nothing_kept, opened, place_of};
+ghost use Rattle.ls_server.specs.Kept.{IsReplied, answer_of, changed, closed, document_at, is_named, next_version, nothing_kept, opened, place_of};
 ghost use Rattle.ls_session.specs.Bodies.{body_of, refusal_of};
 
 use ls_lists::{List, Text};
@@ -129,10 +129,10 @@ impl Keeper {
     }
 
     /// The body that answers a request.
-    #[tactic(auto, unfolding(crate::specs::Kept::answered))]
+    #[tactic(auto, unfolding(crate::specs::Kept::IsReplied))]
     pub fn answer(&self, id: Id, uri: &str, ask: &Ask) -> Result<Option<Vec<u8>>, AllocError>
-        ensures { IfOk result (λ body. option_map (λ bytes. bytes.items) body
-            ≡ answered id uri.now ask.now self.now) }
+        ensures { IfOk result (λ body.
+            IsReplied id uri.now ask.now self.now (option_map (λ bytes. bytes.items) body)) }
     {
         let Some(document) = document_at(self.documents.as_slice(), uri) else {
             return refusal_body(self.alloc, &id, DeskFault::NotOpen);

@@ -1,5 +1,5 @@
 use Rattle.std.proofs.Common.{rules, Ok, Err, Some, None}
-use Rattle.ls_server.proofs.Known.{answers-next, answers-stop}
+use Rattle.ls_server.proofs.Writing.{answers-next, answers-stop}
 use Rattle.ls_server.proofs.serve.answer_all.Goals as goal
 
 pub returns-in-Ok-Some-clause-answers : goal.returns-in-Ok-Some-clause-answers
