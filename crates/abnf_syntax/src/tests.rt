@@ -68,10 +68,22 @@ fn the_least_of_two_faults(rt: HostRuntime) -> Result<(), Fail> {
         ("a ? \"x\"", SyntaxFault::NoDefinedAs(place(2, 3))),
         ("a = 2?", SyntaxFault::ElementExpected(place(4, 5))),
         ("a = \"x\"2?", SyntaxFault::ElementExpected(place(7, 8))),
-        ("a = 4294967296?", SyntaxFault::ElementExpected(place(4, 14))),
-        ("a = \"x\"%x100000000", SyntaxFault::BlankExpected(place(7, 18))),
-        ("a = 4294967296\"x\"", SyntaxFault::NumberTooLarge(place(4, 14))),
-        ("a = %d1.2.4294967296", SyntaxFault::NumberTooLarge(place(4, 20))),
+        (
+            "a = 4294967296?",
+            SyntaxFault::ElementExpected(place(4, 14)),
+        ),
+        (
+            "a = \"x\"%x100000000",
+            SyntaxFault::BlankExpected(place(7, 18)),
+        ),
+        (
+            "a = 4294967296\"x\"",
+            SyntaxFault::NumberTooLarge(place(4, 14)),
+        ),
+        (
+            "a = %d1.2.4294967296",
+            SyntaxFault::NumberTooLarge(place(4, 20)),
+        ),
     ];
     for (text, want) in rows {
         assert_eq!(rt; fault_of(rt.alloc(), text)?, Some(want), "{text}");
