@@ -1,5 +1,5 @@
 -- Lines, and the blocks that they make.
-use Rattle.std.proofs.Common.{◌≡◌, ℕ, zero, suc, ◌+◌, ◌-◌, ◌≤◌, ◌<◌, Bool, true, false, not, ◌&&◌, List, [], ◌∷◌, ◌++◌, length, map, drop, get_or, Option, Some, None, sym, refl, ap, subst, ◌∙◌, append_assoc, arith, inl, inr}
+use Rattle.std.proofs.Common.{◌≡◌, ℕ, zero, suc, ◌+◌, ◌≤◌, ◌<◌, true, List, [], ◌∷◌, ◌++◌, length, map, None, sym, refl, ap, subst, ◌∙◌, append_assoc, arith, inl, inr}
 use Rattle.std.specs.Prelude.{All, slice_get, slice_index_or}
 use Rattle.std.proofs.lemmas.List.Elements.{All-append}
 use Rattle.std.specs.Option.{option_map}
@@ -8,12 +8,11 @@ use Rattle.std.proofs.lemmas.List.{length-map, map-append, append-nil}
 use Rattle.std.proofs.lemmas.Bool.{cases_lt}
 use Rattle.ls_text.specs.Lines.{lines, line_ends}
 use Rattle.ls_text.proofs.LineLaws.{length-lines}
-use Rattle.abnf_token.specs.Classes.{Text, is_blank_byte}
-use Rattle.abnf_syntax.specs.Blocks.{line_texts, indent, is_content, base_indent, begins_block, begins_at, NoneBegins, IsBlock, AreBlocks}
+use Rattle.abnf_token.specs.Classes.{Text}
+use Rattle.abnf_syntax.specs.Blocks.{line_texts, begins_at, NoneBegins, AreBlocks}
 use Rattle.abnf_syntax.specs.Gather.{IsNextBlock}
 use Rattle.abnf_syntax.specs.Bounds.{bounds}
 use Rattle.abnf_syntax.specs.declared.block.Block.{Block}
-use Rattle.abnf_syntax.proofs.Rows.{never, never_too}
 
 pub count_lines : (text : List ℕ) → length (line_texts text) ≡ line_ends text + 1
 count_lines text = length-map (lines text) encode_utf8_all ∙ length-lines text

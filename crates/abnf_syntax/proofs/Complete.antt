@@ -1,28 +1,25 @@
 -- What is derived is what the parser answers.
-use Rattle.std.proofs.Common.{◌≡◌, ℕ, zero, suc, ◌+◌, ◌≤◌, ◌<◌, Bool, true, false, not, ◌&&◌, List, [], ◌∷◌, ◌++◌, length, Option, Some, None, Result, Ok, Err, sym, refl, ap, subst, ◌∙◌, append_assoc, arith, ◌⊎◌, inl, inr, if◌then◌else◌}
+use Rattle.std.proofs.Common.{◌≡◌, ℕ, suc, ◌+◌, Bool, true, false, not, ◌&&◌, List, [], ◌∷◌, ◌++◌, length, Option, Some, None, Ok, sym, refl, ap, subst, ◌∙◌, append_assoc, arith, if◌then◌else◌}
 use Rattle.std.specs.Prelude.{nat_le}
 use Rattle.std.proofs.lemmas.Bool.{lt-leb}
-use Rattle.std.proofs.lemmas.List.{append-nil}
 use Rattle.abnf_token.specs.declared.token.Kind.{Kind}
 use Rattle.abnf_token.specs.declared.token.Kind.TheVariants as k
 use Rattle.abnf_token.specs.declared.token.Token.{Token}
 use Rattle.abnf_syntax.specs.declared.item.Item.{Item}
 use Rattle.abnf_syntax.specs.declared.fault.SyntaxFault.{SyntaxFault}
 use Rattle.abnf_syntax.specs.declared.tree.Element.{Element}
-use Rattle.abnf_syntax.specs.declared.tree.Element.TheVariants as e
 use Rattle.abnf_syntax.specs.declared.tree.Repetition.{Repetition}
-use Rattle.abnf_syntax.specs.declared.parser.Level.{Level}
 use Rattle.abnf_syntax.specs.declared.parser.Opened.{Opened}
-use Rattle.abnf_syntax.specs.Kinds.{is_item, is_bad, is_defined_as, is_repeat, opens, closes, closes_it, begins_element, begins_repetition, needs_element, ends_element}
+use Rattle.abnf_syntax.specs.Kinds.{opens, closes_it, begins_element, needs_element, ends_element}
 use Rattle.abnf_syntax.specs.Grammar.{kind_of, fits, repetition, Concatenation, Alternation, IsAlternation, IsConcatenation, IsRepetition, IsElement, max_nesting}
 use Rattle.abnf_syntax.specs.Numbers.{numbers_fit}
 use Rattle.abnf_syntax.specs.Grammar.IsAlternation.{only, or}
 use Rattle.abnf_syntax.specs.Grammar.IsConcatenation.{one, and}
 use Rattle.abnf_syntax.specs.Grammar.IsRepetition.{once, times}
 use Rattle.abnf_syntax.specs.Grammar.IsElement.{name, quoted, number, prose, group, choice}
-use Rattle.abnf_syntax.specs.Faults.{rows_of, least, is_followed, is_empty, is_other}
-use Rattle.abnf_syntax.specs.Machine.{State, brackets, empty, put, finish, barred, counted, bracketed, bracketed_by, close_in, shift, shift_by, fault_at, unless, run, start}
-use Rattle.abnf_syntax.proofs.Rows.{never, never_too, closes_cases, and_right, not_not, Clear, clear, row_none}
+use Rattle.abnf_syntax.specs.Faults.{rows_of, least}
+use Rattle.abnf_syntax.specs.Machine.{State, brackets, empty, barred, counted, bracketed_by, close_in, shift, shift_by, fault_at, run, start}
+use Rattle.abnf_syntax.proofs.Rows.{never, never_too, Clear}
 
 row_skip : (b : Bool) (fault : SyntaxFault) (more : Option SyntaxFault) → b ≡ false → more ≡ None → (if b then Some fault else more) ≡ None
 row_skip true fault more h m = never_too h

@@ -1,6 +1,6 @@
 -- A line with content has an item.
-use Rattle.std.proofs.Common.{◌≡◌, ℕ, zero, suc, ◌+◌, ◌≤◌, ◌<◌, Bool, true, false, not, ◌&&◌, List, [], ◌∷◌, ◌++◌, length, map, take, drop, Option, Some, None, sym, refl, ap, subst, ◌∙◌, arith, if◌then◌else◌, ◌⊎◌, inl, inr}
-use Rattle.std.specs.Prelude.{slice_index_or, nat_eq}
+use Rattle.std.proofs.Common.{◌≡◌, ℕ, zero, suc, ◌+◌, ◌<◌, Bool, true, false, ◌&&◌, List, [], ◌∷◌, ◌++◌, length, take, drop, Option, Some, sym, refl, ap, subst, ◌∙◌, arith, ◌⊎◌, inl, inr}
+use Rattle.std.specs.Prelude.{slice_index_or}
 use Rattle.std.specs.List.{flat_map, list_all}
 use Rattle.std.proofs.lemmas.List.{length-map}
 use Rattle.abnf_token.specs.declared.token.Kind.{Kind}
@@ -10,8 +10,8 @@ use Rattle.abnf_token.specs.Classes.{Text, is_blank_byte, is_blank, is_comment}
 use Rattle.abnf_token.specs.Tokens.{TokensOf, Fits, IsNext}
 use Rattle.abnf_syntax.specs.declared.item.Item.{Item}
 use Rattle.abnf_syntax.specs.Kinds.{is_item}
-use Rattle.abnf_syntax.specs.Blocks.{is_content, begins_at, base_indent, begins_block}
-use Rattle.abnf_syntax.specs.Items.{with_line_end, items_behind, items_of, AreTokens, AreItems, view}
+use Rattle.abnf_syntax.specs.Blocks.{is_content, begins_at}
+use Rattle.abnf_syntax.specs.Items.{with_line_end, items_of, AreTokens, AreItems, view}
 use Rattle.abnf_syntax.proofs.Rows.{never, never_too}
 
 gap_cases : (kind : Kind) → is_item kind ≡ false → (kind ≡ k.Comment) ⊎ (kind ≡ k.Blank)

@@ -1,5 +1,5 @@
 -- A block that shows a fault is no rule, and shows one fault first.
-use Rattle.std.proofs.Common.{◌≡◌, ℕ, suc, ◌+◌, ◌<◌, ◌≤◌, true, List, [], ◌∷◌, ◌++◌, length, Option, Some, None, Result, Ok, Err, sym, refl, ap, subst, ◌∙◌, arith, ◌⊎◌, inl, inr}
+use Rattle.std.proofs.Common.{◌≡◌, suc, ◌<◌, true, List, [], ◌∷◌, ◌++◌, length, Option, Some, None, Result, Ok, Err, sym, refl, ap, subst, ◌∙◌, arith, ◌⊎◌, inl, inr}
 use Rattle.std.proofs.lemmas.Bool.{cases_order}
 use Rattle.abnf_syntax.specs.declared.item.Item.{Item}
 use Rattle.abnf_syntax.specs.declared.fault.SyntaxFault.{SyntaxFault}
@@ -8,10 +8,10 @@ use Rattle.abnf_syntax.specs.declared.tree.Rule.{Rule}
 use Rattle.abnf_syntax.specs.Kinds.{is_name, is_defined_as}
 use Rattle.abnf_syntax.specs.Grammar.{kind_of, Alternation, Derives}
 use Rattle.abnf_syntax.specs.Faults.{shown, Faults}
-use Rattle.abnf_syntax.specs.Machine.{State, start, shift, fault_at, unless, run, parse, parse_body, GivesRule}
+use Rattle.abnf_syntax.specs.Machine.{State, start, shift, fault_at, run, parse, GivesRule}
 use Rattle.abnf_syntax.proofs.Sound.{unless_ok}
 use Rattle.abnf_syntax.proofs.FaultSide.{Tracks, tracks_more, same_fault, earlier, head_earlier}
-use Rattle.abnf_syntax.proofs.Whole.{chosen_ok, rule_ok, neither, err_not_ok, parse_complete, parse_faulty}
+use Rattle.abnf_syntax.proofs.Whole.{chosen_ok, rule_ok, neither, parse_complete, parse_faulty}
 
 append-nil : (xs : List Item) → xs ++ [] ≡ xs
 append-nil [] = refl
@@ -71,9 +71,9 @@ one_fault items x y f g =
           let fronts = same_front f.front f.rest g.front g.rest (sym f.split ∙ g.split) same in
           some_same x y (sym f.shows ∙ (λ i. shown (fronts.0 i) (fronts.1 i)) ∙ g.shows)
       | inr order ↦ elim order [
-          | inl less ↦ some_not_none (shown f.front f.rest) x f.shows (g.first f.front f.rest f.split less)
-          | inr less ↦ some_not_none (shown g.front g.rest) y g.shows (f.first g.front g.rest g.split less)
-        ]
+        | inl less ↦ some_not_none (shown f.front f.rest) x f.shows (g.first f.front f.rest f.split less)
+        | inr less ↦ some_not_none (shown g.front g.rest) y g.shows (f.first g.front g.rest g.split less)
+      ]
     ]
 
 by_parse : (items : List Item) (result : Result Rule SyntaxFault) (fault : SyntaxFault) → 0 < length items → Faults items fault → (parsed : Result Rule SyntaxFault) → parse items ≡ parsed → GivesRule result parsed → (result ≡ Err fault) ⊎ (result ≡ Err Memory)

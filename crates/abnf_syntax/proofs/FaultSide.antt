@@ -1,17 +1,16 @@
 -- The parser's fault is the first that the table shows.
-use Rattle.std.proofs.Common.{◌≡◌, ℕ, zero, suc, ◌+◌, ◌≤◌, ◌<◌, Bool, true, false, List, [], ◌∷◌, ◌++◌, length, Option, Some, None, Result, Ok, Err, sym, refl, ap, subst, ◌∙◌, append_assoc, arith, if◌then◌else◌, ◌⊎◌, inl, inr}
+use Rattle.std.proofs.Common.{◌≡◌, ℕ, suc, ◌<◌, List, [], ◌∷◌, ◌++◌, length, Option, Some, None, Result, Ok, Err, sym, refl, ap, subst, ◌∙◌, append_assoc, arith, if◌then◌else◌, ◌⊎◌, inl, inr}
 use Rattle.abnf_token.specs.declared.token.Kind.{Kind}
 use Rattle.abnf_token.specs.declared.token.Kind.TheVariants as k
 use Rattle.abnf_token.specs.declared.token.Token.{Token}
 use Rattle.abnf_syntax.specs.declared.item.Item.{Item}
 use Rattle.abnf_syntax.specs.declared.fault.SyntaxFault.{SyntaxFault}
-use Rattle.abnf_syntax.specs.declared.tree.Element.TheVariants as e
 use Rattle.abnf_syntax.specs.declared.parser.Level.{Level}
 use Rattle.abnf_syntax.specs.declared.parser.Opened.{Opened}
 use Rattle.abnf_syntax.specs.Kinds.{opens, closes}
 use Rattle.abnf_syntax.specs.Grammar.{kind_of, Alternation}
 use Rattle.abnf_syntax.specs.Faults.{rows_of, least, open_after, open_from, last_of, without_first, shown, Faults}
-use Rattle.abnf_syntax.specs.Machine.{State, brackets, finish, close_in, shift, shift_by, fault_at, unless, run}
+use Rattle.abnf_syntax.specs.Machine.{State, brackets, close_in, shift, shift_by, fault_at, unless, run}
 
 -- the state knows the front's last item and its open brackets
 pub record Tracks (defined : Item) (front : List Item) (s : State) : Type 0 where

@@ -1,8 +1,8 @@
 -- The items that are gathered are those of the tokens.
-use Rattle.std.proofs.Common.{◌≡◌, ℕ, zero, suc, ◌+◌, ◌≤◌, ◌<◌, Bool, true, false, not, List, [], ◌∷◌, ◌++◌, length, map, Option, Some, None, sym, refl, ap, subst, ◌∙◌, append_assoc, arith, if◌then◌else◌}
+use Rattle.std.proofs.Common.{◌≡◌, ℕ, suc, ◌+◌, Bool, true, false, not, List, [], ◌∷◌, ◌++◌, length, map, Option, Some, None, sym, refl, ap, subst, ◌∙◌, append_assoc, arith, if◌then◌else◌}
 use Rattle.std.specs.Prelude.{slice_index_or, IsTrue, ◌↔◌}
 use Rattle.std.specs.List.{flat_map}
-use Rattle.std.proofs.lemmas.List.{append-nil, map-append, length-append}
+use Rattle.std.proofs.lemmas.List.{append-nil, length-append}
 use Rattle.std.proofs.lemmas.Grind.{flat_map-append}
 use Rattle.abnf_token.specs.declared.token.Token.{Token}
 use Rattle.abnf_token.specs.Classes.{Text}
@@ -12,7 +12,7 @@ use Rattle.abnf_syntax.specs.declared.item.Item.{Item}
 use Rattle.abnf_syntax.specs.Kinds.{is_item}
 use Rattle.abnf_syntax.specs.Items.{with_line_end, items_behind, items_of, AreTokens, AreItems, view}
 use Rattle.abnf_syntax.specs.Gather.{State, is_some, with_gap, after, after_all, start, AddsLine, HasLines}
-use Rattle.abnf_syntax.proofs.Rows.{never, never_too}
+use Rattle.abnf_syntax.proofs.Rows.{never}
 
 pub not_empty : (items : List Item) (empty : Bool) → (IsTrue empty ↔ (items ≡ [])) → not empty ≡ is_some (map view items)
 not_empty [] true h = refl
@@ -38,9 +38,6 @@ after_all-line_end : (s : State) (ts : List Token) → after_all s (with_line_en
 after_all-line_end s [] = refl
 after_all-line_end s (t ∷ ts) = after_all-line_end (after s (Some t)) ts
 
-pub no_token : (at : ℕ) (line : Text) (old : State) → HasTokens at line old old (record { text = line; line = at; start = 0 })
-no_token at line old = record { tokens = []; whole = λ ts h. h; state = refl }
-
 pub token_more : {at : ℕ} {line : Text} {old now next : State} {rest behind : Rest} (t : Token) → HasTokens at line old now rest → GivesToken rest (Some t) behind → next ≡ after now (Some t) → HasTokens at line old next behind
 token_more {at = at} {line = line} {old = old} t h gives e = record {
   tokens = h.tokens ++ t ∷ [];
@@ -60,18 +57,15 @@ tokens_more ls at [] ts are last = (subst (λ n. TokensOf n 0 (slice_index_or ls
 tokens_more ls at (us ∷ tss) ts are last =
     (are.0, tokens_more ls (suc at) tss ts are.1 (subst (λ n. TokensOf n 0 (slice_index_or ls n []) ts) (let e : at + suc (length tss) ≡ suc at + length tss = omega arith in e) last))
 
-pub no_lines : (ls : List Text) (first : ℕ) → HasLines ls first first start
-no_lines ls first = record { tokens = []; all = omega arith; tokens_are = tt; state = refl }
-
 pub line_more : (ls : List Text) (first at : ℕ) (old new : State) → HasLines ls first at old → AddsLine at (slice_index_or ls at []) old new → HasLines ls first (at + 1) new
 line_more ls first at old new h line = record {
   tokens = h.tokens ++ line.tokens ∷ [];
   all = omega (arith, h.all, length-append h.tokens (line.tokens ∷ []));
   tokens_are = tokens_more ls first h.tokens line.tokens h.tokens_are (subst (λ n. TokensOf n 0 (slice_index_or ls n []) line.tokens) (sym h.all) line.tokens_are);
   state =
-    line.state ∙ ap (λ s. after_all s (with_line_end line.tokens)) h.state
-    ∙ sym (after_all-append start (flat_map with_line_end h.tokens) (with_line_end line.tokens))
-    ∙ ap (after_all start) (ap (λ x. flat_map with_line_end h.tokens ++ x) (sym (append-nil (with_line_end line.tokens))) ∙ sym (flat_map-append with_line_end h.tokens (line.tokens ∷ [])));
+      line.state ∙ ap (λ s. after_all s (with_line_end line.tokens)) h.state
+      ∙ sym (after_all-append start (flat_map with_line_end h.tokens) (with_line_end line.tokens))
+      ∙ ap (after_all start) (ap (λ x. flat_map with_line_end h.tokens ++ x) (sym (append-nil (with_line_end line.tokens))) ∙ sym (flat_map-append with_line_end h.tokens (line.tokens ∷ [])));
 }
 
 abbrev state : List (Token × Bool) → Bool → State

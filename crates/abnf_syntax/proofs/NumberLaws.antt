@@ -1,5 +1,5 @@
 -- Numbers read byte by byte are those between signs.
-use Rattle.std.proofs.Common.{◌≡◌, ℕ, zero, suc, ◌+◌, ◌*◌, ◌-◌, ◌≤◌, ◌<◌, Bool, true, false, not, ◌&&◌, ◌||◌, List, [], ◌∷◌, ◌++◌, length, Option, Some, None, sym, refl, ap, subst, ◌∙◌, arith, if◌then◌else◌}
+use Rattle.std.proofs.Common.{◌≡◌, ℕ, ◌+◌, ◌*◌, ◌-◌, ◌≤◌, Bool, true, false, not, ◌&&◌, ◌||◌, List, [], ◌∷◌, ◌++◌, length, Some, None, sym, refl, ap, subst, ◌∙◌, arith, if◌then◌else◌}
 use Rattle.std.specs.Prelude.{◌^◌, nat_lt, nat_eq, is_some, take, drop, slice_index}
 use Rattle.std.proofs.lemmas.List.{take_all, length-drop}
 use Rattle.abnf_token.specs.declared.token.Kind.{Kind}
@@ -9,8 +9,8 @@ use Rattle.std.specs.Char.{digit_value, to_ascii_lowercase}
 use Rattle.std.proofs.lemmas.Bool.{ltb-false, le-ltb}
 use Rattle.std.proofs.Math.Dec.{eqb-suc-zero}
 use Rattle.abnf_token.specs.Classes.{Text, base_of}
-use Rattle.abnf_token.specs.Numbers.{value_in, is_base, are_digits, fitting_value, number_of}
-use Rattle.abnf_syntax.specs.Numbers.{is_sign, parts_from, parts, is_small, are_small, numbers_fit}
+use Rattle.abnf_token.specs.Numbers.{value_in, is_base, are_digits}
+use Rattle.abnf_syntax.specs.Numbers.{is_sign, parts_from, is_small, are_small, numbers_fit}
 use Rattle.abnf_syntax.specs.Fitting.{fit}
 use Rattle.abnf_syntax.proofs.Rows.{never_too}
 

@@ -1,25 +1,14 @@
 -- The rows of the table.
-use Rattle.std.proofs.Common.{◌≡◌, ℕ, zero, suc, ◌+◌, ◌≤◌, ◌<◌, Bool, true, false, not, ◌&&◌, List, [], ◌∷◌, ◌++◌, length, Option, Some, None, Result, Ok, Err, sym, refl, ap, subst, ◌∙◌, append_assoc, arith, ◌⊎◌, inl, inr, if◌then◌else◌}
+use Rattle.std.proofs.Common.{◌≡◌, Bool, true, false, not, ◌&&◌, List, ◌∷◌, length, Option, Some, None, refl, ◌⊎◌, inl, inr, if◌then◌else◌}
 use Rattle.std.specs.Prelude.{nat_le}
-use Rattle.std.proofs.lemmas.List.{append-nil}
 use Rattle.abnf_token.specs.declared.token.Kind.{Kind}
 use Rattle.abnf_token.specs.declared.token.Kind.TheVariants as k
 use Rattle.abnf_token.specs.declared.token.Token.{Token}
 use Rattle.abnf_syntax.specs.declared.item.Item.{Item}
 use Rattle.abnf_syntax.specs.declared.fault.SyntaxFault.{SyntaxFault}
-use Rattle.abnf_syntax.specs.declared.tree.Element.{Element}
-use Rattle.abnf_syntax.specs.declared.tree.Element.TheVariants as e
-use Rattle.abnf_syntax.specs.declared.tree.Repetition.{Repetition}
-use Rattle.abnf_syntax.specs.declared.parser.Level.{Level}
-use Rattle.abnf_syntax.specs.declared.parser.Opened.{Opened}
-use Rattle.abnf_syntax.specs.Kinds.{is_item, is_bad, is_defined_as, is_repeat, opens, closes, closes_it, begins_element, begins_repetition, needs_element, ends_element}
-use Rattle.abnf_syntax.specs.Grammar.{kind_of, fits, repetition, Concatenation, Alternation, IsAlternation, IsConcatenation, IsRepetition, IsElement, max_nesting}
-use Rattle.abnf_syntax.specs.Grammar.IsAlternation.{only, or}
-use Rattle.abnf_syntax.specs.Grammar.IsConcatenation.{one, and}
-use Rattle.abnf_syntax.specs.Grammar.IsRepetition.{once, times}
-use Rattle.abnf_syntax.specs.Grammar.IsElement.{name, quoted, number, prose, group, choice}
+use Rattle.abnf_syntax.specs.Kinds.{is_bad, is_defined_as, is_repeat, opens, closes, closes_it, begins_repetition, needs_element, ends_element}
+use Rattle.abnf_syntax.specs.Grammar.{kind_of, fits, max_nesting}
 use Rattle.abnf_syntax.specs.Faults.{rows_of, least, is_followed, is_empty, is_other}
-use Rattle.abnf_syntax.specs.Machine.{State, brackets, empty, put, finish, barred, counted, bracketed, shift, fault_at, unless, run}
 
 pub never : {A : Type 0} → false ≡ true → A
 never h = absurd (cc)

@@ -1,29 +1,22 @@
 -- What the parser answers with Ok is derived.
-use Rattle.std.proofs.Common.{◌≡◌, ℕ, zero, suc, ◌+◌, ◌≤◌, ◌<◌, Bool, true, false, not, ◌&&◌, List, [], ◌∷◌, ◌++◌, length, Option, Some, None, Result, Ok, Err, sym, refl, ap, subst, ◌∙◌, append_assoc, arith, ◌⊎◌, inl, inr, if◌then◌else◌}
+use Rattle.std.proofs.Common.{◌≡◌, ℕ, zero, suc, ◌+◌, Bool, true, false, not, ◌&&◌, List, [], ◌∷◌, ◌++◌, length, Option, Some, None, Result, Ok, sym, refl, ap, subst, ◌∙◌, arith}
 use Rattle.std.specs.Prelude.{nat_le}
 use borrow.Author.Tests.{leb-false}
-use Rattle.std.proofs.lemmas.List.{append-nil}
 use Rattle.abnf_token.specs.declared.token.Kind.{Kind}
 use Rattle.abnf_token.specs.declared.token.Kind.TheVariants as k
-use Rattle.abnf_token.specs.declared.token.Token.{Token}
 use Rattle.abnf_syntax.specs.declared.item.Item.{Item}
 use Rattle.abnf_syntax.specs.declared.fault.SyntaxFault.{SyntaxFault}
 use Rattle.abnf_syntax.specs.declared.tree.Element.{Element}
-use Rattle.abnf_syntax.specs.declared.tree.Element.TheVariants as e
-use Rattle.abnf_syntax.specs.declared.tree.Repetition.{Repetition}
 use Rattle.abnf_syntax.specs.declared.parser.Level.{Level}
 use Rattle.abnf_syntax.specs.declared.parser.Opened.{Opened}
-use Rattle.abnf_syntax.specs.Kinds.{is_item, is_bad, is_defined_as, is_repeat, opens, closes, closes_it, begins_element, begins_repetition, needs_element, ends_element}
-use Rattle.abnf_syntax.specs.Grammar.{kind_of, fits, repetition, Concatenation, Alternation, IsAlternation, IsConcatenation, IsRepetition, IsElement, max_nesting}
-use Rattle.abnf_syntax.specs.Grammar.IsAlternation.{only, or}
-use Rattle.abnf_syntax.specs.Grammar.IsConcatenation.{one, and}
-use Rattle.abnf_syntax.specs.Grammar.IsRepetition.{once, times}
-use Rattle.abnf_syntax.specs.Grammar.IsElement.{name, quoted, number, prose, group, choice}
-use Rattle.abnf_syntax.specs.Faults.{rows_of, least, is_followed, is_empty, is_other}
+use Rattle.abnf_syntax.specs.Kinds.{is_item, closes_it, begins_element, needs_element, ends_element}
+use Rattle.abnf_syntax.specs.Grammar.{kind_of, fits, repetition, Alternation, IsAlternation, IsElement, max_nesting}
+use Rattle.abnf_syntax.specs.Grammar.IsElement.{name, quoted, number, prose}
+use Rattle.abnf_syntax.specs.Faults.{is_followed, is_empty, is_other}
 use Rattle.abnf_syntax.specs.Machine.{State, brackets, empty, put, finish, barred, counted, bracketed, close_in, shift, shift_by, fault_at, unless, run}
-use Rattle.abnf_syntax.proofs.Front.{Continues, After, Ready, Awaits, Phase, ready_at_start, after_finish, ready_apart, ready_slash, ready_awaits, repeat_awaits}
+use Rattle.abnf_syntax.proofs.Front.{After, Ready, Awaits, Phase, ready_at_start, after_finish, ready_apart, ready_slash, ready_awaits, repeat_awaits}
 use Rattle.abnf_syntax.proofs.Front.Phase.{is_after, is_ready, is_counted}
-use Rattle.abnf_syntax.proofs.Rows.{never, never_too, closes_cases, and_right, not_not, Clear, clear, row_none}
+use Rattle.abnf_syntax.proofs.Rows.{never, never_too, and_right, not_not, Clear, clear, row_none}
 use Rattle.abnf_syntax.proofs.Opened.{opened}
 
 pub cons_head : {x y : Item} {xs ys : List Item} → x ∷ xs ≡ y ∷ ys → x ≡ y

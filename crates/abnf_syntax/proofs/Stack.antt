@@ -1,6 +1,6 @@
 -- The stack, from the innermost bracket on.
-use Rattle.std.proofs.Common.{◌≡◌, ℕ, suc, ◌+◌, ◌-◌, List, [], ◌∷◌, ◌++◌, length, Option, Some, None, sym, refl, ap, subst, ◌∙◌, arith, ◌<◌, get_or}
-use Rattle.std.specs.Prelude.{reverse, slice_get, map}
+use Rattle.std.proofs.Common.{◌≡◌, ℕ, suc, ◌-◌, List, [], ◌∷◌, length, Option, Some, None, sym, refl, ap, ◌∙◌, arith, ◌<◌, get_or}
+use Rattle.std.specs.Prelude.{reverse, slice_get}
 use Rattle.std.proofs.lemmas.List.{get_or-reverse, length-reverse}
 use Rattle.std.proofs.lemmas.Option.{get_or_from_slice_get}
 use Rattle.abnf_token.specs.declared.token.Token.{Token}

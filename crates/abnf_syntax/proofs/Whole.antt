@@ -1,5 +1,5 @@
 -- The laws of the whole parse.
-use Rattle.std.proofs.Common.{◌≡◌, ℕ, zero, suc, ◌+◌, ◌<◌, Bool, true, false, List, [], ◌∷◌, ◌++◌, length, Option, Some, None, Result, Ok, Err, sym, refl, ap, subst, ◌∙◌, arith, ◌⊎◌, inl, inr, if◌then◌else◌}
+use Rattle.std.proofs.Common.{◌≡◌, ◌<◌, Bool, true, false, List, [], ◌∷◌, ◌++◌, length, Option, Some, None, Result, Ok, Err, sym, refl, ap, subst, ◌∙◌, arith, ◌⊎◌, inl, inr, if◌then◌else◌}
 use Rattle.std.specs.Prelude.{IfOk, IfErr}
 use Rattle.abnf_token.specs.declared.token.Kind.{Kind}
 use Rattle.abnf_token.specs.declared.token.Kind.TheVariants as k
@@ -10,10 +10,10 @@ use Rattle.abnf_syntax.specs.declared.tree.Rule.{Rule}
 use Rattle.abnf_syntax.specs.Kinds.{is_name, is_adds, is_defined_as, needs_element, ends_element}
 use Rattle.abnf_syntax.specs.Grammar.{kind_of, Alternation, Derives, IsAlternation, max_nesting, defined_as}
 use Rattle.abnf_syntax.specs.Faults.{Faults, shown, place_of, place_after}
-use Rattle.abnf_syntax.specs.Machine.{State, start, run, parse, parse_body, rule_with, GivesRule}
+use Rattle.abnf_syntax.specs.Machine.{start, run, parse, parse_body, rule_with, GivesRule}
 use Rattle.abnf_syntax.proofs.Front.{ready_at_start}
 use Rattle.abnf_syntax.proofs.Front.Phase.{is_ready}
-use Rattle.abnf_syntax.proofs.Rows.{never, never_too}
+use Rattle.abnf_syntax.proofs.Rows.{never}
 use Rattle.abnf_syntax.proofs.Sound.{Stands, sound}
 use Rattle.abnf_syntax.proofs.Complete.{complete}
 use Rattle.abnf_syntax.proofs.FaultSide.{faulty}
@@ -71,7 +71,10 @@ parse_sound (head ∷ defined ∷ body) rule h =
     let d = chosen_ok _ _ _ _ c.1 in
     let r = rule_ok head defined _ rule d.1 in
     record {
-      head = head; defined = defined; body = body; split = refl;
+      head = head;
+      defined = defined;
+      body = body;
+      split = refl;
       named = name_is _ c.0;
       name = r.2;
       adds = defined_is _ d.0 ∙ ap defined_as (sym r.3);
@@ -118,12 +121,12 @@ pub parse_faulty : (items : List Item) (fault : SyntaxFault) → 0 < length item
 parse_faulty [] fault some h = absurd (omega arith)
 parse_faulty (head ∷ []) fault some h =
     elim (chosen_err (is_name (kind_of head)) (Err (f.NoDefinedAs (place_after head.token))) (f.NoName (place_of head.token)) fault h) [
-        inl p ↦ no_second head [] fault p.0 (err_some _ _ p.1)
+      | inl p ↦ no_second head [] fault p.0 (err_some _ _ p.1)
       | inr p ↦ subst (Faults (head ∷ [])) p.1 (no_first head [] p.0)
     ]
 parse_faulty (head ∷ defined ∷ body) fault some h =
     elim (chosen_err (is_name (kind_of head)) (parse_body head (defined ∷ body)) (f.NoName (place_of head.token)) fault h) [
-        inl p ↦ behind_head head defined body fault p.0 (chosen_err (is_defined_as (kind_of defined)) (rule_with head defined (run (start defined) body)) (f.NoDefinedAs (place_of defined.token)) fault p.1)
+      | inl p ↦ behind_head head defined body fault p.0 (chosen_err (is_defined_as (kind_of defined)) (rule_with head defined (run (start defined) body)) (f.NoDefinedAs (place_of defined.token)) fault p.1)
       | inr p ↦ subst (Faults (head ∷ defined ∷ body)) p.1 (no_first head (defined ∷ body) p.0)
     ]
 

@@ -1,6 +1,6 @@
 -- The blocks of a text, by the indents of its lines. RFC 5234 section 2.1 lets all rules of a grammar begin in the same column: a
 -- line that is indented deeper continues the rule before it.
-use Rattle.std.specs.Prelude.{◌≡◌, ℕ, suc, ◌+◌, ◌<◌, ◌≤◌, Bool, false, true, not, ◌&&◌, nat_le, nat_eq, List, [], ◌∷◌, map, length, slice_index_or, if◌then◌else◌}
+use Rattle.std.specs.Prelude.{◌≡◌, ℕ, suc, ◌<◌, ◌≤◌, Bool, false, true, not, ◌&&◌, nat_le, nat_eq, List, [], ◌∷◌, map, length, slice_index_or, if◌then◌else◌}
 use Rattle.std.specs.Str.{encode_utf8_all}
 use Rattle.ls_text.specs.Lines.{lines}
 use Rattle.abnf_token.specs.Classes.{Text, is_blank_byte}

@@ -1,6 +1,6 @@
 -- The faults of a block. A front's length, its last item and its open brackets, with the items that
 -- follow, decide which rows of the table hold.
-use Rattle.std.specs.Prelude.{◌≡◌, ℕ, ◌+◌, ◌<◌, Bool, true, false, not, ◌&&◌, nat_le, List, [], ◌∷◌, ◌++◌, length, Option, Some, None, if◌then◌else◌}
+use Rattle.std.specs.Prelude.{◌≡◌, ◌+◌, ◌<◌, Bool, true, false, not, ◌&&◌, nat_le, List, [], ◌∷◌, ◌++◌, length, Option, Some, None, if◌then◌else◌}
 use Rattle.abnf_token.specs.declared.token.Kind.{Kind}
 use Rattle.abnf_token.specs.declared.token.Token.{Token}
 use Rattle.abnf_syntax.specs.declared.item.Item.{Item}
@@ -74,7 +74,11 @@ abbrev pub least : List Row → Option SyntaxFault
 least [] = None
 least (row ∷ rows) = if row.0 then Some row.1 else least rows
 
--- The rows for the next item, or the end, behind a last item and open brackets.
+-- The rows for the end, or the next item, behind a last item and open brackets: whether each holds, with its fault.
+-- Of the end: an element must come; or a bracket is still open.
+-- Of an item: it is bad; an element must come and it begins none; it is `=` or `=/` behind an element; it closes a bracket
+-- outside all brackets; it is a repeat that no element follows at once; it begins a repetition right behind another; it
+-- closes another bracket than the innermost one, behind an element; its number is too large; it opens a bracket inside 64.
 abbrev pub rows_of : Item → List Token → List Item → List Row
 rows_of last brackets [] =
     (needs_element (kind_of last), f.ElementExpected (place_after last.token))

@@ -1,5 +1,5 @@
 -- The form of a block, after comments, blanks and line ends are taken out (RFC 5234, section 4; RFC 7405).
-use Rattle.std.specs.Prelude.{◌≡◌, ℕ, zero, suc, Bool, true, false, List, [], ◌∷◌, Option, Some, None}
+use Rattle.std.specs.Prelude.{◌≡◌, ℕ, suc, Bool, true, false, List, [], ◌∷◌, Option, Some, None}
 use Rattle.abnf_token.specs.declared.token.Kind.{Kind}
 use Rattle.abnf_token.specs.declared.token.Kind.TheVariants as k
 use Rattle.abnf_token.specs.declared.token.Token.{Token}

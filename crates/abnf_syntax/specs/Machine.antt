@@ -1,7 +1,7 @@
--- The parser's steps, over lists.
-use Rattle.std.specs.Prelude.{◌⊎◌, ◌≡◌, ℕ, true, false, List, [], ◌∷◌, ◌++◌, reverse, map, Option, Some, None, Result, Ok, Err, if◌then◌else◌}
+-- The parser's steps, over lists. No public contract speaks of it.
+use Rattle.std.specs.Prelude.{◌⊎◌, ◌≡◌, List, [], ◌∷◌, ◌++◌, reverse, map, Option, Some, None, Result, Ok, Err, if◌then◌else◌}
 use Rattle.abnf_token.specs.declared.token.Kind.{Kind}
-use Rattle.abnf_token.specs.declared.token.Kind.TheVariants.{Name, Defines, Adds, Slash, Repeat, ParenL, ParenR, BracketL, BracketR, Quoted, Number, Prose, Comment, Blank, Bad}
+use Rattle.abnf_token.specs.declared.token.Kind.TheVariants.{Name, Slash, Repeat, ParenL, ParenR, BracketL, BracketR, Quoted, Number, Prose}
 use Rattle.abnf_token.specs.declared.token.Token.{Token}
 use Rattle.abnf_syntax.specs.declared.item.Item.{Item}
 use Rattle.abnf_syntax.specs.declared.fault.SyntaxFault.{SyntaxFault}

@@ -10,30 +10,30 @@ use thiserror::Error;
 #[derive(Clone, Copy, Debug, Drop, PartialEq, Eq, Error)]
 pub enum SyntaxFault {
     /// The first item isn't a name; at that item.
-    #[error("a rule must begin with its name")]
+    #[error("rule name expected")]
     NoName(Place),
     /// The second item isn't `=` or `=/`, or there is none; at that item, or at the end.
-    #[error("`=` or `=/` must follow the name of a rule")]
+    #[error("\"=\" or \"=/\" expected")]
     NoDefinedAs(Place),
     /// A character that begins no token comes next; at that item.
-    #[error("this is no part of a grammar")]
+    #[error("bad character")]
     BadToken(Place),
     /// An element must come and none does; or `=` or `=/` comes after an element; or a closing bracket comes outside all
     /// brackets; at the item that came, or at the end. Or an element doesn't follow a repeat at once; at the repeat.
-    #[error("an element must stand here")]
+    #[error("element expected")]
     ElementExpected(Place),
     /// A repetition begins right after another; at its first item.
-    #[error("a blank must stand before this")]
+    #[error("blank expected")]
     BlankExpected(Place),
     /// In a bracket, after an element, the block ends or the other closing bracket comes; at the innermost bracket that
     /// is still open.
-    #[error("this bracket isn't closed")]
+    #[error("bracket not closed")]
     Unclosed(Place),
     /// A number of a repeat or of a number is above 4,294,967,295; at that item.
-    #[error("a number is too large")]
+    #[error("number too large")]
     NumberTooLarge(Place),
     /// A bracket would nest 65 deep; at that bracket.
-    #[error("brackets nest too deep")]
+    #[error("brackets nested too deep")]
     TooDeep(Place),
     /// The allocator refused memory.
     #[error("out of memory")]

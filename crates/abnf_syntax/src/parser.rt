@@ -4,12 +4,12 @@ ghost use Rattle.std.specs.Prelude.{◌≡◌, ◌⊎◌, ◌∷◌, ◌<◌, []
 ghost use Rattle.abnf_syntax.specs.Faults.{place_of, place_after, first_of, is_followed};
 ghost use Rattle.abnf_syntax.specs.Machine as spec;
 
-use crate::kinds::{
-    begins_element, closes, closes_it, ends_element, is_bad, is_defined_as, is_repeat,
-     needs_element, opens,
-};
 use crate::fault::SyntaxFault;
 use crate::item::Item;
+use crate::kinds::{
+    begins_element, closes, closes_it, ends_element, is_bad, is_defined_as, is_repeat,
+    needs_element, opens,
+};
 use crate::number::numbers_fit;
 use crate::tree::{Alternation, Concatenation, Element, Repetition};
 use abnf_token::{Kind, Token};

@@ -1,5 +1,8 @@
 //! Texts with their blocks and faults, written out by hand.
 
+mod grammars;
+
+use crate::tests::grammars::{RFC_3339, RFC_3986, RFC_5234, RFC_8259};
 use crate::{Block, SyntaxFault, blocks, parse_block};
 use ls_text::{Place, Snapshot};
 use std::alloc::Global;
@@ -68,10 +71,22 @@ fn the_least_of_two_faults(rt: HostRuntime) -> Result<(), Fail> {
         ("a ? \"x\"", SyntaxFault::NoDefinedAs(place(2, 3))),
         ("a = 2?", SyntaxFault::ElementExpected(place(4, 5))),
         ("a = \"x\"2?", SyntaxFault::ElementExpected(place(7, 8))),
-        ("a = 4294967296?", SyntaxFault::ElementExpected(place(4, 14))),
-        ("a = \"x\"%x100000000", SyntaxFault::BlankExpected(place(7, 18))),
-        ("a = 4294967296\"x\"", SyntaxFault::NumberTooLarge(place(4, 14))),
-        ("a = %d1.2.4294967296", SyntaxFault::NumberTooLarge(place(4, 20))),
+        (
+            "a = 4294967296?",
+            SyntaxFault::ElementExpected(place(4, 14)),
+        ),
+        (
+            "a = \"x\"%x100000000",
+            SyntaxFault::BlankExpected(place(7, 18)),
+        ),
+        (
+            "a = 4294967296\"x\"",
+            SyntaxFault::NumberTooLarge(place(4, 14)),
+        ),
+        (
+            "a = %d1.2.4294967296",
+            SyntaxFault::NumberTooLarge(place(4, 20)),
+        ),
     ];
     for (text, want) in rows {
         assert_eq!(rt; fault_of(rt.alloc(), text)?, Some(want), "{text}");
@@ -167,6 +182,26 @@ fn items_know_what_stands_before(rt: HostRuntime) -> Result<(), Fail> {
             let token = item.token;
             let seen = (token.text, token.line, token.start, item.apart);
             assert_eq!(rt; seen, *row);
+        }
+    }
+    Ok(())
+}
+
+#[test]
+fn standards_have_no_fault(rt: HostRuntime) -> Result<(), Fail> {
+    let rows = [
+        (RFC_3339, 13),
+        (RFC_3986, 36),
+        (RFC_5234, 37),
+        (RFC_8259, 30),
+    ];
+    for (text, rules) in rows {
+        let snapshot = snapshot(rt.alloc(), text)?;
+        let found = blocks(rt.alloc(), &snapshot)?;
+        assert_eq!(rt; found.len(), rules);
+        for block in &found {
+            let rule = parse_block(rt.alloc(), block)?;
+            assert!(rt; !rule.adds);
         }
     }
     Ok(())

@@ -1,9 +1,7 @@
-use Rattle.std.proofs.Common.{◌≡◌, ◌+◌, ◌≤◌, ◌<◌, ◌∷◌, [], ◌++◌, List, length, map, sym, subst, refl, ap, arith, rules}
-use Rattle.std.specs.Prelude.{All}
+use Rattle.std.proofs.Common.{◌<◌, length, arith}
 use Rattle.abnf_syntax.specs.declared.block.Block.{Block}
-use Rattle.abnf_syntax.specs.Blocks.{line_texts, AreBlocks}
+use Rattle.abnf_syntax.specs.Blocks.{line_texts}
 use Rattle.abnf_syntax.specs.Items.{AreItems}
-use Rattle.abnf_syntax.specs.Bounds.{bounds}
 use Rattle.abnf_syntax.proofs.BlockLaws.{none_found, found_more, all_found, All-none, All-snoc}
 use Rattle.abnf_syntax.proofs.block.blocks.Goals as goal
 

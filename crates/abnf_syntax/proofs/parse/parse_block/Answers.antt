@@ -1,4 +1,4 @@
-use Rattle.std.proofs.Common.{◌≡◌, List, subst}
+use Rattle.std.proofs.Common.{List, subst}
 use Rattle.abnf_syntax.specs.declared.item.Item.{Item}
 use Rattle.abnf_syntax.specs.Machine.{parse, GivesRule}
 use Rattle.abnf_syntax.proofs.Whole.{ok_of_gives, only_of_gives, fault_of_gives}
