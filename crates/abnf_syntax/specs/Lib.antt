@@ -8,3 +8,4 @@ pub mod Blocks
 pub mod Items
 pub mod Gather
 pub mod Bounds
+pub mod Heads

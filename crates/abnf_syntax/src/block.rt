@@ -7,7 +7,7 @@ ghost use Rattle.abnf_syntax.specs.Bounds.{bounds};
 ghost use Rattle.abnf_syntax.specs.Gather as spec;
 
 use crate::item::Item;
-use crate::kinds::is_item;
+use crate::kinds::{is_defined_as, is_item, is_name};
 use abnf_token::{Token, tokens};
 use ls_lists::List;
 use ls_text::Snapshot;
@@ -22,6 +22,26 @@ pub struct Block<'t> {
     pub end: usize,
     /// Its tokens that are no blanks and no comments, line by line and from left to right.
     pub items: List<Item<'t>>,
+}
+
+impl<'t> Block<'t> {
+    ghost use Rattle.abnf_syntax.specs.Heads.{head_of};
+
+    /// The head: its first item, where that is a name and `=` or `=/` follows. A faulty block may have one too.
+    pub fn head(&self) -> Option<Token<'t>>
+        ensures { result ≡ head_of self.now.items }
+    {
+        match self.items.as_slice() {
+            [first, second, ..] => {
+                if is_name(first.token.kind) && is_defined_as(second.token.kind) {
+                    Some(first.token)
+                } else {
+                    None
+                }
+            }
+            _ => None,
+        }
+    }
 }
 
 /// The items of a block so far.

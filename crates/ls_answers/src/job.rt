@@ -1,0 +1,106 @@
+//! Questions about a text, and what they give.
+ghost use Rattle.std.specs.Prelude.{◌≡◌, IfOk, MatchResult, None, Some};
+ghost use Rattle.std.specs.Arc.{arc_value};
+ghost use Rattle.ls_answers.specs.Answers.{IsAnswer};
+
+use crate::answer::Answer;
+use crate::ask::Ask;
+use crate::outline::symbols;
+use ls_text::Snapshot;
+use std::alloc::{AllocError as Memory, Global};
+use std::marker::Model;
+use std::sync::Arc;
+
+/// A question about a text.
+#[derive(Drop)]
+pub struct Job {
+    /// The number of the request, from 1 over the session.
+    pub ticket: u64,
+    pub snapshot: Arc<Snapshot>,
+    pub ask: Ask,
+}
+
+/// A job that has run. Its answer is the definition's for its own text and ask, or memory was refused.
+#[derive(Drop)]
+pub struct Done {
+    ticket: u64,
+    snapshot: Arc<Snapshot>,
+    ask: Ask,
+    answer: Result<Answer, Memory>,
+}
+
+impl Model for Done {
+    ghost use Rattle.ls_answers.specs.Told.{Told};
+    ghost use Rattle.ls_answers.specs.Answers.{IsAnswer};
+    ghost use Rattle.std.specs.Prelude.{IfOk};
+    ghost use Rattle.std.specs.Arc.{arc_value};
+    ghost use Rattle.std.specs.Result.{result_ok};
+
+    ghost Value = { Told };
+
+    ghost view = { λ d. record { ticket = d.ticket; text = arc_value d.snapshot; ask = d.ask; answer = result_ok d.answer } };
+
+    ghost invariant = { λ d. IfOk d.answer (λ a. IsAnswer (arc_value d.snapshot) d.ask a) };
+}
+
+impl Done {
+    /// The number of the request.
+    pub fn ticket(&self) -> u64
+        ensures { result ≡ self.now.ticket }
+    {
+        self.ticket
+    }
+
+    /// The text that was asked about.
+    pub fn snapshot(&self) -> &Snapshot
+        ensures { result.now ≡ self.now.text }
+    {
+        &self.snapshot
+    }
+
+    /// The question.
+    pub fn ask(&self) -> &Ask
+        ensures { result.now ≡ self.now.ask }
+    {
+        &self.ask
+    }
+
+    /// The answer for the job's own text and ask, or that memory was refused.
+    pub fn answer(&self) -> Result<&Answer, Memory>
+        ensures value { MatchResult result (λ a. self.now.answer ≡ Some a.now) (λ _. self.now.answer ≡ None) }
+        ensures right { IfOk result (λ a. IsAnswer self.now.text self.now.ask a.now) }
+    {
+        match &self.answer {
+            Ok(answer) => Ok(answer),
+            Err(_) => Err(Memory),
+        }
+    }
+}
+
+fn answer_of(alloc: Global, snapshot: &Snapshot, ask: &Ask) -> Result<Answer, Memory>
+    ensures { IfOk result (λ answer. IsAnswer snapshot.now ask.now answer) }
+{
+    match ask {
+        Ask::Symbols => Ok(Answer::Symbols(symbols(alloc, snapshot)?)),
+    }
+}
+
+/// Answers the question of a job. A refusal of memory is kept in what it gives.
+pub fn run(alloc: Global, job: Job) -> Done
+    ensures ticket { result.ticket ≡ job.ticket }
+    ensures text { result.text ≡ arc_value job.snapshot }
+    ensures ask { result.ask ≡ job.ask }
+{
+    let Job {
+        ticket,
+        snapshot,
+        ask,
+    } = job;
+    let answer = answer_of(alloc, &snapshot, &ask);
+    Done {
+        ticket,
+        snapshot,
+        ask,
+        answer,
+    }
+}

@@ -1,0 +1,14 @@
+//! Answers to questions about a text, each with its text and its question.
+//!
+//! A [`Job`] is a question about a snapshot; [`run`] gives a [`Done`], whose type keeps that its answer is the definition's for
+//! its own text and question, or that memory was refused.
+#![tactic(auto)]
+
+mod answer;
+mod ask;
+mod job;
+mod outline;
+
+pub use answer::{Answer, Symbol};
+pub use ask::Ask;
+pub use job::{Done, Job, run};

@@ -1,0 +1,77 @@
+//! The outline of a text: its blocks that have a head.
+ghost use Rattle.std.specs.Prelude.{◌≡◌, ◌++◌, IfOk, OnOk};
+ghost use Rattle.abnf_syntax.specs.Faults.{place_of};
+ghost use Rattle.abnf_syntax.specs.Heads.{head_of};
+ghost use Rattle.ls_answers.specs.Outline.{IsOutline, extent, symbol_of, symbols_in};
+
+use crate::answer::Symbol;
+use abnf_syntax::{Block, Item, blocks};
+use abnf_token::Token;
+use ls_lists::{List, Text};
+use ls_text::{Place, Range, Snapshot};
+use std::alloc::{AllocError as Memory, Global};
+
+/// The symbols of a text: one for each block with a head, in their order.
+///
+/// `Memory` says that an allocation was refused.
+pub fn symbols(alloc: Global, snapshot: &Snapshot) -> Result<List<Symbol>, Memory>
+    ensures { IfOk result (λ symbols. IsOutline snapshot.now symbols) }
+{
+    let blocks = blocks(alloc, snapshot)?;
+    let mut symbols = Vec::new(alloc);
+    for block in &blocks {
+        push_symbol(alloc, &mut symbols, snapshot, block)?;
+    }
+    Ok(List::from_vec(symbols))
+}
+
+/// Adds the symbol of a block, if it has a head.
+fn push_symbol(
+    alloc: Global,
+    symbols: &mut Vec<Symbol>,
+    snapshot: &Snapshot,
+    block: &Block,
+) -> Result<(), Memory>
+    ensures { OnOk result (symbols.new.items ≡ symbols.old.items ++ symbols_in snapshot.now block.now) }
+{
+    let Some(head) = block.head() else {
+        return Ok(());
+    };
+    let name = Text::from_str(alloc, head.text)?;
+    let symbol = Symbol {
+        name,
+        range: extent(snapshot, block.items.as_slice()),
+        name_range: snapshot.range_of(&place_of(&head)),
+    };
+    symbols.push(symbol)?;
+    Ok(())
+}
+
+/// Where a token stands.
+fn place_of(token: &Token) -> Place
+    ensures { result ≡ place_of token.now }
+{
+    Place {
+        line: token.line,
+        start: token.start,
+        end: token.start + token.text.len(),
+    }
+}
+
+/// From the first item to the end of the last.
+fn extent(snapshot: &Snapshot, items: &[Item]) -> Range
+    ensures { result ≡ extent snapshot.now items.now }
+{
+    match (items.first(), items.last()) {
+        (Some(first), Some(last)) => {
+            let start = snapshot.range_of(&place_of(&first.token)).start;
+            let end = snapshot.range_of(&place_of(&last.token)).end;
+            Range { start, end }
+        }
+        _ => snapshot.range_of(&Place {
+            line: 0,
+            start: 0,
+            end: 0,
+        }),
+    }
+}
