@@ -1,4 +1,4 @@
-//! The parser.
+//! The parser: a stack of the brackets that are open, which takes one item after another.
 
 ghost use Rattle.std.specs.Prelude.{◌≡◌, ◌⊎◌, ◌∷◌, ◌<◌, [], reverse, length, IfOk, IfErr, MatchOption, MatchResult, Ok, Err, None, Some};
 ghost use Rattle.abnf_syntax.specs.Faults.{place_of, place_after, first_of, is_followed};
@@ -36,6 +36,7 @@ pub struct Opened<'t> {
     pub level: Level<'t>,
 }
 
+/// What was read so far: the open brackets, the innermost last, what stands behind the innermost, and the last item.
 #[derive(Drop)]
 pub struct Parser<'t> {
     pub outer: List<Opened<'t>>,
@@ -43,6 +44,7 @@ pub struct Parser<'t> {
     pub last: Item<'t>,
 }
 
+/// Nothing yet.
 fn empty<'t>(alloc: Global) -> Level<'t>
     ensures { result ≡ spec.empty }
 {
@@ -53,6 +55,7 @@ fn empty<'t>(alloc: Global) -> Level<'t>
     }
 }
 
+/// Adds an element, with the repeat that waits for it.
 fn put<'t>(level: Level<'t>, element: Element<'t>) -> Result<Level<'t>, AllocError>
     ensures { IfOk result (λ l. l ≡ spec.put level.entry element.entry) }
 {
@@ -69,6 +72,7 @@ fn put<'t>(level: Level<'t>, element: Element<'t>) -> Result<Level<'t>, AllocErr
     })
 }
 
+/// The alternation that ends here.
 fn finish<'t>(level: Level<'t>) -> Result<Alternation<'t>, AllocError>
     ensures { IfOk result (λ a. a ≡ spec.finish level.entry) }
 {
@@ -81,6 +85,7 @@ fn finish<'t>(level: Level<'t>) -> Result<Alternation<'t>, AllocError>
     Ok(done)
 }
 
+/// What stands behind a slash.
 fn barred<'t>(alloc: Global, level: Level<'t>) -> Result<Level<'t>, AllocError>
     ensures { IfOk result (λ l. l ≡ spec.barred level.entry) }
 {
@@ -92,6 +97,7 @@ fn barred<'t>(alloc: Global, level: Level<'t>) -> Result<Level<'t>, AllocError>
     })
 }
 
+/// Adds a bracket as the innermost one.
 fn pushed<'t>(outer: List<Opened<'t>>, opened: Opened<'t>) -> Result<List<Opened<'t>>, AllocError>
     ensures { IfOk result (λ os. reverse os ≡ opened.entry ∷ reverse outer.entry) }
 {
@@ -100,6 +106,7 @@ fn pushed<'t>(outer: List<Opened<'t>>, opened: Opened<'t>) -> Result<List<Opened
     Ok(outer)
 }
 
+/// The element of an opening bracket.
 fn bracketed<'t>(bracket: Token<'t>, body: Alternation<'t>) -> Element<'t>
     ensures { result ≡ spec.bracketed bracket.entry body.entry }
 {
@@ -109,6 +116,7 @@ fn bracketed<'t>(bracket: Token<'t>, body: Alternation<'t>) -> Element<'t>
     }
 }
 
+/// An item that is an element.
 fn leaf<'t>(
     parser: Parser<'t>,
     item: Item<'t>,
@@ -128,6 +136,7 @@ fn leaf<'t>(
     })
 }
 
+/// A closing bracket.
 fn close_bracket<'t>(parser: Parser<'t>, item: Item<'t>) -> Result<Parser<'t>, AllocError>
     ensures { IfOk result (λ p. spec.state_of p ≡ spec.close_in (reverse parser.entry.outer) parser.entry.level item.entry) }
 {
@@ -158,6 +167,7 @@ fn close_bracket<'t>(parser: Parser<'t>, item: Item<'t>) -> Result<Parser<'t>, A
     }
 }
 
+/// An opening bracket.
 fn open_bracket<'t>(
     alloc: Global,
     parser: Parser<'t>,
@@ -184,65 +194,64 @@ fn open_bracket<'t>(
     })
 }
 
+/// A slash ends the concatenation.
+fn end_concatenation<'t>(
+    alloc: Global,
+    parser: Parser<'t>,
+    item: Item<'t>,
+) -> Result<Parser<'t>, AllocError>
+    ensures { IfOk result (λ p. p ≡ record { outer = parser.entry.outer; level = spec.barred parser.entry.level; last = item.entry }) }
+{
+    Ok(Parser {
+        outer: parser.outer,
+        level: barred(alloc, parser.level)?,
+        last: item,
+    })
+}
+
+/// A repeat waits for its element.
+fn count<'t>(parser: Parser<'t>, item: Item<'t>) -> Parser<'t>
+    ensures { result ≡ record { outer = parser.entry.outer; level = spec.counted parser.entry.level item.entry.token; last = item.entry } }
+{
+    let Level {
+        done,
+        row,
+        repeat: _,
+    } = parser.level;
+    Parser {
+        outer: parser.outer,
+        level: Level {
+            done,
+            row,
+            repeat: Some(item.token),
+        },
+        last: item,
+    }
+}
+
+/// Takes the next item, which shows no fault.
 #[tactic(auto, unfolding(crate::specs::Machine::shift))]
 fn shift<'t>(alloc: Global, parser: Parser<'t>, item: Item<'t>) -> Result<Parser<'t>, AllocError>
     ensures { IfOk result (λ p. spec.state_of p ≡ spec.shift (spec.state_of parser.entry) item.entry) }
 {
     match item.token.kind {
-        Kind::Name => Ok(leaf(parser, item, Element::Name(item.token))?),
-        Kind::Quoted => Ok(leaf(parser, item, Element::Quoted(item.token))?),
-        Kind::Number => Ok(leaf(parser, item, Element::Number(item.token))?),
-        Kind::Prose => Ok(leaf(parser, item, Element::Prose(item.token))?),
-        Kind::ParenL | Kind::BracketL => Ok(open_bracket(alloc, parser, item)?),
-        Kind::ParenR | Kind::BracketR => Ok(close_bracket(parser, item)?),
-        Kind::Slash => {
-            let Parser {
-                outer,
-                level,
-                last: _,
-            } = parser;
-            Ok(Parser {
-                outer,
-                level: barred(alloc, level)?,
-                last: item,
-            })
-        }
-        Kind::Repeat => {
-            let Parser {
-                outer,
-                level: Level {
-                    done,
-                    row,
-                    repeat: _,
-                },
-                last: _,
-            } = parser;
-            let level = Level {
-                done,
-                row,
-                repeat: Some(item.token),
-            };
-            Ok(Parser {
-                outer,
-                level,
-                last: item,
-            })
-        }
-        _ => {
-            let Parser {
-                outer,
-                level,
-                last: _,
-            } = parser;
-            Ok(Parser {
-                outer,
-                level,
-                last: item,
-            })
-        }
+        Kind::Name => leaf(parser, item, Element::Name(item.token)),
+        Kind::Quoted => leaf(parser, item, Element::Quoted(item.token)),
+        Kind::Number => leaf(parser, item, Element::Number(item.token)),
+        Kind::Prose => leaf(parser, item, Element::Prose(item.token)),
+        Kind::ParenL | Kind::BracketL => open_bracket(alloc, parser, item),
+        Kind::ParenR | Kind::BracketR => close_bracket(parser, item),
+        Kind::Slash => end_concatenation(alloc, parser, item),
+        Kind::Repeat => Ok(count(parser, item)),
+        Kind::Defines | Kind::Adds | Kind::Comment | Kind::Blank | Kind::Bad => Ok(Parser {
+            outer: parser.outer,
+            level: parser.level,
+            last: item,
+        }),
     }
 }
 
+/// The place of a token.
 pub(crate) fn place_of<'t>(token: Token<'t>) -> Place
     ensures { result ≡ place_of token.entry }
 {
@@ -253,6 +262,7 @@ pub(crate) fn place_of<'t>(token: Token<'t>) -> Place
     }
 }
 
+/// The empty place behind a token.
 pub(crate) fn place_after<'t>(token: Token<'t>) -> Place
     ensures { result ≡ place_after token.entry }
 {
@@ -264,6 +274,7 @@ pub(crate) fn place_after<'t>(token: Token<'t>) -> Place
     }
 }
 
+/// The innermost bracket that is open.
 fn innermost<'t>(outer: &List<Opened<'t>>) -> Option<Token<'t>>
     ensures { result ≡ first_of (spec.brackets (reverse outer.now)) }
 {
@@ -276,12 +287,14 @@ fn innermost<'t>(outer: &List<Opened<'t>>) -> Option<Token<'t>>
     }
 }
 
+/// How many brackets are open.
 fn depth<'t>(outer: &List<Opened<'t>>) -> usize
     ensures { result ≡ length (spec.brackets (reverse outer.now)) }
 {
     outer.len()
 }
 
+/// The fault that the end shows.
 #[tactic(auto, unfolding(crate::specs::Machine::fault_at))]
 fn end_fault<'t>(parser: &Parser<'t>) -> Option<SyntaxFault>
     ensures { result ≡ spec.fault_at (spec.state_of parser.now) [] }
@@ -300,6 +313,7 @@ fn end_fault<'t>(parser: &Parser<'t>) -> Option<SyntaxFault>
     }
 }
 
+/// Whether an element follows at once.
 fn is_followed(rest: &[Item<'_>]) -> bool
     ensures { result ≡ is_followed rest.now }
 {
@@ -309,6 +323,7 @@ fn is_followed(rest: &[Item<'_>]) -> bool
     }
 }
 
+/// The fault that the next item shows, with what follows it.
 #[tactic(auto, unfolding(crate::specs::Machine::fault_at))]
 fn item_fault<'t>(parser: &Parser<'t>, item: Item<'t>, rest: &[Item<'t>]) -> Option<SyntaxFault>
     ensures { result ≡ spec.fault_at (spec.state_of parser.now) (item.entry ∷ rest.now) }
@@ -351,6 +366,7 @@ fn item_fault<'t>(parser: &Parser<'t>, item: Item<'t>, rest: &[Item<'t>]) -> Opt
     None
 }
 
+/// Where the body of a rule begins.
 fn begin<'t>(alloc: Global, defined: Item<'t>) -> Parser<'t>
     ensures { spec.state_of result ≡ spec.start defined.entry }
 {
@@ -361,6 +377,7 @@ fn begin<'t>(alloc: Global, defined: Item<'t>) -> Parser<'t>
     }
 }
 
+/// Takes the next item.
 #[tactic(auto, unfolding(crate::specs::Machine::fault_at))]
 fn step<'t>(
     alloc: Global,
@@ -380,6 +397,7 @@ fn step<'t>(
     }
 }
 
+/// The alternation of the whole body.
 fn last_step<'t>(parser: Parser<'t>) -> Result<Alternation<'t>, SyntaxFault>
     ensures { spec.Gives result (spec.run (spec.state_of parser.entry) []) }
 {
@@ -392,6 +410,7 @@ fn last_step<'t>(parser: Parser<'t>) -> Result<Alternation<'t>, SyntaxFault>
     }
 }
 
+/// The alternation behind `=` or `=/`, up to the end of the block.
 pub(crate) fn body_of<'t>(
     alloc: Global,
     defined: Item<'t>,
