@@ -168,8 +168,10 @@ fn items_of<'t>(
 /// lines up to the next one belong to it. Lines before the first block belong to none. A block has at least one item. This is
 /// the left alignment of rules of RFC 5234 section 2.2. An indent counts SP and HTAB alike.
 pub fn blocks<'t>(alloc: Global, snapshot: &'t Snapshot) -> Result<Vec<Block<'t>>, AllocError>
-    ensures all { IfOk result (λ found. AreBlocks (line_texts snapshot.entry.now) 0 (map bounds found.items)) }
-    ensures items { IfOk result (λ found. All (λ b. AreItems (line_texts snapshot.entry.now) b.first b.end b.items) found.items) }
+    ensures all { IfOk result (λ found.
+        AreBlocks (line_texts snapshot.entry.now) 0 (map bounds found.items)) }
+    ensures items { IfOk result (λ found.
+        All (λ b. AreItems (line_texts snapshot.entry.now) b.first b.end b.items) found.items) }
     ensures some { IfOk result (λ found. All (λ b. 0 < length b.items) found.items) }
 {
     let base = first_indent(snapshot);
