@@ -1,6 +1,6 @@
 //! The parser: a stack of the brackets that are open, which takes one item after another.
 
-ghost use Rattle.std.specs.Prelude.{◌≡◌, ◌⊎◌, ◌∷◌, ◌<◌, [], reverse, length, IfOk, IfErr, MatchOption, MatchResult, Ok, Err, None, Some};
+ghost use Rattle.std.specs.Prelude.{◌≡◌, ◌⊎◌, ◌∷◌, [], reverse, length, IfOk, IfErr, Err};
 ghost use Rattle.abnf_syntax.specs.Faults.{place_of, place_after, first_of, is_followed};
 ghost use Rattle.abnf_syntax.specs.Machine as spec;
 
