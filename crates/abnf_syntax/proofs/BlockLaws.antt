@@ -1,0 +1,69 @@
+-- Lines, and the blocks that they make.
+use Rattle.std.proofs.Common.{◌≡◌, ℕ, zero, suc, ◌+◌, ◌≤◌, ◌<◌, true, List, [], ◌∷◌, ◌++◌, length, map, None, sym, refl, ap, subst, ◌∙◌, append_assoc, arith, inl, inr}
+use Rattle.std.specs.Prelude.{All, slice_get, slice_index_or}
+use Rattle.std.proofs.lemmas.List.Elements.{All-append}
+use Rattle.std.specs.Option.{option_map}
+use Rattle.std.specs.Str.{encode_utf8_all}
+use Rattle.std.proofs.lemmas.List.{length-map, map-append, append-nil}
+use Rattle.std.proofs.lemmas.Bool.{cases_lt}
+use Rattle.ls_text.specs.Lines.{lines, line_ends}
+use Rattle.ls_text.proofs.LineLaws.{length-lines}
+use Rattle.abnf_token.specs.Classes.{Text}
+use Rattle.abnf_syntax.specs.Blocks.{line_texts, begins_at, NoneBegins, AreBlocks}
+use Rattle.abnf_syntax.specs.Gather.{IsNextBlock}
+use Rattle.abnf_syntax.specs.Bounds.{bounds}
+use Rattle.abnf_syntax.specs.declared.block.Block.{Block}
+
+pub count_lines : (text : List ℕ) → length (line_texts text) ≡ line_ends text + 1
+count_lines text = length-map (lines text) encode_utf8_all ∙ length-lines text
+
+none_map : (ls : List (List ℕ)) (at : ℕ) → None ≡ option_map encode_utf8_all (slice_get ls at) → slice_index_or (map encode_utf8_all ls) at [] ≡ []
+none_map [] at h = refl
+none_map (l ∷ ls) zero h = absurd (cc)
+none_map (l ∷ ls) (suc at) h = none_map ls at h
+
+pub no_line : (text : List ℕ) (at : ℕ) → None ≡ option_map encode_utf8_all (slice_get (lines text) at) → [] ≡ slice_index_or (line_texts text) at []
+no_line text at h = sym (none_map (lines text) at h)
+
+none_at : (ls : List Text) (from : ℕ) → NoneBegins ls from from
+none_at ls from at reached before = absurd (omega arith)
+
+none_both : (ls : List Text) (from mid to : ℕ) → NoneBegins ls from mid → NoneBegins ls mid to → NoneBegins ls from to
+none_both ls from mid to first second at reached before = elim (cases_lt at mid) [ inl less ↦ first at reached less | inr more ↦ second at more before ]
+
+-- The blocks from the next line that begins one are those from here.
+from_next : (ls : List Text) (from next : ℕ) → from ≤ next → NoneBegins ls from next → (bs : List (ℕ × ℕ)) → AreBlocks ls next bs → AreBlocks ls from bs
+from_next ls from next reached none [] are = none_both ls from next (length ls) none are
+from_next ls from next reached none (b ∷ bs) are = (omega (arith, reached, are.0), none_both ls from next b.0 none are.1, are.2, are.3)
+
+-- a block, and those behind it
+block_first : (ls : List Text) (first end : ℕ) → first < length ls → begins_at ls first ≡ true → IsNextBlock ls (first + 1) end → (bs : List (ℕ × ℕ)) → AreBlocks ls end bs → AreBlocks ls first ((first, end) ∷ bs)
+block_first ls first end within begins next bs are =
+    (omega arith, none_at ls first, record { some = omega (arith, next.reached); within = next.within; begins = begins; rest = λ at reached before. next.none at (omega arith) before; ends = next.begins }, are)
+
+-- the blocks where none is found yet
+pub none_found : (ls : List Text) (first : ℕ) (found : List Block) → found ≡ [] → IsNextBlock ls 0 first → (bs : List (ℕ × ℕ)) → AreBlocks ls first bs → AreBlocks ls 0 (map bounds found ++ bs)
+none_found ls first found none next bs are = subst (λ (x : List Block). AreBlocks ls 0 (map bounds x ++ bs)) (sym none) (from_next ls 0 first next.reached next.none bs are)
+
+-- one block more behind those found
+pub found_more : (ls : List Text) (found : List Block) (block : Block) (new : List Block) → new ≡ found ++ block ∷ [] → block.first < length ls → begins_at ls block.first ≡ true → IsNextBlock ls (block.first + 1) block.end →
+    ((bs : List (ℕ × ℕ)) → AreBlocks ls block.first bs → AreBlocks ls 0 (map bounds found ++ bs)) →
+    (bs : List (ℕ × ℕ)) → AreBlocks ls block.end bs → AreBlocks ls 0 (map bounds new ++ bs)
+found_more ls found block new e within begins next all bs are =
+    subst (AreBlocks ls 0) (sym (ap (λ xs. map bounds xs ++ bs) e ∙ ap (λ xs. xs ++ bs) (map-append bounds found (block ∷ [])) ∙ append_assoc (map bounds found) (bounds block ∷ []) bs))
+    (all (bounds block ∷ bs) (block_first ls block.first block.end within begins next bs are))
+
+-- no block is left
+pub all_found : (ls : List Text) (first : ℕ) (found : List Block) → length ls ≤ first → ((bs : List (ℕ × ℕ)) → AreBlocks ls first bs → AreBlocks ls 0 (map bounds found ++ bs)) → AreBlocks ls 0 (map bounds found)
+all_found ls first found none all = subst (AreBlocks ls 0) (append-nil (map bounds found)) (all [] (λ at reached before. absurd (omega arith)))
+
+pub All-none : {A : Type 0} (P : A → Type 0) (xs : List A) → xs ≡ [] → All P xs
+All-none P [] h k d less = absurd (omega arith)
+All-none P (x ∷ xs) h k d less = absurd (cc)
+
+All-one : {A : Type 0} (P : A → Type 0) (x : A) → P x → All P (x ∷ [])
+All-one P x p zero d less = p
+All-one P x p (suc at) d less = absurd (omega arith)
+
+pub All-snoc : {A : Type 0} (P : A → Type 0) (xs : List A) (x : A) (new : List A) → new ≡ xs ++ x ∷ [] → All P xs → P x → All P new
+All-snoc P xs x new e all p = subst (All P) (sym e) (All-append P xs (x ∷ []) all (All-one P x p))

@@ -1,0 +1,101 @@
+-- The items that are gathered are those of the tokens.
+use Rattle.std.proofs.Common.{◌≡◌, ℕ, suc, ◌+◌, Bool, true, false, not, List, [], ◌∷◌, ◌++◌, length, map, Option, Some, None, sym, refl, ap, subst, ◌∙◌, append_assoc, arith, if◌then◌else◌}
+use Rattle.std.specs.Prelude.{slice_index_or, IsTrue, ◌↔◌}
+use Rattle.std.specs.List.{flat_map}
+use Rattle.std.proofs.lemmas.List.{append-nil, length-append}
+use Rattle.std.proofs.lemmas.Grind.{flat_map-append}
+use Rattle.abnf_token.specs.declared.token.Token.{Token}
+use Rattle.abnf_token.specs.Classes.{Text}
+use Rattle.abnf_token.specs.Rest.{Rest}
+use Rattle.abnf_token.specs.Tokens.{TokensOf, GivesToken}
+use Rattle.abnf_syntax.specs.declared.item.Item.{Item}
+use Rattle.abnf_syntax.specs.Kinds.{is_item}
+use Rattle.abnf_syntax.specs.Items.{with_line_end, items_behind, items_of, AreTokens, AreItems, view}
+use Rattle.abnf_syntax.specs.Gather.{State, is_some, with_gap, after, after_all, start, AddsLine, HasLines}
+use Rattle.abnf_syntax.proofs.Rows.{never}
+
+pub not_empty : (items : List Item) (empty : Bool) → (IsTrue empty ↔ (items ≡ [])) → not empty ≡ is_some (map view items)
+not_empty [] true h = refl
+not_empty [] false h = never (h.1 refl)
+not_empty (item ∷ items) true h = let none : item ∷ items ≡ [] = h.0 refl in absurd (cc)
+not_empty (item ∷ items) false h = refl
+
+after_all-append : (s : State) (xs ys : List (Option Token)) → after_all s (xs ++ ys) ≡ after_all (after_all s xs) ys
+after_all-append s [] ys = refl
+after_all-append s (x ∷ xs) ys = after_all-append (after s x) xs ys
+
+-- the tokens of a front of a line have come
+pub record HasTokens (at : ℕ) (line : Text) (old now : State) (rest : Rest) : Type 0 where
+  pub tokens : List Token
+  pub whole : (ts : List Token) → TokensOf rest.line rest.start rest.text ts → TokensOf at 0 line (tokens ++ ts)
+  pub state : now ≡ after_all old (map Some tokens)
+
+after_all-snoc : (s : State) (ts : List Token) (t : Token) → after_all s (map Some (ts ++ t ∷ [])) ≡ after (after_all s (map Some ts)) (Some t)
+after_all-snoc s [] t = refl
+after_all-snoc s (x ∷ ts) t = after_all-snoc (after s (Some x)) ts t
+
+after_all-line_end : (s : State) (ts : List Token) → after_all s (with_line_end ts) ≡ with_gap (after_all s (map Some ts))
+after_all-line_end s [] = refl
+after_all-line_end s (t ∷ ts) = after_all-line_end (after s (Some t)) ts
+
+pub token_more : {at : ℕ} {line : Text} {old now next : State} {rest behind : Rest} (t : Token) → HasTokens at line old now rest → GivesToken rest (Some t) behind → next ≡ after now (Some t) → HasTokens at line old next behind
+token_more {at = at} {line = line} {old = old} t h gives e = record {
+  tokens = h.tokens ++ t ∷ [];
+  whole = λ ts are. subst (TokensOf at 0 line) (sym (append_assoc h.tokens (t ∷ []) ts)) (h.whole (t ∷ ts) (gives.0, subst (λ (r : Rest). TokensOf r.line r.start r.text ts) gives.1 are));
+  state = e ∙ ap (λ s. after s (Some t)) h.state ∙ sym (after_all-snoc old h.tokens t);
+}
+
+pub line_done : {at : ℕ} {line : Text} {old now next : State} {rest behind : Rest} → HasTokens at line old now rest → GivesToken rest None behind → next ≡ with_gap now → AddsLine at line old next
+line_done {at = at} {line = line} {old = old} h gives e = record {
+  tokens = h.tokens;
+  tokens_are = rw append-nil at (h.whole [] gives.0);
+  state = e ∙ ap with_gap h.state ∙ sym (after_all-line_end old h.tokens);
+}
+
+tokens_more : (ls : List Text) (at : ℕ) (tss : List (List Token)) (ts : List Token) → AreTokens ls at tss → TokensOf (at + length tss) 0 (slice_index_or ls (at + length tss) []) ts → AreTokens ls at (tss ++ ts ∷ [])
+tokens_more ls at [] ts are last = (subst (λ n. TokensOf n 0 (slice_index_or ls n []) ts) (let e : at + 0 ≡ at = omega arith in e) last, tt)
+tokens_more ls at (us ∷ tss) ts are last =
+    (are.0, tokens_more ls (suc at) tss ts are.1 (subst (λ n. TokensOf n 0 (slice_index_or ls n []) ts) (let e : at + suc (length tss) ≡ suc at + length tss = omega arith in e) last))
+
+pub line_more : (ls : List Text) (first at : ℕ) (old new : State) → HasLines ls first at old → AddsLine at (slice_index_or ls at []) old new → HasLines ls first (at + 1) new
+line_more ls first at old new h line = record {
+  tokens = h.tokens ++ line.tokens ∷ [];
+  all = omega (arith, h.all, length-append h.tokens (line.tokens ∷ []));
+  tokens_are = tokens_more ls first h.tokens line.tokens h.tokens_are (subst (λ n. TokensOf n 0 (slice_index_or ls n []) line.tokens) (sym h.all) line.tokens_are);
+  state =
+      line.state ∙ ap (λ s. after_all s (with_line_end line.tokens)) h.state
+      ∙ sym (after_all-append start (flat_map with_line_end h.tokens) (with_line_end line.tokens))
+      ∙ ap (after_all start) (ap (λ x. flat_map with_line_end h.tokens ++ x) (sym (append-nil (with_line_end line.tokens))) ∙ sym (flat_map-append with_line_end h.tokens (line.tokens ∷ [])));
+}
+
+abbrev state : List (Token × Bool) → Bool → State
+state items apart = record { items = items; apart = apart }
+
+some_snoc : (items : List (Token × Bool)) (item : Token × Bool) → is_some (items ++ item ∷ []) ≡ true
+some_snoc [] item = refl
+some_snoc (x ∷ items) item = refl
+
+-- Behind an item come the items behind it.
+behind : (ts : List (Option Token)) (items : List (Token × Bool)) (apart : Bool) → is_some items ≡ true → (after_all (state items apart) ts).items ≡ items ++ items_behind apart ts
+behind [] items apart some = sym (append-nil items)
+behind (None ∷ ts) items apart some = ap (λ b. (after_all (state items b) ts).items) some ∙ behind ts items true some
+behind (Some t ∷ ts) items apart some = behind_by t ts items apart some (is_item t.kind) (behind ts (items ++ (t, apart) ∷ []) false (some_snoc items (t, apart))) (behind ts items true some)
+  where
+    behind_by : (t : Token) (ts : List (Option Token)) (items : List (Token × Bool)) (apart : Bool) → is_some items ≡ true → (item : Bool) →
+        (after_all (state (items ++ (t, apart) ∷ []) false) ts).items ≡ (items ++ (t, apart) ∷ []) ++ items_behind false ts → (after_all (state items true) ts).items ≡ items ++ items_behind true ts →
+        (after_all (if item then state (items ++ (t, apart) ∷ []) false else with_gap (state items apart)) ts).items ≡ items ++ (if item then (t, apart) ∷ items_behind false ts else items_behind true ts)
+    behind_by t ts items apart some true h g = h ∙ append_assoc items ((t, apart) ∷ []) (items_behind false ts)
+    behind_by t ts items apart some false h g = ap (λ b. (after_all (state items b) ts).items) some ∙ g
+
+from_start : (ts : List (Option Token)) → (after_all start ts).items ≡ items_of ts
+from_start [] = refl
+from_start (None ∷ ts) = from_start ts
+from_start (Some t ∷ ts) = from_start_by t ts (is_item t.kind) (from_start ts)
+  where
+    from_start_by : (t : Token) (ts : List (Option Token)) (item : Bool) → (after_all start ts).items ≡ items_of ts →
+        (after_all (if item then state ((t, false) ∷ []) false else with_gap start) ts).items ≡ (if item then (t, false) ∷ items_behind false ts else items_of ts)
+    from_start_by t ts true h = behind ts ((t, false) ∷ []) false refl
+    from_start_by t ts false h = h
+
+pub items_are : (ls : List Text) (first end : ℕ) (now : State) (items : List Item) → map view items ≡ now.items → HasLines ls first end now → AreItems ls first end items
+items_are ls first end now items e h = record { tokens = h.tokens; all = h.all; tokens_are = h.tokens_are; items_are = e ∙ ap (λ s. s.items) h.state ∙ from_start (flat_map with_line_end h.tokens) }

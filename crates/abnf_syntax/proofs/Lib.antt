@@ -1,0 +1,13 @@
+pub mod Front
+pub mod Rows
+pub mod Opened
+pub mod Sound
+pub mod Complete
+pub mod FaultSide
+pub mod Stack
+pub mod Whole
+pub mod NumberLaws
+pub mod BlockLaws
+pub mod GatherLaws
+pub mod ContentLaws
+pub mod Exact

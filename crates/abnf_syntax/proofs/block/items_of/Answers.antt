@@ -1,0 +1,16 @@
+use Rattle.std.proofs.Common.{◌≡◌, ℕ, refl, subst, arith}
+use Rattle.abnf_syntax.specs.Blocks.{line_texts}
+use Rattle.abnf_syntax.specs.Items.{AreItems}
+use Rattle.abnf_syntax.specs.Gather.{AddsLine, HasLines, state_of}
+use Rattle.abnf_syntax.proofs.GatherLaws.{line_more, items_are}
+use Rattle.abnf_syntax.proofs.ContentLaws.{some_items}
+use Rattle.abnf_syntax.proofs.block.items_of.Goals as goal
+
+pub loop-at-preserved : goal.loop-at-preserved
+loop-at-preserved c = line_more (line_texts c.args.snapshot.now) c.args.first c.loop-at.at _ _ c.loop-at.invariant (subst (λ line. AddsLine c.loop-at.at line (state_of c.loop-at.gathered) (state_of c.add_line.new.self)) c.line_at.ensures c.in_ok-add_line.ensures)
+
+pub returns : goal.returns
+returns c =
+    let at_end : c.loop-at.at ≡ c.args.end = omega arith in
+    let are : AreItems (line_texts c.args.snapshot.now) c.args.first c.args.end c.loop-at.gathered.items = items_are (line_texts c.args.snapshot.now) c.args.first c.args.end _ c.loop-at.gathered.items refl (subst (λ (n : ℕ). HasLines (line_texts c.args.snapshot.now) c.args.first n (state_of c.loop-at.gathered)) at_end c.loop-at.invariant) in
+    record { items = are; some = some_items (line_texts c.args.snapshot.now) c.args.first c.args.end c.loop-at.gathered.items c.requires.some c.requires.begins are }

@@ -1,0 +1,50 @@
+-- The blocks of a text, by the indents of its lines. RFC 5234 section 2.2 has the rules of a grammar left aligned, wherever the
+-- first one begins, and the lines that continue a rule indented deeper.
+use Rattle.std.specs.Prelude.{◌≡◌, ℕ, suc, ◌<◌, ◌≤◌, Bool, false, true, not, ◌&&◌, nat_le, nat_eq, List, [], ◌∷◌, map, length, slice_index_or, if◌then◌else◌}
+use Rattle.std.specs.Str.{encode_utf8_all}
+use Rattle.ls_text.specs.Lines.{lines}
+use Rattle.abnf_token.specs.Classes.{Text, is_blank_byte}
+
+-- the lines of a text without their line ends, each as its bytes of UTF-8
+abbrev pub line_texts : List ℕ → List Text
+line_texts text = map encode_utf8_all (lines text)
+
+-- how many SP and HTAB a line begins with
+abbrev pub indent : Text → ℕ
+indent [] = 0
+indent (b ∷ bs) = if is_blank_byte b then suc (indent bs) else 0
+
+-- A line has content, unless it has only SP and HTAB, or its first other character is the `;` of a comment.
+abbrev pub is_content : Text → Bool
+is_content [] = false
+is_content (b ∷ bs) = if is_blank_byte b then is_content bs else not (nat_eq b 0x3B)
+
+-- the indent of the first line with content
+abbrev pub base_indent : List Text → ℕ
+base_indent [] = 0
+base_indent (l ∷ ls) = if is_content l then indent l else base_indent ls
+
+-- A line with content and at most this indent begins a block.
+abbrev pub begins_block : ℕ → Text → Bool
+begins_block base l = is_content l && nat_le (indent l) base
+
+-- the same of the line at a place; there is none behind the last line
+abbrev pub begins_at : List Text → ℕ → Bool
+begins_at ls at = begins_block (base_indent ls) (slice_index_or ls at [])
+
+-- No line from the first place up to the second begins a block.
+abbrev pub NoneBegins : List Text → ℕ → ℕ → Type 0
+NoneBegins ls from to = (at : ℕ) → from ≤ at → at < to → begins_at ls at ≡ false
+
+-- The lines of a block: one that begins it and all that follow, up to the next that begins one, or to the end.
+pub record IsBlock (ls : List Text) (first end : ℕ) : Type 0 where
+  pub some : first < end
+  pub within : end ≤ length ls
+  pub begins : begins_at ls first ≡ true
+  pub rest : NoneBegins ls (suc first) end
+  pub ends : end < length ls → begins_at ls end ≡ true
+
+-- These are the first lines and ends of all blocks from a line on, in order: no line before, between or behind them begins one.
+abbrev pub AreBlocks : List Text → ℕ → List (ℕ × ℕ) → Type 0
+AreBlocks ls from [] = NoneBegins ls from (length ls)
+AreBlocks ls from (b ∷ bs) = (from ≤ b.0) × NoneBegins ls from b.0 × IsBlock ls b.0 b.1 × AreBlocks ls b.1 bs

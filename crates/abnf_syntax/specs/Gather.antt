@@ -1,0 +1,57 @@
+-- How the items of a block are gathered. No public contract speaks of it.
+use Rattle.std.specs.Prelude.{◌≡◌, ◌+◌, ◌≤◌, ◌<◌, ℕ, Bool, true, false, List, [], ◌∷◌, ◌++◌, length, Option, Some, None, map, if◌then◌else◌}
+use Rattle.std.specs.List.{flat_map}
+use Rattle.abnf_token.specs.declared.token.Token.{Token}
+use Rattle.abnf_token.specs.Classes.{Text}
+use Rattle.abnf_token.specs.Tokens.{TokensOf}
+use Rattle.abnf_syntax.specs.declared.block.Gathered.{Gathered}
+use Rattle.abnf_syntax.specs.Kinds.{is_item}
+use Rattle.abnf_syntax.specs.Blocks.{begins_at, NoneBegins}
+use Rattle.abnf_syntax.specs.Items.{with_line_end, view, AreTokens}
+
+-- the items so far, and whether the next one is apart
+pub record State : Type 0 where
+  pub items : List (Token × Bool)
+  pub apart : Bool
+
+abbrev pub state_of : Gathered → State
+state_of g = record { items = map view g.items; apart = g.apart }
+
+abbrev pub is_some : List (Token × Bool) → Bool
+is_some [] = false
+is_some (item ∷ items) = true
+
+abbrev pub with_gap : State → State
+with_gap s = record { items = s.items; apart = is_some s.items }
+
+-- the state after one more token, or a line end
+abbrev pub after : State → Option Token → State
+after s None = with_gap s
+after s (Some t) = if is_item t.kind then record { items = s.items ++ (t, s.apart) ∷ []; apart = false } else with_gap s
+
+abbrev pub after_all : State → List (Option Token) → State
+after_all s [] = s
+after_all s (t ∷ ts) = after_all (after s t) ts
+
+abbrev pub start : State
+start = record { items = []; apart = false }
+
+-- the tokens of this line and its end have come
+pub record AddsLine (at : ℕ) (line : Text) (old new : State) : Type 0 where
+  pub tokens : List Token
+  pub tokens_are : TokensOf at 0 line tokens
+  pub state : new ≡ after_all old (with_line_end tokens)
+
+-- the tokens of these lines have come
+pub record HasLines (ls : List Text) (first end : ℕ) (now : State) : Type 0 where
+  pub tokens : List (List Token)
+  pub all : first + length tokens ≡ end
+  pub tokens_are : AreTokens ls first tokens
+  pub state : now ≡ after_all start (flat_map with_line_end tokens)
+
+-- the next line from a place on that begins a block, or the number of lines
+pub record IsNextBlock (ls : List Text) (from next : ℕ) : Type 0 where
+  pub reached : from ≤ next
+  pub within : next ≤ length ls
+  pub none : NoneBegins ls from next
+  pub begins : next < length ls → begins_at ls next ≡ true

@@ -1,0 +1,10 @@
+pub mod Kinds
+pub mod Numbers
+pub mod Grammar
+pub mod Faults
+pub mod Machine
+pub mod Fitting
+pub mod Blocks
+pub mod Items
+pub mod Gather
+pub mod Bounds

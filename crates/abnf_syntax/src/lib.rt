@@ -1,0 +1,24 @@
+//! The syntax of ABNF: a text is cut into blocks, and a block is parsed to a rule.
+//!
+//! [`blocks`] cuts a text at the lines whose indent is not above that of its first rule, and gives the items of each
+//! block: its tokens without blanks and comments. [`parse_block`] reads the items of a block as a rule of RFC 5234
+//! section 4, with the strings of RFC 7405, or says what is wrong first, and where. Tokens, items and rules hold slices of the
+//! text's lines: no text is copied.
+#![tactic(auto)]
+
+mod block;
+mod fault;
+mod item;
+mod kinds;
+mod number;
+mod parse;
+mod parser;
+#[cfg(test)]
+mod tests;
+mod tree;
+
+pub use block::{Block, blocks};
+pub use fault::SyntaxFault;
+pub use item::Item;
+pub use parse::parse_block;
+pub use tree::{Alternation, Concatenation, Element, Repetition, Rule};

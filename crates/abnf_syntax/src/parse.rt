@@ -1,0 +1,66 @@
+//! The parse of a block.
+
+ghost use Rattle.std.specs.Prelude.{◌≡◌, ◌⊎◌, ◌<◌, length, IfOk, IfErr, Ok, Err};
+ghost use Rattle.abnf_syntax.specs.Grammar.{Derives, HasOneRule};
+ghost use Rattle.abnf_syntax.specs.Faults.{Faults};
+ghost use Rattle.abnf_syntax.specs.Machine as spec;
+ghost use Rattle.abnf_syntax.specs.declared.tree.Rule.{Rule};
+
+use crate::block::Block;
+use crate::fault::SyntaxFault;
+use crate::item::Item;
+use crate::kinds::{is_adds, is_defined_as, is_name};
+use crate::parser::{body_of, place_after, place_of};
+use crate::tree::Rule;
+use std::alloc::Global;
+
+/// The rule that these items say.
+fn parsed<'t>(alloc: Global, items: &[Item<'t>]) -> Result<Rule<'t>, SyntaxFault>
+    requires { 0 < length items.now }
+    ensures { spec.GivesRule result (spec.parse items.now) }
+{
+    let Some((head, rest)) = items.split_first() else {
+        unreachable!()
+    };
+    if !is_name(head.token.kind) {
+        return Err(SyntaxFault::NoName(place_of(head.token)));
+    }
+    let Some((defined, body)) = rest.split_first() else {
+        return Err(SyntaxFault::NoDefinedAs(place_after(head.token)));
+    };
+    if !is_defined_as(defined.token.kind) {
+        return Err(SyntaxFault::NoDefinedAs(place_of(defined.token)));
+    }
+    let body = body_of(alloc, *defined, body)?;
+    Ok(Rule {
+        name: head.token,
+        adds: is_adds(defined.token.kind),
+        body,
+    })
+}
+
+/// The rule that a block says (`rule`; RFC 5234 section 4, with the strings of RFC 7405 section 2.2).
+///
+/// Groups and options may nest 64 deep, and numbers may be up to 4,294,967,295. The rule holds tokens of the block.
+///
+/// # Errors
+///
+/// The fault that the first faulty item shows, or the end of the block; of several that it shows, the one that stands first
+/// in [`SyntaxFault`]. `Memory` where an allocation is refused.
+pub fn parse_block<'t>(alloc: Global, block: &Block<'t>) -> Result<Rule<'t>, SyntaxFault>
+    requires { 0 < length block.now.items }
+
+    // A rule that is given is derived; and a rule that is derived is given, unless memory runs out. There is at most one.
+    ensures derives { IfOk result (λ rule. Derives block.now.items rule) }
+    ensures derived { (rule : Rule) → Derives block.now.items rule
+        → (result ≡ Ok rule) ⊎ (result ≡ Err SyntaxFault.Memory) }
+    ensures one { HasOneRule block.now.items }
+
+    // A fault but for memory is the one that the block shows first; and where it shows one that is answered, unless memory
+    // runs out.
+    ensures shows { IfErr result (λ fault. (fault ≡ SyntaxFault.Memory) ⊎ Faults block.now.items fault) }
+    ensures shown { (fault : SyntaxFault) → Faults block.now.items fault
+        → (result ≡ Err fault) ⊎ (result ≡ Err SyntaxFault.Memory) }
+{
+    parsed(alloc, block.items.as_slice())
+}
