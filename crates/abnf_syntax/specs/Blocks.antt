@@ -1,5 +1,5 @@
--- The blocks of a text, by the indents of its lines. RFC 5234 section 2.1 lets all rules of a grammar begin in the same column: a
--- line that is indented deeper continues the rule before it.
+-- The blocks of a text, by the indents of its lines. RFC 5234 section 2.2 has the rules of a grammar left aligned, wherever the
+-- first one begins, and the lines that continue a rule indented deeper.
 use Rattle.std.specs.Prelude.{◌≡◌, ℕ, suc, ◌<◌, ◌≤◌, Bool, false, true, not, ◌&&◌, nat_le, nat_eq, List, [], ◌∷◌, map, length, slice_index_or, if◌then◌else◌}
 use Rattle.std.specs.Str.{encode_utf8_all}
 use Rattle.ls_text.specs.Lines.{lines}

@@ -1,4 +1,5 @@
--- The form of a block, after comments, blanks and line ends are taken out (RFC 5234, section 4; RFC 7405).
+-- The form of a rule over the items of a block (RFC 5234 section 4; RFC 7405 section 2.2). Comments, blanks and line ends are
+-- taken out, and may stand between any two items but behind a repeat; between repetitions one must stand.
 use Rattle.std.specs.Prelude.{◌≡◌, ℕ, suc, Bool, true, false, List, [], ◌∷◌, Option, Some, None}
 use Rattle.abnf_token.specs.declared.token.Kind.{Kind}
 use Rattle.abnf_token.specs.declared.token.Kind.TheVariants as k

@@ -1,6 +1,6 @@
 //! The blocks of a text.
 
-ghost use Rattle.std.specs.Prelude.{◌≡◌, ◌<◌, ◌≤◌, ◌+◌, [], All, IfOk, OnOk, Some, None, true, if◌then◌else◌, length, map, slice_index_or};
+ghost use Rattle.std.specs.Prelude.{◌≡◌, ◌<◌, ◌≤◌, [], All, IfOk, OnOk, Some, None, true, if◌then◌else◌, length, map, slice_index_or};
 ghost use Rattle.abnf_syntax.specs.Blocks.{line_texts, indent, is_content, base_indent, begins_at, AreBlocks};
 ghost use Rattle.abnf_syntax.specs.Items.{AreItems};
 ghost use Rattle.abnf_syntax.specs.Bounds.{bounds};
@@ -185,10 +185,13 @@ fn items_of<'t>(
 /// The blocks of a text.
 ///
 /// A line that isn't blank and has no comment alone begins a block, if it is indented no deeper than the first such line. All
-/// lines up to the next one belong to it. Lines before the first block belong to none. A block has at least one item.
+/// lines up to the next one belong to it. Lines before the first block belong to none. A block has at least one item. This is
+/// the left alignment of rules of RFC 5234 section 2.2. An indent counts SP and HTAB alike.
 pub fn blocks<'t>(alloc: Global, snapshot: &'t Snapshot) -> Result<Vec<Block<'t>>, AllocError>
-    ensures all { IfOk result (λ found. AreBlocks (line_texts snapshot.entry.now) 0 (map bounds found.items)) }
-    ensures items { IfOk result (λ found. All (λ b. AreItems (line_texts snapshot.entry.now) b.first b.end b.items) found.items) }
+    ensures all { IfOk result (λ found.
+        AreBlocks (line_texts snapshot.entry.now) 0 (map bounds found.items)) }
+    ensures items { IfOk result (λ found.
+        All (λ b. AreItems (line_texts snapshot.entry.now) b.first b.end b.items) found.items) }
     ensures some { IfOk result (λ found. All (λ b. 0 < length b.items) found.items) }
 {
     let base = first_indent(snapshot);

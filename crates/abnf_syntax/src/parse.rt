@@ -31,14 +31,12 @@ fn parsed<'t>(alloc: Global, items: &[Item<'t>]) -> Result<Rule<'t>, SyntaxFault
     if !is_defined_as(defined.token.kind) {
         return Err(SyntaxFault::NoDefinedAs(place_of(defined.token)));
     }
-    match body_of(alloc, *defined, body) {
-        Ok(body) => Ok(Rule {
-            name: head.token,
-            adds: is_adds(defined.token.kind),
-            body,
-        }),
-        Err(fault) => Err(fault),
-    }
+    let body = body_of(alloc, *defined, body)?;
+    Ok(Rule {
+        name: head.token,
+        adds: is_adds(defined.token.kind),
+        body,
+    })
 }
 
 /// The rule that a block says (`rule`; RFC 5234 section 4, with the strings of RFC 7405 section 2.2).

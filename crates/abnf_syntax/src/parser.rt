@@ -1,6 +1,6 @@
-//! The parser.
+//! The parser: a stack of the brackets that are open, which takes one item after another.
 
-ghost use Rattle.std.specs.Prelude.{◌≡◌, ◌⊎◌, ◌∷◌, ◌<◌, [], reverse, length, IfOk, IfErr, MatchOption, MatchResult, Ok, Err, None, Some};
+ghost use Rattle.std.specs.Prelude.{◌≡◌, ◌⊎◌, ◌∷◌, [], reverse, length, IfOk, IfErr, Err};
 ghost use Rattle.abnf_syntax.specs.Faults.{place_of, place_after, first_of, is_followed};
 ghost use Rattle.abnf_syntax.specs.Machine as spec;
 
@@ -36,6 +36,7 @@ pub struct Opened<'t> {
     pub level: Level<'t>,
 }
 
+/// What was read so far: the open brackets, the innermost last, what stands behind the innermost, and the last item.
 #[derive(Drop)]
 pub struct Parser<'t> {
     pub outer: List<Opened<'t>>,
@@ -43,55 +44,7 @@ pub struct Parser<'t> {
     pub last: Item<'t>,
 }
 
-fn empty<'t>(alloc: Global) -> Level<'t>
-    ensures { result ≡ spec.empty }
-{
-    Level {
-        done: List::new(alloc),
-        row: List::new(alloc),
-        repeat: None,
-    }
-}
-
-fn put<'t>(level: Level<'t>, element: Element<'t>) -> Result<Level<'t>, AllocError>
-    ensures { IfOk result (λ l. l ≡ spec.put level.entry element.entry) }
-{
-    let Level {
-        done,
-        mut row,
-        repeat,
-    } = level;
-    row.push(Repetition { repeat, element })?;
-    Ok(Level {
-        done,
-        row,
-        repeat: None,
-    })
-}
-
-fn finish<'t>(level: Level<'t>) -> Result<Alternation<'t>, AllocError>
-    ensures { IfOk result (λ a. a ≡ spec.finish level.entry) }
-{
-    let Level {
-        mut done,
-        row,
-        repeat: _,
-    } = level;
-    done.push(row)?;
-    Ok(done)
-}
-
-fn barred<'t>(alloc: Global, level: Level<'t>) -> Result<Level<'t>, AllocError>
-    ensures { IfOk result (λ l. l ≡ spec.barred level.entry) }
-{
-    let done = finish(level)?;
-    Ok(Level {
-        done,
-        row: List::new(alloc),
-        repeat: None,
-    })
-}
-
+/// Adds a bracket as the innermost one.
 fn pushed<'t>(outer: List<Opened<'t>>, opened: Opened<'t>) -> Result<List<Opened<'t>>, AllocError>
     ensures { IfOk result (λ os. reverse os ≡ opened.entry ∷ reverse outer.entry) }
 {
@@ -100,6 +53,7 @@ fn pushed<'t>(outer: List<Opened<'t>>, opened: Opened<'t>) -> Result<List<Opened
     Ok(outer)
 }
 
+/// The element of an opening bracket.
 fn bracketed<'t>(bracket: Token<'t>, body: Alternation<'t>) -> Element<'t>
     ensures { result ≡ spec.bracketed bracket.entry body.entry }
 {
@@ -109,140 +63,74 @@ fn bracketed<'t>(bracket: Token<'t>, body: Alternation<'t>) -> Element<'t>
     }
 }
 
-fn leaf<'t>(
-    parser: Parser<'t>,
-    item: Item<'t>,
-    element: Element<'t>,
-) -> Result<Parser<'t>, AllocError>
-    ensures { IfOk result (λ p. p ≡ record { outer = parser.entry.outer; level = spec.put parser.entry.level element.entry; last = item.entry }) }
-{
-    let Parser {
-        outer,
-        level,
-        last: _,
-    } = parser;
-    Ok(Parser {
-        outer,
-        level: put(level, element)?,
-        last: item,
-    })
-}
+impl<'t> Level<'t> {
+    ghost use Rattle.abnf_syntax.specs.Machine as spec;
 
-fn close_bracket<'t>(parser: Parser<'t>, item: Item<'t>) -> Result<Parser<'t>, AllocError>
-    ensures { IfOk result (λ p. spec.state_of p ≡ spec.close_in (reverse parser.entry.outer) parser.entry.level item.entry) }
-{
-    let Parser {
-        mut outer,
-        level,
-        last: _,
-    } = parser;
-    match outer.pop() {
-        None => Ok(Parser {
-            outer,
-            level,
-            last: item,
-        }),
-        Some(
-            Opened {
-                bracket,
-                level: before,
-            },
-        ) => {
-            let level = put(before, bracketed(bracket, finish(level)?))?;
-            Ok(Parser {
-                outer,
-                level,
-                last: item,
-            })
+    /// Nothing yet.
+    fn new(alloc: Global) -> Level<'t>
+        ensures { result ≡ spec.empty }
+    {
+        Level {
+            done: List::new(alloc),
+            row: List::new(alloc),
+            repeat: None,
         }
+    }
+
+    /// Adds an element, with the repeat that waits for it.
+    fn with_element(self, element: Element<'t>) -> Result<Level<'t>, AllocError>
+        ensures { IfOk result (λ l. l ≡ spec.put self.entry element.entry) }
+    {
+        let Level {
+            done,
+            mut row,
+            repeat,
+        } = self;
+        row.push(Repetition { repeat, element })?;
+        Ok(Level {
+            done,
+            row,
+            repeat: None,
+        })
+    }
+
+    /// A repeat waits for its element.
+    fn with_repeat(self, repeat: Token<'t>) -> Level<'t>
+        ensures { result ≡ spec.counted self.entry repeat.entry }
+    {
+        Level {
+            done: self.done,
+            row: self.row,
+            repeat: Some(repeat),
+        }
+    }
+
+    /// The alternation that ends here.
+    fn finish(self) -> Result<Alternation<'t>, AllocError>
+        ensures { IfOk result (λ a. a ≡ spec.finish self.entry) }
+    {
+        let Level {
+            mut done,
+            row,
+            repeat: _,
+        } = self;
+        done.push(row)?;
+        Ok(done)
+    }
+
+    /// What stands behind a slash.
+    fn after_slash(self, alloc: Global) -> Result<Level<'t>, AllocError>
+        ensures { IfOk result (λ l. l ≡ spec.barred self.entry) }
+    {
+        Ok(Level {
+            done: self.finish()?,
+            row: List::new(alloc),
+            repeat: None,
+        })
     }
 }
 
-fn open_bracket<'t>(
-    alloc: Global,
-    parser: Parser<'t>,
-    item: Item<'t>,
-) -> Result<Parser<'t>, AllocError>
-    ensures { IfOk result (λ p. spec.state_of p ≡ record { outer = record { bracket = item.entry.token; level = parser.entry.level } ∷ reverse parser.entry.outer; level = spec.empty; last = item.entry }) }
-{
-    let Parser {
-        outer,
-        level,
-        last: _,
-    } = parser;
-    let outer = pushed(
-        outer,
-        Opened {
-            bracket: item.token,
-            level,
-        },
-    )?;
-    Ok(Parser {
-        outer,
-        level: empty(alloc),
-        last: item,
-    })
-}
-
-#[tactic(auto, unfolding(crate::specs::Machine::shift))]
-fn shift<'t>(alloc: Global, parser: Parser<'t>, item: Item<'t>) -> Result<Parser<'t>, AllocError>
-    ensures { IfOk result (λ p. spec.state_of p ≡ spec.shift (spec.state_of parser.entry) item.entry) }
-{
-    match item.token.kind {
-        Kind::Name => Ok(leaf(parser, item, Element::Name(item.token))?),
-        Kind::Quoted => Ok(leaf(parser, item, Element::Quoted(item.token))?),
-        Kind::Number => Ok(leaf(parser, item, Element::Number(item.token))?),
-        Kind::Prose => Ok(leaf(parser, item, Element::Prose(item.token))?),
-        Kind::ParenL | Kind::BracketL => Ok(open_bracket(alloc, parser, item)?),
-        Kind::ParenR | Kind::BracketR => Ok(close_bracket(parser, item)?),
-        Kind::Slash => {
-            let Parser {
-                outer,
-                level,
-                last: _,
-            } = parser;
-            Ok(Parser {
-                outer,
-                level: barred(alloc, level)?,
-                last: item,
-            })
-        }
-        Kind::Repeat => {
-            let Parser {
-                outer,
-                level: Level {
-                    done,
-                    row,
-                    repeat: _,
-                },
-                last: _,
-            } = parser;
-            let level = Level {
-                done,
-                row,
-                repeat: Some(item.token),
-            };
-            Ok(Parser {
-                outer,
-                level,
-                last: item,
-            })
-        }
-        _ => {
-            let Parser {
-                outer,
-                level,
-                last: _,
-            } = parser;
-            Ok(Parser {
-                outer,
-                level,
-                last: item,
-            })
-        }
-    }
-}
-
+/// The place of a token.
 pub(crate) fn place_of<'t>(token: Token<'t>) -> Place
     ensures { result ≡ place_of token.entry }
 {
@@ -253,6 +141,7 @@ pub(crate) fn place_of<'t>(token: Token<'t>) -> Place
     }
 }
 
+/// The empty place behind a token.
 pub(crate) fn place_after<'t>(token: Token<'t>) -> Place
     ensures { result ≡ place_after token.entry }
 {
@@ -264,6 +153,7 @@ pub(crate) fn place_after<'t>(token: Token<'t>) -> Place
     }
 }
 
+/// The innermost bracket that is open.
 fn innermost<'t>(outer: &List<Opened<'t>>) -> Option<Token<'t>>
     ensures { result ≡ first_of (spec.brackets (reverse outer.now)) }
 {
@@ -276,30 +166,14 @@ fn innermost<'t>(outer: &List<Opened<'t>>) -> Option<Token<'t>>
     }
 }
 
+/// How many brackets are open.
 fn depth<'t>(outer: &List<Opened<'t>>) -> usize
     ensures { result ≡ length (spec.brackets (reverse outer.now)) }
 {
     outer.len()
 }
 
-#[tactic(auto, unfolding(crate::specs::Machine::fault_at))]
-fn end_fault<'t>(parser: &Parser<'t>) -> Option<SyntaxFault>
-    ensures { result ≡ spec.fault_at (spec.state_of parser.now) [] }
-{
-    let last = parser.last.token;
-    if needs_element(last.kind) {
-        return Some(SyntaxFault::ElementExpected(place_after(last)));
-    }
-    let Some(bracket) = innermost(&parser.outer) else {
-        return None;
-    };
-    if ends_element(last.kind) {
-        Some(SyntaxFault::Unclosed(place_of(bracket)))
-    } else {
-        None
-    }
-}
-
+/// Whether an element follows at once.
 fn is_followed(rest: &[Item<'_>]) -> bool
     ensures { result ≡ is_followed rest.now }
 {
@@ -309,89 +183,224 @@ fn is_followed(rest: &[Item<'_>]) -> bool
     }
 }
 
-#[tactic(auto, unfolding(crate::specs::Machine::fault_at))]
-fn item_fault<'t>(parser: &Parser<'t>, item: Item<'t>, rest: &[Item<'t>]) -> Option<SyntaxFault>
-    ensures { result ≡ spec.fault_at (spec.state_of parser.now) (item.entry ∷ rest.now) }
-{
-    let kind = item.token.kind;
-    let last = parser.last.token.kind;
-    let begins = is_repeat(kind) || begins_element(kind);
-    if is_bad(kind) {
-        return Some(SyntaxFault::BadToken(place_of(item.token)));
-    }
-    if !begins && needs_element(last) {
-        return Some(SyntaxFault::ElementExpected(place_of(item.token)));
-    }
-    if is_defined_as(kind) && ends_element(last) {
-        return Some(SyntaxFault::ElementExpected(place_of(item.token)));
-    }
-    let inner = innermost(&parser.outer);
-    if closes(kind) && inner.is_none() {
-        return Some(SyntaxFault::ElementExpected(place_of(item.token)));
-    }
-    if is_repeat(kind) && !is_followed(rest) {
-        return Some(SyntaxFault::ElementExpected(place_of(item.token)));
-    }
-    if begins && ends_element(last) && !item.apart {
-        return Some(SyntaxFault::BlankExpected(place_of(item.token)));
-    }
-    if let Some(bracket) = inner
-        && closes(kind)
-        && !closes_it(bracket.kind, kind)
-        && ends_element(last)
+impl<'t> Parser<'t> {
+    ghost use Rattle.abnf_syntax.specs.Machine as spec;
+
+    /// The parser behind `=` or `=/`.
+    fn new(alloc: Global, defined: Item<'t>) -> Parser<'t>
+        ensures { spec.state_of result ≡ spec.start defined.entry }
     {
-        return Some(SyntaxFault::Unclosed(place_of(bracket)));
+        Parser {
+            outer: List::new(alloc),
+            level: Level::new(alloc),
+            last: defined,
+        }
     }
-    if !numbers_fit(item.token) {
-        return Some(SyntaxFault::NumberTooLarge(place_of(item.token)));
+
+    /// An item that is an element.
+    fn take_element(self, item: Item<'t>, element: Element<'t>) -> Result<Parser<'t>, AllocError>
+        ensures { IfOk result (λ p. p ≡ record {
+          outer = self.entry.outer;
+          level = spec.put self.entry.level element.entry;
+          last = item.entry;
+        }) }
+    {
+        Ok(Parser {
+            outer: self.outer,
+            level: self.level.with_element(element)?,
+            last: item,
+        })
     }
-    if opens(kind) && depth(&parser.outer) >= MAX_NESTING {
-        return Some(SyntaxFault::TooDeep(place_of(item.token)));
+
+    /// An opening bracket.
+    fn open_bracket(self, alloc: Global, item: Item<'t>) -> Result<Parser<'t>, AllocError>
+        ensures { IfOk result (λ p. spec.state_of p ≡ record {
+          outer = record { bracket = item.entry.token; level = self.entry.level } ∷ reverse self.entry.outer;
+          level = spec.empty;
+          last = item.entry;
+        }) }
+    {
+        let opened = Opened {
+            bracket: item.token,
+            level: self.level,
+        };
+        Ok(Parser {
+            outer: pushed(self.outer, opened)?,
+            level: Level::new(alloc),
+            last: item,
+        })
     }
-    None
+
+    /// A closing bracket.
+    fn close_bracket(self, item: Item<'t>) -> Result<Parser<'t>, AllocError>
+        ensures { IfOk result (λ p.
+            spec.state_of p ≡ spec.close_in (reverse self.entry.outer) self.entry.level item.entry) }
+    {
+        let Parser {
+            mut outer,
+            level,
+            last: _,
+        } = self;
+        match outer.pop() {
+            None => Ok(Parser {
+                outer,
+                level,
+                last: item,
+            }),
+            Some(opened) => {
+                let element = bracketed(opened.bracket, level.finish()?);
+                Ok(Parser {
+                    outer,
+                    level: opened.level.with_element(element)?,
+                    last: item,
+                })
+            }
+        }
+    }
+
+    /// A slash.
+    fn take_slash(self, alloc: Global, item: Item<'t>) -> Result<Parser<'t>, AllocError>
+        ensures { IfOk result (λ p. p ≡ record {
+          outer = self.entry.outer;
+          level = spec.barred self.entry.level;
+          last = item.entry;
+        }) }
+    {
+        Ok(Parser {
+            outer: self.outer,
+            level: self.level.after_slash(alloc)?,
+            last: item,
+        })
+    }
+
+    /// A repeat.
+    fn take_repeat(self, item: Item<'t>) -> Parser<'t>
+        ensures { result ≡ record {
+          outer = self.entry.outer;
+          level = spec.counted self.entry.level item.entry.token;
+          last = item.entry;
+        } }
+    {
+        Parser {
+            outer: self.outer,
+            level: self.level.with_repeat(item.token),
+            last: item,
+        }
+    }
+
+    /// Takes the next item, which shows no fault.
+    #[tactic(auto, unfolding(crate::specs::Machine::shift))]
+    fn shift(self, alloc: Global, item: Item<'t>) -> Result<Parser<'t>, AllocError>
+        ensures { IfOk result (λ p. spec.state_of p ≡ spec.shift (spec.state_of self.entry) item.entry) }
+    {
+        match item.token.kind {
+            Kind::Name => self.take_element(item, Element::Name(item.token)),
+            Kind::Quoted => self.take_element(item, Element::Quoted(item.token)),
+            Kind::Number => self.take_element(item, Element::Number(item.token)),
+            Kind::Prose => self.take_element(item, Element::Prose(item.token)),
+            Kind::ParenL | Kind::BracketL => self.open_bracket(alloc, item),
+            Kind::ParenR | Kind::BracketR => self.close_bracket(item),
+            Kind::Slash => self.take_slash(alloc, item),
+            Kind::Repeat => Ok(self.take_repeat(item)),
+            Kind::Defines | Kind::Adds | Kind::Comment | Kind::Blank | Kind::Bad => Ok(Parser {
+                outer: self.outer,
+                level: self.level,
+                last: item,
+            }),
+        }
+    }
+
+    /// The fault that the end shows.
+    #[tactic(auto, unfolding(crate::specs::Machine::fault_at))]
+    fn end_fault(&self) -> Option<SyntaxFault>
+        ensures { result ≡ spec.fault_at (spec.state_of self.now) [] }
+    {
+        let last = self.last.token;
+        if needs_element(last.kind) {
+            return Some(SyntaxFault::ElementExpected(place_after(last)));
+        }
+        let bracket = innermost(&self.outer)?;
+        if ends_element(last.kind) {
+            Some(SyntaxFault::Unclosed(place_of(bracket)))
+        } else {
+            None
+        }
+    }
+
+    /// The fault that the next item shows, with what follows it.
+    #[tactic(auto, unfolding(crate::specs::Machine::fault_at))]
+    fn item_fault(&self, item: Item<'t>, rest: &[Item<'t>]) -> Option<SyntaxFault>
+        ensures { result ≡ spec.fault_at (spec.state_of self.now) (item.entry ∷ rest.now) }
+    {
+        let kind = item.token.kind;
+        let last = self.last.token.kind;
+        let begins = is_repeat(kind) || begins_element(kind);
+        if is_bad(kind) {
+            return Some(SyntaxFault::BadToken(place_of(item.token)));
+        }
+        if !begins && needs_element(last) {
+            return Some(SyntaxFault::ElementExpected(place_of(item.token)));
+        }
+        if is_defined_as(kind) && ends_element(last) {
+            return Some(SyntaxFault::ElementExpected(place_of(item.token)));
+        }
+        let inner = innermost(&self.outer);
+        if closes(kind) && inner.is_none() {
+            return Some(SyntaxFault::ElementExpected(place_of(item.token)));
+        }
+        if is_repeat(kind) && !is_followed(rest) {
+            return Some(SyntaxFault::ElementExpected(place_of(item.token)));
+        }
+        if begins && ends_element(last) && !item.apart {
+            return Some(SyntaxFault::BlankExpected(place_of(item.token)));
+        }
+        if let Some(bracket) = inner
+            && closes(kind)
+            && !closes_it(bracket.kind, kind)
+            && ends_element(last)
+        {
+            return Some(SyntaxFault::Unclosed(place_of(bracket)));
+        }
+        if !numbers_fit(item.token) {
+            return Some(SyntaxFault::NumberTooLarge(place_of(item.token)));
+        }
+        if opens(kind) && depth(&self.outer) >= MAX_NESTING {
+            return Some(SyntaxFault::TooDeep(place_of(item.token)));
+        }
+        None
+    }
+
+    /// Takes the next item.
+    #[tactic(auto, unfolding(crate::specs::Machine::fault_at))]
+    fn step(
+        self,
+        alloc: Global,
+        item: Item<'t>,
+        rest: &[Item<'t>],
+    ) -> Result<Parser<'t>, SyntaxFault>
+        ensures ok { IfOk result (λ p.
+            spec.run (spec.state_of self.entry) (item.entry ∷ rest.now) ≡ spec.run (spec.state_of p) rest.now) }
+        ensures err { IfErr result (λ fault. (fault ≡ SyntaxFault.Memory)
+            ⊎ (spec.run (spec.state_of self.entry) (item.entry ∷ rest.now) ≡ Err fault)) }
+    {
+        match self.item_fault(item, rest) {
+            Some(fault) => Err(fault),
+            None => Ok(self.shift(alloc, item)?),
+        }
+    }
+
+    /// The alternation of the whole body.
+    fn finish(self) -> Result<Alternation<'t>, SyntaxFault>
+        ensures { spec.Gives result (spec.run (spec.state_of self.entry) []) }
+    {
+        match self.end_fault() {
+            Some(fault) => Err(fault),
+            None => Ok(self.level.finish()?),
+        }
+    }
 }
 
-fn begin<'t>(alloc: Global, defined: Item<'t>) -> Parser<'t>
-    ensures { spec.state_of result ≡ spec.start defined.entry }
-{
-    Parser {
-        outer: List::new(alloc),
-        level: empty(alloc),
-        last: defined,
-    }
-}
-
-#[tactic(auto, unfolding(crate::specs::Machine::fault_at))]
-fn step<'t>(
-    alloc: Global,
-    parser: Parser<'t>,
-    item: Item<'t>,
-    rest: &[Item<'t>],
-) -> Result<Parser<'t>, SyntaxFault>
-    ensures ok { IfOk result (λ p. spec.run (spec.state_of parser.entry) (item.entry ∷ rest.now) ≡ spec.run (spec.state_of p) rest.now) }
-    ensures err { IfErr result (λ fault. (fault ≡ SyntaxFault.Memory) ⊎ (spec.run (spec.state_of parser.entry) (item.entry ∷ rest.now) ≡ Err fault)) }
-{
-    match item_fault(&parser, item, rest) {
-        Some(fault) => Err(fault),
-        None => match shift(alloc, parser, item) {
-            Ok(parser) => Ok(parser),
-            Err(_) => Err(SyntaxFault::Memory),
-        },
-    }
-}
-
-fn last_step<'t>(parser: Parser<'t>) -> Result<Alternation<'t>, SyntaxFault>
-    ensures { spec.Gives result (spec.run (spec.state_of parser.entry) []) }
-{
-    match end_fault(&parser) {
-        Some(fault) => Err(fault),
-        None => match finish(parser.level) {
-            Ok(body) => Ok(body),
-            Err(_) => Err(SyntaxFault::Memory),
-        },
-    }
-}
-
+/// The alternation behind `=` or `=/`, up to the end of the block.
 pub(crate) fn body_of<'t>(
     alloc: Global,
     defined: Item<'t>,
@@ -399,12 +408,9 @@ pub(crate) fn body_of<'t>(
 ) -> Result<Alternation<'t>, SyntaxFault>
     ensures { spec.Gives result (spec.run (spec.start defined.entry) items.now) }
 {
-    let mut parser = begin(alloc, defined);
+    let mut parser = Parser::new(alloc, defined);
     for i in 0..items.len() {
-        match step(alloc, parser, items[i], &items[i + 1..]) {
-            Ok(next) => parser = next,
-            Err(fault) => return Err(fault),
-        }
+        parser = parser.step(alloc, items[i], &items[i + 1..])?;
     }
-    last_step(parser)
+    parser.finish()
 }

@@ -8,7 +8,7 @@ use ls_text::{Position, Range};
 use std::test::Fail;
 
 const INITIALIZED: &[u8] =
-    b"{\"id\":1,\"jsonrpc\":\"2.0\",\"result\":{\"capabilities\":{\"documentSymbolProvider\":true,\"positionEncoding\":\"utf-16\",\"textDocumentSync\":{\"change\":0,\"openClose\":true}},\"serverInfo\":{\"name\":\"abnf_ls\"}}}";
+    b"{\"id\":1,\"jsonrpc\":\"2.0\",\"result\":{\"capabilities\":{\"documentSymbolProvider\":true,\"positionEncoding\":\"utf-16\",\"textDocumentSync\":{\"change\":2,\"openClose\":true}},\"serverInfo\":{\"name\":\"abnf_ls\"}}}";
 
 const SHUT_DOWN: &[u8] = b"{\"id\":9,\"jsonrpc\":\"2.0\",\"result\":null}";
 

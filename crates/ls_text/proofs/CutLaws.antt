@@ -8,7 +8,7 @@ use Rattle.std.specs.Str.{chars, IsUtf8, IsCharBoundary}
 use Rattle.std.specs.String.{string_bytes}
 use Rattle.std.specs.Char.{encode_utf8 as encode}
 use Rattle.std.specs.Str.{encode_utf8_all as encodes}
-use Rattle.std.proofs.lemmas.List.{append-nil, length-map, take_more}
+use Rattle.std.proofs.lemmas.List.{append-nil, length-map}
 use Rattle.std.proofs.lemmas.List.Folds.{list_any-append}
 use Rattle.std.proofs.lemmas.Bool.{cases_lt}
 use Rattle.std.proofs.lemmas.Bool.Decides.{nat_tests}
@@ -208,10 +208,6 @@ lines_end (m ∷ n ∷ ls) l h p e =
 pub cut_start : (text : List ℕ) → IsUtf8 text → IsCutSoFar text [] text
 cut_start text u = record { joins = refl; before = tt; utf8 = u }
 
-nothing : (x : List ℕ) → x ++ ([] ++ chars []) ≡ x
-unfolding chars
-nothing x = append-nil x
-
 module _ {text rest : List ℕ} {ls : List Line} {line after : List ℕ} {end : LineEnd} (l : Line) (so_far : IsCutSoFar text ls rest) (cut : IsCutFrom line end after rest) (text_is : string_bytes l.text ≡ line) (end_is : l.end ≡ end) where
   rest_is : chars rest ≡ line_text l ++ (end_text l.end ++ chars after)
   rest_is = ap chars cut.joins ∙ chars-cut line end after cut.line_utf8 ∙ (λ i. chars (sym text_is i) ++ (end_text (sym end_is i) ++ chars after))
@@ -225,13 +221,6 @@ module _ {text rest : List ℕ} {ls : List Line} {line after : List ℕ} {end : 
     before = lines_before_push ls l (chars after) (subst (AreLinesBefore ls) rest_is so_far.before) line_plain (ap (λ x. is_end_before x (chars after)) end_is ∙ is_end_before-chars end after cut.rest_utf8 e);
     utf8 = cut.rest_utf8;
   }
-
-  pub cut_last : end ≡ Eof → after ≡ [] → AreLines (ls ++ l ∷ []) × (text_of (ls ++ l ∷ []) ≡ chars text)
-  cut_last e a =
-      let last : chars rest ≡ line_text l = rest_is ∙ (λ i. line_text l ++ (end_text ((end_is ∙ e) i) ++ chars (a i))) ∙ nothing (line_text l) in (
-        lines_end ls l (subst (AreLinesBefore ls) last so_far.before) line_plain (end_is ∙ e),
-        sym (append-nil (text_of (ls ++ l ∷ []))) ∙ text_of-push ls l [] ∙ ap (λ x. text_of ls ++ x) (ap (λ x. line_text l ++ (end_text x ++ [])) (end_is ∙ e) ∙ append-nil (line_text l) ∙ sym last) ∙ so_far.joins,
-      )
 
 -- ---- the first line
 pub record IsFirstBreak (bs : List ℕ) (n : ℕ) : Type 0 where
@@ -278,34 +267,6 @@ module _ {X : Type 0} (value : X → Line) (held items : List X) (t : List ℕ) 
 -- the bytes of a line are the UTF-8 of its characters
 pub bytes_some : {found : Option (List ℕ)} (bytes : List ℕ) → IsUtf8 bytes → Some (chars bytes) ≡ found → Some bytes ≡ option_map encodes found
 bytes_some bytes u e = ap Some (sym (encodes-chars bytes u)) ∙ ap (option_map encodes) e
-
--- ---- the loop of `of_text`
-module _ {text rest line after : List ℕ} {ls ms : List Line} {end : LineEnd} (so_far : IsCutSoFar text ls rest) (cut : IsCutFrom line end after rest) (pushed : IsPushed ls line end ms) where
-  pub loop_more : (end ≡ Eof → ⊥) → IsCutSoFar text ms after
-  loop_more ne = subst (λ x. IsCutSoFar text x after) (sym pushed.joins) (cut_more pushed.line so_far cut pushed.text_is pushed.end_is (⊎_elim (λ h. absurd (ne h.0)) (λ h. h) cut.ends))
-
-  not_eof : is_end_before end after ≡ true → end ≡ Eof → after ≡ []
-  not_eof h e = absurd (eof_is_no_end (ap (λ x. is_end_before x after) (sym e) ∙ h))
-    where
-      eof_is_no_end : is_end_before Eof after ≡ true → ⊥
-      eof_is_no_end k = cc
-
-  loop_last : end ≡ Eof → AreLines (ls ++ pushed.line ∷ []) × (text_of (ls ++ pushed.line ∷ []) ≡ chars text)
-  loop_last e = cut_last pushed.line so_far cut pushed.text_is pushed.end_is e (⊎_elim (λ h. h.1) (λ h. not_eof h e) cut.ends)
-
-  pub loop_lines : end ≡ Eof → AreLines ms
-  loop_lines e = subst AreLines (sym pushed.joins) (loop_last e).0
-
-  pub loop_text : end ≡ Eof → text_of ms ≡ chars text
-  loop_text e = ap text_of pushed.joins ∙ (loop_last e).1
-
--- ---- a turn of `to_text`
-pub to_text_more : (ls : List Line) (i : ℕ) (l : Line) (bs line end : List ℕ) → i < length ls → l ≡ get_or ls i l → IsUtf8 bs → line ≡ string_bytes l.text → IsUtf8 line → end ≡ end_text l.end → chars bs ≡ text_of (take i ls) → chars ((bs ++ line) ++ end) ≡ text_of (take (i + 1) ls)
-to_text_more ls i l bs line end lt item u text_is v end_is before =
-    let one_more : take (i + 1) ls ≡ take i ls ++ l ∷ [] = take_more ls i l lt ∙ ap (λ x. take i ls ++ x ∷ []) (sym item) in
-    let spelled : chars ((bs ++ line) ++ end) ≡ chars bs ++ (chars line ++ end_text l.end) = ap chars (append_assoc bs line end) ∙ chars-append bs (line ++ end) u ∙ ap (λ x. chars bs ++ x) (chars-append line end v ∙ ap (λ x. chars line ++ x) (ap chars end_is ∙ chars_end l.end)) in
-    let pushed : text_of (take i ls ++ l ∷ []) ≡ text_of (take i ls) ++ (line_text l ++ end_text l.end) = sym (append-nil (text_of (take i ls ++ l ∷ []))) ∙ text_of-push (take i ls) l [] ∙ ap (λ x. text_of (take i ls) ++ (line_text l ++ x)) (append-nil (end_text l.end)) in
-    spelled ∙ (λ k. before k ++ (chars (text_is k) ++ end_text l.end)) ∙ sym pushed ∙ ap text_of (sym one_more)
 
 -- ---- the whole lines of a text, onto other lines
 pub onto_start : (old : List Line) (text : List ℕ) → IsUtf8 text → IsCutOnto old text text old

@@ -1,7 +1,7 @@
 -- Laws of lines and line ends.
 use Rattle.std.proofs.Common.{◌≡◌, ℕ, ◌+◌, ◌<◌, Bool, true, false, not, cond, ◌&&◌, ◌||◌, eqb, List, [], ◌∷◌, ◌++◌, length, refl, arith}
 use Rattle.std.specs.List.{list_any}
-use Rattle.ls_text.specs.Lines.{is_break, starts_with_lf, ends_with_cr, ends_line, line_ends, put_first, lines}
+use Rattle.ls_text.specs.Lines.{is_break, starts_with_lf, ends_line, line_ends, put_first, lines}
 
 -- of the tests that a plain character and what follows it fail
 pub or_false : (a b s r : Bool) → ((a || b) || r) ≡ false → ((a || (b && s)) ≡ false) × (b ≡ false) × (r ≡ false)
@@ -36,26 +36,6 @@ lines-plain_append [] t l ls e h = h
 lines-plain_append (c ∷ p) t l ls e h =
     let k = plain_parts c p (p ++ t) e in
     rw (k.0, k.1, lines-plain_append p t l ls k.2 h) refl
-
--- a seam that splits no CRLF
-seam_cases : (b s : Bool) → (b && s) ≡ false → (b && not s) ≡ b
-seam_cases false s e = refl
-seam_cases true false e = refl
-seam_cases true true e = cc
-
-pub line_ends-append : (x y : List ℕ) → (ends_with_cr x && starts_with_lf y) ≡ false → line_ends (x ++ y) ≡ line_ends x + line_ends y
-unfolding line_ends
-line_ends-append [] y e = omega arith
-line_ends-append (c ∷ []) y e = rw (seam_cases (eqb c 13) (starts_with_lf y) e) (simp_seam c (line_ends y))
-  where
-    simp_seam : (c n : ℕ) → cond (eqb c 10 || eqb c 13) 1 0 + n ≡ (cond (eqb c 10 || (eqb c 13 && true)) 1 0 + 0) + n
-    simp_seam c n = and_true (eqb c 10) (eqb c 13)
-      where
-        and_true : (a b : Bool) → cond (a || b) 1 0 + n ≡ (cond (a || (b && true)) 1 0 + 0) + n
-        and_true true b = omega arith
-        and_true false true = omega arith
-        and_true false false = omega arith
-line_ends-append (c ∷ d ∷ x) y e = omega (arith, line_ends-append (d ∷ x) y e)
 
 -- a text has one line more than it has line ends
 pub length-put_first : (c : ℕ) (ls : List (List ℕ)) → 0 < length ls → length (put_first c ls) ≡ length ls

@@ -10,7 +10,7 @@ use Rattle.std.proofs.lemmas.List.{append-nil, take-append-le, get_or_append_lef
 use Rattle.std.proofs.lemmas.Bool.{cases_lt}
 use Rattle.std.proofs.lemmas.Bool.Decides.{nat_tests}
 use Rattle.ls_text.specs.Lines.{is_break, starts_with_lf, ends_with_cr, line_ends, last_line, splits_crlf, is_offset, line_at, units_at, greatest, is_within, offset_of, fitting}
-use Rattle.ls_text.specs.Cut.{end_text, line_text, text_of, IsPlain, is_end_before, AreLines, start_of, text_at, IsIndex, IsPushed, IsCutFrom}
+use Rattle.ls_text.specs.Cut.{end_text, line_text, text_of, IsPlain, is_end_before, AreLines, start_of, text_at, IsIndex}
 use Rattle.ls_text.specs.declared.line_end.LineEnd.{LineEnd}
 use Rattle.ls_text.specs.declared.line_end.LineEnd.TheVariants.{Eof, Lf, Cr, CrLf}
 use Rattle.ls_text.specs.declared.line.Line.{Line}
@@ -145,11 +145,6 @@ at_line (l ∷ n ∷ ls) h (suc m) k lt le =
       line_is = ap line_ends front ∙ line_ends-cut (line_text l) l.end _ h.0 seam ∙ ap (λ x. 1 + x) rest.line_is ∙ omega arith;
       before_is = ap last_line front ∙ last_line-cut (line_text l) l.end _ h.0 seam ∙ rest.before_is;
     }
-
--- ---- the code's index: the start of each line in characters
-pub start_of-text : (ls : List Line) → start_of ls (length ls) ≡ length (text_of ls)
-start_of-text [] = refl
-start_of-text (l ∷ ls) = omega (arith, start_of-text ls, length-append (line_text l) (end_text l.end ++ text_of ls), length-append (end_text l.end) (text_of ls))
 
 -- ---- each offset stands in a line, before its line end
 pub record IsLocated (ls : List Line) (o : ℕ) : Type 0 where
@@ -377,9 +372,6 @@ length-text_of-push : (ls : List Line) (l : Line) → length (text_of (ls ++ l �
 length-text_of-push [] l = omega (arith, length-append (line_text l) (end_text l.end ++ []), length-append (end_text l.end) [])
 length-text_of-push (n ∷ ls) l = omega (arith, length-text_of-push ls l, length-append (line_text n) (end_text n.end ++ text_of ls), length-append (end_text n.end) (text_of ls), length-append (line_text n) (end_text n.end ++ text_of (ls ++ l ∷ [])), length-append (end_text n.end) (text_of (ls ++ l ∷ [])))
 
-pub index_start : IsIndex [] 0 []
-index_start = record { count = refl; starts_are = λ m lt. absurd (omega (arith, lt)); len_is = refl }
-
 pub index_push : (starts : List ℕ) (len : ℕ) (ls : List Line) (l : Line) (more : ℕ) → IsIndex starts len ls → more ≡ length (line_text l) + length (end_text l.end) → IsIndex (starts ++ len ∷ []) (len + more) (ls ++ l ∷ [])
 index_push starts len ls l more index more_is = record {
   count = omega (arith, length-append starts (len ∷ []), length-append ls (l ∷ []), index.count);
@@ -387,15 +379,6 @@ index_push starts len ls l more index more_is = record {
       (λ above. let e : m ≡ length ls = omega (arith, above, lt, length-append ls (l ∷ [])) in subst (λ x. get_or (starts ++ len ∷ []) x 0 ≡ start_of (ls ++ l ∷ []) x) (sym e) (get_or_push starts len 0 (length ls) index.count ∙ index.len_is ∙ sym (start_of-last ls l))) (cases_lt m (length ls));
   len_is = omega (arith, length-text_of-push ls l, index.len_is, more_is);
 }
-
--- a turn of `of_text` keeps the index, and the count within the bytes
-pub index_more : (starts next : List ℕ) (len count ends : ℕ) (ls ms : List Line) (line : List ℕ) (end : LineEnd) → IsIndex starts len ls → next ≡ starts ++ len ∷ [] → IsPushed ls line end ms → count ≡ length (chars line) → ends ≡ length (end_text end) → IsIndex next (len + (count + ends)) ms
-index_more starts next len count ends ls ms line end index next_is pushed count_is ends_is =
-    subst (λ x. IsIndex x (len + (count + ends)) ms) (sym next_is) (subst (IsIndex (starts ++ len ∷ []) (len + (count + ends))) (sym pushed.joins) (index_push starts len ls pushed.line (count + ends) index (omega (arith, count_is, ends_is, ap (λ x. length (chars x)) pushed.text_is, ap (λ x. length (end_text x)) pushed.end_is))))
-
-pub bound_more : (len count ends total : ℕ) (line after rest : List ℕ) (end : LineEnd) → IsCutFrom line end after rest → len + length rest ≤ total → count ≤ length line → ends ≡ length (end_text end) → (len + (count + ends)) + length after ≤ total
-bound_more len count ends total line after rest end cut fit count_le ends_is =
-    omega (arith, fit, count_le, ends_is, ap length cut.joins, length-append line (end_text end ++ after), length-append (end_text end) after)
 
 pub text_found : (ls : List Line) (m : ℕ) (x : Line) → m < length ls → x ≡ get_or ls m x → text_at ls m ≡ line_text x
 text_found [] m x lt e = absurd (omega (arith, lt))
