@@ -118,6 +118,7 @@ fn one_symbol_after_edits(rt: HostRuntime) -> Result<(), Fail> {
             0,
             3,
         ),
+        ("", r#"[{"text":"a = \"x\" ; c"}]"#, "a", 0, 7),
         (
             "",
             r#"[{"text":"w = 1"},{"range":null,"text":"e ="}]"#,

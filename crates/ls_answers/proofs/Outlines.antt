@@ -16,6 +16,6 @@ pub outline-next : (text : List ℕ) (blocks : List Block) (i : ℕ) (block : Bl
     → filter_map (symbol_of text) (take (i + 1) blocks) ≡ filter_map (symbol_of text) (take i blocks) ++ symbols_in text block
 outline-next text blocks i block within is =
     ap (filter_map (symbol_of text)) (take_more blocks i block within)
-      ∙ (filter_map-append (symbol_of text) (take i blocks) (get_or blocks i block ∷ [])
-      ∙ (ap (λ b. filter_map (symbol_of text) (take i blocks) ++ filter_map (symbol_of text) (b ∷ [])) (sym is)
-      ∙ ap (λ l. filter_map (symbol_of text) (take i blocks) ++ l) (one text block (symbol_of text block) refl)))
+    ∙ (filter_map-append (symbol_of text) (take i blocks) (get_or blocks i block ∷ [])
+    ∙ (ap (λ b. filter_map (symbol_of text) (take i blocks) ++ filter_map (symbol_of text) (b ∷ [])) (sym is)
+    ∙ ap (λ l. filter_map (symbol_of text) (take i blocks) ++ l) (one text block (symbol_of text block) refl)))

@@ -8,6 +8,8 @@ mod answer;
 mod ask;
 mod job;
 mod outline;
+#[cfg(test)]
+mod tests;
 
 pub use answer::{Answer, Symbol};
 pub use ask::Ask;

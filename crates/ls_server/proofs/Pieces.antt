@@ -70,7 +70,6 @@ stops-here old piece new state after a b s f = record {
   written = f;
 }
 
-
 faulty : (old piece new : List ℕ) (state now : Talk) (after : List (List ℕ)) (fault : FrameFault) (a b : Option (List ℕ)) → (fault_of new ≡ Some fault) × Stream (old ++ piece) after new
     → AnswersIs state after a (Ok None) now b → Ends old piece state a (BadFrame fault) b
 faulty old piece new state now after fault a b f h = record { contents = after; last = new; stream = f.1; status = rw (h.0, f.0) refl; written = h.2 }

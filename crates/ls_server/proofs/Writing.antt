@@ -46,8 +46,12 @@ says-append state (x ∷ xs) ys a b e (inl h) t = absurd (none-some (exit_of sta
 says-append state (x ∷ xs) ys a b e (inr h) t = inr (
   h.0,
   h.1 ++ b,
-  (h.2.0, h.2.1, says-append (after state x) xs ys h.1 b ((no-exit state x xs e).1) h.2.2 t,
-    ap (λ l. l ++ b) h.2.3 ∙ append_assoc (frames_for h.0) h.1 b),
+  (
+    h.2.0,
+    h.2.1,
+    says-append (after state x) xs ys h.1 b ((no-exit state x xs e).1) h.2.2 t,
+    ap (λ l. l ++ b) h.2.3 ∙ append_assoc (frames_for h.0) h.1 b,
+  ),
 )
 
 exited-rest : (state : Talk) (body : List ℕ) (bodies : List (List ℕ)) (status : Status) → exit_of state body ≡ None → exited state (body ∷ bodies) ≡ Some status → exited (after state body) bodies ≡ Some status

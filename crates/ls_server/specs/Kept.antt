@@ -5,23 +5,21 @@ use Rattle.ls_rpc.specs.declared.message.Id.{Id}
 use Rattle.ls_text.specs.Edits.{edited_all}
 use Rattle.ls_text.specs.Lines.{utf16_len}
 use Rattle.ls_text.specs.declared.edit.Edit.{Edit}
-use Rattle.ls_session.specs.Bodies.{body_of, refusal_of}
-use Rattle.ls_session.specs.Outline.{symbols_of}
-use Rattle.ls_session.specs.declared.event.Ask.{Ask}
-use Rattle.ls_session.specs.declared.event.Ask.TheVariants as ask
-use Rattle.ls_session.specs.declared.answer.Answer.{Answer}
-use Rattle.ls_session.specs.declared.answer.Answer.TheVariants as answer
-use Rattle.ls_session.specs.declared.answer.Out.TheVariants.{Replied}
+use Rattle.ls_session.specs.Bodies.{reply_body, refusal_of}
+use Rattle.ls_answers.specs.Answers.{IsAnswer}
+use Rattle.ls_answers.specs.declared.ask.Ask.{Ask}
+use Rattle.ls_answers.specs.declared.answer.Answer.{Answer}
 use Rattle.ls_session.specs.declared.answer.DeskFault.TheVariants.{NotOpen}
 use Rattle.ls_server.specs.declared.keeper.Document.{Document}
 
--- the open documents, in the order of their opening, and how many versions there have been
+-- the open documents, in the order of their opening, and how many versions and tickets there have been
 pub record Kept : Type 0 where
   pub documents : List Document
   pub versions : ℕ
+  pub tickets : ℕ
 
 abbrev pub nothing_kept : Kept
-nothing_kept = record { documents = []; versions = 0 }
+nothing_kept = record { documents = []; versions = 0; tickets = 0 }
 
 -- the document has this name; names are compared byte by byte
 abbrev pub is_named : List ℕ → Document → Bool
@@ -53,6 +51,7 @@ opened uri label text kept =
     else (record {
       documents = kept.documents ++ document_of uri label (next_version kept) (chars text) ∷ [];
       versions = next_version kept;
+      tickets = kept.tickets;
     })
 
 abbrev pub without : List Document → Option ℕ → List Document
@@ -69,6 +68,7 @@ changed_to label kept at document None = record kept { documents = remove kept.d
 changed_to label kept at document (Some text) = record {
   documents = slice_set kept.documents at (document_of document.uri label (next_version kept) text);
   versions = next_version kept;
+  tickets = kept.tickets;
 }
 
 abbrev pub changed_in : ℤ → List Edit → Kept → ℕ → Option Document → Kept
@@ -83,14 +83,23 @@ changed_at label edits kept (Some at) = changed_in label edits kept at (slice_ge
 unfoldable pub changed : List ℕ → ℤ → List Edit → Kept → Kept
 changed uri label edits kept = changed_at label edits kept (place_of uri kept.documents)
 
--- the answer on a text
-abbrev pub answer_of : List ℕ → Ask → Answer
-answer_of text ask.Symbols = answer.Symbols (symbols_of text)
+-- the body replies with an answer to the question about the text
+unfoldable pub IsReply : Id → List ℕ → Ask → List ℕ → Type 0
+IsReply id text ask body = (answer : Answer) × IsAnswer text ask answer × (body ≡ reply_body id answer)
 
 abbrev pub IsRepliedOn : Id → Ask → Option Document → Option (List ℕ) → Type 0
 IsRepliedOn id ask None reply = reply ≡ refusal_of id NotOpen
-IsRepliedOn id ask (Some document) reply = reply ≡ Some (body_of (Replied id (answer_of document.snapshot ask)))
+IsRepliedOn id ask (Some document) None = ⊥
+IsRepliedOn id ask (Some document) (Some body) = IsReply id document.snapshot ask body
 
--- what a request is answered with: the refusal where its document isn't open, else the body of the answer on its text
+-- what a request is answered with: the refusal where its document isn't open, else the body with the answer on its text
 unfoldable pub IsReplied : Id → List ℕ → Ask → Kept → Option (List ℕ) → Type 0
 IsReplied id uri ask kept reply = IsRepliedOn id ask (document_at uri kept.documents) reply
+
+abbrev pub counted : Kept → Option Document → Kept
+counted kept None = kept
+counted kept (Some document) = record kept { tickets = min (kept.tickets + 1) (2 ^ 64 - 1) }
+
+-- what is kept once a request has been answered: it has a ticket where its document is open
+unfoldable pub asked : List ℕ → Kept → Kept
+asked uri kept = counted kept (document_at uri kept.documents)

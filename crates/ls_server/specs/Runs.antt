@@ -23,7 +23,7 @@ Says state [] bytes = bytes ≡ []
 Says state (body ∷ bodies) bytes =
     ((status : Status) × (exit_of state body ≡ Some status) × (bytes ≡ []))
     ⊎ ((reply : Option (List ℕ)) × (later : List ℕ) × ((exit_of state body ≡ None) × IsReply state body reply × Says (after state body) bodies later
-      × (bytes ≡ frames_for reply ++ later)))
+    × (bytes ≡ frames_for reply ++ later)))
 
 -- the status of the first exit
 abbrev pub exited : Talk → List (List ℕ) → Option Status

@@ -9,7 +9,7 @@ use Rattle.ls_session.specs.declared.event.Turn.{Turn}
 use Rattle.ls_session.specs.declared.event.Turn.TheVariants as turn
 use Rattle.ls_session.specs.declared.session.Stage.{Stage}
 use Rattle.ls_session.specs.declared.session.Stage.TheVariants.{BeforeInitialize}
-use Rattle.ls_server.specs.Kept.{Kept, nothing_kept, opened, changed, closed, IsReplied}
+use Rattle.ls_server.specs.Kept.{Kept, nothing_kept, opened, changed, closed, asked, IsReplied}
 use Rattle.ls_server.specs.declared.conversation.Reply.{Reply}
 use Rattle.ls_server.specs.declared.conversation.Reply.TheVariants as reply
 
@@ -26,7 +26,7 @@ abbrev pub kept_after : ClientEvent → Kept → Kept
 kept_after (DidOpen uri label text) kept = opened uri label text kept
 kept_after (DidChange uri label edits) kept = changed uri label edits kept
 kept_after (DidClose uri) kept = closed uri kept
-kept_after (Request id uri ask links) kept = kept
+kept_after (Request id uri ask links) kept = asked uri kept
 kept_after (Say body) kept = kept
 
 -- what an event is answered with: a body, or nothing

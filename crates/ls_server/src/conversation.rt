@@ -71,7 +71,7 @@ fn act(keeper: &mut Keeper, event: ClientEvent) -> Result<Reply, AllocError>
             keeper.close(uri.as_str());
             Ok(Reply::Nothing)
         }
-        ClientEvent::Request(id, uri, ask, _) => match keeper.answer(id, uri.as_str(), &ask)? {
+        ClientEvent::Request(id, uri, ask, _) => match keeper.answer(id, uri.as_str(), ask)? {
             Some(body) => Ok(Reply::Body(body)),
             None => Ok(Reply::Nothing),
         },

@@ -1,14 +1,17 @@
 //! The documents that a client has open.
 ghost use Rattle.std.specs.Prelude.{◌≡◌, [], IfOk, OnOk, option_map};
-ghost use Rattle.ls_server.specs.Kept.{IsReplied, answer_of, changed, closed, document_at, is_named, next_version, nothing_kept, opened, place_of};
+ghost use Rattle.std.specs.Arc.{arc_value};
+ghost use Rattle.ls_server.specs.Kept.{IsReplied, IsReply, asked, changed, closed, document_at, is_named, next_version, nothing_kept, opened, place_of};
 ghost use Rattle.ls_session.specs.Bodies.{body_of, refusal_of};
 
+use ls_answers::{Ask, Job, run};
 use ls_lists::{List, Text};
 use ls_rpc::Id;
-use ls_session::{Answer, Ask, DeskFault, Out, body_of, refusal_body, symbols};
-use ls_text::{Edit, Snapshot, TextFault};
+use ls_session::{DeskFault, Out, body_of, refusal_body};
+use ls_text::{Edit, SharedSnapshot, Snapshot, TextFault};
 use std::alloc::{AllocError, Global};
 use std::marker::Model;
+use std::sync::Arc;
 
 /// The most documents that are open at once.
 pub const DOCUMENTS_MOST: usize = 256;
@@ -22,7 +25,7 @@ pub struct Document {
     pub label: i64,
     /// This server's number of the version, from 1 over the session.
     pub version: u64,
-    pub snapshot: Snapshot,
+    pub snapshot: SharedSnapshot,
 }
 
 /// Keeps the open documents, and answers a request as soon as it comes.
@@ -31,6 +34,7 @@ pub struct Keeper {
     alloc: Global,
     documents: List<Document>,
     versions: u64,
+    tickets: u64,
 }
 
 impl Model for Keeper {
@@ -38,7 +42,7 @@ impl Model for Keeper {
 
     ghost Value = { Kept };
 
-    ghost view = { λ k. record { documents = k.documents; versions = k.versions } };
+    ghost view = { λ k. record { documents = k.documents; versions = k.versions; tickets = k.tickets } };
 }
 
 impl Keeper {
@@ -49,6 +53,7 @@ impl Keeper {
             alloc,
             documents: List::new(alloc),
             versions: 0,
+            tickets: 0,
         }
     }
 
@@ -68,6 +73,7 @@ impl Keeper {
             Err(TextFault::TooLarge) => return Ok(()),
             Err(TextFault::Memory) => return Err(AllocError),
         };
+        let snapshot = SharedSnapshot::new(self.alloc, snapshot)?;
         let version = self.next_version();
         self.documents.push(Document {
             uri,
@@ -91,7 +97,7 @@ impl Keeper {
         let Some(document) = self.documents.get(at) else {
             return Ok(());
         };
-        let snapshot = match document.snapshot.apply(edits) {
+        let snapshot = match document.snapshot.get().apply(edits) {
             Ok(snapshot) => snapshot,
             Err(TextFault::TooLarge) => {
                 self.documents.remove(at);
@@ -99,8 +105,9 @@ impl Keeper {
             }
             Err(TextFault::Memory) => return Err(AllocError),
         };
-        let version = self.next_version();
         let uri = document.uri.copy()?;
+        let snapshot = SharedSnapshot::new(self.alloc, snapshot)?;
+        let version = self.next_version();
         let changed = Document {
             uri,
             label,
@@ -128,19 +135,47 @@ impl Keeper {
         self.versions.saturating_add(1)
     }
 
-    /// The body that answers a request.
-    #[tactic(auto, unfolding(crate::specs::Kept::IsReplied))]
-    pub fn answer(&self, id: Id, uri: &str, ask: &Ask) -> Result<Option<Vec<u8>>, AllocError>
-        ensures { IfOk result (λ body.
-            IsReplied id uri.now ask.now self.now (option_map (λ bytes. bytes.items) body)) }
+    /// The body that answers a request, which has the next ticket where its document is open.
+    #[tactic(auto, unfolding(crate::specs::Kept::IsReplied, crate::specs::Kept::asked))]
+    pub fn answer(&mut self, id: Id, uri: &str, ask: Ask) -> Result<Option<Vec<u8>>, AllocError>
+        ensures reply { IfOk result (λ body.
+            IsReplied id uri.now ask self.old (option_map (λ bytes. bytes.items) body)) }
+        ensures ticket { OnOk result (self.new ≡ asked uri.now self.old) }
     {
         let Some(document) = document_at(self.documents.as_slice(), uri) else {
             return refusal_body(self.alloc, &id, DeskFault::NotOpen);
         };
-        let answer = answer_of(self.alloc, &document.snapshot, ask)?;
-        let body = body_of(self.alloc, &Out::Replied { id, answer })?;
+        let ticket = self.tickets.saturating_add(1);
+        let snapshot = document.snapshot.arc()?;
+        let body = replied(self.alloc, id, ticket, snapshot, ask)?;
+        self.tickets = ticket;
         Ok(Some(body))
     }
+}
+
+/// The body with the answer to a question.
+fn replied(
+    alloc: Global,
+    id: Id,
+    ticket: u64,
+    snapshot: Arc<Snapshot>,
+    ask: Ask,
+) -> Result<Vec<u8>, AllocError>
+    ensures { IfOk result (λ body. IsReply id (arc_value snapshot) ask body.items) }
+{
+    let done = run(
+        alloc,
+        Job {
+            ticket,
+            snapshot,
+            ask,
+        },
+    );
+    if done.answer().is_err() {
+        return Err(AllocError);
+    }
+    let body = body_of(alloc, &Out::Replied { id, done })?;
+    Ok(body)
 }
 
 /// Where the document of this name stands.
@@ -159,13 +194,4 @@ fn document_at<'d>(documents: &'d [Document], uri: &str) -> Option<&'d Document>
     documents
         .iter()
         .find(|document| document.uri.as_str() == uri)
-}
-
-/// The answer on a text.
-fn answer_of(alloc: Global, snapshot: &Snapshot, ask: &Ask) -> Result<Answer, AllocError>
-    ensures { IfOk result (λ answer. answer ≡ answer_of snapshot.now ask.now) }
-{
-    match ask {
-        Ask::Symbols => Ok(Answer::Symbols(symbols(alloc, snapshot)?)),
-    }
 }

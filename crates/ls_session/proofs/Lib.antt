@@ -1,4 +1,2 @@
 pub mod NoFloats
-pub mod Heads
-pub mod Outlines
 pub mod Changes

@@ -1,5 +1,5 @@
 -- The bodies of what is said. Members of their JSON stand in the order of their keys.
-use Rattle.std.specs.Prelude.{ℕ, List, map, codes, Option, Some, None}
+use Rattle.std.specs.Prelude.{ℕ, List, map, codes, Option, Some, None, option_map}
 use Rattle.serde_json.specs.Data.{Data, number, string, array, object, unsigned, member, no_members}
 use Rattle.serde_json.specs.View.{items_of}
 use Rattle.serde_json.specs.Written.{compact_text}
@@ -8,9 +8,9 @@ use Rattle.ls_text.specs.declared.position.Range.{Range}
 use Rattle.ls_rpc.specs.declared.message.Id.{Id}
 use Rattle.ls_rpc.specs.Reply.{result_json}
 use Rattle.ls_session.specs.Refusal.{error_body}
-use Rattle.ls_session.specs.declared.answer.Symbol.{Symbol}
-use Rattle.ls_session.specs.declared.answer.Answer.{Answer}
-use Rattle.ls_session.specs.declared.answer.Answer.TheVariants as answer
+use Rattle.ls_answers.specs.declared.answer.Symbol.{Symbol}
+use Rattle.ls_answers.specs.declared.answer.Answer.{Answer}
+use Rattle.ls_answers.specs.declared.answer.Answer.TheVariants as answer
 use Rattle.ls_session.specs.declared.answer.Out.{Out}
 use Rattle.ls_session.specs.declared.answer.Out.TheVariants as out
 use Rattle.ls_session.specs.declared.answer.DeskFault.{DeskFault}
@@ -42,10 +42,14 @@ symbols_json symbols = array (items_of (map symbol_json symbols))
 abbrev pub answer_json : Answer → Data
 answer_json (answer.Symbols symbols) = symbols_json symbols
 
--- the body of what waits to be said
-unfoldable pub body_of : Out → List ℕ
-body_of (out.Said body) = body
-body_of (out.Replied id answer) = compact_text (result_json id (answer_json answer))
+-- the body that replies to a request with an answer
+unfoldable pub reply_body : Id → Answer → List ℕ
+reply_body id answer = compact_text (result_json id (answer_json answer))
+
+-- the body of what waits to be said; there is none of a job that was refused memory
+unfoldable pub body_of : Out → Option (List ℕ)
+body_of (out.Said body) = Some body
+body_of (out.Replied id done) = option_map (reply_body id) done.answer
 
 -- the body that answers a refused request, where there is one
 unfoldable pub refusal_of : Id → DeskFault → Option (List ℕ)

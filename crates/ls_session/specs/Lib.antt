@@ -4,4 +4,3 @@ pub mod Refusal
 pub mod Initialize
 pub mod Session
 pub mod Bodies
-pub mod Outline

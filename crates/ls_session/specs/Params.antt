@@ -5,8 +5,8 @@ use Rattle.serde_json.specs.Find.{get, as_str, as_bool, as_number, as_array, as_
 use Rattle.ls_text.specs.declared.position.Position.{Position}
 use Rattle.ls_text.specs.declared.position.Range.{Range}
 use Rattle.ls_text.specs.declared.edit.Edit.{Edit}
-use Rattle.ls_session.specs.declared.event.Ask.{Ask}
-use Rattle.ls_session.specs.declared.event.Ask.TheVariants as ask
+use Rattle.ls_answers.specs.declared.ask.Ask.{Ask}
+use Rattle.ls_answers.specs.declared.ask.Ask.TheVariants as ask
 use Rattle.ls_session.specs.declared.event.ClientEvent.{ClientEvent}
 use Rattle.ls_session.specs.declared.event.ClientEvent.TheVariants as event
 use Rattle.ls_session.specs.declared.kind.RequestKind.{RequestKind}

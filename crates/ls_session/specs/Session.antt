@@ -9,7 +9,7 @@ use Rattle.ls_session.specs.Initialize.{initialize_json}
 use Rattle.ls_session.specs.Kind.{request_named, notice_named}
 use Rattle.ls_session.specs.Params.{event_of, question_of, links_of}
 use Rattle.ls_session.specs.Refusal.{error_body, refusal_of_code}
-use Rattle.ls_session.specs.declared.event.Ask.{Ask}
+use Rattle.ls_answers.specs.declared.ask.Ask.{Ask}
 use Rattle.ls_session.specs.declared.event.ClientEvent.{ClientEvent}
 use Rattle.ls_session.specs.declared.event.ClientEvent.TheVariants as event
 use Rattle.ls_session.specs.declared.event.Turn.{Turn}

@@ -1,31 +1,15 @@
-use ls_lists::{List, Text};
+use ls_answers::Done;
+use ls_lists::List;
 use ls_rpc::Id;
-use ls_text::Range;
 use thiserror::Error;
-
-/// A rule of a grammar, as the outline of a document shows it (LSP 3.17, "Document Symbols Request").
-#[derive(Drop)]
-pub struct Symbol {
-    pub name: Text,
-    /// All of the rule.
-    pub range: Range,
-    /// The rule's name alone.
-    pub name_range: Range,
-}
-
-/// What is answered to a question about a document.
-#[derive(Drop)]
-pub enum Answer {
-    Symbols(List<Symbol>),
-}
 
 /// What waits to be said to the client.
 #[derive(Drop)]
 pub enum Out {
     /// A body as it stands.
     Said(List<u8>),
-    /// The answer to the request with this id.
-    Replied { id: Id, answer: Answer },
+    /// The job of the request with this id, which has run.
+    Replied { id: Id, done: Done },
 }
 
 /// Why an event of the client was refused.

@@ -1,10 +1,11 @@
-ghost use Rattle.std.specs.Prelude.{◌≡◌, IfOk, option_map, false};
+ghost use Rattle.std.specs.Prelude.{◌≡◌, IfOk, Some, option_map, false};
 ghost use Rattle.serde_json.specs.View.{view};
 ghost use Rattle.serde_json.specs.Written.{has_float};
-ghost use Rattle.ls_session.specs.Bodies.{position_json, range_json, symbol_json, symbols_json, answer_json, body_of, refusal_of};
+ghost use Rattle.ls_session.specs.Bodies.{position_json, range_json, symbol_json, symbols_json, answer_json, body_of, refusal_of, reply_body};
 
-use crate::answer::{Answer, DeskFault, Out, Symbol};
+use crate::answer::{DeskFault, Out};
 use crate::refusal::Refusal;
+use ls_answers::{Answer, Symbol};
 use ls_rpc::{Id, result_text};
 use ls_text::{Position, Range};
 use serde_json::{Map, Value, put};
@@ -15,18 +16,23 @@ const FUNCTION: u32 = 12;
 
 /// The body that says what waits. Members of its JSON stand in the order of their keys.
 ///
-/// `Memory` says that an allocation was refused.
-#[tactic(auto, using(crate::proofs::NoFloats::answer_has_no_float), unfolding(crate::specs::Bodies::body_of))]
+/// `Memory` says that an allocation was refused, here or in the job that has run.
+#[tactic(auto, unfolding(crate::specs::Bodies::body_of))]
 pub fn body_of(alloc: Global, out: &Out) -> Result<Vec<u8>, Memory>
-    ensures { IfOk result (λ body. body.items ≡ body_of out.now) }
+    ensures { IfOk result (λ body. Some body.items ≡ body_of out.now) }
 {
     match out {
         Out::Said(body) => Vec::from_slice(alloc, body.as_slice()),
-        Out::Replied { id, answer } => {
-            let value = answer_value(alloc, answer)?;
-            result_text(alloc, id, value)
-        }
+        Out::Replied { id, done } => reply_body(alloc, id, done.answer()?),
     }
+}
+
+#[tactic(auto, using(crate::proofs::NoFloats::answer_has_no_float), unfolding(crate::specs::Bodies::reply_body))]
+fn reply_body(alloc: Global, id: &Id, answer: &Answer) -> Result<Vec<u8>, Memory>
+    ensures { IfOk result (λ body. body.items ≡ reply_body id.now answer.now) }
+{
+    let value = answer_value(alloc, answer)?;
+    result_text(alloc, id, value)
 }
 
 /// The body that answers a request which the keeper of the documents refused. None where there is nothing to

@@ -1,17 +1,11 @@
 ghost use Rattle.std.specs.Prelude.{◌≡◌, IfOk};
 
+use ls_answers::Ask;
 use ls_frame::FrameFault;
 use ls_lists::{List, Text};
 use ls_rpc::Id;
 use ls_text::Edit;
 use std::alloc::AllocError as Memory;
-
-/// A question about a document.
-#[derive(Drop)]
-pub enum Ask {
-    /// Its symbols (LSP 3.17, "Document Symbols Request").
-    Symbols,
-}
 
 /// What a message of the client means for the documents and the requests that wait.
 #[derive(Drop)]
@@ -48,19 +42,6 @@ pub enum Turn {
     Event(ClientEvent),
     /// The session has ended. No message is read after it.
     Exit(Status),
-}
-
-impl Ask {
-    /// A question of its own that is the same.
-    ///
-    /// `Memory` says that an allocation was refused.
-    pub fn copy(&self) -> Result<Ask, Memory>
-        ensures { IfOk result (λ ask. ask ≡ self.now) }
-    {
-        match self {
-            Ask::Symbols => Ok(Ask::Symbols),
-        }
-    }
 }
 
 impl ClientEvent {

@@ -8,19 +8,16 @@
 mod answer;
 mod bodies;
 mod event;
-mod head;
 mod initialize;
 mod kind;
-mod outline;
 mod params;
 mod refusal;
 mod session;
 #[cfg(test)]
 mod tests;
 
-pub use answer::{Answer, DeskFault, Out, Symbol};
+pub use answer::{DeskFault, Out};
 pub use bodies::{body_of, refusal_body};
-pub use event::{Ask, ClientEvent, Status, Turn};
-pub use outline::symbols;
+pub use event::{ClientEvent, Status, Turn};
 pub use refusal::Refusal;
 pub use session::{Session, Stage};

@@ -1,10 +1,9 @@
-use crate::{
-    Answer, Ask, ClientEvent, DeskFault, Out, Refusal, Session, Status, Symbol, Turn, body_of,
-    refusal_body,
-};
+use crate::{ClientEvent, DeskFault, Out, Refusal, Session, Status, Turn, body_of, refusal_body};
+use ls_answers::{Ask, Job, run};
 use ls_lists::{List, Text};
 use ls_rpc::Id;
-use ls_text::{Position, Range};
+use ls_text::Snapshot;
+use std::sync::Arc;
 use std::test::Fail;
 
 const INITIALIZED: &[u8] =
@@ -126,31 +125,19 @@ fn events(rt: HostRuntime) -> Result<(), Fail> {
 #[test]
 fn bodies(rt: HostRuntime) -> Result<(), Fail> {
     let alloc = rt.alloc();
-    let start = Position {
-        line: 0,
-        character: 0,
+    let text = String::from_str(alloc, "a = \"x\"")?;
+    let job = Job {
+        ticket: 1,
+        snapshot: Arc::new(alloc, Snapshot::of_text(alloc, text)?)?,
+        ask: Ask::Symbols,
     };
-    let mut symbols = List::new(alloc);
-    symbols.push(Symbol {
-        name: Text::from_str(alloc, "a")?,
-        range: Range {
-            start,
-            end: Position {
-                line: 0,
-                character: 7,
-            },
-        },
-        name_range: Range {
-            start,
-            end: Position {
-                line: 0,
-                character: 1,
-            },
-        },
-    })?;
+    let done = run(alloc, job);
+    assert_eq!(rt; done.ticket(), 1);
+    assert_eq!(rt; done.snapshot().line_count(), 1);
+    assert!(rt; matches!(done.ask(), Ask::Symbols));
     let replied = Out::Replied {
         id: Id::Number(2),
-        answer: Answer::Symbols(symbols),
+        done,
     };
     let body = body_of(alloc, &replied)?;
     assert_eq!(rt; body.len(), 215);

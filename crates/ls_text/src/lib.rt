@@ -16,6 +16,7 @@ mod fault;
 mod line;
 mod line_end;
 mod position;
+mod shared;
 mod snapshot;
 #[cfg(test)]
 mod tests;
@@ -24,4 +25,5 @@ mod units;
 pub use edit::Edit;
 pub use fault::TextFault;
 pub use position::{Place, Position, Range};
+pub use shared::SharedSnapshot;
 pub use snapshot::{MAX_BYTES, Snapshot};

@@ -8,13 +8,13 @@ pub returns-then-is_err-clause-answers : goal.returns-then-is_err-clause-answers
 returns-then-is_err-clause-answers g c =
     let turn = rw c.in-Body.is at c.in-Ok.ensures in
     one-front _ c.args.body.now _ _ _ _ turn.0 turn.1 (c.in-Ok-framed.ensures ∙ ap frame_of c.deref.ensures.value)
-      (rw c.deref-in-Body.ensures.value at c.write_all.ensures.front)
+    (rw c.deref-in-Body.ensures.value at c.write_all.ensures.front)
 
 pub returns-then-is_err-2-clause-answers : goal.returns-then-is_err-2-clause-answers
 returns-then-is_err-2-clause-answers g c =
     let turn = rw c.in-Body.is at c.in-Ok.ensures in
     one-front _ c.args.body.now _ _ _ _ turn.0 turn.1 (c.in-Ok-framed.ensures ∙ ap frame_of c.deref.ensures.value)
-      (front-keeps _ _ _ _ (rw c.deref-in-Body.ensures.value at c.write_all.ensures.front) c.flush.ensures.bytes)
+    (front-keeps _ _ _ _ (rw c.deref-in-Body.ensures.value at c.write_all.ensures.front) c.flush.ensures.bytes)
 
 pub returns-in-Nothing-clause-answers : goal.returns-in-Nothing-clause-answers
 returns-in-Nothing-clause-answers g c =
