@@ -1,6 +1,5 @@
 -- Pieces of the input.
 use Rattle.std.proofs.Common.{◌≡◌, ℕ, ◌⊎◌, inl, inr, List, [], ◌++◌, Option, None, Some, Result, Ok, Err, refl, sym, subst}
-use Rattle.std.specs.Io.KnownBytes.{Appends}
 use Rattle.ls_frame.specs.Frames.{HasNoFrame, Stream}
 use Rattle.ls_frame.specs.Faults.{fault_of}
 use Rattle.ls_frame.specs.Feeds.{FeedIs}

@@ -1,6 +1,6 @@
 -- The whole run.
 use Rattle.std.proofs.Common.{◌≡◌, ℕ, ◌||◌, inl, inr, Bool, true, false, List, [], ◌∷◌, ◌++◌, Option, None, Some, Result, Ok, Err, refl, sym, ◌∙◌, ap, subst, append_assoc}
-use Rattle.std.specs.Io.KnownBytes.{Appends, Consumes, Keeps, IsAtEnd}
+use Rattle.std.specs.Io.KnownBytes.{Consumes, Keeps, IsAtEnd}
 use Rattle.ls_frame.specs.Frames.{Frames, Stream}
 use Rattle.ls_frame.specs.Faults.{fault_of, first_shown, shown, ended, has_stray_cr}
 use Rattle.ls_frame.proofs.Streams.{frames-append, stream-append, none-yet}

@@ -1,5 +1,5 @@
 -- What is written on contents.
-use Rattle.std.proofs.Common.{ℕ, ◌+◌, ◌<◌, length, get_or, ◌≡◌, Bool, true, false, List, [], ◌∷◌, ◌++◌, ◌⊎◌, inl, inr, take, drop, Option, None, Some, refl, sym, ◌∙◌, ap, subst, append_assoc, cond}
+use Rattle.std.proofs.Common.{ℕ, ◌+◌, ◌<◌, length, get_or, ◌≡◌, List, [], ◌∷◌, ◌++◌, inl, inr, take, drop, Option, None, Some, refl, sym, ◌∙◌, ap, subst, append_assoc, cond}
 use Rattle.std.specs.Prelude.{is_some, Vec, Result, Ok, Err}
 use Rattle.std.specs.declared.alloc.Global.{Global}
 use Rattle.std.proofs.lemmas.List.{take_more, take-append-drop, map-append}

@@ -1,4 +1,4 @@
-use Rattle.std.proofs.Common.{◌≡◌, ◌++◌, sym, ◌∙◌, ap}
+use Rattle.std.proofs.Common.{◌++◌, sym, ◌∙◌, ap}
 use Rattle.ls_answers.specs.Outline.{symbols_in}
 use Rattle.ls_answers.proofs.Outlines.{outline-next}
 use Rattle.ls_answers.proofs.outline.symbols.Goals as goal

@@ -1,4 +1,4 @@
-use Rattle.std.proofs.Common.{rules, ◌≡◌, ap, ◌∙◌}
+use Rattle.std.proofs.Common.{rules, ap, ◌∙◌}
 use Rattle.ls_frame.specs.Frames.{frame_of}
 use Rattle.ls_server.proofs.Known.{front-keeps}
 use Rattle.ls_server.proofs.Writing.{one-front, one-nothing, one-reply}
