@@ -1,0 +1,4 @@
+pub mod NameLaws
+pub mod ReachLaws
+pub mod Numbered
+pub mod Pushing

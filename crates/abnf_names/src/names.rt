@@ -1,0 +1,89 @@
+//! The names of the rules.
+
+ghost use Rattle.std.specs.Prelude.{◌≡◌, ◌<◌, ◌^◌, ◌++◌, length, IfSome, OnOk};
+ghost use Rattle.abnf_names.specs.Rules.{rule_number, with_name};
+ghost use Rattle.abnf_names.specs.Names.{folded_text};
+
+use crate::node::RuleNo;
+use abnf_token::Folded;
+use indexmap::IndexSet;
+use std::alloc::{AllocFailed, Global};
+use std::marker::Model;
+
+/// Names, each once, in the order in which they came. Contracts see the list of names with their letters made small.
+#[derive(Drop)]
+pub(crate) struct Names<'t> {
+    names: IndexSet<Folded<'t>>,
+}
+
+impl<'t> Model for Names<'t> {
+    ghost use Rattle.std.specs.Prelude.{List, ℕ, map};
+    ghost use Rattle.abnf_names.specs.Names.{folded_text};
+
+    ghost Value = { List (List ℕ) };
+
+    ghost view = { λ n. map folded_text n.names.keys };
+}
+
+impl<'t> Names<'t> {
+    /// The place of a name among them.
+    pub fn index_of(&self, name: Folded<'t>) -> Option<usize>
+        ensures index { result ≡ rule_number self.now (folded_text name.entry) }
+        ensures small { IfSome result (λ i. i < 2 ^ 63) }
+    {
+        let _bounded = self.names.len();
+        self.names.get_index_of(&name)
+    }
+
+    pub fn len(&self) -> usize
+        ensures len { result ≡ length self.now }
+        ensures small { result < 2 ^ 63 }
+    {
+        self.names.len()
+    }
+
+    /// Adds a name unless it is there.
+    pub fn add(&mut self, name: Folded<'t>) -> Result<(), AllocFailed<Folded<'t>>>
+        ensures { OnOk result (self.new ≡ with_name self.old (folded_text name.entry)) }
+    {
+        self.names.insert(name)?;
+        Ok(())
+    }
+}
+
+/// The names of the rules of a text, and then those of the core rules that it needs. Contracts see one list. A name may stand in
+/// both; it then stands for the rule of the text.
+#[derive(Drop)]
+pub(crate) struct RuleNames<'t> {
+    pub own: Names<'t>,
+    pub core: Names<'t>,
+}
+
+impl<'t> Model for RuleNames<'t> {
+    ghost use Rattle.std.specs.Prelude.{List, ℕ, ◌++◌};
+
+    ghost Value = { List (List ℕ) };
+
+    ghost view = { λ n. n.own ++ n.core };
+}
+
+impl<'t> RuleNames<'t> {
+    pub fn new(own: Names<'t>, core: Names<'t>) -> RuleNames<'t>
+        ensures { result ≡ own.entry ++ core.entry }
+    {
+        RuleNames { own, core }
+    }
+
+    /// The first rule of this name.
+    pub fn rule_of(&self, name: Folded<'t>) -> Option<RuleNo>
+        ensures { result ≡ rule_number self.now (folded_text name.entry) }
+    {
+        if let Some(rule) = self.own.index_of(name) {
+            return Some(RuleNo::new(rule));
+        }
+        match self.core.index_of(name) {
+            Some(rule) => Some(RuleNo::new(self.own.len() + rule)),
+            None => None,
+        }
+    }
+}
