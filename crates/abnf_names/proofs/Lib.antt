@@ -2,3 +2,5 @@ pub mod NameLaws
 pub mod ReachLaws
 pub mod Numbered
 pub mod Pushing
+pub mod BlockPass
+pub mod GroupLaws

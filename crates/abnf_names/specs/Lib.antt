@@ -12,3 +12,4 @@ pub mod Rules
 pub mod GrammarCode
 pub mod Reach
 pub mod Pushed
+pub mod Passes

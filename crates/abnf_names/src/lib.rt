@@ -1,9 +1,13 @@
 //! The rules of an ABNF grammar: names, trees, places.
 #![tactic(auto)]
 
+mod groups;
 mod leaf;
 mod names;
 mod node;
+mod parsed;
+mod place;
 mod tree;
 
 pub use node::{Node, NodeNo, RuleNo};
+pub use place::NamePlace;

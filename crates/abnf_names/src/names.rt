@@ -1,6 +1,6 @@
 //! The names of the rules.
 
-ghost use Rattle.std.specs.Prelude.{◌≡◌, ◌<◌, ◌^◌, ◌++◌, length, IfSome, OnOk};
+ghost use Rattle.std.specs.Prelude.{◌≡◌, [], ◌<◌, ◌^◌, ◌++◌, length, IfSome, OnOk};
 ghost use Rattle.abnf_names.specs.Rules.{rule_number, with_name};
 ghost use Rattle.abnf_names.specs.Names.{folded_text};
 
@@ -26,6 +26,14 @@ impl<'t> Model for Names<'t> {
 }
 
 impl<'t> Names<'t> {
+    pub fn new(alloc: Global) -> Names<'t>
+        ensures { result ≡ [] }
+    {
+        Names {
+            names: IndexSet::new(alloc),
+        }
+    }
+
     /// The place of a name among them.
     pub fn index_of(&self, name: Folded<'t>) -> Option<usize>
         ensures index { result ≡ rule_number self.now (folded_text name.entry) }

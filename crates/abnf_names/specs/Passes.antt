@@ -1,0 +1,39 @@
+-- What the passes over a text's blocks hold. Only contracts of private functions speak of it.
+use Rattle.std.specs.Prelude.{ℕ, List, [], ◌∷◌, if◌then◌else◌}
+use Rattle.abnf_names.specs.declared.parsed.Parsed.{Parsed}
+use Rattle.abnf_names.specs.declared.parsed.HeadToken.{HeadToken}
+use Rattle.abnf_names.specs.declared.place.Spot.{Spot}
+use Rattle.abnf_names.specs.declared.place.NamePlace.{NamePlace}
+use Rattle.abnf_names.specs.Names.{folded_text}
+use Rattle.abnf_names.specs.Leaf.{same}
+use Rattle.abnf_names.specs.Said.{Block, Head, Name}
+use Rattle.abnf_names.specs.Places.{Named}
+
+abbrev pub block_of : Parsed → Block
+block_of p = record { items = p.block.items; said = p.said }
+
+abbrev pub head_in : HeadToken → Head
+head_in h = record { name = folded_text h.name; adds = h.adds }
+
+abbrev pub named_at : Spot → Named
+named_at s = record { text = s.name.0.now; place = s.place; defines = s.defines }
+
+abbrev pub name_place : Named → NamePlace
+name_place n = record { place = n.place; defines = n.defines }
+
+-- Names, and beside each the things that were put under it.
+abbrev pub Grouped : Type 0 → Type 0
+Grouped T = List Name × List (List T)
+
+-- the things under a name
+abbrev pub members_in : {T : Type 0} → List Name → List (List T) → Name → List T
+members_in [] members name = []
+members_in (n ∷ names) [] name = []
+members_in (n ∷ names) (list ∷ members) name = if same name n then list else members_in names members name
+
+abbrev pub members_of : {T : Type 0} → Grouped T → Name → List T
+members_of groups name = members_in groups.0 groups.1 name
+
+-- one more thing, where the names are the same
+abbrev pub if_same : {T : Type 0} → Name → Name → T → List T
+if_same name other item = if same name other then item ∷ [] else []
