@@ -31,6 +31,15 @@ none_below : (o : Option ℕ) → option_map suc o ≡ None → o ≡ None
 none_below None g = refl
 none_below (Some j) g = absurd (cc g)
 
+sym_by : (s t : Name) (b c : Bool) → same s t ≡ b → same t s ≡ c → b ≡ c
+sym_by s t true true e f = refl
+sym_by s t true false e f = never (same t s) (subst (λ k. same t k ≡ true) (sym (same_is s t e)) (same_refl t)) f
+sym_by s t false true e f = never (same s t) (subst (λ k. same s k ≡ true) (sym (same_is t s f)) (same_refl s)) e
+sym_by s t false false e f = refl
+
+pub same_sym : (s t : Name) → same s t ≡ same t s
+same_sym s t = sym_by s t (same s t) (same t s) refl refl
+
 module _ {T : Type 0} (n : Name) (x : T) where
   here_by : (b c : Bool) (a m : Name) (list rest : List T) → same n a ≡ true → same m a ≡ b → same n m ≡ c →
       (if b then list ++ x ∷ [] else rest) ≡ (if b then list else rest) ++ (if c then x ∷ [] else [])
@@ -120,7 +129,7 @@ module _ {T : Type 0} (n : Name) where
   lost (a ∷ names) (list ∷ members) h = lost_by (same n a) names list members (sym (position-cons (same n) a names) ∙ h) (λ e. lost names members e)
 
 -- a name is there where it has a place
-position_any : (n : Name) (names : List Name) → list_any (same n) names ≡ is_some (position (same n) names)
+pub position_any : (n : Name) (names : List Name) → list_any (same n) names ≡ is_some (position (same n) names)
 position_any n [] = refl
 position_any n (a ∷ names) = any_by (same n a) (position_any n names) ∙ ap is_some (sym (position-cons (same n) a names))
   where

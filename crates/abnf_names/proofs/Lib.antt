@@ -4,3 +4,4 @@ pub mod Numbered
 pub mod Pushing
 pub mod BlockPass
 pub mod GroupLaws
+pub mod OwnPass

@@ -1,5 +1,7 @@
 -- What the passes over a text's blocks hold. Only contracts of private functions speak of it.
-use Rattle.std.specs.Prelude.{ℕ, List, [], ◌∷◌, if◌then◌else◌}
+use Rattle.std.specs.Prelude.{◌≡◌, ℕ, Bool, not, List, [], ◌∷◌, map, filter, if◌then◌else◌}
+use Rattle.std.specs.List.{list_any}
+use Rattle.std.specs.Borrow.{Bor}
 use Rattle.abnf_names.specs.declared.parsed.Parsed.{Parsed}
 use Rattle.abnf_names.specs.declared.parsed.HeadToken.{HeadToken}
 use Rattle.abnf_names.specs.declared.place.Spot.{Spot}
@@ -7,7 +9,8 @@ use Rattle.abnf_names.specs.declared.place.NamePlace.{NamePlace}
 use Rattle.abnf_names.specs.Names.{folded_text}
 use Rattle.abnf_names.specs.Leaf.{same}
 use Rattle.abnf_names.specs.Said.{Block, Head, Name}
-use Rattle.abnf_names.specs.Places.{Named}
+use Rattle.abnf_names.specs.Places.{Named, places_of_name}
+use Rattle.abnf_names.specs.Rules.{defined, defines}
 
 abbrev pub block_of : Parsed → Block
 block_of p = record { items = p.block.items; said = p.said }
@@ -37,3 +40,19 @@ members_of groups name = members_in groups.0 groups.1 name
 -- one more thing, where the names are the same
 abbrev pub if_same : {T : Type 0} → Name → Name → T → List T
 if_same name other item = if same name other then item ∷ [] else []
+
+-- the names that these blocks define, and under each name its blocks
+pub record AreOwn (blocks : List Block) (groups : Grouped (Bor Parsed)) : Type 0 where
+  pub names : groups.0 ≡ defined blocks
+  pub members : (name : Name) → map (λ p. block_of p.now) (members_of groups name) ≡ filter (defines name) blocks
+
+-- under each name its places
+abbrev pub ArePlaced : List Named → Grouped NamePlace → Type 0
+ArePlaced places groups = (name : Name) → members_of groups name ≡ map name_place (places_of_name name places)
+
+-- the names that no rule of the text has
+abbrev pub is_unknown : List Name → Name → Bool
+is_unknown own name = not (list_any (same name) own)
+
+abbrev pub spot_name : Spot → Name
+spot_name spot = folded_text spot.name

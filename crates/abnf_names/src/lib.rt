@@ -4,6 +4,7 @@
 mod groups;
 mod leaf;
 mod names;
+mod own;
 mod node;
 mod parsed;
 mod place;
