@@ -5,3 +5,4 @@ pub mod Pushing
 pub mod BlockPass
 pub mod GroupLaws
 pub mod OwnPass
+pub mod CoreLaws

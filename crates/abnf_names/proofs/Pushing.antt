@@ -6,7 +6,7 @@ use Rattle.abnf_names.specs.declared.node.Node.{Node}
 use Rattle.abnf_names.specs.declared.node.Node.TheVariants.{Seq, Alt, Rep}
 use Rattle.abnf_names.specs.Part.{Part, Parts, end, next, seq, alt, rep, series, subparts, all_subparts, numbers}
 use Rattle.abnf_names.specs.Nodes.{IsNode}
-use Rattle.std.specs.Prelude.{Bool, true, false, if◌then◌else◌, Option, Result, Ok, Err, OnOk, ◌-◌}
+use Rattle.std.specs.Prelude.{Bool, true, false, if◌then◌else◌, Option, None, Result, Ok, Err, OnOk, ◌-◌}
 use Rattle.abnf_syntax.specs.Grammar.{Alternation}
 use Rattle.abnf_token.specs.Classes.{base_of}
 use Rattle.abnf_names.specs.Leaf.{quoted_part, number_part, numbers_from, span_of, has}
@@ -69,13 +69,13 @@ trees_more ps p old mid new a b c h e k = record {
     ∙ ap (λ x. a ++ x) (ap (λ n. numbers (length old) (parts ps) ++ n ∷ []) (adds_length (all_subparts (parts ps)) old mid h.nodes) ∙ sym (numbers-last (length old) ps p))));
 }
 
-pub trees_next : {X : Type 0} (f : X → Part) (xs : List X) (x : X) (i : ℕ) (old mid new : List Node) (a b c : List ℕ) → i < length xs → get_or xs i x ≡ x →
+pub trees_next : {X : Type 0} (f : X → Part) (xs : List X) (x d : X) (i : ℕ) (old mid new : List Node) (a b c : List ℕ) → i < length xs → get_or xs i d ≡ x →
     AddsTrees (map f (take i xs)) old mid a b → c ≡ b ++ length mid ∷ [] → Adds (subparts (f x)) mid new → AddsTrees (map f (take (i + 1) xs)) old new a c
-trees_next f xs x i old mid new a b c lt is h e k = subst (λ ps. AddsTrees ps old new a c) (sym (mapped f xs x i lt is)) (trees_more (map f (take i xs)) (f x) old mid new a b c h e k)
+trees_next f xs x d i old mid new a b c lt is h e k = subst (λ ps. AddsTrees ps old new a c) (sym (mapped f xs x d i lt is)) (trees_more (map f (take i xs)) (f x) old mid new a b c h e k)
   where
-    mapped : {X : Type 0} (f : X → Part) (xs : List X) (x : X) (i : ℕ) → i < length xs → get_or xs i x ≡ x → map f (take (i + 1) xs) ≡ map f (take i xs) ++ f x ∷ []
-    mapped f xs x i lt is =
-        ap (map f) (ap (λ k. take k xs) (let e : i + 1 ≡ suc i = omega arith in e) ∙ take-suc xs i x lt) ∙ (map-append f (take i xs) (get_or xs i x ∷ []) ∙ ap (λ y. map f (take i xs) ++ f y ∷ []) is)
+    mapped : {X : Type 0} (f : X → Part) (xs : List X) (x d : X) (i : ℕ) → i < length xs → get_or xs i d ≡ x → map f (take (i + 1) xs) ≡ map f (take i xs) ++ f x ∷ []
+    mapped f xs x d i lt is =
+        ap (map f) (ap (λ k. take k xs) (let e : i + 1 ≡ suc i = omega arith in e) ∙ take-suc xs i d lt) ∙ (map-append f (take i xs) (get_or xs i d ∷ []) ∙ ap (λ y. map f (take i xs) ++ f y ∷ []) is)
 
 -- a node is written before the nodes of the parts below it
 set_at : (old more : List Node) (x y : Node) → set (old ++ x ∷ more) (length old) y ≡ old ++ y ∷ more
@@ -119,6 +119,22 @@ module _ {X : Type 0} (f : X → Part) (xs : List X) (at : ℕ) (kept : Node) (o
   pub alt_added : new ≡ set mid at (Alt held) → Adds (subparts (join alt (map f xs))) old new
   alt_added h = subst (λ p. Adds (subparts p) old new) (sym (join_several alt (map f xs) count_is))
       (adds_above (alt (parts (map f xs))) (all_subparts (parts (map f xs))) (Alt held) kept old opened mid new opened_is trees.nodes (h ∙ ap (λ n. set mid n (Alt held)) at_is) (ap Alt numbers_below))
+
+-- a choice among trees that stand side by side
+pub choice_added : (ps : List Part) (at : ℕ) (kept : Node) (old opened mid new : List Node) (none found held : List ℕ) → at ≡ length old → none ≡ [] → opened ≡ old ++ kept ∷ [] →
+    AddsTrees ps opened mid none found → held ≡ found → new ≡ set mid at (Alt held) → Adds (subparts (alt (parts ps))) old new
+choice_added ps at kept old opened mid new none found held at_is none_is opened_is trees held_is h =
+    adds_above (alt (parts ps)) (all_subparts (parts ps)) (Alt held) kept old opened mid new opened_is trees.nodes (h ∙ ap (λ n. set mid n (Alt held)) at_is)
+      (ap Alt (held_is ∙ (trees.numbers_are ∙ (ap (λ ns. ns ++ numbers (length opened) (parts ps)) none_is
+      ∙ ap (λ n. numbers n (parts ps)) (ap length opened_is ∙ (length-append old (kept ∷ []) ∙ (let one : length old + 1 ≡ suc (length old) = omega arith in one)))))))
+
+-- a choice of one repetition stands before its body
+pub repeated_added : (p : Part) (old opened new : List Node) → opened ≡ old ++ Alt (suc (length old) ∷ []) ∷ Rep 0 None (suc (suc (length old))) ∷ [] → Adds (subparts p) opened new →
+    Adds (subparts (alt (next (rep 0 None p) end))) old new
+repeated_added p old opened new e h =
+    subst (λ ps. Adds (alt (next (rep 0 None p) end) ∷ rep 0 None p ∷ ps) old new) (sym (append-nil (subparts p)))
+    (adds_both (alt (next (rep 0 None p) end) ∷ rep 0 None p ∷ []) (subparts p) old opened new
+      (record { more = Alt (suc (length old) ∷ []) ∷ Rep 0 None (suc (suc (length old))) ∷ []; joined = e; are = (refl, (refl, tt)) }) h)
 
 -- a repetition stands before its body
 pub rep_added : (least : ℕ) (most : Option ℕ) (p : Part) (body : ℕ) (old opened new : List Node) → body ≡ length old + 1 → opened ≡ old ++ Rep least most body ∷ [] → Adds (subparts p) opened new →

@@ -25,25 +25,56 @@ text letters = quoted letters false
 abbrev rule : (List ℕ → Option ℕ) → List ℕ → Part
 rule number name = ref name (number (lowercase name))
 
+abbrev pub alpha : CoreRule
+alpha = record { name = codes "ALPHA"; tree = λ number. any_of (span 0x41 0x5A ∷ span 0x61 0x7A ∷ []) }
+
+abbrev pub bit : CoreRule
+bit = record { name = codes "BIT"; tree = λ number. any_of (text (codes "0") ∷ text (codes "1") ∷ []) }
+
+abbrev pub char : CoreRule
+char = record { name = codes "CHAR"; tree = λ number. any_of (span 0x01 0x7F ∷ []) }
+
+abbrev pub cr : CoreRule
+cr = record { name = codes "CR"; tree = λ number. any_of (one 0x0D ∷ []) }
+
+abbrev pub crlf : CoreRule
+crlf = record { name = codes "CRLF"; tree = λ number. any_of (in_order (rule number (codes "CR") ∷ rule number (codes "LF") ∷ []) ∷ []) }
+
+abbrev pub ctl : CoreRule
+ctl = record { name = codes "CTL"; tree = λ number. any_of (span 0x00 0x1F ∷ one 0x7F ∷ []) }
+
+abbrev pub digit : CoreRule
+digit = record { name = codes "DIGIT"; tree = λ number. any_of (span 0x30 0x39 ∷ []) }
+
+abbrev pub dquote : CoreRule
+dquote = record { name = codes "DQUOTE"; tree = λ number. any_of (one 0x22 ∷ []) }
+
+abbrev pub hexdig : CoreRule
+hexdig = record { name = codes "HEXDIG"; tree = λ number. any_of (rule number (codes "DIGIT") ∷ text (codes "A") ∷ text (codes "B") ∷ text (codes "C") ∷ text (codes "D") ∷ text (codes "E") ∷ text (codes "F") ∷ []) }
+
+abbrev pub htab : CoreRule
+htab = record { name = codes "HTAB"; tree = λ number. any_of (one 0x09 ∷ []) }
+
+abbrev pub lf : CoreRule
+lf = record { name = codes "LF"; tree = λ number. any_of (one 0x0A ∷ []) }
+
+abbrev pub lwsp : CoreRule
+lwsp = record { name = codes "LWSP"; tree = λ number. any_of (rep 0 None (any_of (rule number (codes "WSP") ∷ in_order (rule number (codes "CRLF") ∷ rule number (codes "WSP") ∷ []) ∷ [])) ∷ []) }
+
+abbrev pub octet : CoreRule
+octet = record { name = codes "OCTET"; tree = λ number. any_of (span 0x00 0xFF ∷ []) }
+
+abbrev pub sp : CoreRule
+sp = record { name = codes "SP"; tree = λ number. any_of (one 0x20 ∷ []) }
+
+abbrev pub vchar : CoreRule
+vchar = record { name = codes "VCHAR"; tree = λ number. any_of (span 0x21 0x7E ∷ []) }
+
+abbrev pub wsp : CoreRule
+wsp = record { name = codes "WSP"; tree = λ number. any_of (rule number (codes "SP") ∷ rule number (codes "HTAB") ∷ []) }
+
 abbrev pub core_rules : List CoreRule
-core_rules =
-    record { name = codes "ALPHA"; tree = λ number. any_of (span 0x41 0x5A ∷ span 0x61 0x7A ∷ []) }
-    ∷ record { name = codes "BIT"; tree = λ number. any_of (text (codes "0") ∷ text (codes "1") ∷ []) }
-    ∷ record { name = codes "CHAR"; tree = λ number. any_of (span 0x01 0x7F ∷ []) }
-    ∷ record { name = codes "CR"; tree = λ number. any_of (one 0x0D ∷ []) }
-    ∷ record { name = codes "CRLF"; tree = λ number. any_of (in_order (rule number (codes "CR") ∷ rule number (codes "LF") ∷ []) ∷ []) }
-    ∷ record { name = codes "CTL"; tree = λ number. any_of (span 0x00 0x1F ∷ one 0x7F ∷ []) }
-    ∷ record { name = codes "DIGIT"; tree = λ number. any_of (span 0x30 0x39 ∷ []) }
-    ∷ record { name = codes "DQUOTE"; tree = λ number. any_of (one 0x22 ∷ []) }
-    ∷ record { name = codes "HEXDIG"; tree = λ number. any_of (rule number (codes "DIGIT") ∷ text (codes "A") ∷ text (codes "B") ∷ text (codes "C") ∷ text (codes "D") ∷ text (codes "E") ∷ text (codes "F") ∷ []) }
-    ∷ record { name = codes "HTAB"; tree = λ number. any_of (one 0x09 ∷ []) }
-    ∷ record { name = codes "LF"; tree = λ number. any_of (one 0x0A ∷ []) }
-    ∷ record { name = codes "LWSP"; tree = λ number. any_of (rep 0 None (any_of (rule number (codes "WSP") ∷ in_order (rule number (codes "CRLF") ∷ rule number (codes "WSP") ∷ []) ∷ [])) ∷ []) }
-    ∷ record { name = codes "OCTET"; tree = λ number. any_of (span 0x00 0xFF ∷ []) }
-    ∷ record { name = codes "SP"; tree = λ number. any_of (one 0x20 ∷ []) }
-    ∷ record { name = codes "VCHAR"; tree = λ number. any_of (span 0x21 0x7E ∷ []) }
-    ∷ record { name = codes "WSP"; tree = λ number. any_of (rule number (codes "SP") ∷ rule number (codes "HTAB") ∷ []) }
-    ∷ []
+core_rules = alpha ∷ bit ∷ char ∷ cr ∷ crlf ∷ ctl ∷ digit ∷ dquote ∷ hexdig ∷ htab ∷ lf ∷ lwsp ∷ octet ∷ sp ∷ vchar ∷ wsp ∷ []
 
 abbrev pub core_name : CoreRule → List ℕ
 core_name core = lowercase core.name

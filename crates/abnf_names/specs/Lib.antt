@@ -13,3 +13,4 @@ pub mod GrammarCode
 pub mod Reach
 pub mod Pushed
 pub mod Passes
+pub mod CoreTable

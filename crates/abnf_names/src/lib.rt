@@ -1,6 +1,8 @@
 //! The rules of an ABNF grammar: names, trees, places.
 #![tactic(auto)]
 
+mod core_rule;
+mod core_tree;
 mod groups;
 mod leaf;
 mod names;

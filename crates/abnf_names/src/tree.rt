@@ -15,7 +15,7 @@ use ls_lists::List;
 use std::alloc::{AllocError, Global};
 
 /// Writes a node whose number was kept.
-fn fill<'t>(nodes: &mut Vec<Node<'t>>, at: usize, node: Node<'t>)
+pub(crate) fn fill<'t>(nodes: &mut Vec<Node<'t>>, at: usize, node: Node<'t>)
     requires { at < length nodes.old.items }
     ensures { nodes.new.items ≡ slice_set nodes.old.items at node.entry }
 {
