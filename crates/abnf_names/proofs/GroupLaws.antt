@@ -10,7 +10,7 @@ use Rattle.abnf_names.specs.Rules.{with_name}
 use Rattle.abnf_names.specs.Passes.{members_in, if_same}
 use Rattle.abnf_names.proofs.NameLaws.{position-cons}
 
-never : {A : Type 0} (b : Bool) → b ≡ true → b ≡ false → A
+pub never : {A : Type 0} (b : Bool) → b ≡ true → b ≡ false → A
 never true e f = absurd (cc (f))
 never false e f = absurd (cc (e))
 

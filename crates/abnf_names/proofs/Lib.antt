@@ -6,3 +6,4 @@ pub mod BlockPass
 pub mod GroupLaws
 pub mod OwnPass
 pub mod CoreLaws
+pub mod NeededLaws

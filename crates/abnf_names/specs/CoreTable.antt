@@ -1,5 +1,6 @@
 -- The core rules as the code has them. Only contracts of private functions speak of it.
-use Rattle.std.specs.Prelude.{◌≡◌, ℕ, suc, ◌+◌, List, [], ◌∷◌, ◌++◌, length, map, position, Option, Some, None, option_map, codes, false}
+use Rattle.std.specs.Prelude.{◌≡◌, ℕ, suc, ◌+◌, List, [], ◌∷◌, ◌++◌, length, map, position, Option, Some, None, option_map, codes, Bool, false}
+use Rattle.std.specs.List.{list_any}
 use Rattle.std.specs.Borrow.{Bor}
 use Rattle.abnf_token.specs.Folded.{lowercase}
 use Rattle.abnf_names.specs.declared.core_rule.Core.{Core}
@@ -59,3 +60,26 @@ number_in first names name = option_map (λ r. first + r) (position (same name) 
 -- a choice of one repetition was pushed, whose body comes next
 abbrev pub IsRepeated : List Node → List Node → Type 0
 IsRepeated old new = new ≡ old ++ Alt (suc (length old) ∷ []) ∷ Rep 0 None (suc (suc (length old))) ∷ []
+
+-- the names of the core rules that need this one: itself, those that use it, those that use these, and so on
+abbrev pub users_of : Core → List Name
+users_of Alpha = codes "alpha" ∷ []
+users_of Bit = codes "bit" ∷ []
+users_of Char = codes "char" ∷ []
+users_of Cr = codes "cr" ∷ codes "crlf" ∷ codes "lwsp" ∷ []
+users_of Crlf = codes "crlf" ∷ codes "lwsp" ∷ []
+users_of Ctl = codes "ctl" ∷ []
+users_of Digit = codes "digit" ∷ codes "hexdig" ∷ []
+users_of Dquote = codes "dquote" ∷ []
+users_of Hexdig = codes "hexdig" ∷ []
+users_of Htab = codes "htab" ∷ codes "wsp" ∷ codes "lwsp" ∷ []
+users_of Lf = codes "lf" ∷ codes "crlf" ∷ codes "lwsp" ∷ []
+users_of Lwsp = codes "lwsp" ∷ []
+users_of Octet = codes "octet" ∷ []
+users_of Sp = codes "sp" ∷ codes "wsp" ∷ codes "lwsp" ∷ []
+users_of Vchar = codes "vchar" ∷ []
+users_of Wsp = codes "wsp" ∷ codes "lwsp" ∷ []
+
+-- one of these names stands in the text and is defined nowhere
+abbrev pub is_wanted : List Name → List Name → Bool
+is_wanted unknown users = list_any (λ user. list_any (same user) unknown) users

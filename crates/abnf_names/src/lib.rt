@@ -10,6 +10,7 @@ mod own;
 mod node;
 mod parsed;
 mod place;
+mod rules;
 mod tree;
 
 pub use node::{Node, NodeNo, RuleNo};

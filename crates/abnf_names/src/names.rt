@@ -1,6 +1,8 @@
 //! The names of the rules.
 
-ghost use Rattle.std.specs.Prelude.{◌≡◌, [], ◌<◌, ◌^◌, ◌++◌, length, IfSome, OnOk};
+ghost use Rattle.std.specs.Prelude.{◌≡◌, [], ◌<◌, ◌^◌, ◌++◌, length, map, IfSome, OnOk};
+ghost use Rattle.std.specs.List.{list_any};
+ghost use Rattle.abnf_names.specs.Leaf.{same};
 ghost use Rattle.abnf_names.specs.Rules.{rule_number, with_name};
 ghost use Rattle.abnf_names.specs.Names.{folded_text};
 
@@ -41,6 +43,21 @@ impl<'t> Names<'t> {
     {
         let _bounded = self.names.len();
         self.names.get_index_of(&name)
+    }
+
+    pub fn contains(&self, name: Folded<'t>) -> bool
+        ensures { result ≡ list_any (same (folded_text name.entry)) self.now }
+    {
+        match self.index_of(name) {
+            Some(_) => true,
+            None => false,
+        }
+    }
+
+    pub fn as_slice(&self) -> &[Folded<'t>]
+        ensures { map folded_text result.now ≡ self.now }
+    {
+        self.names.as_slice()
     }
 
     pub fn len(&self) -> usize

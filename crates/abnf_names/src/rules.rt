@@ -1,0 +1,152 @@
+//! The nodes of the rules.
+
+ghost use Rattle.std.specs.Prelude.{◌≡◌, ◌<◌, ◌^◌, List, map, flat_map, length, IfOk, OnOk};
+ghost use Rattle.abnf_names.specs.Part.{subparts, alt};
+ghost use Rattle.abnf_names.specs.Tree.{parts};
+ghost use Rattle.abnf_names.specs.Names.{folded_text};
+ghost use Rattle.abnf_names.specs.Said as said;
+ghost use Rattle.abnf_names.specs.Rules as rules;
+ghost use Rattle.abnf_names.specs.Passes as spec;
+ghost use Rattle.abnf_names.specs.CoreTable as table;
+ghost use Rattle.abnf_names.specs.Pushed.{Adds, AddsTrees};
+
+use crate::core_rule::Core;
+use crate::core_tree::push_core;
+use crate::groups::Groups;
+use crate::names::{Names, RuleNames};
+use crate::node::{Node, NodeNo};
+use crate::parsed::{Parsed, head_of};
+use crate::tree::{fill, push_concatenations};
+use abnf_token::Folded;
+use ls_lists::List;
+use std::alloc::{AllocError, Global};
+
+/// How deep groups and options may nest.
+const MAX_NESTING: usize = 64;
+
+/// Whether `=/` follows the name at a block's head.
+fn is_adding(parsed: &Parsed<'_>) -> bool
+    ensures { result ≡ rules.adds (spec.block_of parsed.now) }
+{
+    match head_of(parsed.block.items.as_slice()) {
+        Some(head) => head.adds,
+        None => false,
+    }
+}
+
+/// Those of a name's blocks that count.
+fn counted<'t, 'p>(
+    alloc: Global,
+    blocks: &[&'p Parsed<'t>],
+) -> Result<Vec<&'p Parsed<'t>>, AllocError>
+    ensures { IfOk result (λ v. map (λ p. spec.block_of p.now) v.items ≡ rules.counted (map (λ p. spec.block_of p.now) blocks.now)) }
+{
+    let mut counted = Vec::new(alloc);
+    let mut is_defined = false;
+    for parsed in blocks {
+        let adds = is_adding(*parsed);
+        if adds || !is_defined {
+            counted.push(*parsed)?;
+        }
+        is_defined = is_defined || !adds;
+    }
+    Ok(counted)
+}
+
+/// The alternatives that a block says, whose numbers are added to `numbers`.
+fn push_alternatives<'t>(
+    alloc: Global,
+    names: &RuleNames<'t>,
+    parsed: &Parsed<'t>,
+    nodes: &mut Vec<Node<'t>>,
+    numbers: &mut List<NodeNo>,
+) -> Result<(), AllocError>
+    ensures { OnOk result (AddsTrees (rules.said_alternatives (rules.rule_number names.now) (spec.block_of parsed.now)) nodes.old.items nodes.new.items numbers.old numbers.new) }
+{
+    match &parsed.said {
+        Ok(rule) => push_concatenations(
+            alloc,
+            names,
+            MAX_NESTING,
+            rule.body.as_slice(),
+            nodes,
+            numbers,
+        ),
+        Err(_) => {
+            numbers.push(NodeNo::new(nodes.len()))?;
+            nodes.push(Node::Opaque)?;
+            Ok(())
+        }
+    }
+}
+
+/// The alternatives that blocks say, whose numbers are added to `numbers`.
+fn push_all<'t>(
+    alloc: Global,
+    names: &RuleNames<'t>,
+    blocks: &[&Parsed<'t>],
+    nodes: &mut Vec<Node<'t>>,
+    numbers: &mut List<NodeNo>,
+) -> Result<(), AllocError>
+    ensures { OnOk result (AddsTrees (flat_map (rules.said_alternatives (rules.rule_number names.now)) (map (λ p. spec.block_of p.now) blocks.now)) nodes.old.items nodes.new.items numbers.old numbers.new) }
+{
+    for parsed in blocks {
+        push_alternatives(alloc, names, *parsed, nodes, numbers)?;
+    }
+    Ok(())
+}
+
+/// The rule whose name has these blocks.
+fn push_rule<'t>(
+    alloc: Global,
+    names: &RuleNames<'t>,
+    blocks: &[&Parsed<'t>],
+    nodes: &mut Vec<Node<'t>>,
+) -> Result<(), AllocError>
+    ensures { OnOk result (Adds (subparts (alt (parts (flat_map (rules.said_alternatives (rules.rule_number names.now)) (rules.counted (map (λ p. spec.block_of p.now) blocks.now)))))) nodes.old.items nodes.new.items) }
+{
+    let blocks = counted(alloc, blocks)?;
+    let at = nodes.len();
+    let mut numbers = List::new(alloc);
+    nodes.push(Node::Opaque)?;
+    push_all(alloc, names, blocks.as_slice(), nodes, &mut numbers)?;
+    fill(nodes, at, Node::Alt(numbers));
+    Ok(())
+}
+
+/// The rules of the text, whose roots' numbers are added to `roots`.
+fn push_own<'t>(
+    alloc: Global,
+    names: &RuleNames<'t>,
+    groups: &Groups<'t, &Parsed<'t>>,
+    own: &[Folded<'t>],
+    nodes: &mut Vec<Node<'t>>,
+    roots: &mut List<NodeNo>,
+) -> Result<(), AllocError>
+    ensures { OnOk result ((blocks : List said.Block) → spec.AreOwn blocks groups.now → rules.names_of blocks ≡ names.now → AddsTrees (map (λ name. rules.rule_tree blocks (folded_text name)) own.now) nodes.old.items nodes.new.items roots.old roots.new) }
+{
+    for name in own {
+        roots.push(NodeNo::new(nodes.len()))?;
+        push_rule(alloc, names, groups.members_of(*name), nodes)?;
+    }
+    Ok(())
+}
+
+/// The core rules that are needed, whose roots' numbers are added to `roots`.
+fn push_needed<'t>(
+    alloc: Global,
+    first: usize,
+    names: &Names<'t>,
+    needed: &[Core],
+    nodes: &mut Vec<Node<'t>>,
+    roots: &mut List<NodeNo>,
+) -> Result<(), AllocError>
+    requires { first < 2 ^ 63 }
+    ensures { OnOk result (AddsTrees (map (λ core. (table.core_of core).tree (table.number_in first names.now)) needed.now) nodes.old.items nodes.new.items roots.old roots.new) }
+{
+    for core in needed {
+        roots.push(NodeNo::new(nodes.len()))?;
+        push_core(alloc, first, names, *core, nodes)?;
+    }
+    Ok(())
+}
