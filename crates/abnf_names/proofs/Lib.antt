@@ -7,3 +7,4 @@ pub mod GroupLaws
 pub mod OwnPass
 pub mod CoreLaws
 pub mod NeededLaws
+pub mod RulePass

@@ -1,8 +1,7 @@
 -- Blocks and places under their names.
-use Rattle.std.proofs.Common.{◌≡◌, ◌<◌, ◌+◌, ℕ, zero, suc, Bool, true, false, cond, List, [], ◌∷◌, ◌++◌, map, take, drop, length, get_or, refl, sym, ap, subst, ◌∙◌, append-nil, arith}
+use Rattle.std.proofs.Common.{◌≡◌, ◌<◌, ◌+◌, ℕ, zero, suc, Bool, true, false, cond, List, [], ◌∷◌, ◌++◌, map, take, drop, length, get_or, refl, sym, ap, subst, ◌∙◌, append-nil, append_assoc, arith}
 use Rattle.std.specs.Option.{is_some, option_map_or}
 use Rattle.std.specs.Prelude.{not, position, Result, Ok, Err, IfOk, Option, Some, None, option_map, fold, filter, filter_map, if◌then◌else◌}
-use Rattle.std.specs.Borrow.{Bor}
 use Rattle.std.proofs.Math.Seq.{take-suc, drop-cons}
 use Rattle.std.proofs.lemmas.List.{map-append}
 use Rattle.std.proofs.lemmas.List.Elements.{filter-append, filter_map-append}
@@ -39,27 +38,27 @@ pub defined_same : (blocks : List Block) (b : Block) → head_name b ≡ None �
 defined_same blocks b e = ap (fold with_name []) (heads_more blocks b None e ∙ append-nil (filter_map head_name blocks))
 
 -- a block with a head is put under its name
-pub own_more : (old new : Grouped (Bor Parsed)) (p : Bor Parsed) (h : Head) → head_of p.now.block.items ≡ Some h → new.0 ≡ with_name old.0 h.name →
-    ((m : Name) → members_of new m ≡ members_of old m ++ if_same h.name m p) → (blocks : List Block) → AreOwn blocks old → AreOwn (blocks ++ block_of p.now ∷ []) new
+pub own_more : (old new : Grouped Parsed) (p : Parsed) (h : Head) → head_of p.block.items ≡ Some h → new.0 ≡ with_name old.0 h.name →
+    ((m : Name) → members_of new m ≡ members_of old m ++ if_same h.name m p) → (blocks : List Block) → AreOwn blocks old → AreOwn (blocks ++ block_of p ∷ []) new
 own_more old new p h e names members blocks own = record {
-  names = names ∙ (ap (λ ns. with_name ns h.name) own.names ∙ sym (defined_more blocks (block_of p.now) h.name (ap (option_map (λ (x : Head). x.name)) e)));
+  names = names ∙ (ap (λ ns. with_name ns h.name) own.names ∙ sym (defined_more blocks (block_of p) h.name (ap (option_map (λ (x : Head). x.name)) e)));
   members = λ m.
-    ap (map (λ q. block_of q.now)) (members m)
-    ∙ (map-append (λ q. block_of q.now) (members_of old m) (if_same h.name m p)
-    ∙ (ap (λ front. front ++ map (λ q. block_of q.now) (if_same h.name m p)) (own.members m)
-    ∙ (ap (λ back. filter (defines m) blocks ++ back) (one_if (λ q. block_of q.now) (same h.name m) p ∙ ap (λ b. if b then block_of p.now ∷ [] else []) (sym (ap (λ o. option_map_or (λ (head : Head). same head.name m) o false) e)))
-    ∙ sym (filter-append (defines m) blocks (block_of p.now ∷ [])))));
+    ap (map block_of) (members m)
+    ∙ (map-append block_of (members_of old m) (if_same h.name m p)
+    ∙ (ap (λ front. front ++ map block_of (if_same h.name m p)) (own.members m)
+    ∙ (ap (λ back. filter (defines m) blocks ++ back) (one_if block_of (same h.name m) p ∙ ap (λ b. if b then block_of p ∷ [] else []) (sym (ap (λ o. option_map_or (λ (head : Head). same head.name m) o false) e)))
+    ∙ sym (filter-append (defines m) blocks (block_of p ∷ [])))));
 }
 
 -- one without a head isn't
-pub own_same : (groups : Grouped (Bor Parsed)) (p : Bor Parsed) → head_of p.now.block.items ≡ None → (blocks : List Block) → AreOwn blocks groups → AreOwn (blocks ++ block_of p.now ∷ []) groups
+pub own_same : (groups : Grouped Parsed) (p : Parsed) → head_of p.block.items ≡ None → (blocks : List Block) → AreOwn blocks groups → AreOwn (blocks ++ block_of p ∷ []) groups
 own_same groups p e blocks own = record {
-  names = own.names ∙ sym (defined_same blocks (block_of p.now) (ap (option_map (λ (x : Head). x.name)) e));
+  names = own.names ∙ sym (defined_same blocks (block_of p) (ap (option_map (λ (x : Head). x.name)) e));
   members = λ m.
     own.members m
     ∙ (sym (append-nil (filter (defines m) blocks))
-    ∙ (ap (λ b. filter (defines m) blocks ++ (if b then block_of p.now ∷ [] else [])) (sym (ap (λ o. option_map_or (λ (head : Head). same head.name m) o false) e))
-    ∙ sym (filter-append (defines m) blocks (block_of p.now ∷ []))));
+    ∙ (ap (λ b. filter (defines m) blocks ++ (if b then block_of p ∷ [] else [])) (sym (ap (λ o. option_map_or (λ (head : Head). same head.name m) o false) e))
+    ∙ sym (filter-append (defines m) blocks (block_of p ∷ []))));
 }
 
 -- a place is put under its name
@@ -105,3 +104,8 @@ unknown_step own spots i spot d lt is all names now h e =
     ∙ (ap (λ left. fold with_name names (filter (is_unknown own) (map spot_name left))) (drop-cons spots i d lt ∙ (ap (λ s. s ∷ drop (suc i) spots) (sym is) ∙ ap (λ k. spot ∷ drop k spots) (let one : suc i ≡ i + 1 = omega arith in one)))
     ∙ (unknown_next (is_unknown own) names (spot_name spot) (map spot_name (drop (i + 1) spots))
     ∙ ap (λ ns. fold with_name ns (filter (is_unknown own) (map spot_name (drop (i + 1) spots)))) (sym e)))
+
+pub own_step : (all done : List Parsed) (p : Parsed) (rest : List Parsed) (old new : Grouped Parsed) → (all ≡ done ++ p ∷ rest) × AreOwn (map block_of done) old →
+    ((blocks : List Block) → AreOwn blocks old → AreOwn (blocks ++ block_of p ∷ []) new) → (all ≡ (done ++ p ∷ []) ++ rest) × AreOwn (map block_of (done ++ p ∷ [])) new
+own_step all done p rest old new h more =
+    (h.0 ∙ sym (append_assoc done (p ∷ []) rest), subst (λ blocks. AreOwn blocks new) (sym (map-append block_of done (p ∷ []))) (more (map block_of done) h.1))

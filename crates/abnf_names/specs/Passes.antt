@@ -1,7 +1,6 @@
 -- What the passes over a text's blocks hold. Only contracts of private functions speak of it.
 use Rattle.std.specs.Prelude.{◌≡◌, ℕ, Bool, not, List, [], ◌∷◌, map, filter, if◌then◌else◌}
 use Rattle.std.specs.List.{list_any}
-use Rattle.std.specs.Borrow.{Bor}
 use Rattle.abnf_names.specs.declared.parsed.Parsed.{Parsed}
 use Rattle.abnf_names.specs.declared.parsed.HeadToken.{HeadToken}
 use Rattle.abnf_names.specs.declared.place.Spot.{Spot}
@@ -42,9 +41,9 @@ abbrev pub if_same : {T : Type 0} → Name → Name → T → List T
 if_same name other item = if same name other then item ∷ [] else []
 
 -- the names that these blocks define, and under each name its blocks
-pub record AreOwn (blocks : List Block) (groups : Grouped (Bor Parsed)) : Type 0 where
+pub record AreOwn (blocks : List Block) (groups : Grouped Parsed) : Type 0 where
   pub names : groups.0 ≡ defined blocks
-  pub members : (name : Name) → map (λ p. block_of p.now) (members_of groups name) ≡ filter (defines name) blocks
+  pub members : (name : Name) → map block_of (members_of groups name) ≡ filter (defines name) blocks
 
 -- under each name its places
 abbrev pub ArePlaced : List Named → Grouped NamePlace → Type 0

@@ -4,7 +4,7 @@ ghost use Rattle.std.specs.Prelude.{◌≡◌, [], ◌<◌, ◌^◌, ◌++◌, l
 ghost use Rattle.std.specs.List.{list_any};
 ghost use Rattle.abnf_names.specs.Leaf.{same};
 ghost use Rattle.abnf_names.specs.Rules.{rule_number, with_name};
-ghost use Rattle.abnf_names.specs.Names.{folded_text};
+ghost use Rattle.abnf_names.specs.Names.{folded_text, all_names};
 
 use crate::node::RuleNo;
 use abnf_token::Folded;
@@ -76,8 +76,8 @@ impl<'t> Names<'t> {
     }
 }
 
-/// The names of the rules of a text, and then those of the core rules that it needs. Contracts see one list. A name may stand in
-/// both; it then stands for the rule of the text.
+/// The names of the rules of a text, and then those of the core rules that it needs. Contracts see the two lists. A name may stand
+/// in both; it then stands for the rule of the text.
 #[derive(Drop)]
 pub(crate) struct RuleNames<'t> {
     pub own: Names<'t>,
@@ -85,23 +85,23 @@ pub(crate) struct RuleNames<'t> {
 }
 
 impl<'t> Model for RuleNames<'t> {
-    ghost use Rattle.std.specs.Prelude.{List, ℕ, ◌++◌};
+    ghost use Rattle.std.specs.Prelude.{List, ℕ};
 
-    ghost Value = { List (List ℕ) };
+    ghost Value = { List (List ℕ) × List (List ℕ) };
 
-    ghost view = { λ n. n.own ++ n.core };
+    ghost view = { λ n. (n.own, n.core) };
 }
 
 impl<'t> RuleNames<'t> {
     pub fn new(own: Names<'t>, core: Names<'t>) -> RuleNames<'t>
-        ensures { result ≡ own.entry ++ core.entry }
+        ensures { result ≡ (own.entry, core.entry) }
     {
         RuleNames { own, core }
     }
 
     /// The first rule of this name.
     pub fn rule_of(&self, name: Folded<'t>) -> Option<RuleNo>
-        ensures { result ≡ rule_number self.now (folded_text name.entry) }
+        ensures { result ≡ rule_number (all_names self.now) (folded_text name.entry) }
     {
         if let Some(rule) = self.own.index_of(name) {
             return Some(RuleNo::new(rule));

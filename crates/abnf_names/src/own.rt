@@ -2,7 +2,7 @@
 
 ghost use Rattle.std.specs.Prelude.{◌≡◌, ◌++◌, ◌∷◌, [], List, map, fold, filter, filter_map, option_map, IfOk, OnOk};
 ghost use Rattle.abnf_names.specs.Said as said;
-ghost use Rattle.abnf_names.specs.Rules.{with_name, faults_of, fault_place, block_fault};
+ghost use Rattle.abnf_names.specs.Rules.{with_name, defined, head_name, faults_of, fault_place, block_fault};
 ghost use Rattle.abnf_names.specs.Places.{Named};
 ghost use Rattle.abnf_names.specs.Passes as spec;
 
@@ -15,13 +15,40 @@ use ls_lists::List;
 use ls_text::Place;
 use std::alloc::{AllocError, Global};
 
-/// One more block under the name that it defines, if it defines one.
-fn with_block<'t, 'p>(
+/// Adds the name that a block defines, if it defines one.
+fn add_own<'t>(names: &mut Names<'t>, parsed: &Parsed<'t>) -> Result<(), AllocError>
+    ensures { OnOk result (names.new ≡ fold with_name names.old (filter_map head_name (spec.block_of parsed.now ∷ []))) }
+{
+    match head_of(parsed.block.items.as_slice()) {
+        Some(head) => {
+            names.add(head.name)?;
+            Ok(())
+        }
+        None => Ok(()),
+    }
+}
+
+/// The names that the blocks define.
+pub(crate) fn own_names<'t>(
     alloc: Global,
-    groups: Groups<'t, &'p Parsed<'t>>,
-    parsed: &'p Parsed<'t>,
-) -> Result<Groups<'t, &'p Parsed<'t>>, AllocError>
-    ensures { IfOk result (λ g. (blocks : List said.Block) → spec.AreOwn blocks groups.entry → spec.AreOwn (blocks ++ spec.block_of parsed.entry.now ∷ []) g) }
+    parsed: &[Parsed<'t>],
+) -> Result<Names<'t>, AllocError>
+    ensures { IfOk result (λ names. names ≡ defined (map spec.block_of parsed.now)) }
+{
+    let mut names = Names::new(alloc);
+    for p in parsed {
+        add_own(&mut names, p)?;
+    }
+    Ok(names)
+}
+
+/// One more block under the name that it defines, if it defines one.
+fn with_block<'t>(
+    alloc: Global,
+    groups: Groups<'t, Parsed<'t>>,
+    parsed: Parsed<'t>,
+) -> Result<Groups<'t, Parsed<'t>>, AllocError>
+    ensures { IfOk result (λ g. (blocks : List said.Block) → spec.AreOwn blocks groups.entry → spec.AreOwn (blocks ++ spec.block_of parsed.entry ∷ []) g) }
 {
     match head_of(parsed.block.items.as_slice()) {
         Some(head) => groups.with(alloc, head.name, parsed),
@@ -30,11 +57,11 @@ fn with_block<'t, 'p>(
 }
 
 /// The names that the blocks define, and under each its blocks.
-pub(crate) fn own_groups<'t, 'p>(
+pub(crate) fn own_groups<'t>(
     alloc: Global,
-    parsed: &'p [Parsed<'t>],
-) -> Result<Groups<'t, &'p Parsed<'t>>, AllocError>
-    ensures { IfOk result (λ g. spec.AreOwn (map spec.block_of parsed.entry.now) g) }
+    parsed: Vec<Parsed<'t>>,
+) -> Result<Groups<'t, Parsed<'t>>, AllocError>
+    ensures { IfOk result (λ g. spec.AreOwn (map spec.block_of parsed.entry.items) g) }
 {
     let mut groups = Groups::new(alloc);
     for p in parsed {

@@ -1,9 +1,9 @@
 //! The nodes of the rules.
 
-ghost use Rattle.std.specs.Prelude.{◌≡◌, ◌<◌, ◌^◌, List, map, flat_map, length, IfOk, OnOk};
+ghost use Rattle.std.specs.Prelude.{◌≡◌, ◌<◌, ◌^◌, List, [], map, if◌then◌else◌, flat_map, OnOk};
 ghost use Rattle.abnf_names.specs.Part.{subparts, alt};
 ghost use Rattle.abnf_names.specs.Tree.{parts};
-ghost use Rattle.abnf_names.specs.Names.{folded_text};
+ghost use Rattle.abnf_names.specs.Names.{folded_text, all_names};
 ghost use Rattle.abnf_names.specs.Said as said;
 ghost use Rattle.abnf_names.specs.Rules as rules;
 ghost use Rattle.abnf_names.specs.Passes as spec;
@@ -34,25 +34,6 @@ fn is_adding(parsed: &Parsed<'_>) -> bool
     }
 }
 
-/// Those of a name's blocks that count.
-fn counted<'t, 'p>(
-    alloc: Global,
-    blocks: &[&'p Parsed<'t>],
-) -> Result<Vec<&'p Parsed<'t>>, AllocError>
-    ensures { IfOk result (λ v. map (λ p. spec.block_of p.now) v.items ≡ rules.counted (map (λ p. spec.block_of p.now) blocks.now)) }
-{
-    let mut counted = Vec::new(alloc);
-    let mut is_defined = false;
-    for parsed in blocks {
-        let adds = is_adding(*parsed);
-        if adds || !is_defined {
-            counted.push(*parsed)?;
-        }
-        is_defined = is_defined || !adds;
-    }
-    Ok(counted)
-}
-
 /// The alternatives that a block says, whose numbers are added to `numbers`.
 fn push_alternatives<'t>(
     alloc: Global,
@@ -61,7 +42,7 @@ fn push_alternatives<'t>(
     nodes: &mut Vec<Node<'t>>,
     numbers: &mut List<NodeNo>,
 ) -> Result<(), AllocError>
-    ensures { OnOk result (AddsTrees (rules.said_alternatives (rules.rule_number names.now) (spec.block_of parsed.now)) nodes.old.items nodes.new.items numbers.old numbers.new) }
+    ensures { OnOk result (AddsTrees (rules.said_alternatives (rules.rule_number (all_names names.now)) (spec.block_of parsed.now)) nodes.old.items nodes.new.items numbers.old numbers.new) }
 {
     match &parsed.said {
         Ok(rule) => push_concatenations(
@@ -80,18 +61,39 @@ fn push_alternatives<'t>(
     }
 }
 
-/// The alternatives that blocks say, whose numbers are added to `numbers`.
-fn push_all<'t>(
+/// The same if the block counts.
+fn push_if<'t>(
     alloc: Global,
+    counts: bool,
     names: &RuleNames<'t>,
-    blocks: &[&Parsed<'t>],
+    parsed: &Parsed<'t>,
     nodes: &mut Vec<Node<'t>>,
     numbers: &mut List<NodeNo>,
 ) -> Result<(), AllocError>
-    ensures { OnOk result (AddsTrees (flat_map (rules.said_alternatives (rules.rule_number names.now)) (map (λ p. spec.block_of p.now) blocks.now)) nodes.old.items nodes.new.items numbers.old numbers.new) }
+    ensures { OnOk result (AddsTrees (if counts then rules.said_alternatives (rules.rule_number (all_names names.now)) (spec.block_of parsed.now) else []) nodes.old.items nodes.new.items numbers.old numbers.new) }
 {
+    if counts {
+        push_alternatives(alloc, names, parsed, nodes, numbers)
+    } else {
+        Ok(())
+    }
+}
+
+/// The alternatives that a name's blocks say which count, whose numbers are added to `numbers`.
+fn push_counted<'t>(
+    alloc: Global,
+    names: &RuleNames<'t>,
+    blocks: &[Parsed<'t>],
+    nodes: &mut Vec<Node<'t>>,
+    numbers: &mut List<NodeNo>,
+) -> Result<(), AllocError>
+    ensures { OnOk result (AddsTrees (flat_map (rules.said_alternatives (rules.rule_number (all_names names.now))) (rules.counted (map spec.block_of blocks.now))) nodes.old.items nodes.new.items numbers.old numbers.new) }
+{
+    let mut is_defined = false;
     for parsed in blocks {
-        push_alternatives(alloc, names, *parsed, nodes, numbers)?;
+        let adds = is_adding(parsed);
+        push_if(alloc, adds | !is_defined, names, parsed, nodes, numbers)?;
+        is_defined = is_defined | !adds;
     }
     Ok(())
 }
@@ -100,30 +102,29 @@ fn push_all<'t>(
 fn push_rule<'t>(
     alloc: Global,
     names: &RuleNames<'t>,
-    blocks: &[&Parsed<'t>],
+    blocks: &[Parsed<'t>],
     nodes: &mut Vec<Node<'t>>,
 ) -> Result<(), AllocError>
-    ensures { OnOk result (Adds (subparts (alt (parts (flat_map (rules.said_alternatives (rules.rule_number names.now)) (rules.counted (map (λ p. spec.block_of p.now) blocks.now)))))) nodes.old.items nodes.new.items) }
+    ensures { OnOk result (Adds (subparts (alt (parts (flat_map (rules.said_alternatives (rules.rule_number (all_names names.now))) (rules.counted (map spec.block_of blocks.now)))))) nodes.old.items nodes.new.items) }
 {
-    let blocks = counted(alloc, blocks)?;
     let at = nodes.len();
     let mut numbers = List::new(alloc);
     nodes.push(Node::Opaque)?;
-    push_all(alloc, names, blocks.as_slice(), nodes, &mut numbers)?;
+    push_counted(alloc, names, blocks, nodes, &mut numbers)?;
     fill(nodes, at, Node::Alt(numbers));
     Ok(())
 }
 
 /// The rules of the text, whose roots' numbers are added to `roots`.
-fn push_own<'t>(
+pub(crate) fn push_own<'t>(
     alloc: Global,
     names: &RuleNames<'t>,
-    groups: &Groups<'t, &Parsed<'t>>,
+    groups: &Groups<'t, Parsed<'t>>,
     own: &[Folded<'t>],
     nodes: &mut Vec<Node<'t>>,
     roots: &mut List<NodeNo>,
 ) -> Result<(), AllocError>
-    ensures { OnOk result ((blocks : List said.Block) → spec.AreOwn blocks groups.now → rules.names_of blocks ≡ names.now → AddsTrees (map (λ name. rules.rule_tree blocks (folded_text name)) own.now) nodes.old.items nodes.new.items roots.old roots.new) }
+    ensures { OnOk result ((blocks : List said.Block) → spec.AreOwn blocks groups.now → rules.names_of blocks ≡ all_names names.now → AddsTrees (map (λ name. rules.rule_tree blocks (folded_text name)) own.now) nodes.old.items nodes.new.items roots.old roots.new) }
 {
     for name in own {
         roots.push(NodeNo::new(nodes.len()))?;
@@ -133,7 +134,7 @@ fn push_own<'t>(
 }
 
 /// The core rules that are needed, whose roots' numbers are added to `roots`.
-fn push_needed<'t>(
+pub(crate) fn push_needed<'t>(
     alloc: Global,
     first: usize,
     names: &Names<'t>,

@@ -1,6 +1,7 @@
 //! The nodes of a rule, pushed in the order of their numbers: each before its parts, parts from left to right.
 ghost use Rattle.std.specs.Prelude.{◌≡◌, ◌<◌, ℕ, map, length, List, ◌∷◌, [], OnOk, slice_set};
 ghost use Rattle.abnf_syntax.specs.declared.tree.Element.{out-Element};
+ghost use Rattle.abnf_names.specs.Names.{all_names};
 ghost use Rattle.abnf_names.specs.Rules.{rule_number};
 ghost use Rattle.abnf_names.specs.Part.{subparts};
 ghost use Rattle.abnf_names.specs.Tree.{element_part, repetition_part, concatenation_part, tree_inside};
@@ -31,7 +32,7 @@ pub(crate) fn push_inside<'t>(
     alternation: &[List<Repetition<'t>>],
     nodes: &mut Vec<Node<'t>>,
 ) -> Result<(), AllocError>
-    ensures { OnOk result (Adds (subparts (tree_inside (rule_number names.now) room alternation.now)) nodes.old.items nodes.new.items) }
+    ensures { OnOk result (Adds (subparts (tree_inside (rule_number (all_names names.now)) room alternation.now)) nodes.old.items nodes.new.items) }
 {
     if room == 0 {
         nodes.push(Node::Opaque)?;
@@ -58,7 +59,7 @@ pub(crate) fn push_concatenations<'t>(
     nodes: &mut Vec<Node<'t>>,
     numbers: &mut List<NodeNo>,
 ) -> Result<(), AllocError>
-    ensures { OnOk result (AddsTrees (map (concatenation_part (rule_number names.now) (tree_inside (rule_number names.now) room)) alternation.now) nodes.old.items nodes.new.items numbers.old numbers.new) }
+    ensures { OnOk result (AddsTrees (map (concatenation_part (rule_number (all_names names.now)) (tree_inside (rule_number (all_names names.now)) room)) alternation.now) nodes.old.items nodes.new.items numbers.old numbers.new) }
 {
     for concatenation in alternation {
         numbers.push(NodeNo::new(nodes.len()))?;
@@ -76,7 +77,7 @@ fn push_concatenation<'t>(
     concatenation: &[Repetition<'t>],
     nodes: &mut Vec<Node<'t>>,
 ) -> Result<(), AllocError>
-    ensures { OnOk result (Adds (subparts (concatenation_part (rule_number names.now) (tree_inside (rule_number names.now) room) concatenation.now)) nodes.old.items nodes.new.items) }
+    ensures { OnOk result (Adds (subparts (concatenation_part (rule_number (all_names names.now)) (tree_inside (rule_number (all_names names.now)) room) concatenation.now)) nodes.old.items nodes.new.items) }
 {
     if concatenation.len() == 1 {
         return push_repetition(alloc, names, room, &concatenation[0], nodes);
@@ -99,7 +100,7 @@ fn push_repetitions<'t>(
     nodes: &mut Vec<Node<'t>>,
     numbers: &mut List<NodeNo>,
 ) -> Result<(), AllocError>
-    ensures { OnOk result (AddsTrees (map (repetition_part (rule_number names.now) (tree_inside (rule_number names.now) room)) concatenation.now) nodes.old.items nodes.new.items numbers.old numbers.new) }
+    ensures { OnOk result (AddsTrees (map (repetition_part (rule_number (all_names names.now)) (tree_inside (rule_number (all_names names.now)) room)) concatenation.now) nodes.old.items nodes.new.items numbers.old numbers.new) }
 {
     for repetition in concatenation {
         numbers.push(NodeNo::new(nodes.len()))?;
@@ -117,7 +118,7 @@ fn push_repetition<'t>(
     repetition: &Repetition<'t>,
     nodes: &mut Vec<Node<'t>>,
 ) -> Result<(), AllocError>
-    ensures { OnOk result (Adds (subparts (repetition_part (rule_number names.now) (tree_inside (rule_number names.now) room) repetition.now)) nodes.old.items nodes.new.items) }
+    ensures { OnOk result (Adds (subparts (repetition_part (rule_number (all_names names.now)) (tree_inside (rule_number (all_names names.now)) room) repetition.now)) nodes.old.items nodes.new.items) }
 {
     let Some(token) = repetition.repeat else {
         return push_element(alloc, names, room, &repetition.element, nodes);
@@ -136,7 +137,7 @@ fn push_element<'t>(
     element: &Element<'t>,
     nodes: &mut Vec<Node<'t>>,
 ) -> Result<(), AllocError>
-    ensures { OnOk result (Adds (subparts (element_part (rule_number names.now) (tree_inside (rule_number names.now) room) (out-Element element.now))) nodes.old.items nodes.new.items) }
+    ensures { OnOk result (Adds (subparts (element_part (rule_number (all_names names.now)) (tree_inside (rule_number (all_names names.now)) room) (out-Element element.now))) nodes.old.items nodes.new.items) }
 {
     match element {
         Element::Name(token) => {

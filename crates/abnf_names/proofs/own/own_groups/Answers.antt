@@ -1,9 +1,8 @@
-use Rattle.std.proofs.Common.{◌≡◌, sym, subst, map, take}
-use Rattle.abnf_names.specs.Passes.{AreOwn, block_of}
-use Rattle.abnf_names.proofs.OwnPass.{map_take-next}
+use Rattle.std.proofs.Common.{◌≡◌, ◌++◌, ◌∙◌, ap}
+use Rattle.abnf_names.proofs.OwnPass.{own_step}
 use Rattle.abnf_names.proofs.own.own_groups.Goals as goal
 
 pub loop-p-preserved : goal.loop-p-preserved
 loop-p-preserved c =
-    subst (λ blocks. AreOwn blocks c.in_ok-groups.groups) (sym (map_take-next block_of c.args.parsed.now c.loop-p.p-index c.p-item.result c.p-item.result c.loop-p-test.true c.p-item.is))
-      (c.in_ok-groups.ensures (map block_of (take c.loop-p.p-index c.args.parsed.now)) c.loop-p.invariant)
+    own_step c.args.parsed.items c.loop-p.yielded c.in-Some.p c.next.new.self.rest.items c.loop-p.groups c.in_ok-groups.groups
+      (c.loop-p.invariant.0 ∙ ap (λ rest. c.loop-p.yielded ++ rest) c.in-Some.ensures.steps.0, c.loop-p.invariant.1) c.in_ok-groups.ensures

@@ -11,5 +11,5 @@ returns-in-Some c =
       (λ g names members. own_more c.args.groups g c.args.parsed (head_in c.in-Some.head) (ap head_of (sym c.as_slice.ensures) ∙ (sym c.head_of.ensures ∙ ap (option_map head_in) c.in-Some.is)) names members)
       c.with.ensures.names c.with.ensures.members
 
-pub returns-in-None : goal.returns-in-None
-returns-in-None c = own_same c.args.groups c.args.parsed (ap head_of (sym c.as_slice.ensures) ∙ (sym c.head_of.ensures ∙ ap (option_map head_in) c.in-None.is))
+pub returns : goal.returns
+returns c = own_same c.args.groups c.args.parsed (ap head_of (sym c.as_slice.ensures) ∙ (sym c.head_of.ensures ∙ ap (option_map head_in) c.in-None.is))

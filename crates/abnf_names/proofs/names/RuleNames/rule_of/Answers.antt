@@ -2,7 +2,7 @@ use Rattle.std.proofs.Common.{◌≡◌, ◌∙◌, ◌+◌, ◌<◌, sym, ap, l
 use Rattle.std.specs.Prelude.{Some, None}
 use Rattle.abnf_names.specs.Leaf.{same}
 use Rattle.abnf_names.specs.Rules.{rule_number}
-use Rattle.abnf_names.specs.Names.{folded_text}
+use Rattle.abnf_names.specs.Names.{folded_text, all_names}
 use Rattle.abnf_names.proofs.NameLaws.{position-append, behind}
 use Rattle.abnf_names.proofs.names.RuleNames.rule_of.Goals as goal
 
@@ -13,7 +13,7 @@ returns-in-Some c =
     let name = folded_text c.args.name in
     ap Some c.new.ensures
     ∙ (ap (λ o. behind (same name) (length own) o (rule_number core name)) (sym c.in-Some.is ∙ c.index_of.ensures.index)
-    ∙ (sym (position-append (same name) own core) ∙ ap (λ names. rule_number names name) c.self.view_is))
+    ∙ (sym (position-append (same name) own core) ∙ ap (λ names. rule_number (all_names names) name) c.self.view_is))
 
 pub overflow_add-len : goal.overflow_add-len
 overflow_add-len c =
@@ -29,7 +29,7 @@ returns-in-Some-index_of c =
     ap Some (c.new-in-Some-index_of.ensures ∙ ap (λ n. n + c.in-Some-index_of.rule) c.len.ensures.len)
     ∙ (ap (λ o. behind (same name) (length own) None o) (sym c.in-Some-index_of.is ∙ c.index_of-2.ensures.index)
     ∙ (ap (λ o. behind (same name) (length own) o (rule_number core name)) (sym c.in_default.is ∙ c.index_of.ensures.index)
-    ∙ (sym (position-append (same name) own core) ∙ ap (λ names. rule_number names name) c.self.view_is)))
+    ∙ (sym (position-append (same name) own core) ∙ ap (λ names. rule_number (all_names names) name) c.self.view_is)))
 
 pub returns-in-None : goal.returns-in-None
 returns-in-None c =
@@ -38,4 +38,4 @@ returns-in-None c =
     let name = folded_text c.args.name in
     ap (λ o. behind (same name) (length own) None o) (sym c.in-None.is ∙ c.index_of-2.ensures.index)
     ∙ (ap (λ o. behind (same name) (length own) o (rule_number core name)) (sym c.in_default.is ∙ c.index_of.ensures.index)
-    ∙ (sym (position-append (same name) own core) ∙ ap (λ names. rule_number names name) c.self.view_is))
+    ∙ (sym (position-append (same name) own core) ∙ ap (λ names. rule_number (all_names names) name) c.self.view_is))
