@@ -8,3 +8,5 @@ pub mod OwnPass
 pub mod CoreLaws
 pub mod NeededLaws
 pub mod RulePass
+pub mod ApartLaws
+pub mod Tied

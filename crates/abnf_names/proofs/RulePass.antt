@@ -2,14 +2,19 @@
 use Rattle.std.proofs.Common.{◌≡◌, ◌<◌, ◌+◌, ℕ, suc, Bool, true, false, List, [], ◌∷◌, ◌++◌, map, drop, length, get_or, refl, sym, ap, subst, ◌∙◌, append-nil, append_assoc, length-append, arith}
 use Rattle.std.proofs.Math.Seq.{drop-cons}
 use Rattle.std.proofs.lemmas.Grind.{flat_map-append}
-use Rattle.std.specs.Prelude.{flat_map, filter, not, ◌||◌, if◌then◌else◌}
+use Rattle.std.specs.Prelude.{Option, flat_map, filter, not, ◌||◌, if◌then◌else◌}
 use Rattle.abnf_names.specs.declared.node.Node.{Node}
 use Rattle.abnf_names.specs.declared.parsed.Parsed.{Parsed}
 use Rattle.abnf_names.specs.Part.{Part, next, alt, subparts, all_subparts, numbers}
 use Rattle.abnf_names.specs.Tree.{parts}
 use Rattle.abnf_names.specs.Said.{Block, Name}
-use Rattle.abnf_names.specs.Rules.{counted, adds, defines, names_of, rule_number, rule_tree, said_alternatives}
-use Rattle.abnf_names.specs.Passes.{block_of, members_of, Grouped, AreOwn}
+use Rattle.abnf_names.specs.Rules.{counted, adds, defines, names_of, rule_number, rule_tree, rules_of, core_tree, needed, defined, said_alternatives}
+use Rattle.abnf_names.specs.Names.{folded_text, all_names}
+use Rattle.abnf_names.specs.CoreTable.{core_of, number_in}
+use Rattle.abnf_names.specs.declared.core_rule.Core.{Core}
+use Rattle.abnf_token.specs.declared.folded.Folded.{Folded}
+use Rattle.abnf_names.proofs.ApartLaws.{map_both}
+use Rattle.abnf_names.specs.Passes.{block_of, members_of, Grouped, AreOwn, AreNames}
 use Rattle.abnf_names.specs.Pushed.{Adds, AddsTrees}
 use Rattle.abnf_names.proofs.Pushing.{adds_both, adds_length, trees_none}
 
@@ -85,3 +90,18 @@ pub rule_is : (blocks : List Block) (groups : Grouped Parsed) (names : List Name
 rule_is blocks groups names n members old new m own e h =
     subst (λ ns. Adds (subparts (alt (parts (flat_map (said_alternatives (rule_number ns)) (counted (filter (defines n) blocks)))))) old new) (sym e)
     (subst (λ bs. Adds (subparts (alt (parts (flat_map (said_alternatives (rule_number names)) (counted bs))))) old new) (ap (map block_of) m ∙ own.members n) h)
+
+-- the rules of the text, and then the core rules
+pub rules_added : (blocks : List Block) (own : List Folded) (names : List Name × List Name) (cores : List Core) (first : ℕ) (old mid new : List Node) (a b c : List ℕ) → AreNames blocks names →
+    map folded_text own ≡ names.0 → first ≡ length names.0 → map core_of cores ≡ needed blocks →
+    AddsTrees (map (λ name. rule_tree blocks (folded_text name)) own) old mid a b → AddsTrees (map (λ core. (core_of core).tree (number_in first names.1)) cores) mid new b c → AddsTrees (rules_of blocks) old new a c
+rules_added blocks own names cores first old mid new a b c are o f n h k =
+    subst (λ trees. AddsTrees trees old new a c)
+      (ap (λ front. front ++ map (λ core. (core_of core).tree (number_in first names.1)) cores) (map_both (rule_tree blocks) folded_text own ∙ ap (map (rule_tree blocks)) (o ∙ are.own))
+      ∙ ap (λ back. map (rule_tree blocks) (defined blocks) ++ back)
+        (ap (λ (number : Name → Option ℕ). map (λ core. (core_of core).tree number) cores) (ap (λ k. number_in k names.1) (f ∙ ap length are.own) ∙ ap (number_in (length (defined blocks))) are.core)
+        ∙ (map_both (core_tree blocks) core_of cores ∙ ap (map (core_tree blocks)) n)))
+      (trees_both (map (λ name. rule_tree blocks (folded_text name)) own) (map (λ core. (core_of core).tree (number_in first names.1)) cores) old mid new a b c h k)
+
+pub names_are : (blocks : List Block) (names : List Name × List Name) → AreNames blocks names → names_of blocks ≡ all_names names
+names_are blocks names are = sym (ap (λ own. own ++ names.1) are.own ∙ ap (λ core. defined blocks ++ core) are.core)

@@ -14,3 +14,4 @@ pub mod Reach
 pub mod Pushed
 pub mod Passes
 pub mod CoreTable
+pub mod Inside

@@ -9,7 +9,8 @@ use Rattle.abnf_names.specs.Names.{folded_text}
 use Rattle.abnf_names.specs.Leaf.{same}
 use Rattle.abnf_names.specs.Said.{Block, Head, Name}
 use Rattle.abnf_names.specs.Places.{Named, places_of_name}
-use Rattle.abnf_names.specs.Rules.{defined, defines}
+use Rattle.abnf_names.specs.Rules.{defined, defines, needed}
+use Rattle.abnf_names.specs.Core.{core_name}
 
 abbrev pub block_of : Parsed → Block
 block_of p = record { items = p.block.items; said = p.said }
@@ -55,3 +56,8 @@ is_unknown own name = not (list_any (same name) own)
 
 abbrev pub spot_name : Spot → Name
 spot_name spot = folded_text spot.name
+
+-- the names of the rules of the text, and those of the needed core rules
+pub record AreNames (blocks : List Block) (names : List Name × List Name) : Type 0 where
+  pub own : names.0 ≡ defined blocks
+  pub core : names.1 ≡ map core_name (needed blocks)

@@ -3,6 +3,7 @@
 
 mod core_rule;
 mod core_tree;
+mod grammar;
 mod groups;
 mod leaf;
 mod names;
@@ -13,5 +14,6 @@ mod place;
 mod rules;
 mod tree;
 
+pub use grammar::Grammar;
 pub use node::{Node, NodeNo, RuleNo};
 pub use place::NamePlace;

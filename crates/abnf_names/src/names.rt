@@ -80,8 +80,8 @@ impl<'t> Names<'t> {
 /// in both; it then stands for the rule of the text.
 #[derive(Drop)]
 pub(crate) struct RuleNames<'t> {
-    pub own: Names<'t>,
-    pub core: Names<'t>,
+    own: Names<'t>,
+    core: Names<'t>,
 }
 
 impl<'t> Model for RuleNames<'t> {
@@ -97,6 +97,18 @@ impl<'t> RuleNames<'t> {
         ensures { result ≡ (own.entry, core.entry) }
     {
         RuleNames { own, core }
+    }
+
+    pub fn own(&self) -> &Names<'t>
+        ensures { result.now ≡ self.now.0 }
+    {
+        &self.own
+    }
+
+    pub fn core(&self) -> &Names<'t>
+        ensures { result.now ≡ self.now.1 }
+    {
+        &self.core
     }
 
     /// The first rule of this name.

@@ -151,3 +151,20 @@ pub(crate) fn push_needed<'t>(
     }
     Ok(())
 }
+
+/// All rules, those of the text first.
+pub(crate) fn push_rules<'t>(
+    alloc: Global,
+    names: &RuleNames<'t>,
+    groups: &Groups<'t, Parsed<'t>>,
+    needed: &[Core],
+    nodes: &mut Vec<Node<'t>>,
+    roots: &mut List<NodeNo>,
+) -> Result<(), AllocError>
+    ensures { OnOk result ((blocks : List said.Block) → spec.AreOwn blocks groups.now → spec.AreNames blocks names.now → map table.core_of needed.now ≡ rules.needed blocks → AddsTrees (rules.rules_of blocks) nodes.old.items nodes.new.items roots.old roots.new) }
+{
+    let own = names.own();
+    let core = names.core();
+    push_own(alloc, names, groups, own.as_slice(), nodes, roots)?;
+    push_needed(alloc, own.len(), core, needed, nodes, roots)
+}
