@@ -10,3 +10,4 @@ pub mod NeededLaws
 pub mod RulePass
 pub mod ApartLaws
 pub mod Tied
+pub mod Kept
