@@ -17,3 +17,6 @@ mod tree;
 pub use grammar::Grammar;
 pub use node::{Node, NodeNo, RuleNo};
 pub use place::NamePlace;
+
+#[cfg(test)]
+mod tests;
