@@ -1,0 +1,60 @@
+-- What a grammar's fields hold once they were made.
+use Rattle.std.proofs.Common.{◌≡◌, ℕ, List, [], ◌∷◌, ◌++◌, map, refl, sym, ap, subst, ◌∙◌}
+use Rattle.std.specs.Prelude.{fold, filter}
+use Rattle.ls_text.specs.declared.position.Place.{Place}
+use Rattle.abnf_syntax.specs.declared.fault.SyntaxFault.{SyntaxFault}
+use Rattle.abnf_names.specs.declared.core_rule.Core.{Core}
+use Rattle.abnf_names.specs.declared.node.Node.{Node}
+use Rattle.abnf_names.specs.declared.parsed.Parsed.{Parsed}
+use Rattle.abnf_names.specs.declared.place.NamePlace.{NamePlace}
+use Rattle.abnf_names.specs.declared.place.Spot.{Spot}
+use Rattle.abnf_names.specs.declared.grammar.Grammar.TheInside.{Inside}
+use Rattle.abnf_names.specs.Part.{Part}
+use Rattle.abnf_names.specs.Core.{core_rules, core_name}
+use Rattle.abnf_names.specs.CoreTable.{core_of}
+use Rattle.abnf_names.specs.Said.{Block, AreSaid, Name}
+use Rattle.abnf_names.specs.Places.{Named, places_of}
+use Rattle.abnf_names.specs.Names.{all_names}
+use Rattle.abnf_names.specs.Nodes.{trees_at}
+use Rattle.abnf_names.specs.Rules.{defined, needed, undefined, names_of, rules_of, faults_of, is_needed, with_name, grammar_of, Grammar, IsGrammar}
+use Rattle.abnf_names.specs.Passes.{block_of, named_at, spot_name, is_unknown, AreNames, ArePlaced, Grouped}
+use Rattle.abnf_names.specs.Inside.{grammar_inside, IsGrammarInside}
+use Rattle.abnf_names.specs.Pushed.{AddsTrees}
+use Rattle.abnf_names.proofs.ApartLaws.{map_both, needed_names, needed_all}
+use Rattle.abnf_names.proofs.RulePass.{names_are}
+use Rattle.abnf_names.proofs.Tied.{tied, IsTied}
+
+pub same_grammar : (text : List ℕ) (names ns : List Name) (rules rs : List Part) (places ps : List Named) (faults fs : List (Place × SyntaxFault)) → names ≡ ns → rules ≡ rs → places ≡ ps → faults ≡ fs →
+    (let g : Grammar = record { text = text; names = names; rules = rules; places = places; faults = faults } in g) ≡ (let g : Grammar = record { text = text; names = ns; rules = rs; places = ps; faults = fs } in g)
+same_grammar text names ns rules rs places ps faults fs n r p f =
+    ap (λ x. record { text = text; names = x; rules = rules; places = places; faults = faults }) n
+    ∙ (ap (λ x. record { text = text; names = ns; rules = x; places = places; faults = faults }) r
+    ∙ (ap (λ x. record { text = text; names = ns; rules = rs; places = x; faults = faults }) p
+    ∙ ap (λ x. record { text = text; names = ns; rules = rs; places = ps; faults = x }) f))
+
+pub kept : (g : Inside) (blocks : List Block) → AreSaid g.source.now blocks → AreNames blocks g.names → AddsTrees (rules_of blocks) [] g.nodes.items [] g.roots.items →
+    map named_at g.spots ≡ places_of blocks → g.faults ≡ faults_of blocks → ArePlaced (map named_at g.spots) g.by_name → IsGrammarInside g
+kept g blocks said are added places faults placed =
+    let t : IsTied (rules_of blocks) g.nodes.items g.roots.items = tied (rules_of blocks) g.nodes.items g.roots.items added in
+    record {
+      numbered = t.numbered;
+      is_grammar = record {
+        blocks = blocks;
+        of_text = said;
+        is = same_grammar g.source.now (all_names g.names) (names_of blocks) (trees_at g.nodes.items g.roots.items) (rules_of blocks) (map named_at g.spots) (places_of blocks) g.faults (faults_of blocks)
+          (sym (names_are blocks g.names are)) t.back places faults;
+      };
+      placed = placed;
+    }
+
+-- the names of the rules, by the passes that made them
+pub names_made : (blocks : List Block) (own unknown core : List Name) (spots : List Spot) (cores : List Core) → own ≡ defined blocks → map named_at spots ≡ places_of blocks →
+    unknown ≡ fold with_name [] (filter (is_unknown own) (map spot_name spots)) → map core_of cores ≡ filter (is_needed unknown) core_rules → core ≡ fold with_name [] (map (λ c. core_name (core_of c)) cores) →
+    AreNames blocks (own, core) × (map core_of cores ≡ needed blocks)
+names_made blocks own unknown core spots cores o p u n c =
+    let all : map core_of cores ≡ needed blocks = n ∙ needed_all own unknown spots blocks o p u in
+    (record {
+       own = o;
+       core = c ∙ (ap (fold with_name []) (map_both core_name core_of cores ∙ ap (map core_name) all) ∙ needed_names (is_needed (undefined blocks)));
+     },
+     all)

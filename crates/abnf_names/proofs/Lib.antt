@@ -1,0 +1,13 @@
+pub mod NameLaws
+pub mod ReachLaws
+pub mod Numbered
+pub mod Pushing
+pub mod BlockPass
+pub mod GroupLaws
+pub mod OwnPass
+pub mod CoreLaws
+pub mod NeededLaws
+pub mod RulePass
+pub mod ApartLaws
+pub mod Tied
+pub mod Kept

@@ -1,0 +1,11 @@
+use Rattle.std.proofs.Common.{◌≡◌, ◌∙◌, sym, ap}
+use Rattle.abnf_names.specs.Leaf.{same}
+use Rattle.abnf_names.specs.Rules.{rule_number}
+use Rattle.abnf_names.specs.Names.{folded_text}
+use Rattle.abnf_names.proofs.NameLaws.{position-map}
+use Rattle.abnf_names.proofs.names.Names.index_of.Goals as goal
+
+pub returns-clause-index : goal.returns-clause-index
+returns-clause-index c =
+    c.get_index_of.ensures.index ∙ (sym (position-map folded_text (same (folded_text c.args.name)) c.self.inside.names.keys)
+    ∙ ap (λ names. rule_number names (folded_text c.args.name)) c.self.view_is)

@@ -1,0 +1,13 @@
+use Rattle.std.proofs.Common.{◌≡◌, ◌∙◌, map, refl}
+use Rattle.std.specs.Prelude.{flat_map}
+use Rattle.abnf_names.specs.Names.{all_names}
+use Rattle.abnf_names.specs.Rules.{said_alternatives, rule_number, counted}
+use Rattle.abnf_names.specs.Passes.{block_of}
+use Rattle.abnf_names.proofs.Pushing.{choice_added}
+use Rattle.abnf_names.proofs.rules.push_rule.Goals as goal
+
+pub returns : goal.returns
+returns c =
+    choice_added (flat_map (said_alternatives (rule_number (all_names c.args.names.now))) (counted (map block_of c.args.blocks.now))) c.len-at.result _ c.args.nodes.now.items c.push.new.self.items
+      c.push_counted.new.nodes.items c.fill.new.nodes.items c.new-numbers.result c.push_counted.new.numbers c.push_counted.new.numbers
+      (c.len-at.ensures ∙ c.args.nodes.now.ok.0) c.new-numbers.ensures c.in_ok-push.ensures.items c.in_ok-push_counted.ensures refl c.fill.ensures

@@ -1,0 +1,21 @@
+-- What a grammar's fields hold.
+use Rattle.std.specs.Prelude.{◌++◌, map}
+use Rattle.abnf_names.specs.Names.{all_names}
+use Rattle.abnf_names.specs.Rules.{Grammar, IsGrammar}
+use Rattle.abnf_names.specs.Nodes.{trees_at, AreNumbered}
+use Rattle.abnf_names.specs.Passes.{named_at, ArePlaced}
+use Rattle.abnf_names.specs.declared.grammar.Grammar.TheInside.{Inside}
+
+abbrev pub grammar_inside : Inside → Grammar
+grammar_inside g = record {
+  text = g.source.now;
+  names = all_names g.names;
+  rules = trees_at g.nodes.items g.roots.items;
+  places = map named_at g.spots;
+  faults = g.faults;
+}
+
+pub record IsGrammarInside (g : Inside) : Type 0 where
+  pub numbered : AreNumbered g.nodes.items g.roots.items
+  pub is_grammar : IsGrammar (grammar_inside g)
+  pub placed : ArePlaced (map named_at g.spots) g.by_name

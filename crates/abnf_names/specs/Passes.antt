@@ -1,0 +1,63 @@
+-- What the passes over a text's blocks hold. Only contracts of private functions speak of it.
+use Rattle.std.specs.Prelude.{◌≡◌, ℕ, Bool, not, List, [], ◌∷◌, map, filter, if◌then◌else◌}
+use Rattle.std.specs.List.{list_any}
+use Rattle.abnf_names.specs.declared.parsed.Parsed.{Parsed}
+use Rattle.abnf_names.specs.declared.parsed.HeadToken.{HeadToken}
+use Rattle.abnf_names.specs.declared.place.Spot.{Spot}
+use Rattle.abnf_names.specs.declared.place.NamePlace.{NamePlace}
+use Rattle.abnf_names.specs.Names.{folded_text}
+use Rattle.abnf_names.specs.Leaf.{same}
+use Rattle.abnf_names.specs.Said.{Block, Head, Name}
+use Rattle.abnf_names.specs.Places.{Named, places_of_name}
+use Rattle.abnf_names.specs.Rules.{defined, defines, needed}
+use Rattle.abnf_names.specs.Core.{core_name}
+
+abbrev pub block_of : Parsed → Block
+block_of p = record { items = p.block.items; said = p.said }
+
+abbrev pub head_in : HeadToken → Head
+head_in h = record { name = folded_text h.name; adds = h.adds }
+
+abbrev pub named_at : Spot → Named
+named_at s = record { text = s.name.0.now; place = s.place; defines = s.defines }
+
+abbrev pub name_place : Named → NamePlace
+name_place n = record { place = n.place; defines = n.defines }
+
+-- Names, and beside each the things that were put under it.
+abbrev pub Grouped : Type 0 → Type 0
+Grouped T = List Name × List (List T)
+
+-- the things under a name
+abbrev pub members_in : {T : Type 0} → List Name → List (List T) → Name → List T
+members_in [] members name = []
+members_in (n ∷ names) [] name = []
+members_in (n ∷ names) (list ∷ members) name = if same name n then list else members_in names members name
+
+abbrev pub members_of : {T : Type 0} → Grouped T → Name → List T
+members_of groups name = members_in groups.0 groups.1 name
+
+-- one more thing, where the names are the same
+abbrev pub if_same : {T : Type 0} → Name → Name → T → List T
+if_same name other item = if same name other then item ∷ [] else []
+
+-- the names that these blocks define, and under each name its blocks
+pub record AreOwn (blocks : List Block) (groups : Grouped Parsed) : Type 0 where
+  pub names : groups.0 ≡ defined blocks
+  pub members : (name : Name) → map block_of (members_of groups name) ≡ filter (defines name) blocks
+
+-- under each name its places
+abbrev pub ArePlaced : List Named → Grouped NamePlace → Type 0
+ArePlaced places groups = (name : Name) → members_of groups name ≡ map name_place (places_of_name name places)
+
+-- the names that no rule of the text has
+abbrev pub is_unknown : List Name → Name → Bool
+is_unknown own name = not (list_any (same name) own)
+
+abbrev pub spot_name : Spot → Name
+spot_name spot = folded_text spot.name
+
+-- the names of the rules of the text, and those of the needed core rules
+pub record AreNames (blocks : List Block) (names : List Name × List Name) : Type 0 where
+  pub own : names.0 ≡ defined blocks
+  pub core : names.1 ≡ map core_name (needed blocks)

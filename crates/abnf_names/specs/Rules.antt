@@ -1,0 +1,123 @@
+-- The rules of a text, by its blocks.
+use Rattle.std.specs.Prelude.{◌≡◌, ℕ, ◌+◌, List, [], ◌∷◌, ◌++◌, map, flat_map, filter_map, filter, position, fold, length, Option, Some, None, option_map, Result, Ok, Err, Bool, true, false, not, if◌then◌else◌}
+use Rattle.std.specs.List.{list_any}
+use Rattle.std.specs.Option.{option_map_or}
+use Rattle.ls_text.specs.declared.position.Place.{Place}
+use Rattle.abnf_token.specs.Folded.{lowercase}
+use Rattle.abnf_syntax.specs.declared.fault.SyntaxFault.{SyntaxFault}
+use Rattle.abnf_syntax.specs.declared.fault.SyntaxFault.TheVariants as f
+use Rattle.abnf_syntax.specs.declared.tree.Rule.{Rule}
+use Rattle.abnf_names.specs.Part.{Part, alt, opaque}
+use Rattle.abnf_names.specs.Leaf.{same}
+use Rattle.abnf_names.specs.Tree.{parts, alternatives}
+use Rattle.abnf_names.specs.Core.{CoreRule, core_rules, core_name, needs}
+use Rattle.abnf_names.specs.Said.{Block, AreSaid, Name, Head, head_of}
+use Rattle.abnf_names.specs.Places.{Named, places_of}
+
+abbrev pub defines : Name → Block → Bool
+defines name block = option_map_or (λ head. same head.name name) (head_of block.items) false
+
+abbrev pub adds : Block → Bool
+adds block = option_map_or (λ head. head.adds) (head_of block.items) false
+
+-- Of the blocks of a name the first with `=` and all with `=/` count (RFC 5234 section 3.3).
+abbrev pub counted : List Block → List Block
+counted [] = []
+counted (block ∷ blocks) = block ∷ (if adds block then counted blocks else filter adds blocks)
+
+-- a name, unless it is there
+abbrev pub with_name : List Name → Name → List Name
+with_name names name = if list_any (same name) names then names else names ++ name ∷ []
+
+abbrev pub head_name : Block → Option Name
+head_name block = option_map (λ head. head.name) (head_of block.items)
+
+-- the names that the blocks define, each where it is defined first
+abbrev pub defined : List Block → List Name
+defined blocks = fold with_name [] (filter_map head_name blocks)
+
+-- the names that stand at a place of the text and that no block defines
+abbrev pub undefined : List Block → List Name
+undefined blocks = filter (λ name. not (list_any (same name) (defined blocks))) (map (λ place. lowercase place.text) (places_of blocks))
+
+-- Needed is a core rule that such a name stands for, and each that a needed one uses.
+abbrev pub is_needed : List Name → CoreRule → Bool
+is_needed names core = list_any (λ name. list_any (same (core_name core)) (needs (length core_rules) name)) names
+
+abbrev pub needed : List Block → List CoreRule
+needed blocks = filter (is_needed (undefined blocks)) core_rules
+
+-- the names of the rules: those of the text, then those of the needed core rules
+abbrev pub names_of : List Block → List Name
+names_of blocks = defined blocks ++ map core_name (needed blocks)
+
+-- the number of the rule that a name stands for: the first that has it
+abbrev pub rule_number : List Name → Name → Option ℕ
+rule_number names name = position (same name) names
+
+-- the same inside the core rules, where names stand for core rules alone
+abbrev pub core_number : List Block → Name → Option ℕ
+core_number blocks name = option_map (λ r. length (defined blocks) + r) (rule_number (map core_name (needed blocks)) name)
+
+-- the alternatives that a block says; a faulty one says one that is opaque
+abbrev pub alternatives_said : (Name → Option ℕ) → Result Rule SyntaxFault → List Part
+alternatives_said number (Ok rule) = alternatives number rule.body
+alternatives_said number (Err fault) = opaque ∷ []
+
+abbrev pub said_alternatives : (Name → Option ℕ) → Block → List Part
+said_alternatives number block = alternatives_said number block.said
+
+-- the tree of a name's rule: a choice among the alternatives of all its blocks that count
+abbrev pub rule_tree : List Block → Name → Part
+rule_tree blocks name = alt (parts (flat_map (said_alternatives (rule_number (names_of blocks))) (counted (filter (defines name) blocks))))
+
+abbrev pub core_tree : List Block → CoreRule → Part
+core_tree blocks core = core.tree (core_number blocks)
+
+abbrev pub rules_of : List Block → List Part
+rules_of blocks = map (rule_tree blocks) (defined blocks) ++ map (core_tree blocks) (needed blocks)
+
+abbrev pub fault_place : SyntaxFault → Option Place
+fault_place (f.NoName p) = Some p
+fault_place (f.NoDefinedAs p) = Some p
+fault_place (f.BadToken p) = Some p
+fault_place (f.ElementExpected p) = Some p
+fault_place (f.BlankExpected p) = Some p
+fault_place (f.Unclosed p) = Some p
+fault_place (f.NumberTooLarge p) = Some p
+fault_place (f.TooDeep p) = Some p
+fault_place f.Memory = None
+
+abbrev pub fault_of : Result Rule SyntaxFault → Option (Place × SyntaxFault)
+fault_of (Ok rule) = None
+fault_of (Err fault) = option_map (λ place. (place, fault)) (fault_place fault)
+
+abbrev pub block_fault : Block → Option (Place × SyntaxFault)
+block_fault block = fault_of block.said
+
+-- the faults of the blocks, each with its place
+abbrev pub faults_of : List Block → List (Place × SyntaxFault)
+faults_of blocks = filter_map block_fault blocks
+
+-- What is known of a text's grammar.
+pub record Grammar : Type 0 where
+  pub text : List ℕ
+  pub names : List Name
+  pub rules : List Part
+  pub places : List Named
+  pub faults : List (Place × SyntaxFault)
+
+abbrev pub grammar_of : List ℕ → List Block → Grammar
+grammar_of text blocks = record {
+  text = text;
+  names = names_of blocks;
+  rules = rules_of blocks;
+  places = places_of blocks;
+  faults = faults_of blocks;
+}
+
+-- It is the grammar of its text.
+pub record IsGrammar (g : Grammar) : Type 0 where
+  pub blocks : List Block
+  pub of_text : AreSaid g.text blocks
+  pub is : g ≡ grammar_of g.text blocks

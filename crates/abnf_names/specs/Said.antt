@@ -1,0 +1,52 @@
+-- The blocks of a text, each with the rule that it says or the fault that it shows, and their heads.
+use Rattle.std.specs.Prelude.{◌≡◌, ℕ, List, [], ◌∷◌, Option, Some, None, Result, Ok, Err, Bool, false, ◌&&◌, if◌then◌else◌}
+use Rattle.abnf_token.specs.Classes.{Text}
+use Rattle.abnf_token.specs.Folded.{lowercase}
+use Rattle.abnf_syntax.specs.declared.item.Item.{Item}
+use Rattle.abnf_syntax.specs.declared.fault.SyntaxFault.{SyntaxFault}
+use Rattle.abnf_syntax.specs.declared.tree.Rule.{Rule}
+use Rattle.abnf_syntax.specs.Kinds.{is_name, is_defined_as, is_adds}
+use Rattle.abnf_syntax.specs.Grammar.{Derives, kind_of}
+use Rattle.abnf_syntax.specs.Faults.{Faults}
+use Rattle.abnf_syntax.specs.Blocks.{line_texts, AreBlocks}
+use Rattle.abnf_syntax.specs.Items.{AreItems}
+
+-- a block: its items, and the rule that they say or the fault that they show
+pub record Block : Type 0 where
+  pub items : List Item
+  pub said : Result Rule SyntaxFault
+
+abbrev pub Says : List Item → Result Rule SyntaxFault → Type 0
+Says items (Ok rule) = Derives items rule
+Says items (Err fault) = Faults items fault
+
+-- the block has the items of these lines, and says what they say
+pub record IsWithin (ls : List Text) (bounds : ℕ × ℕ) (block : Block) : Type 0 where
+  pub items : AreItems ls bounds.0 bounds.1 block.items
+  pub says : Says block.items block.said
+
+-- one block for each pair of a first line and an end, in order
+abbrev pub AreWithin : List Text → List (ℕ × ℕ) → List Block → Type 0
+AreWithin ls [] [] = Unit {0}
+AreWithin ls (b ∷ bounds) (block ∷ blocks) = IsWithin ls b block × AreWithin ls bounds blocks
+AreWithin ls _ _ = ⊥
+
+-- These are the blocks of a text, all of them and in order.
+pub record AreSaid (text : List ℕ) (blocks : List Block) : Type 0 where
+  pub bounds : List (ℕ × ℕ)
+  pub all : AreBlocks (line_texts text) 0 bounds
+  pub each : AreWithin (line_texts text) bounds blocks
+
+-- a name with its letters made small
+abbrev pub Name : Type 0
+Name = List ℕ
+
+-- The head of a block: its first item where that is a name and `=` or `=/` follows. `adds` says that it is `=/`.
+pub record Head : Type 0 where
+  pub name : Name
+  pub adds : Bool
+
+abbrev pub head_of : List Item → Option Head
+head_of (first ∷ second ∷ items) =
+    if is_name (kind_of first) && is_defined_as (kind_of second) then Some (record { name = lowercase first.token.text.now; adds = is_adds (kind_of second) }) else None
+head_of _ = None

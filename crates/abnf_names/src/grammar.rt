@@ -1,0 +1,138 @@
+//! The grammar of a text.
+
+ghost use Rattle.std.specs.Prelude.{◌≡◌, ◌<◌, IfOk, length, map};
+ghost use Rattle.abnf_names.specs.Part.{root_number};
+ghost use Rattle.abnf_names.specs.Nodes.{AreNodes};
+ghost use Rattle.abnf_names.specs.Names.{folded_text};
+ghost use Rattle.abnf_names.specs.Places.{places_of_name};
+ghost use Rattle.abnf_names.specs.Rules.{rule_number, IsGrammar};
+ghost use Rattle.abnf_names.specs.Passes.{name_place};
+
+use crate::core_rule::{core_names, needed_rules};
+use crate::groups::Groups;
+use crate::names::RuleNames;
+use crate::node::{Node, NodeNo, RuleNo};
+use crate::own::{faults_of, own_groups, own_names, placed, unknown_names};
+use crate::parsed::parsed_blocks;
+use crate::place::{NamePlace, Spot, places_of};
+use crate::rules::push_rules;
+use abnf_syntax::SyntaxFault;
+use abnf_token::Folded;
+use ls_lists::List;
+use ls_text::{Place, Snapshot};
+use std::alloc::{AllocError, Global};
+use std::marker::Model;
+
+/// The grammar of a text: its rules with the core rules that they need (RFC 5234, appendix B.1), the places of names in it, and
+/// the faults of its blocks.
+///
+/// Rules are numbered from 0: those of the text in the order in which their names are first defined, then the core rules that are
+/// needed, in RFC 5234's order. Names are read without case. Of the blocks of a name the first with `=` and all with `=/` count;
+/// a faulty block counts as an alternative of which nothing is known. A name stands for the text's rule, else for the core rule;
+/// inside a core rule names stand for core rules alone.
+///
+/// Nodes are numbered from 0 too: rule after rule, each node before its parts, parts from left to right. The root of a rule is an
+/// `Alt`. Elsewhere a concatenation or a bracketed alternation of one part is that part, and `[e]` is a `Rep` of 0 to 1.
+#[derive(Drop)]
+pub struct Grammar<'t> {
+    source: &'t Snapshot,
+    nodes: Vec<Node<'t>>,
+    roots: Vec<NodeNo>,
+    names: RuleNames<'t>,
+    spots: List<Spot<'t>>,
+    by_name: Groups<'t, NamePlace>,
+    faults: List<(Place, SyntaxFault)>,
+}
+
+impl<'t> Model for Grammar<'t> {
+    ghost use Rattle.abnf_names.specs.Rules as rules;
+    ghost use Rattle.abnf_names.specs.GrammarCode.{grammar_code};
+
+    ghost Value = { rules.Grammar };
+
+    ghost coded = { grammar_code };
+
+    ghost use Rattle.abnf_names.specs.Inside.{grammar_inside, IsGrammarInside};
+
+    ghost view = { grammar_inside };
+
+    ghost invariant = { IsGrammarInside };
+}
+
+impl<'t> Grammar<'t> {
+    /// The grammar of a text.
+    ///
+    /// # Errors
+    ///
+    /// Where an allocation is refused.
+    pub fn of(alloc: Global, snapshot: &'t Snapshot) -> Result<Grammar<'t>, AllocError>
+        ensures { IfOk result (λ g. g.text ≡ snapshot.entry.now) }
+    {
+        let parsed = parsed_blocks(alloc, snapshot)?;
+        let spots = places_of(alloc, parsed.as_slice())?;
+        let faults = faults_of(alloc, parsed.as_slice())?;
+        let by_name = placed(alloc, spots.as_slice())?;
+        let own = own_names(alloc, parsed.as_slice())?;
+        let unknown = unknown_names(alloc, &own, spots.as_slice())?;
+        let needed = needed_rules(alloc, &unknown)?;
+        let core = core_names(alloc, needed.as_slice())?;
+        let names = RuleNames::new(own, core);
+        let groups = own_groups(alloc, parsed)?;
+        let mut nodes = Vec::new(alloc);
+        let mut roots = List::new(alloc);
+        push_rules(alloc, &names, &groups, needed.as_slice(), &mut nodes, &mut roots)?;
+        Ok(Grammar {
+            source: snapshot,
+            nodes,
+            roots: roots.into_vec(),
+            names,
+            spots,
+            by_name,
+            faults,
+        })
+    }
+
+    /// The parts of the rules, by number.
+    pub fn nodes(&self) -> &[Node<'t>]
+        ensures { AreNodes self.now.rules result.now }
+    {
+        self.nodes.as_slice()
+    }
+
+    /// The number of a rule's root. The rule must be one of this grammar.
+    pub fn root_of(&self, rule: RuleNo) -> NodeNo
+        requires { rule < length self.now.rules }
+        ensures { result ≡ root_number self.now.rules rule }
+    {
+        self.roots[rule.get()]
+    }
+
+    /// The rule that a name stands for in the text: the text's rule, else the core rule if one is needed.
+    pub fn rule_of(&self, name: Folded<'t>) -> Option<RuleNo>
+        ensures { result ≡ rule_number self.now.names (folded_text name.entry) }
+    {
+        self.names.rule_of(name)
+    }
+
+    /// The places of a name, in the order of the text.
+    pub fn places(&self, name: Folded<'t>) -> &[NamePlace]
+        ensures { result.now ≡ map name_place (places_of_name (folded_text name.entry) self.now.places) }
+    {
+        self.by_name.members_of(name)
+    }
+
+    /// The faults of the blocks, each with its place, in the order of the text.
+    pub fn faults(&self) -> &[(Place, SyntaxFault)]
+        ensures { result.now ≡ self.now.faults }
+    {
+        self.faults.as_slice()
+    }
+
+    /// The text that the grammar was made of. What is known of a grammar is that of its text.
+    pub fn source(&self) -> &'t Snapshot
+        ensures text { result.now ≡ self.now.text }
+        ensures grammar { IsGrammar self.now }
+    {
+        self.source
+    }
+}

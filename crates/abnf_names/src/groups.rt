@@ -1,0 +1,100 @@
+//! Things that are put under names.
+
+ghost use Rattle.std.specs.Prelude.{◌≡◌, ◌++◌, [], IfOk};
+ghost use Rattle.abnf_names.specs.Said.{Name};
+ghost use Rattle.abnf_names.specs.Rules.{with_name};
+ghost use Rattle.abnf_names.specs.Names.{folded_text};
+ghost use Rattle.abnf_names.specs.Passes.{members_of, if_same};
+
+use crate::names::Names;
+use abnf_token::Folded;
+use ls_lists::List;
+use std::alloc::{AllocError, Global};
+use std::marker::Model;
+
+/// Names in the order in which they came, and under each the things that were put there. Contracts see the names, and beside each
+/// the list of its things.
+#[derive(Drop)]
+pub(crate) struct Groups<'t, T> {
+    names: Names<'t>,
+    members: Vec<List<T>>,
+}
+
+impl<'t, T> Model for Groups<'t, T> {
+    ghost use Rattle.std.specs.Prelude.{List, ℕ, ◌≡◌, length};
+    ghost use Rattle.std.specs.Coded.{coded_list, coded×, coded_ℕ};
+
+    ghost Value = { List (List ℕ) × List (List T) };
+
+    ghost coded = { coded× (coded_list (coded_list coded_ℕ)) (coded_list (coded_list T.code)) };
+
+    ghost view = { λ g. (g.names, g.members.items) };
+
+    ghost invariant = { λ g. length g.names ≡ length g.members.items };
+}
+
+impl<'t, T> Groups<'t, T> {
+    pub fn new(alloc: Global) -> Groups<'t, T>
+        ensures { result ≡ ([], []) }
+    {
+        Groups {
+            names: Names::new(alloc),
+            members: Vec::new(alloc),
+        }
+    }
+
+    /// The things under a name.
+    pub fn members_of(&self, name: Folded<'t>) -> &[T]
+        ensures { result.now ≡ members_of self.now (folded_text name.entry) }
+    {
+        match self.names.index_of(name) {
+            Some(at) => self.members[at].as_slice(),
+            None => &[],
+        }
+    }
+
+    pub fn names(&self) -> &Names<'t>
+        ensures { result.now ≡ self.now.0 }
+    {
+        &self.names
+    }
+}
+
+impl<'t, T: Drop> Groups<'t, T> {
+    /// The names alone.
+    pub fn into_names(self) -> Names<'t>
+        ensures { result ≡ self.entry.0 }
+    {
+        let Groups { names, members: _ } = self;
+        names
+    }
+
+    /// One more thing under a name.
+    pub fn with(
+        self,
+        alloc: Global,
+        name: Folded<'t>,
+        item: T,
+    ) -> Result<Groups<'t, T>, AllocError>
+        ensures names { IfOk result (λ g. g.0 ≡ with_name self.entry.0 (folded_text name.entry)) }
+        ensures members { IfOk result (λ g. (m : Name) → members_of g m ≡ members_of self.entry m ++ if_same (folded_text name.entry) m item) }
+    {
+        let Groups {
+            mut names,
+            mut members,
+        } = self;
+        match names.index_of(name) {
+            Some(at) => {
+                members[at].push(item)?;
+                Ok(Groups { names, members })
+            }
+            None => {
+                let mut list = List::new(alloc);
+                list.push(item)?;
+                names.add(name)?;
+                members.push(list)?;
+                Ok(Groups { names, members })
+            }
+        }
+    }
+}

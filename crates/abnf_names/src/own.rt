@@ -1,0 +1,178 @@
+//! The names of a text: those that its blocks define, and those that stand in it.
+
+ghost use Rattle.std.specs.Prelude.{◌≡◌, ◌++◌, ◌∷◌, [], List, map, fold, filter, filter_map, option_map, IfOk, OnOk};
+ghost use Rattle.abnf_names.specs.Said as said;
+ghost use Rattle.abnf_names.specs.Rules.{with_name, defined, head_name, faults_of, fault_place, block_fault};
+ghost use Rattle.abnf_names.specs.Places.{Named};
+ghost use Rattle.abnf_names.specs.Passes as spec;
+
+use crate::groups::Groups;
+use crate::names::Names;
+use crate::parsed::{Parsed, head_of};
+use crate::place::{NamePlace, Spot};
+use abnf_syntax::SyntaxFault;
+use ls_lists::List;
+use ls_text::Place;
+use std::alloc::{AllocError, Global};
+
+/// Adds the name that a block defines, if it defines one.
+fn add_own<'t>(names: &mut Names<'t>, parsed: &Parsed<'t>) -> Result<(), AllocError>
+    ensures { OnOk result (names.new ≡ fold with_name names.old (filter_map head_name (spec.block_of parsed.now ∷ []))) }
+{
+    match head_of(parsed.block.items.as_slice()) {
+        Some(head) => {
+            names.add(head.name)?;
+            Ok(())
+        }
+        None => Ok(()),
+    }
+}
+
+/// The names that the blocks define.
+pub(crate) fn own_names<'t>(
+    alloc: Global,
+    parsed: &[Parsed<'t>],
+) -> Result<Names<'t>, AllocError>
+    ensures { IfOk result (λ names. names ≡ defined (map spec.block_of parsed.now)) }
+{
+    let mut names = Names::new(alloc);
+    for p in parsed {
+        add_own(&mut names, p)?;
+    }
+    Ok(names)
+}
+
+/// One more block under the name that it defines, if it defines one.
+fn with_block<'t>(
+    alloc: Global,
+    groups: Groups<'t, Parsed<'t>>,
+    parsed: Parsed<'t>,
+) -> Result<Groups<'t, Parsed<'t>>, AllocError>
+    ensures { IfOk result (λ g. (blocks : List said.Block) → spec.AreOwn blocks groups.entry → spec.AreOwn (blocks ++ spec.block_of parsed.entry ∷ []) g) }
+{
+    match head_of(parsed.block.items.as_slice()) {
+        Some(head) => groups.with(alloc, head.name, parsed),
+        None => Ok(groups),
+    }
+}
+
+/// The names that the blocks define, and under each its blocks.
+pub(crate) fn own_groups<'t>(
+    alloc: Global,
+    parsed: Vec<Parsed<'t>>,
+) -> Result<Groups<'t, Parsed<'t>>, AllocError>
+    ensures { IfOk result (λ g. spec.AreOwn (map spec.block_of parsed.entry.items) g) }
+{
+    let mut groups = Groups::new(alloc);
+    for p in parsed {
+        groups = with_block(alloc, groups, p)?;
+    }
+    Ok(groups)
+}
+
+/// One more place under its name.
+fn with_spot<'t>(
+    alloc: Global,
+    groups: Groups<'t, NamePlace>,
+    spot: &Spot<'t>,
+) -> Result<Groups<'t, NamePlace>, AllocError>
+    ensures { IfOk result (λ g. (places : List Named) → spec.ArePlaced places groups.entry → spec.ArePlaced (places ++ spec.named_at spot.now ∷ []) g) }
+{
+    let place = NamePlace {
+        place: spot.place,
+        defines: spot.defines,
+    };
+    groups.with(alloc, spot.name, place)
+}
+
+/// Under each name its places.
+pub(crate) fn placed<'t>(
+    alloc: Global,
+    spots: &[Spot<'t>],
+) -> Result<Groups<'t, NamePlace>, AllocError>
+    ensures { IfOk result (λ g. spec.ArePlaced (map spec.named_at spots.now) g) }
+{
+    let mut groups = Groups::new(alloc);
+    for spot in spots {
+        groups = with_spot(alloc, groups, spot)?;
+    }
+    Ok(groups)
+}
+
+/// Adds a name that no block defines.
+fn add_unknown<'t>(
+    own: &Names<'t>,
+    names: &mut Names<'t>,
+    spot: &Spot<'t>,
+) -> Result<(), AllocError>
+    ensures { OnOk result (names.new ≡ fold with_name names.old (filter (spec.is_unknown own.now) (spec.spot_name spot.now ∷ []))) }
+{
+    match own.index_of(spot.name) {
+        Some(_) => Ok(()),
+        None => {
+            names.add(spot.name)?;
+            Ok(())
+        }
+    }
+}
+
+/// The names that stand in the text and that no block defines.
+pub(crate) fn unknown_names<'t>(
+    alloc: Global,
+    own: &Names<'t>,
+    spots: &[Spot<'t>],
+) -> Result<Names<'t>, AllocError>
+    ensures { IfOk result (λ names. names ≡ fold with_name [] (filter (spec.is_unknown own.now) (map spec.spot_name spots.now))) }
+{
+    let mut names = Names::new(alloc);
+    for spot in spots {
+        add_unknown(own, &mut names, spot)?;
+    }
+    Ok(names)
+}
+
+/// The place of a fault; there is none for memory.
+fn fault_place(fault: SyntaxFault) -> Option<Place>
+    ensures { result ≡ fault_place fault }
+{
+    match fault {
+        SyntaxFault::NoName(place)
+        | SyntaxFault::NoDefinedAs(place)
+        | SyntaxFault::BadToken(place)
+        | SyntaxFault::ElementExpected(place)
+        | SyntaxFault::BlankExpected(place)
+        | SyntaxFault::Unclosed(place)
+        | SyntaxFault::NumberTooLarge(place)
+        | SyntaxFault::TooDeep(place) => Some(place),
+        SyntaxFault::Memory => None,
+    }
+}
+
+/// The fault of a block with its place.
+fn fault_of(parsed: &Parsed<'_>) -> Option<(Place, SyntaxFault)>
+    ensures { result ≡ block_fault (spec.block_of parsed.now) }
+{
+    match parsed.said {
+        Ok(_) => None,
+        Err(fault) => match fault_place(fault) {
+            Some(place) => Some((place, fault)),
+            None => None,
+        },
+    }
+}
+
+/// The faults of the blocks, each with its place.
+pub(crate) fn faults_of(
+    alloc: Global,
+    parsed: &[Parsed<'_>],
+) -> Result<List<(Place, SyntaxFault)>, AllocError>
+    ensures { IfOk result (λ faults. faults ≡ faults_of (map spec.block_of parsed.now)) }
+{
+    let mut faults = List::new(alloc);
+    for p in parsed {
+        if let Some(fault) = fault_of(p) {
+            faults.push(fault)?;
+        }
+    }
+    Ok(faults)
+}

@@ -1,0 +1,111 @@
+//! The places of names.
+
+ghost use Rattle.std.specs.Prelude.{◌≡◌, ◌++◌, map, IfOk, OnOk};
+ghost use Rattle.abnf_syntax.specs.Faults.{place_of};
+ghost use Rattle.abnf_names.specs.Places as places;
+ghost use Rattle.abnf_names.specs.Passes as spec;
+
+use crate::parsed::{Parsed, head_of};
+use abnf_syntax::Item;
+use abnf_token::{Folded, Kind, Token};
+use ls_lists::List;
+use ls_text::Place;
+use std::alloc::{AllocError, Global};
+
+/// A place of a name, and whether the name is the head of a block there: it defines the name, or adds to it.
+#[derive(Clone, Copy, Debug, PartialEq, Eq)]
+pub struct NamePlace {
+    pub place: Place,
+    pub defines: bool,
+}
+
+/// A name in the text.
+#[derive(Clone, Copy, Debug)]
+pub(crate) struct Spot<'t> {
+    pub name: Folded<'t>,
+    pub place: Place,
+    pub defines: bool,
+}
+
+fn place_of<'t>(token: Token<'t>) -> Place
+    ensures { result ≡ place_of token.entry }
+{
+    Place {
+        line: token.line,
+        start: token.start,
+        end: token.start + token.text.len(),
+    }
+}
+
+/// Adds the place of an item that is a name.
+fn push_named<'t>(
+    spots: &mut List<Spot<'t>>,
+    defines: bool,
+    item: Item<'t>,
+) -> Result<(), AllocError>
+    ensures { OnOk result (map spec.named_at spots.new ≡ map spec.named_at spots.old ++ places.named defines item.entry) }
+{
+    match item.token.kind {
+        Kind::Name => spots.push(Spot {
+            name: Folded(item.token.text),
+            place: place_of(item.token),
+            defines,
+        }),
+        _ => Ok(()),
+    }
+}
+
+/// Whether an item belongs to the misspelled thing before it.
+fn is_touched(before: Kind, item: Item<'_>) -> bool
+    ensures { result ≡ places.is_touched before item.entry }
+{
+    match before {
+        Kind::Bad | Kind::Number => !item.apart,
+        _ => false,
+    }
+}
+
+/// Adds the place of a use behind an item of this kind.
+fn push_use<'t>(
+    spots: &mut List<Spot<'t>>,
+    before: Kind,
+    item: Item<'t>,
+) -> Result<(), AllocError>
+    ensures { OnOk result (map spec.named_at spots.new ≡ map spec.named_at spots.old ++ places.use_after before item.entry) }
+{
+    if is_touched(before, item) {
+        Ok(())
+    } else {
+        push_named(spots, false, item)
+    }
+}
+
+/// Adds the places in a block.
+fn push_places<'t>(spots: &mut List<Spot<'t>>, items: &[Item<'t>]) -> Result<(), AllocError>
+    ensures { OnOk result (map spec.named_at spots.new ≡ map spec.named_at spots.old ++ places.places_in items.now) }
+{
+    let Some((first, rest)) = items.split_first() else {
+        return Ok(());
+    };
+    push_named(spots, head_of(items).is_some(), *first)?;
+    let mut before = first.token.kind;
+    for item in rest {
+        push_use(spots, before, *item)?;
+        before = item.token.kind;
+    }
+    Ok(())
+}
+
+/// The places in a text.
+pub(crate) fn places_of<'t>(
+    alloc: Global,
+    parsed: &[Parsed<'t>],
+) -> Result<List<Spot<'t>>, AllocError>
+    ensures { IfOk result (λ spots. map spec.named_at spots ≡ places.places_of (map spec.block_of parsed.now)) }
+{
+    let mut spots = List::new(alloc);
+    for p in parsed {
+        push_places(&mut spots, p.block.items.as_slice())?;
+    }
+    Ok(spots)
+}

@@ -1,0 +1,168 @@
+//! Texts with their rules, nodes and places, written out by hand.
+
+use crate::{Grammar, Node, NodeNo, RuleNo};
+use abnf_syntax::SyntaxFault;
+use abnf_token::Folded;
+use ls_text::{Place, Snapshot};
+use std::alloc::Global;
+use std::process::Abort;
+use std::test::Fail;
+
+fn snapshot(alloc: Global, text: &str) -> Result<Snapshot, Fail> {
+    Ok(Snapshot::of_text(alloc, String::from_str(alloc, text)?)?)
+}
+
+/// Whether a node refers to this name and rule.
+fn refers(node: &Node<'_>, want: &str, number: Option<usize>) -> bool {
+    match node {
+        Node::Ref { name, rule } => name.0 == want && *rule == number.map(|n| RuleNo::new(n)),
+        _ => false,
+    }
+}
+
+/// Whether a node is a text in quotes.
+fn quotes(node: &Node<'_>, want: &str, is_exact: bool) -> bool {
+    match node {
+        Node::Quoted { text, exact } => *text == want && *exact == is_exact,
+        _ => false,
+    }
+}
+
+/// Whether a node is a choice among these.
+fn chooses(node: &Node<'_>, want: &[NodeNo]) -> bool {
+    match node {
+        Node::Alt(parts) => parts.as_slice() == want,
+        _ => false,
+    }
+}
+
+#[test]
+fn numbers_core_rules(rt: HostRuntime) -> Result<(), Fail> {
+    let text = snapshot(rt.alloc(), "LF = \"n\"\na = CRLF HEXDIG")?;
+    let grammar = Grammar::of(rt.alloc(), &text)?;
+    for (name, rule) in [
+        ("lf", Some(0)),
+        ("A", Some(1)),
+        ("cr", Some(2)),
+        ("crlf", Some(3)),
+        ("Digit", Some(4)),
+        ("HEXDIG", Some(5)),
+        ("ALPHA", None),
+        ("n", None),
+    ] {
+        assert_eq!(rt; grammar.rule_of(Folded(name)), rule.map(|n| RuleNo::new(n)), "{name}");
+    }
+    let nodes = grammar.nodes();
+    assert_eq!(rt; nodes.len(), 24);
+    assert!(rt; refers(&nodes[4], "CRLF", Some(3)));
+    assert!(rt; refers(&nodes[11], "LF", Some(6)));
+    assert!(rt; refers(&nodes[15], "DIGIT", Some(4)));
+    assert!(rt; quotes(&nodes[21], "F", false));
+    Ok(())
+}
+
+#[test]
+fn finds_roots(rt: HostRuntime) -> Result<(), Fail> {
+    let text = snapshot(rt.alloc(), "LF = \"n\"\na = CRLF HEXDIG")?;
+    let grammar = Grammar::of(rt.alloc(), &text)?;
+    match grammar.rule_of(Folded("HEXDIG")) {
+        Some(rule) => assert_eq!(rt; rule.get(), 5),
+        None => assert!(rt; false),
+    }
+    assert!(rt; chooses(&grammar.nodes()[14], &[15, 16, 17, 18, 19, 20, 21].map(|n| NodeNo::new(n))));
+    Ok(())
+}
+
+#[test]
+fn numbers_nodes(rt: HostRuntime) -> Result<(), Fail> {
+    let text = snapshot(rt.alloc(), "a = b / \"x\"\nb = a")?;
+    let grammar = Grammar::of(rt.alloc(), &text)?;
+    let nodes = grammar.nodes();
+    assert_eq!(rt; nodes.len(), 5);
+    assert!(rt; chooses(&nodes[0], &[NodeNo::new(1), NodeNo::new(2)]));
+    assert!(rt; refers(&nodes[1], "b", Some(1)));
+    assert!(rt; quotes(&nodes[2], "x", false));
+    assert!(rt; chooses(&nodes[3], &[NodeNo::new(4)]));
+    assert!(rt; refers(&nodes[4], "a", Some(0)));
+    Ok(())
+}
+
+#[test]
+fn joins_blocks(rt: HostRuntime) -> Result<(), Fail> {
+    let text = snapshot(rt.alloc(), "A = \"yy\"\na = \"z\"\na =/ %s\"x\"\nb = ?")?;
+    let grammar = Grammar::of(rt.alloc(), &text)?;
+    let nodes = grammar.nodes();
+    assert_eq!(rt; nodes.len(), 5);
+    assert!(rt; chooses(&nodes[0], &[NodeNo::new(1), NodeNo::new(2)]));
+    assert!(rt; quotes(&nodes[1], "yy", false));
+    assert!(rt; quotes(&nodes[2], "x", true));
+    assert!(rt; chooses(&nodes[3], &[NodeNo::new(4)]));
+    assert!(rt; matches!(&nodes[4], Node::Opaque));
+    let place = Place { line: 3, start: 4, end: 5 };
+    assert_eq!(rt; grammar.faults(), [(place, SyntaxFault::BadToken(place))].as_slice());
+    Ok(())
+}
+
+#[test]
+fn finds_places(rt: HostRuntime) -> Result<(), Fail> {
+    let text = snapshot(rt.alloc(), "a = %item Item\nitem = \"i\"")?;
+    let grammar = Grammar::of(rt.alloc(), &text)?;
+    let mut places = Vec::new(rt.alloc());
+    for spot in grammar.places(Folded("ITEM")) {
+        places.push((spot.place.line, spot.place.start, spot.place.end, spot.defines))?;
+    }
+    assert_eq!(rt; places.as_slice(), [(0, 10, 14, false), (1, 0, 4, true)].as_slice());
+    assert_eq!(rt; grammar.places(Folded("i")).len(), 0);
+    assert_eq!(rt; grammar.source().line_count(), 2);
+    Ok(())
+}
+
+/// Whether a node is a repetition with these bounds.
+fn repeats(node: &Node<'_>, bounds: (u32, Option<u32>), at: usize) -> bool {
+    match node {
+        Node::Rep { least, most, body } => (*least, *most) == bounds && body.get() == at,
+        _ => false,
+    }
+}
+
+/// Whether a node is these characters.
+fn spells(node: &Node<'_>, want: &[u32]) -> bool {
+    match node {
+        Node::Series(characters) => characters.as_slice() == want,
+        _ => false,
+    }
+}
+
+#[test]
+fn reads_leaves(rt: HostRuntime) -> Result<(), Fail> {
+    let text = snapshot(
+        rt.alloc(),
+        "a = 2*3%x41-5a [%d13.10] *<p> 4((\"q\")) %b1",
+    )?;
+    let grammar = Grammar::of(rt.alloc(), &text)?;
+    let nodes = grammar.nodes();
+    assert_eq!(rt; nodes.len(), 11);
+    assert!(rt; repeats(&nodes[2], (2, Some(3)), 3));
+    assert!(rt; matches!(&nodes[3], Node::Span { low: 0x41, high: 0x5A }));
+    assert!(rt; repeats(&nodes[4], (0, Some(1)), 5));
+    assert!(rt; repeats(&nodes[6], (0, None), 7));
+    assert!(rt; repeats(&nodes[8], (4, Some(4)), 9));
+    assert!(rt; quotes(&nodes[9], "q", false));
+    assert!(rt; spells(&nodes[5], &[13, 10]));
+    assert!(rt; spells(&nodes[10], &[1]));
+    Ok(())
+}
+
+/// Many rules, each of which uses the next.
+#[test]
+fn reads_many_rules(rt: HostRuntime) -> Result<(), Fail> {
+    let mut text = String::new(rt.alloc());
+    for n in 0..100_000 {
+        text.push_str(format!(in rt.alloc(); "r{n} = r{}\n", n + 1)?.as_str())?;
+    }
+    let text = snapshot(rt.alloc(), text.as_str())?;
+    let grammar = Grammar::of(rt.alloc(), &text)?;
+    assert_eq!(rt; grammar.nodes().len(), 200_000);
+    assert!(rt; refers(&grammar.nodes()[199_999], "r100000", None));
+    Ok(())
+}
