@@ -41,9 +41,10 @@ rest_false false rest h = h
 
 new_more : (names : List Name) (n : Name) (more : List Name) → list_any (same n) more ≡ false → AreNew names more → AreNew (names ++ n ∷ []) more
 new_more names n [] h new = tt
-new_more names n (m ∷ more) h new =
-    (list_any-append (same m) names (n ∷ []) ∙ (ap (λ b. b || (same m n || false)) new.0 ∙ ap (λ b. b || false) (same_sym m n ∙ front_false (same n m) (list_any (same n) more) h)),
-     new_more names n more (rest_false (same n m) (list_any (same n) more) h) new.1)
+new_more names n (m ∷ more) h new = (
+  list_any-append (same m) names (n ∷ []) ∙ (ap (λ b. b || (same m n || false)) new.0 ∙ ap (λ b. b || false) (same_sym m n ∙ front_false (same n m) (list_any (same n) more) h)),
+  new_more names n more (rest_false (same n m) (list_any (same n) more) h) new.1,
+)
 
 fold_apart : (names more : List Name) → AreApart more → AreNew names more → fold with_name names more ≡ names ++ more
 fold_apart names [] apart new = sym (append-nil names)
@@ -85,7 +86,7 @@ pub needed_all : (own unknown : List Name) (spots : List Spot) (blocks : List Bl
     filter (is_needed unknown) core_rules ≡ needed blocks
 needed_all own unknown spots blocks o s u =
     let there : filter (is_unknown own) (map spot_name spots) ≡ undefined blocks =
-        ap (λ names. filter (is_unknown names) (map spot_name spots)) o
-        ∙ ap (filter (is_unknown (defined blocks))) (map_both (λ (place : Named). lowercase place.text) named_at spots ∙ ap (map (λ (place : Named). lowercase place.text)) s) in
+    ap (λ names. filter (is_unknown names) (map spot_name spots)) o
+    ∙ ap (filter (is_unknown (defined blocks))) (map_both (λ (place : Named). lowercase place.text) named_at spots ∙ ap (map (λ (place : Named). lowercase place.text)) s) in
     ap (λ names. filter (is_needed names) core_rules) (u ∙ ap (fold with_name []) there)
     ∙ filter_same (is_needed (fold with_name [] (undefined blocks))) (is_needed (undefined blocks)) (needed_folded (undefined blocks)) core_rules

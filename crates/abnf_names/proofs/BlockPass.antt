@@ -39,9 +39,9 @@ passed_more text done b rest parsed now p h block says e = record {
   items = All-tail (λ x. AreItems (line_texts text) x.first x.end x.items) b rest h.items;
   some = All-tail (λ x. 0 < length x.items) b rest h.some;
   within =
-    subst (λ ps. AreWithin (line_texts text) (map bounds (done ++ b ∷ [])) (map block_of ps)) (sym e)
-    (subst (λ bs. AreWithin (line_texts text) bs (map block_of (parsed ++ p ∷ []))) (sym (map-append bounds done (b ∷ [])))
-    (subst (λ xs. AreWithin (line_texts text) (map bounds done ++ bounds b ∷ []) xs) (sym (map-append block_of parsed (p ∷ [])))
-    (within_more (line_texts text) (map bounds done) (map block_of parsed) (bounds b) (block_of p) h.within
+      subst (λ ps. AreWithin (line_texts text) (map bounds (done ++ b ∷ [])) (map block_of ps)) (sym e)
+      (subst (λ bs. AreWithin (line_texts text) bs (map block_of (parsed ++ p ∷ []))) (sym (map-append bounds done (b ∷ [])))
+      (subst (λ xs. AreWithin (line_texts text) (map bounds done ++ bounds b ∷ []) xs) (sym (map-append block_of parsed (p ∷ [])))
+      (within_more (line_texts text) (map bounds done) (map block_of parsed) (bounds b) (block_of p) h.within
       (subst (λ (c : Block). IsWithin (line_texts text) (bounds b) (record { items = c.items; said = p.said })) (sym block) (record { items = All-head (λ x. AreItems (line_texts text) x.first x.end x.items) b rest h.items; says = says })))));
 }

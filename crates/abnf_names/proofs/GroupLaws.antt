@@ -68,7 +68,7 @@ module _ {T : Type 0} (n : Name) (x : T) where
       (m : Name) → members_in (a ∷ names) (set (list ∷ members) k (get_or (list ∷ members) k d ++ x ∷ [])) m ≡ members_in (a ∷ names) (list ∷ members) m ++ if_same n m x
   hit_by true a names list members k d e h rest m =
       subst (λ j. members_in (a ∷ names) (set (list ∷ members) j (get_or (list ∷ members) j d ++ x ∷ [])) m ≡ members_in (a ∷ names) (list ∷ members) m ++ if_same n m x) (some_is 0 k h)
-        (here_by (same m a) (same n m) a m list (members_in names members m) e refl refl)
+      (here_by (same m a) (same n m) a m list (members_in names members m) e refl refl)
   hit_by false a names list members k d e h rest m = next_by (position (same n) names) refl h
     where
       next_by : (o : Option ℕ) → position (same n) names ≡ o → option_map suc o ≡ Some k →
@@ -76,7 +76,7 @@ module _ {T : Type 0} (n : Name) (x : T) where
       next_by None f g = absurd (cc g)
       next_by (Some j) f g =
           subst (λ i. members_in (a ∷ names) (set (list ∷ members) i (get_or (list ∷ members) i d ++ x ∷ [])) m ≡ members_in (a ∷ names) (list ∷ members) m ++ if_same n m x) (some_is (suc j) k g)
-            (past_by (same m a) (same n m) a m list (members_in names members m) (members_in names (set members j (get_or members j d ++ x ∷ [])) m) e refl refl (rest j f m))
+          (past_by (same m a) (same n m) a m list (members_in names members m) (members_in names (set members j (get_or members j d ++ x ∷ [])) m) e refl refl (rest j f m))
 
   pub hit : (names : List Name) (members : List (List T)) → length names ≡ length members → (k : ℕ) (d : List T) → position (same n) names ≡ Some k →
       (m : Name) → members_in names (set members k (get_or members k d ++ x ∷ [])) m ≡ members_in names members m ++ if_same n m x
@@ -91,7 +91,7 @@ module _ {T : Type 0} (n : Name) (x : T) where
   miss_by true a names list members e g m rest = absurd (cc g)
   miss_by false a names list members e g m rest =
       past_by (same m a) (same n m) a m list (members_in names members m) (members_in (names ++ n ∷ []) (members ++ (x ∷ []) ∷ []) m) e refl refl
-        (rest (none_below (position (same n) names) g))
+      (rest (none_below (position (same n) names) g))
 
   pub miss : (names : List Name) (members : List (List T)) → length names ≡ length members → position (same n) names ≡ None →
       (m : Name) → members_in (names ++ n ∷ []) (members ++ (x ∷ []) ∷ []) m ≡ members_in names members m ++ if_same n m x

@@ -42,7 +42,7 @@ kept g blocks said are added places faults placed =
         blocks = blocks;
         of_text = said;
         is = same_grammar g.source.now (all_names g.names) (names_of blocks) (trees_at g.nodes.items g.roots.items) (rules_of blocks) (map named_at g.spots) (places_of blocks) g.faults (faults_of blocks)
-          (sym (names_are blocks g.names are)) t.back places faults;
+            (sym (names_are blocks g.names are)) t.back places faults;
       };
       placed = placed;
     }
@@ -52,9 +52,10 @@ pub names_made : (blocks : List Block) (own unknown core : List Name) (spots : L
     unknown ≡ fold with_name [] (filter (is_unknown own) (map spot_name spots)) → map core_of cores ≡ filter (is_needed unknown) core_rules → core ≡ fold with_name [] (map (λ c. core_name (core_of c)) cores) →
     AreNames blocks (own, core) × (map core_of cores ≡ needed blocks)
 names_made blocks own unknown core spots cores o p u n c =
-    let all : map core_of cores ≡ needed blocks = n ∙ needed_all own unknown spots blocks o p u in
-    (record {
-       own = o;
-       core = c ∙ (ap (fold with_name []) (map_both core_name core_of cores ∙ ap (map core_name) all) ∙ needed_names (is_needed (undefined blocks)));
-     },
-     all)
+    let all : map core_of cores ≡ needed blocks = n ∙ needed_all own unknown spots blocks o p u in (
+      record {
+        own = o;
+        core = c ∙ (ap (fold with_name []) (map_both core_name core_of cores ∙ ap (map core_name) all) ∙ needed_names (is_needed (undefined blocks)));
+      },
+      all,
+    )

@@ -43,11 +43,11 @@ pub own_more : (old new : Grouped Parsed) (p : Parsed) (h : Head) → head_of p.
 own_more old new p h e names members blocks own = record {
   names = names ∙ (ap (λ ns. with_name ns h.name) own.names ∙ sym (defined_more blocks (block_of p) h.name (ap (option_map (λ (x : Head). x.name)) e)));
   members = λ m.
-    ap (map block_of) (members m)
-    ∙ (map-append block_of (members_of old m) (if_same h.name m p)
-    ∙ (ap (λ front. front ++ map block_of (if_same h.name m p)) (own.members m)
-    ∙ (ap (λ back. filter (defines m) blocks ++ back) (one_if block_of (same h.name m) p ∙ ap (λ b. if b then block_of p ∷ [] else []) (sym (ap (λ o. option_map_or (λ (head : Head). same head.name m) o false) e)))
-    ∙ sym (filter-append (defines m) blocks (block_of p ∷ [])))));
+      ap (map block_of) (members m)
+      ∙ (map-append block_of (members_of old m) (if_same h.name m p)
+      ∙ (ap (λ front. front ++ map block_of (if_same h.name m p)) (own.members m)
+      ∙ (ap (λ back. filter (defines m) blocks ++ back) (one_if block_of (same h.name m) p ∙ ap (λ b. if b then block_of p ∷ [] else []) (sym (ap (λ o. option_map_or (λ (head : Head). same head.name m) o false) e)))
+      ∙ sym (filter-append (defines m) blocks (block_of p ∷ [])))));
 }
 
 -- one without a head isn't
@@ -55,10 +55,10 @@ pub own_same : (groups : Grouped Parsed) (p : Parsed) → head_of p.block.items 
 own_same groups p e blocks own = record {
   names = own.names ∙ sym (defined_same blocks (block_of p) (ap (option_map (λ (x : Head). x.name)) e));
   members = λ m.
-    own.members m
-    ∙ (sym (append-nil (filter (defines m) blocks))
-    ∙ (ap (λ b. filter (defines m) blocks ++ (if b then block_of p ∷ [] else [])) (sym (ap (λ o. option_map_or (λ (head : Head). same head.name m) o false) e))
-    ∙ sym (filter-append (defines m) blocks (block_of p ∷ []))));
+      own.members m
+      ∙ (sym (append-nil (filter (defines m) blocks))
+      ∙ (ap (λ b. filter (defines m) blocks ++ (if b then block_of p ∷ [] else [])) (sym (ap (λ o. option_map_or (λ (head : Head). same head.name m) o false) e))
+      ∙ sym (filter-append (defines m) blocks (block_of p ∷ []))));
 }
 
 -- a place is put under its name
@@ -94,7 +94,6 @@ known own names n k h = sym (ap (λ b. fold with_name names (cond (not b) (n ∷
 
 pub unknown : (own names : List Name) (n : Name) → position (same n) own ≡ None → with_name names n ≡ fold with_name names (filter (is_unknown own) (n ∷ []))
 unknown own names n h = sym (ap (λ b. fold with_name names (cond (not b) (n ∷ []) [])) (position_any n own ∙ ap is_some h))
-
 
 pub unknown_step : (own : List Name) (spots : List Spot) (i : ℕ) (spot d : Spot) → i < length spots → spot ≡ get_or spots i d → (all names now : List Name) →
     all ≡ fold with_name names (filter (is_unknown own) (map spot_name (drop i spots))) → now ≡ fold with_name names (filter (is_unknown own) (spot_name spot ∷ [])) →

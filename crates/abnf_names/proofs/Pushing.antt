@@ -53,7 +53,7 @@ numbers-last n [] p = ap (λ k. k ∷ []) (let e : n ≡ n + 0 = omega arith in 
 numbers-last n (q ∷ ps) p =
     let len : length (subparts q ++ all_subparts (parts ps)) ≡ length (subparts q) + length (all_subparts (parts ps)) = length-append (subparts q) (all_subparts (parts ps)) in
     ap (λ rest. n ∷ rest) (numbers-last (n + length (subparts q)) ps p
-      ∙ ap (λ k. numbers (n + length (subparts q)) (parts ps) ++ k ∷ []) (let e : n + length (subparts q) + length (all_subparts (parts ps)) ≡ n + length (subparts q ++ all_subparts (parts ps)) = omega (arith, len) in e))
+    ∙ ap (λ k. numbers (n + length (subparts q)) (parts ps) ++ k ∷ []) (let e : n + length (subparts q) + length (all_subparts (parts ps)) ≡ n + length (subparts q ++ all_subparts (parts ps)) = omega (arith, len) in e))
 
 pub trees_none : (old : List Node) (numbers : List ℕ) → AddsTrees [] old old numbers numbers
 trees_none old ns = record { nodes = adds_none old; numbers_are = sym (append-nil ns) }
@@ -64,9 +64,9 @@ pub trees_more : (ps : List Part) (p : Part) (old mid new : List Node) (a b c : 
 trees_more ps p old mid new a b c h e k = record {
   nodes = subst (λ parts_so_far. Adds parts_so_far old new) (sym (all_subparts-last ps p)) (adds_both (all_subparts (parts ps)) (subparts p) old mid new h.nodes k);
   numbers_are =
-    e ∙ (ap (λ x. x ++ length mid ∷ []) h.numbers_are
-    ∙ (append_assoc a (numbers (length old) (parts ps)) (length mid ∷ [])
-    ∙ ap (λ x. a ++ x) (ap (λ n. numbers (length old) (parts ps) ++ n ∷ []) (adds_length (all_subparts (parts ps)) old mid h.nodes) ∙ sym (numbers-last (length old) ps p))));
+      e ∙ (ap (λ x. x ++ length mid ∷ []) h.numbers_are
+      ∙ (append_assoc a (numbers (length old) (parts ps)) (length mid ∷ [])
+      ∙ ap (λ x. a ++ x) (ap (λ n. numbers (length old) (parts ps) ++ n ∷ []) (adds_length (all_subparts (parts ps)) old mid h.nodes) ∙ sym (numbers-last (length old) ps p))));
 }
 
 pub trees_next : {X : Type 0} (f : X → Part) (xs : List X) (x d : X) (i : ℕ) (old mid new : List Node) (a b c : List ℕ) → i < length xs → get_or xs i d ≡ x →
@@ -125,8 +125,8 @@ pub choice_added : (ps : List Part) (at : ℕ) (kept : Node) (old opened mid new
     AddsTrees ps opened mid none found → held ≡ found → new ≡ set mid at (Alt held) → Adds (subparts (alt (parts ps))) old new
 choice_added ps at kept old opened mid new none found held at_is none_is opened_is trees held_is h =
     adds_above (alt (parts ps)) (all_subparts (parts ps)) (Alt held) kept old opened mid new opened_is trees.nodes (h ∙ ap (λ n. set mid n (Alt held)) at_is)
-      (ap Alt (held_is ∙ (trees.numbers_are ∙ (ap (λ ns. ns ++ numbers (length opened) (parts ps)) none_is
-      ∙ ap (λ n. numbers n (parts ps)) (ap length opened_is ∙ (length-append old (kept ∷ []) ∙ (let one : length old + 1 ≡ suc (length old) = omega arith in one)))))))
+    (ap Alt (held_is ∙ (trees.numbers_are ∙ (ap (λ ns. ns ++ numbers (length opened) (parts ps)) none_is
+    ∙ ap (λ n. numbers n (parts ps)) (ap length opened_is ∙ (length-append old (kept ∷ []) ∙ (let one : length old + 1 ≡ suc (length old) = omega arith in one)))))))
 
 -- a choice of one repetition stands before its body
 pub repeated_added : (p : Part) (old opened new : List Node) → opened ≡ old ++ Alt (suc (length old) ∷ []) ∷ Rep 0 None (suc (suc (length old))) ∷ [] → Adds (subparts p) opened new →
@@ -134,14 +134,14 @@ pub repeated_added : (p : Part) (old opened new : List Node) → opened ≡ old 
 repeated_added p old opened new e h =
     subst (λ ps. Adds (alt (next (rep 0 None p) end) ∷ rep 0 None p ∷ ps) old new) (sym (append-nil (subparts p)))
     (adds_both (alt (next (rep 0 None p) end) ∷ rep 0 None p ∷ []) (subparts p) old opened new
-      (record { more = Alt (suc (length old) ∷ []) ∷ Rep 0 None (suc (suc (length old))) ∷ []; joined = e; are = (refl, (refl, tt)) }) h)
+    (record { more = Alt (suc (length old) ∷ []) ∷ Rep 0 None (suc (suc (length old))) ∷ []; joined = e; are = (refl, (refl, tt)) }) h)
 
 -- a repetition stands before its body
 pub rep_added : (least : ℕ) (most : Option ℕ) (p : Part) (body : ℕ) (old opened new : List Node) → body ≡ length old + 1 → opened ≡ old ++ Rep least most body ∷ [] → Adds (subparts p) opened new →
     Adds (rep least most p ∷ subparts p) old new
 rep_added least most p body old opened new b o h =
     adds_both (rep least most p ∷ []) (subparts p) old opened new
-      (adds_one (rep least most p) (Rep least most body) old opened o (ap (λ n. Rep least most n) (b ∙ (let e : length old + 1 ≡ suc (length old) = omega arith in e)))) h
+    (adds_one (rep least most p) (Rep least most body) old opened o (ap (λ n. Rep least most n) (b ∙ (let e : length old + 1 ≡ suc (length old) = omega arith in e)))) h
 
 pub on_ok : {A E : Type 0} (r : Result A E) (P Q : Type 0) → (P → Q) → OnOk r P → OnOk r Q
 on_ok (Ok x) P Q f h = f h

@@ -27,16 +27,16 @@ numbers-append n [] qs = ap (λ k. numbers k (parts qs)) (let e : n ≡ n + 0 = 
 numbers-append n (p ∷ ps) qs =
     let len : length (subparts p ++ all_subparts (parts ps)) ≡ length (subparts p) + length (all_subparts (parts ps)) = length-append (subparts p) (all_subparts (parts ps)) in
     ap (λ rest. n ∷ rest) (numbers-append (n + length (subparts p)) ps qs
-      ∙ ap (λ k. numbers (n + length (subparts p)) (parts ps) ++ numbers k (parts qs)) (let e : n + length (subparts p) + length (all_subparts (parts ps)) ≡ n + length (subparts p ++ all_subparts (parts ps)) = omega (arith, len) in e))
+    ∙ ap (λ k. numbers (n + length (subparts p)) (parts ps) ++ numbers k (parts qs)) (let e : n + length (subparts p) + length (all_subparts (parts ps)) ≡ n + length (subparts p ++ all_subparts (parts ps)) = omega (arith, len) in e))
 
 pub trees_both : (ps qs : List Part) (old mid new : List Node) (a b c : List ℕ) → AddsTrees ps old mid a b → AddsTrees qs mid new b c → AddsTrees (ps ++ qs) old new a c
 trees_both ps qs old mid new a b c h k = record {
   nodes = subst (λ all. Adds all old new) (sym (all_subparts-append ps qs)) (adds_both (all_subparts (parts ps)) (all_subparts (parts qs)) old mid new h.nodes k.nodes);
   numbers_are =
-    k.numbers_are
-    ∙ (ap (λ x. x ++ numbers (length mid) (parts qs)) h.numbers_are
-    ∙ (append_assoc a (numbers (length old) (parts ps)) (numbers (length mid) (parts qs))
-    ∙ ap (λ x. a ++ x) (ap (λ n. numbers (length old) (parts ps) ++ numbers n (parts qs)) (adds_length (all_subparts (parts ps)) old mid h.nodes) ∙ sym (numbers-append (length old) ps qs))));
+      k.numbers_are
+      ∙ (ap (λ x. x ++ numbers (length mid) (parts qs)) h.numbers_are
+      ∙ (append_assoc a (numbers (length old) (parts ps)) (numbers (length mid) (parts qs))
+      ∙ ap (λ x. a ++ x) (ap (λ n. numbers (length old) (parts ps) ++ numbers n (parts qs)) (adds_length (all_subparts (parts ps)) old mid h.nodes) ∙ sym (numbers-append (length old) ps qs))));
 }
 
 -- the alternatives of those blocks in front that count, where it is known whether one with `=` was among them
@@ -68,7 +68,7 @@ pushed_more said all is_defined adding block left old mid new a b c h e k = reco
   front = h.front ++ if_counts (adding || not is_defined) block;
   whole = h.whole ∙ (ap (λ rest. h.front ++ rest) (one_more is_defined adding block left (sym e)) ∙ sym (append_assoc h.front (if_counts (adding || not is_defined) block) (if is_defined || not adding then filter adds left else counted left)));
   added =
-    subst (λ ps. AddsTrees ps old new a c) (ap (λ ps. flat_map said h.front ++ ps) (sym (if_said said (adding || not is_defined) block)) ∙ sym (flat_map-append said h.front (if_counts (adding || not is_defined) block)))
+      subst (λ ps. AddsTrees ps old new a c) (ap (λ ps. flat_map said h.front ++ ps) (sym (if_said said (adding || not is_defined) block)) ∙ sym (flat_map-append said h.front (if_counts (adding || not is_defined) block)))
       (trees_both (flat_map said h.front) (if adding || not is_defined then said block else []) old mid new a b c h.added k);
 }
 
@@ -97,11 +97,11 @@ pub rules_added : (blocks : List Block) (own : List Folded) (names : List Name �
     AddsTrees (map (λ name. rule_tree blocks (folded_text name)) own) old mid a b → AddsTrees (map (λ core. (core_of core).tree (number_in first names.1)) cores) mid new b c → AddsTrees (rules_of blocks) old new a c
 rules_added blocks own names cores first old mid new a b c are o f n h k =
     subst (λ trees. AddsTrees trees old new a c)
-      (ap (λ front. front ++ map (λ core. (core_of core).tree (number_in first names.1)) cores) (map_both (rule_tree blocks) folded_text own ∙ ap (map (rule_tree blocks)) (o ∙ are.own))
-      ∙ ap (λ back. map (rule_tree blocks) (defined blocks) ++ back)
-        (ap (λ (number : Name → Option ℕ). map (λ core. (core_of core).tree number) cores) (ap (λ k. number_in k names.1) (f ∙ ap length are.own) ∙ ap (number_in (length (defined blocks))) are.core)
-        ∙ (map_both (core_tree blocks) core_of cores ∙ ap (map (core_tree blocks)) n)))
-      (trees_both (map (λ name. rule_tree blocks (folded_text name)) own) (map (λ core. (core_of core).tree (number_in first names.1)) cores) old mid new a b c h k)
+    (ap (λ front. front ++ map (λ core. (core_of core).tree (number_in first names.1)) cores) (map_both (rule_tree blocks) folded_text own ∙ ap (map (rule_tree blocks)) (o ∙ are.own))
+    ∙ ap (λ back. map (rule_tree blocks) (defined blocks) ++ back)
+    (ap (λ (number : Name → Option ℕ). map (λ core. (core_of core).tree number) cores) (ap (λ k. number_in k names.1) (f ∙ ap length are.own) ∙ ap (number_in (length (defined blocks))) are.core)
+    ∙ (map_both (core_tree blocks) core_of cores ∙ ap (map (core_tree blocks)) n)))
+    (trees_both (map (λ name. rule_tree blocks (folded_text name)) own) (map (λ core. (core_of core).tree (number_in first names.1)) cores) old mid new a b c h k)
 
 pub names_are : (blocks : List Block) (names : List Name × List Name) → AreNames blocks names → names_of blocks ≡ all_names names
 names_are blocks names are = sym (ap (λ own. own ++ names.1) are.own ∙ ap (λ core. defined blocks ++ core) are.core)

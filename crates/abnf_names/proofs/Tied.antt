@@ -21,9 +21,10 @@ module _ (nodes : List Node) where
   all_are : (ps : List Part) (front rest : List Node) (n : ℕ) → n ≡ length front → nodes ≡ front ++ rest → AreNodesFrom n ps rest → AllAre n ps
   all_are [] front rest n l e h = tt
   all_are (p ∷ ps) front [] n l e h = absurd h
-  all_are (p ∷ ps) front (x ∷ rest) n l e h =
-      ((x, ap (λ all. slice_get all n) e ∙ (ap (slice_get (front ++ x ∷ rest)) l ∙ get_behind front rest x), h.0),
-       all_are ps (front ++ x ∷ []) rest (suc n) (ap suc l ∙ (let one : suc (length front) ≡ length front + 1 = omega arith in one ∙ sym (length-append front (x ∷ [])))) (e ∙ sym (append_assoc front (x ∷ []) rest)) h.1)
+  all_are (p ∷ ps) front (x ∷ rest) n l e h = (
+    (x, ap (λ all. slice_get all n) e ∙ (ap (slice_get (front ++ x ∷ rest)) l ∙ get_behind front rest x), h.0),
+    all_are ps (front ++ x ∷ []) rest (suc n) (ap suc l ∙ (let one : suc (length front) ≡ length front + 1 = omega arith in one ∙ sym (length-append front (x ∷ [])))) (e ∙ sym (append_assoc front (x ∷ []) rest)) h.1,
+  )
 
   all_cut : (n : ℕ) (ps qs : List Part) → AllAre n (ps ++ qs) → AllAre n ps × AllAre (n + length ps) qs
   all_cut n [] qs h = (tt, subst (λ k. AllAre k qs) (let e : n ≡ n + 0 = omega arith in e) h)
@@ -95,8 +96,8 @@ tied trees nodes roots h =
     let are : AreNodesFrom 0 (all_subparts (parts trees)) nodes = subst (λ all. AreNodesFrom 0 (all_subparts (parts trees)) all) (sym h.nodes.joined) h.nodes.are in
     let count : length nodes ≡ length (all_subparts (parts trees)) = length_are 0 (all_subparts (parts trees)) nodes are in
     let back : trees_at nodes roots ≡ trees =
-        ap (map (tree_at nodes (length nodes))) h.numbers_are
-        ∙ maps_back nodes (length nodes) 0 trees (trees_are nodes 0 (parts trees) (all_are nodes (all_subparts (parts trees)) [] nodes 0 refl refl are)) (omega (arith, count)) in
+    ap (map (tree_at nodes (length nodes))) h.numbers_are
+    ∙ maps_back nodes (length nodes) 0 trees (trees_are nodes 0 (parts trees) (all_are nodes (all_subparts (parts trees)) [] nodes 0 refl refl are)) (omega (arith, count)) in
     record {
       back = back;
       numbered = subst (λ ts. AreNodes ts nodes × AreRoots ts roots) (sym back) (
@@ -107,5 +108,6 @@ tied trees nodes roots h =
         record {
           one_each = ap length h.numbers_are ∙ numbers_length 0 trees;
           each = λ r n e. root_at 0 trees r n (ap (λ ns. slice_get ns r) (sym h.numbers_are) ∙ e) ∙ from_zero (root_number trees r);
-        });
+        },
+      );
     }

@@ -56,7 +56,7 @@ or_else None other = other
 abbrev pub at_offset : List ℕ → List Named → ℕ → Option Named
 at_offset text places offset =
     or_else (find (λ n. nat_le (place_start text n.place) offset && nat_lt offset (place_end text n.place)) places)
-      (find (λ n. nat_eq (place_end text n.place) offset) places)
+    (find (λ n. nat_eq (place_end text n.place) offset) places)
 
 -- the places of a name, in the order of the text
 abbrev pub places_of_name : Name → List Named → List Named

@@ -80,7 +80,14 @@ impl<'t> Grammar<'t> {
         let groups = own_groups(alloc, parsed)?;
         let mut nodes = Vec::new(alloc);
         let mut roots = List::new(alloc);
-        push_rules(alloc, &names, &groups, needed.as_slice(), &mut nodes, &mut roots)?;
+        push_rules(
+            alloc,
+            &names,
+            &groups,
+            needed.as_slice(),
+            &mut nodes,
+            &mut roots,
+        )?;
         Ok(Grammar {
             source: snapshot,
             nodes,

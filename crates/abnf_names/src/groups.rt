@@ -70,12 +70,7 @@ impl<'t, T: Drop> Groups<'t, T> {
     }
 
     /// One more thing under a name.
-    pub fn with(
-        self,
-        alloc: Global,
-        name: Folded<'t>,
-        item: T,
-    ) -> Result<Groups<'t, T>, AllocError>
+    pub fn with(self, alloc: Global, name: Folded<'t>, item: T) -> Result<Groups<'t, T>, AllocError>
         ensures names { IfOk result (λ g. g.0 ≡ with_name self.entry.0 (folded_text name.entry)) }
         ensures members { IfOk result (λ g. (m : Name) → members_of g m ≡ members_of self.entry m ++ if_same (folded_text name.entry) m item) }
     {

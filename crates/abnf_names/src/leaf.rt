@@ -59,7 +59,9 @@ fn digit_value(byte: u8) -> u32
 fn with_digit(base: u32, number: u32, byte: u8) -> u32
     ensures { result ≡ leaf.with_digit base number byte }
 {
-    number.saturating_mul(base).saturating_add(digit_value(byte))
+    number
+        .saturating_mul(base)
+        .saturating_add(digit_value(byte))
 }
 
 /// The base of the numbers after this letter.

@@ -62,7 +62,8 @@ impl NodeNo {
     pub fn get(self) -> usize
         ensures { result ≡ self }
     {
-        self.0
+        let NodeNo(number) = self;
+        number
     }
 }
 
@@ -70,11 +71,17 @@ impl NodeNo {
 #[derive(Drop)]
 pub enum Node<'t> {
     /// A text in quotes, without them. It is exact where `%s` stands before it; else ASCII letters match in either case.
-    Quoted { text: &'t str, exact: bool },
+    Quoted {
+        text: &'t str,
+        exact: bool,
+    },
     /// These characters, one after another.
     Series(List<u32>),
     /// One character from `low` to `high`.
-    Span { low: u32, high: u32 },
+    Span {
+        low: u32,
+        high: u32,
+    },
     /// These parts, one after another.
     Seq(List<NodeNo>),
     /// One of these parts.

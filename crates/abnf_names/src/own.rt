@@ -29,10 +29,7 @@ fn add_own<'t>(names: &mut Names<'t>, parsed: &Parsed<'t>) -> Result<(), AllocEr
 }
 
 /// The names that the blocks define.
-pub(crate) fn own_names<'t>(
-    alloc: Global,
-    parsed: &[Parsed<'t>],
-) -> Result<Names<'t>, AllocError>
+pub(crate) fn own_names<'t>(alloc: Global, parsed: &[Parsed<'t>]) -> Result<Names<'t>, AllocError>
     ensures { IfOk result (λ names. names ≡ defined (map spec.block_of parsed.now)) }
 {
     let mut names = Names::new(alloc);

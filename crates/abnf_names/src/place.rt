@@ -66,11 +66,7 @@ fn is_touched(before: Kind, item: Item<'_>) -> bool
 }
 
 /// Adds the place of a use behind an item of this kind.
-fn push_use<'t>(
-    spots: &mut List<Spot<'t>>,
-    before: Kind,
-    item: Item<'t>,
-) -> Result<(), AllocError>
+fn push_use<'t>(spots: &mut List<Spot<'t>>, before: Kind, item: Item<'t>) -> Result<(), AllocError>
     ensures { OnOk result (map spec.named_at spots.new ≡ map spec.named_at spots.old ++ places.use_after before item.entry) }
 {
     if is_touched(before, item) {

@@ -50,7 +50,11 @@ fn numbers_core_rules(rt: HostRuntime) -> Result<(), Fail> {
         ("ALPHA", None),
         ("n", None),
     ] {
-        assert_eq!(rt; grammar.rule_of(Folded(name)), rule.map(|n| RuleNo::new(n)), "{name}");
+        assert_eq!(rt;
+            grammar.rule_of(Folded(name)),
+            rule.map(|n| RuleNo::new(n)),
+            "{name}"
+        );
     }
     let nodes = grammar.nodes();
     assert_eq!(rt; nodes.len(), 24);
@@ -69,7 +73,12 @@ fn finds_roots(rt: HostRuntime) -> Result<(), Fail> {
         Some(rule) => assert_eq!(rt; rule.get(), 5),
         None => assert!(rt; false),
     }
-    assert!(rt; chooses(&grammar.nodes()[14], &[15, 16, 17, 18, 19, 20, 21].map(|n| NodeNo::new(n))));
+    assert!(rt;
+        chooses(
+            &grammar.nodes()[14],
+            &[15, 16, 17, 18, 19, 20, 21].map(|n| NodeNo::new(n))
+        )
+    );
     Ok(())
 }
 
@@ -98,8 +107,15 @@ fn joins_blocks(rt: HostRuntime) -> Result<(), Fail> {
     assert!(rt; quotes(&nodes[2], "x", true));
     assert!(rt; chooses(&nodes[3], &[NodeNo::new(4)]));
     assert!(rt; matches!(&nodes[4], Node::Opaque));
-    let place = Place { line: 3, start: 4, end: 5 };
-    assert_eq!(rt; grammar.faults(), [(place, SyntaxFault::BadToken(place))].as_slice());
+    let place = Place {
+        line: 3,
+        start: 4,
+        end: 5,
+    };
+    assert_eq!(rt;
+        grammar.faults(),
+        [(place, SyntaxFault::BadToken(place))].as_slice()
+    );
     Ok(())
 }
 
@@ -109,9 +125,17 @@ fn finds_places(rt: HostRuntime) -> Result<(), Fail> {
     let grammar = Grammar::of(rt.alloc(), &text)?;
     let mut places = Vec::new(rt.alloc());
     for spot in grammar.places(Folded("ITEM")) {
-        places.push((spot.place.line, spot.place.start, spot.place.end, spot.defines))?;
+        places.push((
+            spot.place.line,
+            spot.place.start,
+            spot.place.end,
+            spot.defines,
+        ))?;
     }
-    assert_eq!(rt; places.as_slice(), [(0, 10, 14, false), (1, 0, 4, true)].as_slice());
+    assert_eq!(rt;
+        places.as_slice(),
+        [(0, 10, 14, false), (1, 0, 4, true)].as_slice()
+    );
     assert_eq!(rt; grammar.places(Folded("i")).len(), 0);
     assert_eq!(rt; grammar.source().line_count(), 2);
     Ok(())
@@ -135,15 +159,20 @@ fn spells(node: &Node<'_>, want: &[u32]) -> bool {
 
 #[test]
 fn reads_leaves(rt: HostRuntime) -> Result<(), Fail> {
-    let text = snapshot(
-        rt.alloc(),
-        "a = 2*3%x41-5a [%d13.10] *<p> 4((\"q\")) %b1",
-    )?;
+    let text = snapshot(rt.alloc(), "a = 2*3%x41-5a [%d13.10] *<p> 4((\"q\")) %b1")?;
     let grammar = Grammar::of(rt.alloc(), &text)?;
     let nodes = grammar.nodes();
     assert_eq!(rt; nodes.len(), 11);
     assert!(rt; repeats(&nodes[2], (2, Some(3)), 3));
-    assert!(rt; matches!(&nodes[3], Node::Span { low: 0x41, high: 0x5A }));
+    assert!(rt;
+        matches!(
+            &nodes[3],
+            Node::Span {
+                low: 0x41,
+                high: 0x5A
+            }
+        )
+    );
     assert!(rt; repeats(&nodes[4], (0, Some(1)), 5));
     assert!(rt; repeats(&nodes[6], (0, None), 7));
     assert!(rt; repeats(&nodes[8], (4, Some(4)), 9));

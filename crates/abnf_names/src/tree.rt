@@ -162,7 +162,11 @@ fn push_element<'t>(
         Element::Group(inner) => push_inside(alloc, names, room, inner.as_slice(), nodes),
         Element::Choice(inner) => {
             let body = NodeNo::new(nodes.len() + 1);
-            nodes.push(Node::Rep { least: 0, most: Some(1), body })?;
+            nodes.push(Node::Rep {
+                least: 0,
+                most: Some(1),
+                body,
+            })?;
             push_inside(alloc, names, room, inner.as_slice(), nodes)
         }
     }

@@ -6,7 +6,8 @@ use Rattle.abnf_names.specs.Leaf.{same, before}
 use Rattle.abnf_names.proofs.leaf.quoted_node.Goals as goal
 
 pub returns : goal.returns
-returns c n =
-    (c.cut-2.result.0,
-     ap (λ exact. Quoted c.cut-2.result.0 exact) (c.eq.ensures ∙ ap (λ mark. same (lowercase mark) (codes "%s")) c.cut.ensures.before),
-     c.cut-2.ensures.before ∙ ap (before 0x22) c.cut.ensures.behind)
+returns c n = (
+  c.cut-2.result.0,
+  ap (λ exact. Quoted c.cut-2.result.0 exact) (c.eq.ensures ∙ ap (λ mark. same (lowercase mark) (codes "%s")) c.cut.ensures.before),
+  c.cut-2.ensures.before ∙ ap (before 0x22) c.cut.ensures.behind,
+)

@@ -9,5 +9,5 @@ use Rattle.abnf_names.proofs.rules.push_rule.Goals as goal
 pub returns : goal.returns
 returns c =
     choice_added (flat_map (said_alternatives (rule_number (all_names c.args.names.now))) (counted (map block_of c.args.blocks.now))) c.len-at.result _ c.args.nodes.now.items c.push.new.self.items
-      c.push_counted.new.nodes.items c.fill.new.nodes.items c.new-numbers.result c.push_counted.new.numbers c.push_counted.new.numbers
-      (c.len-at.ensures ∙ c.args.nodes.now.ok.0) c.new-numbers.ensures c.in_ok-push.ensures.items c.in_ok-push_counted.ensures refl c.fill.ensures
+    c.push_counted.new.nodes.items c.fill.new.nodes.items c.new-numbers.result c.push_counted.new.numbers c.push_counted.new.numbers
+    (c.len-at.ensures ∙ c.args.nodes.now.ok.0) c.new-numbers.ensures c.in_ok-push.ensures.items c.in_ok-push_counted.ensures refl c.fill.ensures

@@ -18,22 +18,28 @@ pub invariant_of-result : goal.invariant_of-result
 invariant_of-result c =
     let blocks = map block_of c.in_ok-parsed.parsed.items in
     let places : map named_at c.in_ok-spots.spots ≡ places_of blocks =
-        c.in_ok-spots.ensures ∙ ap (λ (ps : List Parsed). places_of (map block_of ps)) c.as_slice.ensures.value in
+    c.in_ok-spots.ensures ∙ ap (λ (ps : List Parsed). places_of (map block_of ps)) c.as_slice.ensures.value in
     let own : c.in_ok-own.own ≡ defined blocks = c.in_ok-own.ensures ∙ ap (λ (ps : List Parsed). defined (map block_of ps)) c.as_slice-4.ensures.value in
     let made : AreNames blocks (c.in_ok-own.own, c.in_ok-core.core) × (map core_of c.in_ok-needed.needed ≡ needed blocks) =
-        names_made blocks c.in_ok-own.own c.in_ok-unknown.unknown c.in_ok-core.core c.in_ok-spots.spots c.in_ok-needed.needed own places
-          (c.in_ok-unknown.ensures ∙ ap (λ (ss : List Spot). fold with_name [] (filter (is_unknown c.in_ok-own.own) (map spot_name ss))) c.as_slice-5.ensures)
-          c.in_ok-needed.ensures
-          (c.in_ok-core.ensures ∙ ap (λ (cs : List Core). fold with_name [] (map (λ core. core_name (core_of core)) cs)) c.as_slice-6.ensures) in
+    names_made blocks c.in_ok-own.own c.in_ok-unknown.unknown c.in_ok-core.core c.in_ok-spots.spots c.in_ok-needed.needed own places
+    (c.in_ok-unknown.ensures ∙ ap (λ (ss : List Spot). fold with_name [] (filter (is_unknown c.in_ok-own.own) (map spot_name ss))) c.as_slice-5.ensures)
+    c.in_ok-needed.ensures
+    (c.in_ok-core.ensures ∙ ap (λ (cs : List Core). fold with_name [] (map (λ core. core_name (core_of core)) cs)) c.as_slice-6.ensures) in
     let names : AreNames blocks c.new-names.result = subst (λ (n : List Name × List Name). AreNames blocks n) (sym c.new-names.ensures) made.0 in
     let pushed = c.in_ok-push_rules.ensures blocks c.in_ok-groups.ensures names (ap (map core_of) c.as_slice-7.ensures ∙ made.1) in
     let added : AddsTrees (rules_of blocks) [] c.push_rules.new.nodes.items [] c.into_vec.result.items =
-        subst (λ (roots : List ℕ). AddsTrees (rules_of blocks) [] c.push_rules.new.nodes.items [] roots) (sym c.into_vec.ensures)
-        (subst (λ (roots : List ℕ). AddsTrees (rules_of blocks) [] c.push_rules.new.nodes.items roots c.push_rules.new.roots) c.new-roots.ensures
-        (subst (λ (nodes : List Node). AddsTrees (rules_of blocks) nodes c.push_rules.new.nodes.items c.new-roots.result c.push_rules.new.roots) c.new-nodes.ensures.items pushed)) in
+    subst (λ (roots : List ℕ). AddsTrees (rules_of blocks) [] c.push_rules.new.nodes.items [] roots) (sym c.into_vec.ensures)
+    (subst (λ (roots : List ℕ). AddsTrees (rules_of blocks) [] c.push_rules.new.nodes.items roots c.push_rules.new.roots) c.new-roots.ensures
+    (subst (λ (nodes : List Node). AddsTrees (rules_of blocks) nodes c.push_rules.new.nodes.items c.new-roots.result c.push_rules.new.roots) c.new-nodes.ensures.items pushed)) in
     kept (record {
-        source = c.args.snapshot; nodes = c.push_rules.new.nodes; roots = c.into_vec.result; names = c.new-names.result; spots = c.in_ok-spots.spots; by_name = c.in_ok-by_name.by_name; faults = c.in_ok-faults.faults
-      })
-      blocks c.in_ok-parsed.ensures names added places
-      (c.in_ok-faults.ensures ∙ ap (λ (ps : List Parsed). faults_of (map block_of ps)) c.as_slice-2.ensures.value)
-      (subst (λ (ss : List Spot). ArePlaced (map named_at ss) c.in_ok-by_name.by_name) c.as_slice-3.ensures c.in_ok-by_name.ensures)
+      source = c.args.snapshot;
+      nodes = c.push_rules.new.nodes;
+      roots = c.into_vec.result;
+      names = c.new-names.result;
+      spots = c.in_ok-spots.spots;
+      by_name = c.in_ok-by_name.by_name;
+      faults = c.in_ok-faults.faults;
+    })
+    blocks c.in_ok-parsed.ensures names added places
+    (c.in_ok-faults.ensures ∙ ap (λ (ps : List Parsed). faults_of (map block_of ps)) c.as_slice-2.ensures.value)
+    (subst (λ (ss : List Spot). ArePlaced (map named_at ss) c.in_ok-by_name.by_name) c.as_slice-3.ensures c.in_ok-by_name.ensures)
