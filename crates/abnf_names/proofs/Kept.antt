@@ -22,6 +22,7 @@ use Rattle.abnf_names.specs.Inside.{grammar_inside, IsGrammarInside}
 use Rattle.abnf_names.specs.Pushed.{AddsTrees}
 use Rattle.abnf_names.proofs.ApartLaws.{map_both, needed_names, needed_all}
 use Rattle.abnf_names.proofs.RulePass.{names_are}
+use Rattle.abnf_names.proofs.Closed.{rules_closed}
 use Rattle.abnf_names.proofs.Tied.{tied, IsTied}
 
 pub same_grammar : (text : List ℕ) (names ns : List Name) (rules rs : List Part) (places ps : List Named) (faults fs : List (Place × SyntaxFault)) → names ≡ ns → rules ≡ rs → places ≡ ps → faults ≡ fs →
@@ -35,7 +36,7 @@ same_grammar text names ns rules rs places ps faults fs n r p f =
 pub kept : (g : Inside) (blocks : List Block) → AreSaid g.source.now blocks → AreNames blocks g.names → AddsTrees (rules_of blocks) [] g.nodes.items [] g.roots.items →
     map named_at g.spots ≡ places_of blocks → g.faults ≡ faults_of blocks → ArePlaced (map named_at g.spots) g.by_name → IsGrammarInside g
 kept g blocks said are added places faults placed =
-    let t : IsTied (rules_of blocks) g.nodes.items g.roots.items = tied (rules_of blocks) g.nodes.items g.roots.items added in
+    let t : IsTied (rules_of blocks) g.nodes.items g.roots.items = tied (rules_of blocks) g.nodes.items g.roots.items added (rules_closed blocks) in
     record {
       numbered = t.numbered;
       is_grammar = record {

@@ -11,3 +11,4 @@ pub mod RulePass
 pub mod ApartLaws
 pub mod Tied
 pub mod Kept
+pub mod Closed

@@ -1,10 +1,12 @@
 -- Nodes that were pushed for trees give these trees back.
 use Rattle.std.proofs.Common.{◌≡◌, ◌≤◌, ◌+◌, ℕ, zero, suc, List, [], ◌∷◌, ◌++◌, map, take, length, refl, sym, ap, subst, ◌∙◌, append-nil, append_assoc, length-append, arith}
 use Rattle.std.specs.Prelude.{slice_get, Option, Some, None}
+use Rattle.std.specs.List.{AllByRecursion}
 use Rattle.abnf_names.specs.declared.node.Node.{Node}
+use Rattle.abnf_names.proofs.Closed.{all_at}
 use Rattle.abnf_names.specs.Part.{Part, Parts, quoted, series, span, seq, alt, rep, ref, opaque, end, next, subparts, all_subparts, parts_of, root_number, numbers}
 use Rattle.abnf_names.specs.Tree.{parts}
-use Rattle.abnf_names.specs.Nodes.{IsNode, tree_at, trees_at, AreNodes, AreRoots, AreNumbered}
+use Rattle.abnf_names.specs.Nodes.{IsNode, tree_at, trees_at, AreNodes, AreRoots, AreNumbered, RefersWithin}
 use Rattle.abnf_names.specs.Pushed.{AreNodesFrom, Adds, AddsTrees}
 use Rattle.abnf_names.proofs.Pushing.{length_are}
 use Rattle.abnf_names.proofs.Numbered.{TreeIs, TreesAre, tree_back}
@@ -91,8 +93,8 @@ from_zero n = omega arith
 at_zero : (nodes : List Node) (n : ℕ) (p : Part) → (node : Node) × (slice_get nodes n ≡ Some node) × IsNode (0 + n) p node → (node : Node) × (slice_get nodes n ≡ Some node) × IsNode n p node
 at_zero nodes n p h = (h.0, h.1, subst (λ k. IsNode k p h.0) (from_zero n) h.2)
 
-pub tied : (trees : List Part) (nodes : List Node) (roots : List ℕ) → AddsTrees trees [] nodes [] roots → IsTied trees nodes roots
-tied trees nodes roots h =
+pub tied : (trees : List Part) (nodes : List Node) (roots : List ℕ) → AddsTrees trees [] nodes [] roots → AllByRecursion (RefersWithin (length trees)) (parts_of trees) → IsTied trees nodes roots
+tied trees nodes roots h closed =
     let are : AreNodesFrom 0 (all_subparts (parts trees)) nodes = subst (λ all. AreNodesFrom 0 (all_subparts (parts trees)) all) (sym h.nodes.joined) h.nodes.are in
     let count : length nodes ≡ length (all_subparts (parts trees)) = length_are 0 (all_subparts (parts trees)) nodes are in
     let back : trees_at nodes roots ≡ trees =
@@ -103,7 +105,9 @@ tied trees nodes roots h =
       numbered = subst (λ ts. AreNodes ts nodes × AreRoots ts roots) (sym back) (
         record {
           one_each = count ∙ ap length (all_parts trees);
-          each = λ n p e. at_zero nodes n p (node_at 0 (parts_of trees) nodes (subst (λ ps. AreNodesFrom 0 ps nodes) (all_parts trees) are) n p e);
+          each = λ n p e.
+              let found = at_zero nodes n p (node_at 0 (parts_of trees) nodes (subst (λ ps. AreNodesFrom 0 ps nodes) (all_parts trees) are) n p e) in
+              (found.0, found.1, found.2, all_at (RefersWithin (length trees)) (parts_of trees) closed n p e);
         },
         record {
           one_each = ap length h.numbers_are ∙ numbers_length 0 trees;

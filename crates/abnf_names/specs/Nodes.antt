@@ -17,10 +17,15 @@ IsNode n (rep least most p) node = node ≡ Rep least most (suc n)
 IsNode n (ref name rule) node = (t : Folded) × (node ≡ Ref t rule) × (t.0.now ≡ name)
 IsNode n opaque node = node ≡ Opaque
 
+-- each reference is to one of so many rules, or to none
+abbrev pub RefersWithin : ℕ → Part → Type 0
+RefersWithin count (ref name (Some r)) = r < count
+RefersWithin count _ = Unit {0}
+
 -- the nodes are the parts of the trees, in the order of their numbers
 pub record AreNodes (trees : List Part) (nodes : List Node) : Type 0 where
   pub one_each : length nodes ≡ length (parts_of trees)
-  pub each : (n : ℕ) (p : Part) → slice_get (parts_of trees) n ≡ Some p → (node : Node) × (slice_get nodes n ≡ Some node) × IsNode n p node
+  pub each : (n : ℕ) (p : Part) → slice_get (parts_of trees) n ≡ Some p → (node : Node) × (slice_get nodes n ≡ Some node) × IsNode n p node × RefersWithin (length trees) p
 
 -- the roots are the numbers of the trees
 pub record AreRoots (trees : List Part) (roots : List ℕ) : Type 0 where

@@ -52,23 +52,9 @@ impl<'t, T> Groups<'t, T> {
             None => &[],
         }
     }
-
-    pub fn names(&self) -> &Names<'t>
-        ensures { result.now ≡ self.now.0 }
-    {
-        &self.names
-    }
 }
 
 impl<'t, T: Drop> Groups<'t, T> {
-    /// The names alone.
-    pub fn into_names(self) -> Names<'t>
-        ensures { result ≡ self.entry.0 }
-    {
-        let Groups { names, members: _ } = self;
-        names
-    }
-
     /// One more thing under a name.
     pub fn with(self, alloc: Global, name: Folded<'t>, item: T) -> Result<Groups<'t, T>, AllocError>
         ensures names { IfOk result (λ g. g.0 ≡ with_name self.entry.0 (folded_text name.entry)) }

@@ -13,25 +13,25 @@ fn snapshot(alloc: Global, text: &str) -> Result<Snapshot, Fail> {
 }
 
 /// Whether a node refers to this name and rule.
-fn refers(node: &Node<'_>, want: &str, number: Option<usize>) -> bool {
+fn refers(node: Option<&Node<'_>>, want: &str, number: Option<usize>) -> bool {
     match node {
-        Node::Ref { name, rule } => name.0 == want && *rule == number.map(|n| RuleNo::new(n)),
+        Some(Node::Ref { name, rule }) => name.0 == want && *rule == number.map(|n| RuleNo::new(n)),
         _ => false,
     }
 }
 
 /// Whether a node is a text in quotes.
-fn quotes(node: &Node<'_>, want: &str, is_exact: bool) -> bool {
+fn quotes(node: Option<&Node<'_>>, want: &str, is_exact: bool) -> bool {
     match node {
-        Node::Quoted { text, exact } => *text == want && *exact == is_exact,
+        Some(Node::Quoted { text, exact }) => *text == want && *exact == is_exact,
         _ => false,
     }
 }
 
 /// Whether a node is a choice among these.
-fn chooses(node: &Node<'_>, want: &[NodeNo]) -> bool {
+fn chooses(node: Option<&Node<'_>>, want: &[NodeNo]) -> bool {
     match node {
-        Node::Alt(parts) => parts.as_slice() == want,
+        Some(Node::Alt(parts)) => parts.as_slice() == want,
         _ => false,
     }
 }
@@ -58,10 +58,10 @@ fn numbers_core_rules(rt: HostRuntime) -> Result<(), Fail> {
     }
     let nodes = grammar.nodes();
     assert_eq!(rt; nodes.len(), 24);
-    assert!(rt; refers(&nodes[4], "CRLF", Some(3)));
-    assert!(rt; refers(&nodes[11], "LF", Some(6)));
-    assert!(rt; refers(&nodes[15], "DIGIT", Some(4)));
-    assert!(rt; quotes(&nodes[21], "F", false));
+    assert!(rt; refers(nodes.get(4), "CRLF", Some(3)));
+    assert!(rt; refers(nodes.get(11), "LF", Some(6)));
+    assert!(rt; refers(nodes.get(15), "DIGIT", Some(4)));
+    assert!(rt; quotes(nodes.get(21), "F", false));
     Ok(())
 }
 
@@ -69,13 +69,14 @@ fn numbers_core_rules(rt: HostRuntime) -> Result<(), Fail> {
 fn finds_roots(rt: HostRuntime) -> Result<(), Fail> {
     let text = snapshot(rt.alloc(), "LF = \"n\"\na = CRLF HEXDIG")?;
     let grammar = Grammar::of(rt.alloc(), &text)?;
-    match grammar.rule_of(Folded("HEXDIG")) {
-        Some(rule) => assert_eq!(rt; rule.get(), 5),
-        None => assert!(rt; false),
+    let rule = grammar.rule_of(Folded("HEXDIG"));
+    assert!(rt; rule.is_some());
+    if let Some(rule) = rule {
+        assert_eq!(rt; rule.get(), 5);
     }
     assert!(rt;
         chooses(
-            &grammar.nodes()[14],
+            grammar.nodes().get(14),
             &[15, 16, 17, 18, 19, 20, 21].map(|n| NodeNo::new(n))
         )
     );
@@ -88,11 +89,11 @@ fn numbers_nodes(rt: HostRuntime) -> Result<(), Fail> {
     let grammar = Grammar::of(rt.alloc(), &text)?;
     let nodes = grammar.nodes();
     assert_eq!(rt; nodes.len(), 5);
-    assert!(rt; chooses(&nodes[0], &[NodeNo::new(1), NodeNo::new(2)]));
-    assert!(rt; refers(&nodes[1], "b", Some(1)));
-    assert!(rt; quotes(&nodes[2], "x", false));
-    assert!(rt; chooses(&nodes[3], &[NodeNo::new(4)]));
-    assert!(rt; refers(&nodes[4], "a", Some(0)));
+    assert!(rt; chooses(nodes.get(0), &[NodeNo::new(1), NodeNo::new(2)]));
+    assert!(rt; refers(nodes.get(1), "b", Some(1)));
+    assert!(rt; quotes(nodes.get(2), "x", false));
+    assert!(rt; chooses(nodes.get(3), &[NodeNo::new(4)]));
+    assert!(rt; refers(nodes.get(4), "a", Some(0)));
     Ok(())
 }
 
@@ -102,11 +103,11 @@ fn joins_blocks(rt: HostRuntime) -> Result<(), Fail> {
     let grammar = Grammar::of(rt.alloc(), &text)?;
     let nodes = grammar.nodes();
     assert_eq!(rt; nodes.len(), 5);
-    assert!(rt; chooses(&nodes[0], &[NodeNo::new(1), NodeNo::new(2)]));
-    assert!(rt; quotes(&nodes[1], "yy", false));
-    assert!(rt; quotes(&nodes[2], "x", true));
-    assert!(rt; chooses(&nodes[3], &[NodeNo::new(4)]));
-    assert!(rt; matches!(&nodes[4], Node::Opaque));
+    assert!(rt; chooses(nodes.get(0), &[NodeNo::new(1), NodeNo::new(2)]));
+    assert!(rt; quotes(nodes.get(1), "yy", false));
+    assert!(rt; quotes(nodes.get(2), "x", true));
+    assert!(rt; chooses(nodes.get(3), &[NodeNo::new(4)]));
+    assert!(rt; matches!(nodes.get(4), Some(Node::Opaque)));
     let place = Place {
         line: 3,
         start: 4,
@@ -142,17 +143,17 @@ fn finds_places(rt: HostRuntime) -> Result<(), Fail> {
 }
 
 /// Whether a node is a repetition with these bounds.
-fn repeats(node: &Node<'_>, bounds: (u32, Option<u32>), at: usize) -> bool {
+fn repeats(node: Option<&Node<'_>>, bounds: (u32, Option<u32>), at: usize) -> bool {
     match node {
-        Node::Rep { least, most, body } => (*least, *most) == bounds && body.get() == at,
+        Some(Node::Rep { least, most, body }) => (*least, *most) == bounds && body.get() == at,
         _ => false,
     }
 }
 
 /// Whether a node is these characters.
-fn spells(node: &Node<'_>, want: &[u32]) -> bool {
+fn spells(node: Option<&Node<'_>>, want: &[u32]) -> bool {
     match node {
-        Node::Series(characters) => characters.as_slice() == want,
+        Some(Node::Series(characters)) => characters.as_slice() == want,
         _ => false,
     }
 }
@@ -163,22 +164,22 @@ fn reads_leaves(rt: HostRuntime) -> Result<(), Fail> {
     let grammar = Grammar::of(rt.alloc(), &text)?;
     let nodes = grammar.nodes();
     assert_eq!(rt; nodes.len(), 11);
-    assert!(rt; repeats(&nodes[2], (2, Some(3)), 3));
+    assert!(rt; repeats(nodes.get(2), (2, Some(3)), 3));
     assert!(rt;
         matches!(
-            &nodes[3],
-            Node::Span {
+            nodes.get(3),
+            Some(Node::Span {
                 low: 0x41,
                 high: 0x5A
-            }
+            })
         )
     );
-    assert!(rt; repeats(&nodes[4], (0, Some(1)), 5));
-    assert!(rt; repeats(&nodes[6], (0, None), 7));
-    assert!(rt; repeats(&nodes[8], (4, Some(4)), 9));
-    assert!(rt; quotes(&nodes[9], "q", false));
-    assert!(rt; spells(&nodes[5], &[13, 10]));
-    assert!(rt; spells(&nodes[10], &[1]));
+    assert!(rt; repeats(nodes.get(4), (0, Some(1)), 5));
+    assert!(rt; repeats(nodes.get(6), (0, None), 7));
+    assert!(rt; repeats(nodes.get(8), (4, Some(4)), 9));
+    assert!(rt; quotes(nodes.get(9), "q", false));
+    assert!(rt; spells(nodes.get(5), &[13, 10]));
+    assert!(rt; spells(nodes.get(10), &[1]));
     Ok(())
 }
 
@@ -192,6 +193,6 @@ fn reads_many_rules(rt: HostRuntime) -> Result<(), Fail> {
     let text = snapshot(rt.alloc(), text.as_str())?;
     let grammar = Grammar::of(rt.alloc(), &text)?;
     assert_eq!(rt; grammar.nodes().len(), 200_000);
-    assert!(rt; refers(&grammar.nodes()[199_999], "r100000", None));
+    assert!(rt; refers(grammar.nodes().get(199_999), "r100000", None));
     Ok(())
 }
