@@ -8,14 +8,14 @@ use Rattle.abnf_token.specs.Classes.{base_of}
 use Rattle.abnf_syntax.specs.declared.fault.SyntaxFault.{SyntaxFault}
 use Rattle.abnf_syntax.specs.declared.tree.Element.{out-Element}
 use Rattle.abnf_syntax.specs.declared.tree.Element.TheOpen as e
-use Rattle.abnf_syntax.specs.declared.tree.Repetition.{Repetition, out-Repetition}
+use Rattle.abnf_syntax.specs.declared.tree.Repetition.{out-Repetition}
 use Rattle.abnf_syntax.specs.declared.tree.Rule.{Rule}
 use Rattle.abnf_syntax.specs.Grammar.{Concatenation, Alternation, max_nesting}
 use Rattle.abnf_token.specs.declared.token.Token.{Token}
 use Rattle.abnf_token.specs.Folded.{lowercase}
-use Rattle.abnf_names.specs.Part.{Part, Parts, quoted, series, span, seq, alt, rep, ref, opaque, end, next, subparts, all_subparts, parts_of}
+use Rattle.abnf_names.specs.Part.{Part, series, seq, alt, ref, subparts, all_subparts, parts_of}
 use Rattle.abnf_names.specs.Leaf.{number_part, numbers_from, span_of, has, repeated, same}
-use Rattle.abnf_names.specs.Tree.{ElementLayer, parts, join, element_part, repetition_part, concatenation_part, alternation_part, tree_inside, alternatives}
+use Rattle.abnf_names.specs.Tree.{ElementLayer, parts, join, element_part, repetition_part, concatenation_part, tree_inside}
 use Rattle.abnf_names.specs.Nodes.{RefersWithin}
 use Rattle.abnf_names.specs.Core.{CoreRule, core_rules, core_name}
 use Rattle.abnf_names.specs.Said.{Block, Name}

@@ -4,7 +4,7 @@ use Rattle.std.specs.Prelude.{Option}
 use Rattle.abnf_names.specs.declared.core_rule.Leaf.{Leaf}
 use Rattle.abnf_names.specs.declared.core_rule.Leaf.TheVariants.{Range, One, Text, Rule}
 use Rattle.abnf_names.specs.declared.node.Node.{Node}
-use Rattle.abnf_names.specs.Part.{Part, subparts}
+use Rattle.abnf_names.specs.Part.{subparts}
 use Rattle.abnf_names.specs.Nodes.{IsNode}
 use Rattle.abnf_names.specs.Said.{Name}
 use Rattle.abnf_names.specs.Pushed.{Adds}

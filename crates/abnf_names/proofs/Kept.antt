@@ -1,12 +1,9 @@
 -- What a grammar's fields hold once they were made.
-use Rattle.std.proofs.Common.{◌≡◌, ℕ, List, [], ◌∷◌, ◌++◌, map, refl, sym, ap, subst, ◌∙◌}
+use Rattle.std.proofs.Common.{◌≡◌, ℕ, List, [], map, sym, ap, ◌∙◌}
 use Rattle.std.specs.Prelude.{fold, filter}
 use Rattle.ls_text.specs.declared.position.Place.{Place}
 use Rattle.abnf_syntax.specs.declared.fault.SyntaxFault.{SyntaxFault}
 use Rattle.abnf_names.specs.declared.core_rule.Core.{Core}
-use Rattle.abnf_names.specs.declared.node.Node.{Node}
-use Rattle.abnf_names.specs.declared.parsed.Parsed.{Parsed}
-use Rattle.abnf_names.specs.declared.place.NamePlace.{NamePlace}
 use Rattle.abnf_names.specs.declared.place.Spot.{Spot}
 use Rattle.abnf_names.specs.declared.grammar.Grammar.TheInside.{Inside}
 use Rattle.abnf_names.specs.Part.{Part}
@@ -16,9 +13,9 @@ use Rattle.abnf_names.specs.Said.{Block, AreSaid, Name}
 use Rattle.abnf_names.specs.Places.{Named, places_of}
 use Rattle.abnf_names.specs.Names.{all_names}
 use Rattle.abnf_names.specs.Nodes.{trees_at}
-use Rattle.abnf_names.specs.Rules.{defined, needed, undefined, names_of, rules_of, faults_of, is_needed, with_name, grammar_of, Grammar, IsGrammar}
-use Rattle.abnf_names.specs.Passes.{block_of, named_at, spot_name, is_unknown, AreNames, ArePlaced, Grouped}
-use Rattle.abnf_names.specs.Inside.{grammar_inside, IsGrammarInside}
+use Rattle.abnf_names.specs.Rules.{defined, needed, undefined, names_of, rules_of, faults_of, is_needed, with_name, Grammar}
+use Rattle.abnf_names.specs.Passes.{named_at, spot_name, is_unknown, AreNames, ArePlaced}
+use Rattle.abnf_names.specs.Inside.{IsGrammarInside}
 use Rattle.abnf_names.specs.Pushed.{AddsTrees}
 use Rattle.abnf_names.proofs.ApartLaws.{map_both, needed_names, needed_all}
 use Rattle.abnf_names.proofs.RulePass.{names_are}

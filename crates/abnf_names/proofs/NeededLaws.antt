@@ -1,6 +1,6 @@
 -- Which core rules are needed.
-use Rattle.std.proofs.Common.{◌≡◌, ◌⊎◌, ⊎_elim, inl, inr, ℕ, suc, Bool, true, false, cond, List, [], ◌∷◌, ◌++◌, map, refl, sym, ap, subst, ◌∙◌, append-nil, append_assoc}
-use Rattle.std.specs.Prelude.{Option, Some, None, find, fold, filter, flat_map, ◌||◌, if◌then◌else◌, length}
+use Rattle.std.proofs.Common.{◌≡◌, ◌⊎◌, ⊎_elim, inl, inr, ℕ, suc, Bool, true, false, cond, List, [], ◌∷◌, ◌++◌, refl, sym, ap, subst, ◌∙◌}
+use Rattle.std.specs.Prelude.{Some, None, find, fold, flat_map, ◌||◌, if◌then◌else◌, length}
 use Rattle.std.specs.List.{list_any, AllByRecursion}
 use Rattle.std.proofs.lemmas.List.Folds.{list_any-append}
 use Rattle.abnf_names.specs.declared.core_rule.Core.{Core}
@@ -10,7 +10,7 @@ use Rattle.abnf_names.specs.Said.{Name}
 use Rattle.abnf_names.specs.Core.{CoreRule, core_rules, core_name, names_used, needs}
 use Rattle.abnf_names.specs.Rules.{with_name, is_needed}
 use Rattle.abnf_names.specs.CoreTable.{core_of, users_of, is_wanted}
-use Rattle.abnf_names.proofs.GroupLaws.{same_is, same_refl, same_sym, never}
+use Rattle.abnf_names.proofs.GroupLaws.{same_is, same_sym, never}
 
 -- for a core rule, at a name
 abbrev Agrees : Core → Name → Type 0

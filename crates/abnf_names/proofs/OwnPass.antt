@@ -1,5 +1,5 @@
 -- Blocks and places under their names.
-use Rattle.std.proofs.Common.{◌≡◌, ◌<◌, ◌+◌, ℕ, zero, suc, Bool, true, false, cond, List, [], ◌∷◌, ◌++◌, map, take, drop, length, get_or, refl, sym, ap, subst, ◌∙◌, append-nil, append_assoc, arith}
+use Rattle.std.proofs.Common.{◌≡◌, ◌<◌, ◌+◌, ℕ, suc, Bool, true, false, cond, List, [], ◌∷◌, ◌++◌, map, take, drop, length, get_or, refl, sym, ap, subst, ◌∙◌, append-nil, append_assoc, arith}
 use Rattle.std.specs.Option.{is_some, option_map_or}
 use Rattle.std.specs.Prelude.{not, position, Result, Ok, Err, IfOk, Option, Some, None, option_map, fold, filter, filter_map, if◌then◌else◌}
 use Rattle.std.proofs.Math.Seq.{take-suc, drop-cons}

@@ -5,7 +5,7 @@ use Rattle.std.proofs.lemmas.Grind.{flat_map-append}
 use Rattle.std.specs.Prelude.{Option, flat_map, filter, not, ◌||◌, if◌then◌else◌}
 use Rattle.abnf_names.specs.declared.node.Node.{Node}
 use Rattle.abnf_names.specs.declared.parsed.Parsed.{Parsed}
-use Rattle.abnf_names.specs.Part.{Part, next, alt, subparts, all_subparts, numbers}
+use Rattle.abnf_names.specs.Part.{Part, alt, subparts, all_subparts, numbers}
 use Rattle.abnf_names.specs.Tree.{parts}
 use Rattle.abnf_names.specs.Said.{Block, Name}
 use Rattle.abnf_names.specs.Rules.{counted, adds, defines, names_of, rule_number, rule_tree, rules_of, core_tree, needed, defined, said_alternatives}

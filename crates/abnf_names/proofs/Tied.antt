@@ -1,13 +1,13 @@
 -- Nodes that were pushed for trees give these trees back.
-use Rattle.std.proofs.Common.{◌≡◌, ◌≤◌, ◌+◌, ℕ, zero, suc, List, [], ◌∷◌, ◌++◌, map, take, length, refl, sym, ap, subst, ◌∙◌, append-nil, append_assoc, length-append, arith}
-use Rattle.std.specs.Prelude.{slice_get, Option, Some, None}
+use Rattle.std.proofs.Common.{◌≡◌, ◌≤◌, ◌+◌, ℕ, zero, suc, List, [], ◌∷◌, ◌++◌, map, take, length, refl, sym, ap, subst, ◌∙◌, append_assoc, length-append, arith}
+use Rattle.std.specs.Prelude.{slice_get, Some}
 use Rattle.std.specs.List.{AllByRecursion}
 use Rattle.abnf_names.specs.declared.node.Node.{Node}
 use Rattle.abnf_names.proofs.Closed.{all_at}
 use Rattle.abnf_names.specs.Part.{Part, Parts, quoted, series, span, seq, alt, rep, ref, opaque, end, next, subparts, all_subparts, parts_of, root_number, numbers}
 use Rattle.abnf_names.specs.Tree.{parts}
 use Rattle.abnf_names.specs.Nodes.{IsNode, tree_at, trees_at, AreNodes, AreRoots, AreNumbered, RefersWithin}
-use Rattle.abnf_names.specs.Pushed.{AreNodesFrom, Adds, AddsTrees}
+use Rattle.abnf_names.specs.Pushed.{AreNodesFrom, AddsTrees}
 use Rattle.abnf_names.proofs.Pushing.{length_are}
 use Rattle.abnf_names.proofs.Numbered.{TreeIs, TreesAre, tree_back}
 

@@ -1,7 +1,7 @@
 -- The core rules of RFC 5234, Appendix B.1.
-use Rattle.std.specs.Prelude.{ℕ, zero, suc, List, [], ◌∷◌, ◌++◌, map, flat_map, filter_map, find, length, Option, Some, None, Bool, false, codes, option_map}
+use Rattle.std.specs.Prelude.{ℕ, zero, suc, List, [], ◌∷◌, flat_map, filter_map, find, Option, Some, None, false, codes}
 use Rattle.abnf_token.specs.Folded.{lowercase}
-use Rattle.abnf_names.specs.Part.{Part, Parts, quoted, series, span, seq, alt, rep, ref, opaque, end, next, subparts}
+use Rattle.abnf_names.specs.Part.{Part, quoted, series, span, seq, alt, rep, ref, subparts}
 use Rattle.abnf_names.specs.Leaf.{same}
 use Rattle.abnf_names.specs.Tree.{parts}
 

@@ -1,5 +1,5 @@
 -- The core rules as the code has them. Only contracts of private functions speak of it.
-use Rattle.std.specs.Prelude.{◌≡◌, ℕ, suc, ◌+◌, List, [], ◌∷◌, ◌++◌, length, map, position, Option, Some, None, option_map, codes, Bool, false}
+use Rattle.std.specs.Prelude.{◌≡◌, ℕ, suc, ◌+◌, List, [], ◌∷◌, ◌++◌, length, map, position, Option, None, option_map, codes, Bool, false}
 use Rattle.std.specs.List.{list_any}
 use Rattle.std.specs.Borrow.{Bor}
 use Rattle.abnf_token.specs.Folded.{lowercase}
@@ -7,13 +7,13 @@ use Rattle.abnf_names.specs.declared.core_rule.Core.{Core}
 use Rattle.abnf_names.specs.declared.core_rule.Core.TheVariants.{Alpha, Bit, Char, Cr, Crlf, Ctl, Digit, Dquote, Hexdig, Htab, Lf, Lwsp, Octet, Sp, Vchar, Wsp}
 use Rattle.abnf_names.specs.declared.core_rule.Leaf.{Leaf}
 use Rattle.abnf_names.specs.declared.core_rule.Leaf.TheVariants.{Range, One, Text, Rule}
-use Rattle.abnf_names.specs.Part.{Part, Parts, quoted, series, span, seq, alt, rep, ref, opaque, end, next}
+use Rattle.abnf_names.specs.Part.{Part, quoted, series, span, seq, alt, rep, ref, end, next}
 use Rattle.abnf_names.specs.Tree.{parts, join}
 use Rattle.abnf_names.specs.declared.node.Node.{Node}
 use Rattle.abnf_names.specs.declared.node.Node.TheVariants.{Alt, Rep}
 use Rattle.abnf_names.specs.Leaf.{same}
 use Rattle.abnf_names.specs.Said.{Name}
-use Rattle.abnf_names.specs.Core.{CoreRule, core_rules, alpha, bit, char, cr, crlf, ctl, digit, dquote, hexdig, htab, lf, lwsp, octet, sp, vchar, wsp}
+use Rattle.abnf_names.specs.Core.{CoreRule, alpha, bit, char, cr, crlf, ctl, digit, dquote, hexdig, htab, lf, lwsp, octet, sp, vchar, wsp}
 
 abbrev pub core_of : Core → CoreRule
 core_of Alpha = alpha

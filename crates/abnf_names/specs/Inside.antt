@@ -1,5 +1,5 @@
 -- What a grammar's fields hold.
-use Rattle.std.specs.Prelude.{◌++◌, map}
+use Rattle.std.specs.Prelude.{map}
 use Rattle.abnf_names.specs.Names.{all_names}
 use Rattle.abnf_names.specs.Rules.{Grammar, IsGrammar}
 use Rattle.abnf_names.specs.Nodes.{trees_at, AreNumbered}

@@ -1,5 +1,5 @@
 -- What the token of an element or of a repeat stands for.
-use Rattle.std.specs.Prelude.{ℕ, ◌+◌, ◌*◌, ◌==◌, Bool, true, false, nat_eq, ◌||◌, List, [], ◌∷◌, fold, Option, Some, None, if◌then◌else◌, unwrap_or, codes, min}
+use Rattle.std.specs.Prelude.{ℕ, ◌+◌, ◌*◌, ◌==◌, Bool, nat_eq, ◌||◌, List, [], ◌∷◌, Option, Some, None, if◌then◌else◌, unwrap_or, codes, min}
 use Rattle.std.specs.Cmp.Lexicographic.{pointwise}
 use Rattle.std.specs.Char.{digit_value}
 use Rattle.std.specs.List.{list_any, before_first, after_first}
@@ -7,7 +7,7 @@ use Rattle.abnf_token.specs.declared.token.Token.{Token}
 use Rattle.abnf_token.specs.Classes.{base_of}
 use Rattle.abnf_token.specs.Folded.{lowercase}
 use Rattle.abnf_token.specs.Numbers.{number_of}
-use Rattle.abnf_names.specs.Part.{Part, Parts, quoted, series, span, seq, alt, rep, ref, opaque, end, next}
+use Rattle.abnf_names.specs.Part.{Part, quoted, series, span, rep, opaque}
 
 -- the two texts are the same, byte by byte
 abbrev pub same : List ℕ → List ℕ → Bool

@@ -1,5 +1,5 @@
 -- The numbered nodes of a grammar's trees.
-use Rattle.std.specs.Prelude.{◌≡◌, ℕ, zero, suc, ◌<◌, ◌≤◌, ◌⊎◌, map, Bool, Option, Some, None, List, [], ◌∷◌, length, slice_get, vec_items}
+use Rattle.std.specs.Prelude.{◌≡◌, ℕ, zero, suc, ◌<◌, map, Option, Some, None, List, [], ◌∷◌, length, slice_get}
 use Rattle.std.specs.Borrow.{Bor}
 use Rattle.abnf_token.specs.declared.folded.Folded.{Folded}
 use Rattle.abnf_names.specs.declared.node.Node.{Node}

@@ -1,5 +1,5 @@
 -- The rules of a text, by its blocks.
-use Rattle.std.specs.Prelude.{◌≡◌, ℕ, ◌+◌, List, [], ◌∷◌, ◌++◌, map, flat_map, filter_map, filter, position, fold, length, Option, Some, None, option_map, Result, Ok, Err, Bool, true, false, not, if◌then◌else◌}
+use Rattle.std.specs.Prelude.{◌≡◌, ℕ, ◌+◌, List, [], ◌∷◌, ◌++◌, map, flat_map, filter_map, filter, position, fold, length, Option, Some, None, option_map, Result, Ok, Err, Bool, false, not, if◌then◌else◌}
 use Rattle.std.specs.List.{list_any}
 use Rattle.std.specs.Option.{option_map_or}
 use Rattle.ls_text.specs.declared.position.Place.{Place}
@@ -11,7 +11,7 @@ use Rattle.abnf_names.specs.Part.{Part, alt, opaque}
 use Rattle.abnf_names.specs.Leaf.{same}
 use Rattle.abnf_names.specs.Tree.{parts, alternatives}
 use Rattle.abnf_names.specs.Core.{CoreRule, core_rules, core_name, needs}
-use Rattle.abnf_names.specs.Said.{Block, AreSaid, Name, Head, head_of}
+use Rattle.abnf_names.specs.Said.{Block, AreSaid, Name, head_of}
 use Rattle.abnf_names.specs.Places.{Named, places_of}
 
 abbrev pub defines : Name → Block → Bool

@@ -1,12 +1,11 @@
 -- The tree of an alternation.
-use Rattle.std.specs.Prelude.{ℕ, zero, suc, List, [], ◌∷◌, map, Option, Some, None}
-use Rattle.abnf_token.specs.declared.token.Token.{Token}
+use Rattle.std.specs.Prelude.{ℕ, zero, suc, List, [], ◌∷◌, map, Option, Some}
 use Rattle.abnf_syntax.specs.declared.tree.Element.{Element, out-Element}
 use Rattle.abnf_syntax.specs.declared.tree.Element.TheOpen as e
 use Rattle.abnf_syntax.specs.declared.tree.Repetition.{Repetition, out-Repetition}
 use Rattle.abnf_token.specs.Folded.{lowercase}
 use Rattle.abnf_syntax.specs.Grammar.{Concatenation, Alternation, max_nesting}
-use Rattle.abnf_names.specs.Part.{Part, Parts, quoted, series, span, seq, alt, rep, ref, opaque, end, next}
+use Rattle.abnf_names.specs.Part.{Part, Parts, seq, alt, rep, ref, opaque, end, next}
 use Rattle.abnf_names.specs.Leaf.{quoted_part, number_part, repeated}
 
 -- one level of an element

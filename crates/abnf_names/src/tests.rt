@@ -1,6 +1,6 @@
 //! Texts with their rules, nodes and places, written out by hand.
 
-use crate::{Grammar, Node, NodeNo, RuleNo};
+use crate::{Grammar, NamePlace, Node, NodeNo, RuleNo};
 use abnf_syntax::SyntaxFault;
 use abnf_token::Folded;
 use ls_text::{Place, Snapshot};
@@ -120,24 +120,35 @@ fn joins_blocks(rt: HostRuntime) -> Result<(), Fail> {
     Ok(())
 }
 
+/// Whether these are the places of a name.
+fn has_places<'t>(grammar: &Grammar<'t>, name: Folded<'t>, want: &[NamePlace]) -> bool {
+    grammar.places(name) == want
+}
+
 #[test]
 fn finds_places(rt: HostRuntime) -> Result<(), Fail> {
     let text = snapshot(rt.alloc(), "a = %item Item\nitem = \"i\"")?;
     let grammar = Grammar::of(rt.alloc(), &text)?;
-    let mut places = Vec::new(rt.alloc());
-    for spot in grammar.places(Folded("ITEM")) {
-        places.push((
-            spot.place.line,
-            spot.place.start,
-            spot.place.end,
-            spot.defines,
-        ))?;
-    }
-    assert_eq!(rt;
-        places.as_slice(),
-        [(0, 10, 14, false), (1, 0, 4, true)].as_slice()
-    );
-    assert_eq!(rt; grammar.places(Folded("i")).len(), 0);
+    let want = [
+        NamePlace {
+            place: Place {
+                line: 0,
+                start: 10,
+                end: 14,
+            },
+            defines: false,
+        },
+        NamePlace {
+            place: Place {
+                line: 1,
+                start: 0,
+                end: 4,
+            },
+            defines: true,
+        },
+    ];
+    assert!(rt; has_places(&grammar, Folded("ITEM"), want.as_slice()));
+    assert!(rt; has_places(&grammar, Folded("i"), &[]));
     assert_eq!(rt; grammar.source().line_count(), 2);
     Ok(())
 }

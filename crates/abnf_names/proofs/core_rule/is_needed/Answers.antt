@@ -1,4 +1,4 @@
-use Rattle.std.proofs.Common.{◌≡◌, map}
+use Rattle.std.proofs.Common.{map}
 use Rattle.abnf_token.specs.Folded.{lowercase}
 use Rattle.abnf_names.proofs.NeededLaws.{needed_is}
 use Rattle.abnf_names.proofs.core_rule.is_needed.Goals as goal

@@ -1,4 +1,4 @@
-use Rattle.std.proofs.Common.{◌≡◌, ◌∙◌, map, refl}
+use Rattle.std.proofs.Common.{◌∙◌, map, refl}
 use Rattle.abnf_names.specs.CoreTable.{row_part, number_in}
 use Rattle.abnf_names.proofs.Pushing.{choice_added}
 use Rattle.abnf_names.proofs.core_tree.push_choice.Goals as goal

@@ -1,4 +1,3 @@
-use Rattle.std.proofs.Common.{◌≡◌}
 use Rattle.abnf_names.specs.CoreTable.{number_in}
 use Rattle.abnf_names.proofs.CoreLaws.{leaf_added}
 use Rattle.abnf_names.proofs.core_tree.push_leaf.Goals as goal

@@ -1,4 +1,4 @@
-use Rattle.std.proofs.Common.{◌≡◌, ◌∙◌, map, refl}
+use Rattle.std.proofs.Common.{◌∙◌, refl}
 use Rattle.abnf_names.specs.CoreTable.{leaf_part, number_in}
 use Rattle.abnf_names.proofs.Pushing.{seq_added}
 use Rattle.abnf_names.proofs.core_tree.push_row.Goals as goal

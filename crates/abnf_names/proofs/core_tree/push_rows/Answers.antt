@@ -1,4 +1,4 @@
-use Rattle.std.proofs.Common.{◌≡◌, ◌∷◌, ◌++◌, [], ◌∙◌, ap, refl}
+use Rattle.std.proofs.Common.{◌∷◌, ◌++◌, [], ◌∙◌, ap, refl}
 use Rattle.abnf_names.specs.CoreTable.{row_part, number_in}
 use Rattle.abnf_names.proofs.Pushing.{trees_next}
 use Rattle.abnf_names.proofs.core_tree.push_rows.Goals as goal

@@ -1,4 +1,4 @@
-use Rattle.std.proofs.Common.{◌≡◌, ◌∙◌, ap}
+use Rattle.std.proofs.Common.{◌∙◌, ap}
 use Rattle.std.specs.Prelude.{codes}
 use Rattle.abnf_token.specs.Folded.{lowercase}
 use Rattle.abnf_names.specs.declared.node.Node.TheVariants.{Quoted}

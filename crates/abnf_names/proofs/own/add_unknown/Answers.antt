@@ -1,4 +1,4 @@
-use Rattle.std.proofs.Common.{◌≡◌, ◌∙◌, sym, ap}
+use Rattle.std.proofs.Common.{◌∙◌, sym}
 use Rattle.abnf_names.specs.Passes.{spot_name}
 use Rattle.abnf_names.proofs.OwnPass.{known, unknown}
 use Rattle.abnf_names.proofs.own.add_unknown.Goals as goal

@@ -1,4 +1,4 @@
-use Rattle.std.proofs.Common.{◌≡◌, ◌++◌, ◌∙◌, ap}
+use Rattle.std.proofs.Common.{◌++◌, ◌∙◌, ap}
 use Rattle.abnf_names.proofs.OwnPass.{own_step}
 use Rattle.abnf_names.proofs.own.own_groups.Goals as goal
 

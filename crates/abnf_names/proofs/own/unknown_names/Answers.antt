@@ -1,8 +1,4 @@
-use Rattle.std.proofs.Common.{◌≡◌, ◌∙◌, refl}
-use Rattle.std.proofs.Math.Seq.{drop-cons}
-use Rattle.std.specs.Prelude.{fold, filter}
-use Rattle.abnf_names.specs.Rules.{with_name}
-use Rattle.abnf_names.specs.Passes.{spot_name, is_unknown}
+use Rattle.std.proofs.Common.{refl}
 use Rattle.abnf_names.proofs.OwnPass.{unknown_step}
 use Rattle.abnf_names.proofs.own.unknown_names.Goals as goal
 

@@ -1,4 +1,4 @@
-use Rattle.std.proofs.Common.{◌≡◌, sym, refl, subst}
+use Rattle.std.proofs.Common.{refl, subst}
 use Rattle.abnf_names.proofs.BlockPass.{IsPassed, passed_more}
 use Rattle.abnf_names.proofs.parsed.parsed_blocks.Goals as goal
 

@@ -1,4 +1,4 @@
-use Rattle.std.proofs.Common.{◌≡◌, ⊎_elim}
+use Rattle.std.proofs.Common.{⊎_elim}
 use Rattle.abnf_names.proofs.parsed.said_by.Goals as goal
 
 pub returns-in_default : goal.returns-in_default

@@ -1,5 +1,5 @@
 use Rattle.std.proofs.Common.{◌≡◌, ◌++◌, map, drop}
-use Rattle.abnf_names.specs.Places.{places_in, uses_after}
+use Rattle.abnf_names.specs.Places.{uses_after}
 use Rattle.abnf_names.specs.Passes.{named_at}
 use Rattle.abnf_names.proofs.place.push_places.Given as goal
 

@@ -1,4 +1,4 @@
-use Rattle.std.proofs.Common.{◌≡◌, ◌∷◌, ◌++◌, [], ◌∙◌, ap, refl}
+use Rattle.std.proofs.Common.{◌∷◌, ◌++◌, [], ◌∙◌, ap, refl}
 use Rattle.abnf_names.specs.Names.{folded_text, all_names}
 use Rattle.abnf_names.specs.Rules.{rule_tree}
 use Rattle.abnf_names.proofs.Pushing.{trees_next}

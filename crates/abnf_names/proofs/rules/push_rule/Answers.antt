@@ -1,4 +1,4 @@
-use Rattle.std.proofs.Common.{◌≡◌, ◌∙◌, map, refl}
+use Rattle.std.proofs.Common.{◌∙◌, map, refl}
 use Rattle.std.specs.Prelude.{flat_map}
 use Rattle.abnf_names.specs.Names.{all_names}
 use Rattle.abnf_names.specs.Rules.{said_alternatives, rule_number, counted}

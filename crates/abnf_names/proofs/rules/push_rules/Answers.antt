@@ -1,5 +1,4 @@
-use Rattle.std.proofs.Common.{◌≡◌, ◌∙◌, sym, ap, subst, length, map, List, ℕ}
-use Rattle.abnf_names.specs.Names.{all_names}
+use Rattle.std.proofs.Common.{◌∙◌, ap, subst, length, map, List}
 use Rattle.abnf_names.specs.Said.{Name}
 use Rattle.abnf_names.specs.CoreTable.{core_of, number_in}
 use Rattle.abnf_names.specs.Pushed.{AddsTrees}

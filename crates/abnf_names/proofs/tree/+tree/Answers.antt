@@ -1,14 +1,12 @@
-use Rattle.std.proofs.Common.{rules, ◌≡◌, ℕ, zero, suc, map, length, List, ◌∷◌, ◌++◌, [], ◌+◌, ◌-◌, ◌<◌, refl, sym, ap, subst, ◌∙◌, arith, Option, Some, None}
-use Rattle.std.specs.Vec.{vec_len}
+use Rattle.std.proofs.Common.{◌≡◌, length, ◌∷◌, ◌++◌, [], ◌+◌, ◌-◌, refl, sym, ap, ◌∙◌, Some}
 use Rattle.abnf_names.specs.Names.{all_names}
 use Rattle.abnf_names.specs.Rules.{rule_number}
-use Rattle.abnf_names.specs.Part.{Part, subparts, alt, rep}
+use Rattle.abnf_names.specs.Part.{alt}
 use Rattle.abnf_names.specs.Tree.{element_part, repetition_part, concatenation_part, tree_inside}
-use Rattle.abnf_names.specs.Pushed.{Adds, AddsTrees}
 use Rattle.abnf_syntax.specs.declared.tree.Element.{out-Element}
 use Rattle.abnf_syntax.specs.declared.tree.Repetition.{out-Repetition}
 use Rattle.abnf_syntax.specs.declared.tree.Element.TheVariants as e
-use Rattle.abnf_names.proofs.Pushing.{adds_one, adds_both, seq_added, alt_added, trees_next, join_one, rep_added, on_ok, quoted_part_alone, number_part_alone, inside_is}
+use Rattle.abnf_names.proofs.Pushing.{adds_one, seq_added, alt_added, trees_next, join_one, rep_added, on_ok, quoted_part_alone, number_part_alone, inside_is}
 use Rattle.abnf_names.proofs.tree.+tree.Goals as goal
 
 pub push_concatenations-loop-concatenation-preserved : goal.push_concatenations-loop-concatenation-preserved

@@ -1,4 +1,4 @@
-use Rattle.std.proofs.Common.{◌≡◌, ℕ, map, take, ◌+◌, ◌*◌}
+use Rattle.std.proofs.Common.{map, take, ◌+◌, ◌*◌}
 use Rattle.abnf_names.specs.Names.{all_names}
 use Rattle.abnf_names.specs.Rules.{rule_number}
 use Rattle.abnf_names.specs.Tree.{repetition_part, concatenation_part, tree_inside}

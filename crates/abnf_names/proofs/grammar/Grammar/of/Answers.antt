@@ -1,10 +1,10 @@
-use Rattle.std.proofs.Common.{◌≡◌, ◌∙◌, ◌++◌, [], sym, ap, subst, map, refl, List, ℕ}
+use Rattle.std.proofs.Common.{◌≡◌, ◌∙◌, [], sym, ap, subst, map, List, ℕ}
 use Rattle.std.specs.Prelude.{fold, filter}
 use Rattle.abnf_names.specs.declared.node.Node.{Node}
 use Rattle.abnf_names.specs.declared.core_rule.Core.{Core}
 use Rattle.abnf_names.specs.declared.parsed.Parsed.{Parsed}
 use Rattle.abnf_names.specs.declared.place.Spot.{Spot}
-use Rattle.abnf_names.specs.Said.{Block, Name}
+use Rattle.abnf_names.specs.Said.{Name}
 use Rattle.abnf_names.specs.Core.{core_name}
 use Rattle.abnf_names.specs.CoreTable.{core_of}
 use Rattle.abnf_names.specs.Places.{places_of}

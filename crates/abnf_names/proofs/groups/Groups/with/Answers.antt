@@ -1,4 +1,4 @@
-use Rattle.std.proofs.Common.{◌≡◌, ◌∙◌, ◌+◌, sym, ap, length, List, [], ◌∷◌, ◌++◌, set, length-append}
+use Rattle.std.proofs.Common.{◌∙◌, ◌+◌, sym, ap, length, [], ◌∷◌, ◌++◌, set, length-append}
 use Rattle.abnf_names.specs.Names.{folded_text}
 use Rattle.abnf_names.specs.Rules.{with_name}
 use Rattle.abnf_names.specs.Passes.{members_of, members_in, if_same}

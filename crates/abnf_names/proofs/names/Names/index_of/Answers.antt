@@ -1,4 +1,4 @@
-use Rattle.std.proofs.Common.{◌≡◌, ◌∙◌, sym, ap}
+use Rattle.std.proofs.Common.{◌∙◌, sym, ap}
 use Rattle.abnf_names.specs.Leaf.{same}
 use Rattle.abnf_names.specs.Rules.{rule_number}
 use Rattle.abnf_names.specs.Names.{folded_text}

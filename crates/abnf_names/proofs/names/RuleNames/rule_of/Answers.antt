@@ -1,4 +1,4 @@
-use Rattle.std.proofs.Common.{◌≡◌, ◌∙◌, ◌+◌, ◌<◌, sym, ap, length, arith}
+use Rattle.std.proofs.Common.{◌∙◌, ◌+◌, ◌<◌, sym, ap, length, arith}
 use Rattle.std.specs.Prelude.{Some, None}
 use Rattle.abnf_names.specs.Leaf.{same}
 use Rattle.abnf_names.specs.Rules.{rule_number}
