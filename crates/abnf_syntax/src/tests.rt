@@ -1,8 +1,5 @@
 //! Texts with their blocks and faults, written out by hand.
 
-mod grammars;
-
-use crate::tests::grammars::{RFC_3339, RFC_3986, RFC_5234, RFC_8259};
 use crate::{Block, SyntaxFault, blocks, parse_block};
 use ls_text::{Place, Snapshot};
 use std::alloc::Global;
@@ -182,26 +179,6 @@ fn items_know_what_stands_before(rt: HostRuntime) -> Result<(), Fail> {
             let token = item.token;
             let seen = (token.text, token.line, token.start, item.apart);
             assert_eq!(rt; seen, *row);
-        }
-    }
-    Ok(())
-}
-
-#[test]
-fn standards_have_no_fault(rt: HostRuntime) -> Result<(), Fail> {
-    let rows = [
-        (RFC_3339, 13),
-        (RFC_3986, 36),
-        (RFC_5234, 37),
-        (RFC_8259, 30),
-    ];
-    for (text, rules) in rows {
-        let snapshot = snapshot(rt.alloc(), text)?;
-        let found = blocks(rt.alloc(), &snapshot)?;
-        assert_eq!(rt; found.len(), rules);
-        for block in &found {
-            let rule = parse_block(rt.alloc(), block)?;
-            assert!(rt; !rule.adds);
         }
     }
     Ok(())

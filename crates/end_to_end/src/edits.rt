@@ -11,7 +11,7 @@ const SYMBOLS: &str =
     r#"{"id":2,"method":"textDocument/documentSymbol","params":{"textDocument":{"uri":"file:///g"}}}"#;
 
 const CAPABILITIES: &str =
-    r#"{"id":1,"jsonrpc":"2.0","result":{"capabilities":{"documentSymbolProvider":true,"positionEncoding":"utf-16","textDocumentSync":{"change":2,"openClose":true}},"serverInfo":{"name":"abnf_ls"}}}"#;
+    r#"{"id":1,"jsonrpc":"2.0","result":{"capabilities":{"definitionProvider":true,"documentSymbolProvider":true,"positionEncoding":"utf-16","textDocumentSync":{"change":2,"openClose":true}},"serverInfo":{"name":"abnf_ls"}}}"#;
 
 const NOT_OPEN: &str =
     r#"{"error":{"code":-32602,"message":"document not open"},"id":2,"jsonrpc":"2.0"}"#;

@@ -6,7 +6,13 @@
 
 mod devices;
 #[cfg(test)]
+mod definitions;
+#[cfg(test)]
 mod edits;
+#[cfg(test)]
+mod examples;
+#[cfg(test)]
+mod grammars;
 #[cfg(test)]
 mod sessions;
 #[cfg(test)]

@@ -25,9 +25,9 @@ const SHUTDOWN: &str = r#"{"jsonrpc":"2.0","id":3,"method":"shutdown"}"#;
 
 const EXIT: &str = r#"{"jsonrpc":"2.0","method":"exit"}"#;
 
-/// 191 bytes.
+/// 217 bytes.
 const CAPABILITIES: &str =
-    r#"{"id":1,"jsonrpc":"2.0","result":{"capabilities":{"documentSymbolProvider":true,"positionEncoding":"utf-16","textDocumentSync":{"change":2,"openClose":true}},"serverInfo":{"name":"abnf_ls"}}}"#;
+    r#"{"id":1,"jsonrpc":"2.0","result":{"capabilities":{"definitionProvider":true,"documentSymbolProvider":true,"positionEncoding":"utf-16","textDocumentSync":{"change":2,"openClose":true}},"serverInfo":{"name":"abnf_ls"}}}"#;
 /// 215 bytes.
 const OUTLINE: &str =
     r#"{"id":2,"jsonrpc":"2.0","result":[{"kind":12,"name":"a","range":{"end":{"character":7,"line":0},"start":{"character":0,"line":0}},"selectionRange":{"end":{"character":1,"line":0},"start":{"character":0,"line":0}}}]}"#;
@@ -62,7 +62,7 @@ fn talk(
 
 #[test]
 fn an_outline(rt: HostRuntime) -> Result<(), Fail> {
-    assert_eq!(rt; CAPABILITIES.len(), 191);
+    assert_eq!(rt; CAPABILITIES.len(), 217);
     assert_eq!(rt; OUTLINE.len(), 215);
     let alloc = rt.alloc();
     talk(

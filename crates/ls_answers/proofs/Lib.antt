@@ -1,1 +1,2 @@
 pub mod Outlines
+pub mod Definitions

@@ -1,3 +1,4 @@
 pub mod Outline
+pub mod Places
 pub mod Answers
 pub mod Told

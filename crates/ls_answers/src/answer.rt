@@ -15,4 +15,6 @@ pub struct Symbol {
 #[derive(Drop)]
 pub enum Answer {
     Symbols(List<Symbol>),
+    /// Ranges of places in the text, in UTF-16 units and in the order of the text.
+    Places(List<Range>),
 }

@@ -1,5 +1,6 @@
 ghost use Rattle.std.specs.Prelude.{◌≡◌, IfOk};
 
+use ls_text::Position;
 use std::alloc::AllocError as Memory;
 
 /// A question about a document.
@@ -7,6 +8,8 @@ use std::alloc::AllocError as Memory;
 pub enum Ask {
     /// Its symbols (LSP 3.17, "Document Symbols Request").
     Symbols,
+    /// Where the name at a position is defined (LSP 3.17, "Goto Definition Request").
+    Definition(Position),
 }
 
 impl Ask {
@@ -18,6 +21,7 @@ impl Ask {
     {
         match self {
             Ask::Symbols => Ok(Ask::Symbols),
+            Ask::Definition(position) => Ok(Ask::Definition(*position)),
         }
     }
 }

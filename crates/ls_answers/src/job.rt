@@ -6,6 +6,7 @@ ghost use Rattle.ls_answers.specs.Answers.{IsAnswer};
 use crate::answer::Answer;
 use crate::ask::Ask;
 use crate::outline::symbols;
+use crate::places::definitions;
 use ls_text::Snapshot;
 use std::alloc::{AllocError as Memory, Global};
 use std::marker::Model;
@@ -82,6 +83,7 @@ fn answer_of(alloc: Global, snapshot: &Snapshot, ask: &Ask) -> Result<Answer, Me
 {
     match ask {
         Ask::Symbols => Ok(Answer::Symbols(symbols(alloc, snapshot)?)),
+        Ask::Definition(at) => Ok(Answer::Places(definitions(alloc, snapshot, *at)?)),
     }
 }
 

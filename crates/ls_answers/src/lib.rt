@@ -8,6 +8,7 @@ mod answer;
 mod ask;
 mod job;
 mod outline;
+mod places;
 #[cfg(test)]
 mod tests;
 

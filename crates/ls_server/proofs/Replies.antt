@@ -25,11 +25,11 @@ body-some f None body e = absurd (cc)
 body-some f (Some answer) body e = (answer, refl, cc)
 
 -- the body of such a job replies to its question
-pub told-reply : (id : Id) (text : List ℕ) (ask : Ask) (told : Told) (body : List ℕ) → told.text ≡ text → told.ask ≡ ask
-    → ((answer : Answer) → told.answer ≡ Some answer → IsAnswer told.text told.ask answer) → Some body ≡ body_of (Replied id told) → IsReply id text ask body
+pub told-reply : (id : Id) (uri text : List ℕ) (ask : Ask) (told : Told) (body : List ℕ) → told.text ≡ text → told.ask ≡ ask
+    → ((answer : Answer) → told.answer ≡ Some answer → IsAnswer told.text told.ask answer) → Some body ≡ body_of (Replied id uri told) → IsReply id uri text ask body
 unfolding IsReply body_of
-told-reply id text ask told body t a right e =
-    let parts = body-some (reply_body id) told.answer body e in
+told-reply id uri text ask told body t a right e =
+    let parts = body-some (reply_body id uri) told.answer body e in
     let P : List ℕ → Type 0 = λ l. IsAnswer l told.ask parts.0 in
     let Q : Ask → Type 0 = λ q. IsAnswer text q parts.0 in
     (parts.0, subst Q a (subst P t (right parts.0 parts.1)), parts.2)

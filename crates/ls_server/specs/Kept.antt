@@ -83,14 +83,14 @@ changed_at label edits kept (Some at) = changed_in label edits kept at (slice_ge
 unfoldable pub changed : List ℕ → ℤ → List Edit → Kept → Kept
 changed uri label edits kept = changed_at label edits kept (place_of uri kept.documents)
 
--- the body replies with an answer to the question about the text
-unfoldable pub IsReply : Id → List ℕ → Ask → List ℕ → Type 0
-IsReply id text ask body = (answer : Answer) × IsAnswer text ask answer × (body ≡ reply_body id answer)
+-- the body replies with an answer to the question about the document of this name, which has this text
+unfoldable pub IsReply : Id → List ℕ → List ℕ → Ask → List ℕ → Type 0
+IsReply id uri text ask body = (answer : Answer) × IsAnswer text ask answer × (body ≡ reply_body id uri answer)
 
 abbrev pub IsRepliedOn : Id → Ask → Option Document → Option (List ℕ) → Type 0
 IsRepliedOn id ask None reply = reply ≡ refusal_of id NotOpen
 IsRepliedOn id ask (Some document) None = ⊥
-IsRepliedOn id ask (Some document) (Some body) = IsReply id document.snapshot ask body
+IsRepliedOn id ask (Some document) (Some body) = IsReply id document.uri document.snapshot ask body
 
 -- what a request is answered with: the refusal where its document isn't open, else the body with the answer on its text
 unfoldable pub IsReplied : Id → List ℕ → Ask → Kept → Option (List ℕ) → Type 0

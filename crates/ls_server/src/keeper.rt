@@ -11,7 +11,6 @@ use ls_session::{DeskFault, Out, body_of, refusal_body};
 use ls_text::{Edit, SharedSnapshot, Snapshot, TextFault};
 use std::alloc::{AllocError, Global};
 use std::marker::Model;
-use std::sync::Arc;
 
 /// The most documents that are open at once.
 pub const DOCUMENTS_MOST: usize = 256;
@@ -147,34 +146,26 @@ impl Keeper {
         };
         let ticket = self.tickets.saturating_add(1);
         let snapshot = document.snapshot.arc()?;
-        let body = replied(self.alloc, id, ticket, snapshot, ask)?;
+        let job = Job {
+            ticket,
+            snapshot,
+            ask,
+        };
+        let body = replied(self.alloc, id, document.uri.copy()?, job)?;
         self.tickets = ticket;
         Ok(Some(body))
     }
 }
 
-/// The body with the answer to a question.
-fn replied(
-    alloc: Global,
-    id: Id,
-    ticket: u64,
-    snapshot: Arc<Snapshot>,
-    ask: Ask,
-) -> Result<Vec<u8>, AllocError>
-    ensures { IfOk result (λ body. IsReply id (arc_value snapshot) ask body.items) }
+/// The body with the answer to a question about the document of this name.
+fn replied(alloc: Global, id: Id, uri: Text, job: Job) -> Result<Vec<u8>, AllocError>
+    ensures { IfOk result (λ body. IsReply id uri (arc_value job.snapshot) job.ask body.items) }
 {
-    let done = run(
-        alloc,
-        Job {
-            ticket,
-            snapshot,
-            ask,
-        },
-    );
+    let done = run(alloc, job);
     if done.answer().is_err() {
         return Err(AllocError);
     }
-    let body = body_of(alloc, &Out::Replied { id, done })?;
+    let body = body_of(alloc, &Out::Replied { id, uri, done })?;
     Ok(body)
 }
 

@@ -38,18 +38,28 @@ symbol_json symbol =
 abbrev pub symbols_json : List Symbol → Data
 symbols_json symbols = array (items_of (map symbol_json symbols))
 
--- the result that an answer is
-abbrev pub answer_json : Answer → Data
-answer_json (answer.Symbols symbols) = symbols_json symbols
+-- a place in a document (LSP 3.17, "Location")
+abbrev pub location_json : List ℕ → Range → Data
+location_json uri range =
+    object (member (codes "range") (range_json range)
+    (member (codes "uri") (string uri) no_members))
 
--- the body that replies to a request with an answer
-unfoldable pub reply_body : Id → Answer → List ℕ
-reply_body id answer = compact_text (result_json id (answer_json answer))
+abbrev pub locations_json : List ℕ → List Range → Data
+locations_json uri ranges = array (items_of (map (location_json uri) ranges))
+
+-- the result that an answer about a document is
+abbrev pub answer_json : List ℕ → Answer → Data
+answer_json uri (answer.Symbols symbols) = symbols_json symbols
+answer_json uri (answer.Places ranges) = locations_json uri ranges
+
+-- the body that replies to a request about a document with an answer
+unfoldable pub reply_body : Id → List ℕ → Answer → List ℕ
+reply_body id uri answer = compact_text (result_json id (answer_json uri answer))
 
 -- the body of what waits to be said; there is none of a job that was refused memory
 unfoldable pub body_of : Out → Option (List ℕ)
 body_of (out.Said body) = Some body
-body_of (out.Replied id done) = option_map (reply_body id) done.answer
+body_of (out.Replied id uri done) = option_map (reply_body id uri) done.answer
 
 -- the body that answers a refused request, where there is one
 unfoldable pub refusal_of : Id → DeskFault → Option (List ℕ)

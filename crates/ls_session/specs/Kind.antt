@@ -14,7 +14,8 @@ abbrev pub requests : List (List ℕ × RequestKind)
 requests =
     (codes "initialize", request.Initialize) ∷
     (codes "shutdown", request.Shutdown) ∷
-    (codes "textDocument/documentSymbol", request.DocumentSymbol) ∷ []
+    (codes "textDocument/documentSymbol", request.DocumentSymbol) ∷
+    (codes "textDocument/definition", request.Definition) ∷ []
 
 abbrev pub notices : List (List ℕ × NoticeKind)
 notices =

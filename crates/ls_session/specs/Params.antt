@@ -99,17 +99,18 @@ event_of notice.Unknown params = None
 
 -- ---- requests
 
-abbrev pub ask_of : RequestKind → Option Ask
-ask_of request.Initialize = None
-ask_of request.Shutdown = None
-ask_of request.DocumentSymbol = Some ask.Symbols
-ask_of request.Unknown = None
+abbrev pub ask_of : RequestKind → Data → Option Ask
+ask_of request.Initialize params = None
+ask_of request.Shutdown params = None
+ask_of request.DocumentSymbol params = Some ask.Symbols
+ask_of request.Definition params = option_map ask.Definition (get (codes "position") params >>= position_of)
+ask_of request.Unknown params = None
 
 -- the document and the question of a request
 abbrev pub question_of : RequestKind → Data → Option (List ℕ × Ask)
 question_of kind params = do
   uri ← uri_of params
-  ask ← ask_of kind
+  ask ← ask_of kind params
   Some (uri, ask)
 
 abbrev pub named_links : Data → Option Bool

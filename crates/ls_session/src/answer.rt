@@ -1,5 +1,5 @@
 use ls_answers::Done;
-use ls_lists::List;
+use ls_lists::{List, Text};
 use ls_rpc::Id;
 use thiserror::Error;
 
@@ -8,8 +8,8 @@ use thiserror::Error;
 pub enum Out {
     /// A body as it stands.
     Said(List<u8>),
-    /// The job of the request with this id, which has run.
-    Replied { id: Id, done: Done },
+    /// The job of the request with this id about the document with this uri, which has run.
+    Replied { id: Id, uri: Text, done: Done },
 }
 
 /// Why an event of the client was refused.

@@ -1,7 +1,7 @@
 ghost use Rattle.std.specs.Prelude.{◌≡◌, IfOk, Some, option_map, false};
 ghost use Rattle.serde_json.specs.View.{view};
 ghost use Rattle.serde_json.specs.Written.{has_float};
-ghost use Rattle.ls_session.specs.Bodies.{position_json, range_json, symbol_json, symbols_json, answer_json, body_of, refusal_of, reply_body};
+ghost use Rattle.ls_session.specs.Bodies.{position_json, range_json, symbol_json, symbols_json, answer_json, body_of, location_json, locations_json, refusal_of, reply_body};
 
 use crate::answer::{DeskFault, Out};
 use crate::refusal::Refusal;
@@ -23,15 +23,15 @@ pub fn body_of(alloc: Global, out: &Out) -> Result<Vec<u8>, Memory>
 {
     match out {
         Out::Said(body) => Vec::from_slice(alloc, body.as_slice()),
-        Out::Replied { id, done } => reply_body(alloc, id, done.answer()?),
+        Out::Replied { id, uri, done } => reply_body(alloc, id, uri.as_str(), done.answer()?),
     }
 }
 
 #[tactic(auto, using(crate::proofs::NoFloats::answer_has_no_float), unfolding(crate::specs::Bodies::reply_body))]
-fn reply_body(alloc: Global, id: &Id, answer: &Answer) -> Result<Vec<u8>, Memory>
-    ensures { IfOk result (λ body. body.items ≡ reply_body id.now answer.now) }
+fn reply_body(alloc: Global, id: &Id, uri: &str, answer: &Answer) -> Result<Vec<u8>, Memory>
+    ensures { IfOk result (λ body. body.items ≡ reply_body id.now uri.now answer.now) }
 {
-    let value = answer_value(alloc, answer)?;
+    let value = answer_value(alloc, uri, answer)?;
     result_text(alloc, id, value)
 }
 
@@ -52,12 +52,34 @@ pub fn refusal_body(alloc: Global, id: &Id, fault: DeskFault) -> Result<Option<V
     }
 }
 
-fn answer_value(alloc: Global, answer: &Answer) -> Result<Value, Memory>
-    ensures { IfOk result (λ value. view value ≡ answer_json answer.now) }
+fn answer_value(alloc: Global, uri: &str, answer: &Answer) -> Result<Value, Memory>
+    ensures { IfOk result (λ value. view value ≡ answer_json uri.now answer.now) }
 {
     match answer {
         Answer::Symbols(symbols) => symbols_value(alloc, symbols.as_slice()),
+        Answer::Places(ranges) => locations_value(alloc, uri, ranges.as_slice()),
     }
+}
+
+fn locations_value(alloc: Global, uri: &str, ranges: &[Range]) -> Result<Value, Memory>
+    ensures { IfOk result (λ value. view value ≡ locations_json uri.now ranges.now) }
+{
+    let mut list = Vec::new(alloc);
+    for range in ranges {
+        list.push(location_value(alloc, uri, *range)?)?;
+    }
+    Ok(Value::Array(list))
+}
+
+fn location_value(alloc: Global, uri: &str, range: Range) -> Result<Value, Memory>
+    ensures { IfOk result (λ value. view value ≡ location_json uri.now range) }
+{
+    let range = range_value(alloc, range)?;
+    let uri = Value::try_from_str(alloc, uri)?;
+    let mut members = Map::new(alloc);
+    put(&mut members, alloc, "range", range)?;
+    put(&mut members, alloc, "uri", uri)?;
+    Ok(Value::Object(members))
 }
 
 fn symbols_value(alloc: Global, symbols: &[Symbol]) -> Result<Value, Memory>

@@ -26,11 +26,11 @@ pub(crate) fn initialize_value(alloc: Global) -> Result<Value, Memory>
 fn capabilities_value(alloc: Global) -> Result<Value, Memory>
     ensures { IfOk result (λ value. view value ≡ capabilities_json) }
 {
-    let served = Value::from(true);
     let encoding = Value::try_from_str(alloc, "utf-16")?;
     let sync = sync_value(alloc)?;
     let mut members = Map::new(alloc);
-    put(&mut members, alloc, "documentSymbolProvider", served)?;
+    put(&mut members, alloc, "definitionProvider", Value::from(true))?;
+    put(&mut members, alloc, "documentSymbolProvider", Value::from(true))?;
     put(&mut members, alloc, "positionEncoding", encoding)?;
     put(&mut members, alloc, "textDocumentSync", sync)?;
     Ok(Value::Object(members))

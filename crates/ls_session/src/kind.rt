@@ -7,6 +7,7 @@ pub enum RequestKind {
     Initialize,
     Shutdown,
     DocumentSymbol,
+    Definition,
     Unknown,
 }
 
@@ -29,6 +30,8 @@ pub(crate) fn request_kind(method: &str) -> RequestKind
         RequestKind::Shutdown
     } else if method == "textDocument/documentSymbol" {
         RequestKind::DocumentSymbol
+    } else if method == "textDocument/definition" {
+        RequestKind::Definition
     } else {
         RequestKind::Unknown
     }

@@ -159,11 +159,13 @@ pub(crate) fn event(
     }
 }
 
-fn ask(kind: RequestKind) -> Option<Ask>
-    ensures { result ≡ ask_of kind }
+/// The question of a request.
+fn ask(kind: RequestKind, params: &Value) -> Option<Ask>
+    ensures { result ≡ ask_of kind (view params.now) }
 {
     match kind {
         RequestKind::DocumentSymbol => Some(Ask::Symbols),
+        RequestKind::Definition => Some(Ask::Definition(position(params.get("position")?)?)),
         RequestKind::Initialize | RequestKind::Shutdown | RequestKind::Unknown => None,
     }
 }
@@ -179,7 +181,7 @@ pub(crate) fn question(
     let Some(uri) = uri(params) else {
         return Ok(None);
     };
-    match ask(kind) {
+    match ask(kind, params) {
         Some(ask) => Ok(Some((Text::from_str(alloc, uri)?, ask))),
         None => Ok(None),
     }

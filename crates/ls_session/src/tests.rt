@@ -7,7 +7,7 @@ use std::sync::Arc;
 use std::test::Fail;
 
 const INITIALIZED: &[u8] =
-    b"{\"id\":1,\"jsonrpc\":\"2.0\",\"result\":{\"capabilities\":{\"documentSymbolProvider\":true,\"positionEncoding\":\"utf-16\",\"textDocumentSync\":{\"change\":2,\"openClose\":true}},\"serverInfo\":{\"name\":\"abnf_ls\"}}}";
+    b"{\"id\":1,\"jsonrpc\":\"2.0\",\"result\":{\"capabilities\":{\"definitionProvider\":true,\"documentSymbolProvider\":true,\"positionEncoding\":\"utf-16\",\"textDocumentSync\":{\"change\":2,\"openClose\":true}},\"serverInfo\":{\"name\":\"abnf_ls\"}}}";
 
 const SHUT_DOWN: &[u8] = b"{\"id\":9,\"jsonrpc\":\"2.0\",\"result\":null}";
 
@@ -27,7 +27,7 @@ fn says(turn: &Turn, want: &[u8]) -> bool {
 #[test]
 fn the_life_of_a_session(rt: HostRuntime) -> Result<(), Fail> {
     let mut session = Session::new(rt.alloc());
-    assert_eq!(rt; INITIALIZED.len(), 191);
+    assert_eq!(rt; INITIALIZED.len(), 217);
     let early = session.event(b"{\"id\":1,\"method\":\"textDocument/documentSymbol\"}")?;
     assert!(rt;
         says(
@@ -137,6 +137,7 @@ fn bodies(rt: HostRuntime) -> Result<(), Fail> {
     assert!(rt; matches!(done.ask(), Ask::Symbols));
     let replied = Out::Replied {
         id: Id::Number(2),
+        uri: Text::from_str(alloc, "file:///g")?,
         done,
     };
     let body = body_of(alloc, &replied)?;

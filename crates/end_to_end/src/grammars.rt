@@ -1,7 +1,7 @@
 //! Grammars of standards, as they stand in `examples/` at the top of the repository.
 
 /// Dates and times: RFC 3339 section 5.6.
-pub(super) const RFC_3339: &str =
+pub(crate) const RFC_3339: &str =
     r##"; Dates and times: RFC 3339, "Date and Time on the Internet: Timestamps", section 5.6.
 
 date-fullyear   = 4DIGIT
@@ -25,7 +25,7 @@ date-time       = full-date "T" full-time
 "##;
 
 /// URIs: RFC 3986 appendix A.
-pub(super) const RFC_3986: &str =
+pub(crate) const RFC_3986: &str =
     r##"; URIs: RFC 3986, "Uniform Resource Identifier (URI): Generic Syntax", appendix A.
 
 URI           = scheme ":" hier-part [ "?" query ] [ "#" fragment ]
@@ -112,7 +112,7 @@ sub-delims    = "!" / "$" / "&" / "'" / "(" / ")"
 "##;
 
 /// ABNF itself: RFC 5234 section 4 and appendix B.1.
-pub(super) const RFC_5234: &str =
+pub(crate) const RFC_5234: &str =
     r##"; ABNF itself: RFC 5234, "Augmented BNF for Syntax Specifications: ABNF", section 4 and appendix B.1.
 
 rulelist       =  1*( rule / (*c-wsp c-nl) )
@@ -230,7 +230,7 @@ WSP            =  SP / HTAB
 "##;
 
 /// JSON: RFC 8259 sections 2 to 7.
-pub(super) const RFC_8259: &str =
+pub(crate) const RFC_8259: &str =
     r##"; JSON: RFC 8259, "The JavaScript Object Notation (JSON) Data Interchange Format", sections 2 to 7.
 
 JSON-text = ws value ws

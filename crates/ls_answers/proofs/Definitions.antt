@@ -1,0 +1,68 @@
+-- The places that define a name, as the grammar hands them out.
+use Rattle.std.proofs.Common.{◌≡◌, ℕ, Bool, true, false, List, [], ◌∷◌, map, filter, Option, None, Some, option_map, Result, Ok, Err, IfOk, refl, sym, ◌∙◌, ap}
+use Rattle.abnf_token.specs.Folded.{lowercase}
+use Rattle.ls_text.specs.Lines.{utf16_len, offset_of}
+use Rattle.ls_text.specs.Positions.{place_range}
+use Rattle.ls_text.specs.declared.position.Place.{Place}
+use Rattle.ls_text.specs.declared.position.Position.{Position}
+use Rattle.ls_text.specs.declared.position.Range.{Range}
+use Rattle.abnf_names.specs.declared.place.NamePlace.{NamePlace}
+use Rattle.abnf_names.specs.Passes.{name_place}
+use Rattle.abnf_names.specs.Places.{Named, at_offset, places_of_name}
+use Rattle.abnf_names.specs.Rules.{Grammar, IsGrammar}
+use Rattle.ls_answers.specs.Places.{AreDefinitions, defining, defining_ranges, place_at}
+
+-- the ranges of those places that define
+abbrev ranges_of : List ℕ → List Named → List Range
+ranges_of text places = map (λ n. place_range utf16_len text n.place) (filter (λ n. n.defines) places)
+
+one_more : (text : List ℕ) (n : Named) (ns : List Named) (b : Bool) → n.defines ≡ b
+    → defining_ranges text (map name_place ns) ≡ ranges_of text ns → defining_ranges text (map name_place (n ∷ ns)) ≡ ranges_of text (n ∷ ns)
+one_more text n ns true e rest = rw (e) (ap (λ l. place_range utf16_len text n.place ∷ l) rest)
+one_more text n ns false e rest = rw (e) rest
+
+-- a place keeps its range and whether it defines
+same_ranges : (text : List ℕ) (places : List Named) → defining_ranges text (map name_place places) ≡ ranges_of text places
+same_ranges text [] = refl
+same_ranges text (n ∷ ns) = one_more text n ns n.defines refl (same_ranges text ns)
+
+-- a place and the name that stands there
+abbrev pub Shown : Type 0
+Shown = Place × List ℕ
+
+abbrev pub shown : Named → Shown
+shown n = (n.place, n.text)
+
+found : (o : Option Named) (s : Shown) → Some s ≡ option_map shown o → (n : Named) × (o ≡ Some n) × (n.text ≡ s.1)
+found None s e = absurd (cc)
+found (Some n) s e = (n, refl, cc)
+
+none : (o : Option Named) → None ≡ option_map shown o → o ≡ None
+none None e = refl
+none (Some n) e = absurd (cc)
+
+defined-there : (text : List ℕ) (at : Position) (g : Grammar) (offset : ℕ) (s : Shown) (places : List NamePlace) (ranges : List Range)
+    → IsGrammar g → g.text ≡ text → offset ≡ offset_of utf16_len g.text at.line at.character
+    → Some s ≡ option_map shown (at_offset g.text g.places offset) → places ≡ map name_place (places_of_name (lowercase s.1) g.places)
+    → ranges ≡ defining_ranges text places → AreDefinitions text at ranges
+defined-there text at g offset s places ranges right of_text is_offset is_found are is =
+    let n = found (at_offset g.text g.places offset) s is_found in
+    let here : place_at g at ≡ Some n.0 = ap (λ o. at_offset g.text g.places o) (sym is_offset) ∙ n.1 in
+    let same : ranges ≡ ranges_of text (places_of_name (lowercase s.1) g.places) = is ∙ (ap (defining_ranges text) are ∙ same_ranges text (places_of_name (lowercase s.1) g.places)) in
+    record { grammar = g; of_text = of_text; right = right; ranges_are = rw (here, n.2) same }
+
+-- with a name at the position
+pub with-name : {E : Type 0} (text : List ℕ) (at : Position) (g : Grammar) (offset : ℕ) (s : Shown) (places : List NamePlace) (given : Result (List Range) E)
+    → IsGrammar g → g.text ≡ text → offset ≡ offset_of utf16_len g.text at.line at.character
+    → Some s ≡ option_map shown (at_offset g.text g.places offset) → places ≡ map name_place (places_of_name (lowercase s.1) g.places)
+    → IfOk given (λ ranges. ranges ≡ defining_ranges text places) → IfOk given (λ ranges. AreDefinitions text at ranges)
+with-name text at g offset s places (Ok ranges) right of_text is_offset is_found are is = defined-there text at g offset s places ranges right of_text is_offset is_found are is
+with-name text at g offset s places (Err e) right of_text is_offset is_found are is = is
+
+-- without one
+pub with-none : (text : List ℕ) (at : Position) (g : Grammar) (offset : ℕ) (ranges : List Range)
+    → IsGrammar g → g.text ≡ text → offset ≡ offset_of utf16_len g.text at.line at.character
+    → None ≡ option_map shown (at_offset g.text g.places offset) → ranges ≡ [] → AreDefinitions text at ranges
+with-none text at g offset ranges right of_text is_offset is_none is =
+    let here : place_at g at ≡ None = ap (λ o. at_offset g.text g.places o) (sym is_offset) ∙ none (at_offset g.text g.places offset) is_none in
+    record { grammar = g; of_text = of_text; right = right; ranges_are = rw (here) is }
