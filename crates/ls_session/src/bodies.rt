@@ -74,10 +74,9 @@ fn locations_value(alloc: Global, uri: &str, ranges: &[Range]) -> Result<Value, 
 fn location_value(alloc: Global, uri: &str, range: Range) -> Result<Value, Memory>
     ensures { IfOk result (λ value. view value ≡ location_json uri.now range) }
 {
-    let range = range_value(alloc, range)?;
     let uri = Value::try_from_str(alloc, uri)?;
     let mut members = Map::new(alloc);
-    put(&mut members, alloc, "range", range)?;
+    put(&mut members, alloc, "range", range_value(alloc, range)?)?;
     put(&mut members, alloc, "uri", uri)?;
     Ok(Value::Object(members))
 }

@@ -30,7 +30,12 @@ fn capabilities_value(alloc: Global) -> Result<Value, Memory>
     let sync = sync_value(alloc)?;
     let mut members = Map::new(alloc);
     put(&mut members, alloc, "definitionProvider", Value::from(true))?;
-    put(&mut members, alloc, "documentSymbolProvider", Value::from(true))?;
+    put(
+        &mut members,
+        alloc,
+        "documentSymbolProvider",
+        Value::from(true),
+    )?;
     put(&mut members, alloc, "positionEncoding", encoding)?;
     put(&mut members, alloc, "textDocumentSync", sync)?;
     Ok(Value::Object(members))
