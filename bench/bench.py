@@ -144,8 +144,33 @@ def edited(text, name, line, character):
           f"   {seconds / 1000 / copied(text.encode()):6.2f} x one copy of the text   {more} KiB more memory in all")
 
 
+def asked(name, text):
+    """Opens a grammar, asks for its outline, and for the definition of the last name in its first line."""
+    at = {"line": 0, "character": len(text.split("\n", 1)[0])}
+    definition = request(3, "textDocument/definition", textDocument={"uri": "file:///g"}, position=at)
+    times = []
+    for _ in range(RUNS):
+        server = Server()
+        server.until_answered(INITIALIZE)
+        times.append([server.until_answered(given) for given in (opened(text), SYMBOLS, definition)])
+        server.end()
+    opening, outline, jump = (min(column) * 1e3 for column in zip(*times))
+    print(f"{name:<46} {opening:9.1f} ms   outline {outline:8.1f} ms   definition {jump:8.1f} ms   {len(text):>10} bytes")
+
+
+def grammar(count, alternatives=1):
+    """So many rules, each of which names the ones after it."""
+    def rule(number):
+        names = " / ".join(f"rule-{(number + next) % count}" for next in range(1, alternatives + 1))
+        return f"rule-{number} = %x20-7E / {names}\n"
+    return "".join(rule(number) for number in range(count))
+
+
 def main():
     first_reply()
+    asked("open of 1,000 rules", grammar(1_000))
+    asked("open of 100,000 rules", grammar(100_000))
+    asked("open of 4 MB, 4,000 rules with 85 names each", grammar(4_000, 85))
     big = b'{"jsonrpc":"2.0","method":"$/nothing","params":"' + b"x" * (16777216 - 60) + b'"}'
     seconds = row("one frame of 16 MB, an unknown notice", INITIALIZE + frame(big) + END)
     print(f"{'':<46} {seconds / copied(big):9.1f} x one copy of its bytes in memory")

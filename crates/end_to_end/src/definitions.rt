@@ -1,17 +1,14 @@
 //! Worked requests for definitions.
 
-use super::support::{frames, served};
+use super::support::{CAPABILITIES, frames, open, served};
 use std::alloc::Global;
 use std::process::Abort;
 use std::test::Fail;
 
 const INITIALIZE: &str = r#"{"id":1,"method":"initialize","params":{}}"#;
 
-const CAPABILITIES: &str =
-    r#"{"id":1,"jsonrpc":"2.0","result":{"capabilities":{"definitionProvider":true,"documentSymbolProvider":true,"positionEncoding":"utf-16","textDocumentSync":{"change":2,"openClose":true}},"serverInfo":{"name":"abnf_ls"}}}"#;
-
 /// Opens a text, which is written as JSON writes it, asks for a definition by these parameters beside the document,
-/// and compares the rest of the reply behind its version of JSON-RPC and its id.
+/// and compares the answer.
 fn asks(
     rt: &impl Abort,
     alloc: Global,
@@ -19,9 +16,7 @@ fn asks(
     beside: &str,
     answer: &str,
 ) -> Result<(), Fail> {
-    let open = format!(in alloc;
-        "{{\"method\":\"textDocument/didOpen\",\"params\":{{\"textDocument\":{{\"uri\":\"file:///g\",\"version\":1,\"text\":\"{text}\"}}}}}}"
-    )?;
+    let open = open(alloc, text)?;
     let request = format!(in alloc;
         "{{\"id\":2,\"method\":\"textDocument/definition\",\"params\":{{\"textDocument\":{{\"uri\":\"file:///g\"}}{beside}}}}}"
     )?;

@@ -1,6 +1,6 @@
 //! Worked changes of a document, seen through its outline.
 
-use super::support::{frames, served};
+use super::support::{CAPABILITIES, frames, open, served};
 use std::alloc::{AllocError, Global};
 use std::process::Abort;
 use std::test::Fail;
@@ -10,18 +10,8 @@ const INITIALIZE: &str = r#"{"id":1,"method":"initialize","params":{}}"#;
 const SYMBOLS: &str =
     r#"{"id":2,"method":"textDocument/documentSymbol","params":{"textDocument":{"uri":"file:///g"}}}"#;
 
-const CAPABILITIES: &str =
-    r#"{"id":1,"jsonrpc":"2.0","result":{"capabilities":{"definitionProvider":true,"documentSymbolProvider":true,"positionEncoding":"utf-16","textDocumentSync":{"change":2,"openClose":true}},"serverInfo":{"name":"abnf_ls"}}}"#;
-
 const NOT_OPEN: &str =
     r#"{"error":{"code":-32602,"message":"document not open"},"id":2,"jsonrpc":"2.0"}"#;
-
-/// The body that opens a document with this text, which is written as JSON writes it.
-fn open(alloc: Global, text: &str) -> Result<String, AllocError> {
-    format!(in alloc;
-        "{{\"method\":\"textDocument/didOpen\",\"params\":{{\"textDocument\":{{\"uri\":\"file:///g\",\"version\":1,\"text\":\"{text}\"}}}}}}"
-    )
-}
 
 /// The body that changes it, by this list of changes.
 fn change(alloc: Global, changes: &str) -> Result<String, AllocError> {

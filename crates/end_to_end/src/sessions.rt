@@ -1,6 +1,6 @@
 //! Worked sessions.
 
-use super::support::{frames, served};
+use super::support::{CAPABILITIES, frames, served};
 use super::{FailingSink, FailingSource};
 use ls_server::{Ending, serve_limited, serve_plain};
 use std::alloc::Global;
@@ -25,9 +25,6 @@ const SHUTDOWN: &str = r#"{"jsonrpc":"2.0","id":3,"method":"shutdown"}"#;
 
 const EXIT: &str = r#"{"jsonrpc":"2.0","method":"exit"}"#;
 
-/// 217 bytes.
-const CAPABILITIES: &str =
-    r#"{"id":1,"jsonrpc":"2.0","result":{"capabilities":{"definitionProvider":true,"documentSymbolProvider":true,"positionEncoding":"utf-16","textDocumentSync":{"change":2,"openClose":true}},"serverInfo":{"name":"abnf_ls"}}}"#;
 /// 215 bytes.
 const OUTLINE: &str =
     r#"{"id":2,"jsonrpc":"2.0","result":[{"kind":12,"name":"a","range":{"end":{"character":7,"line":0},"start":{"character":0,"line":0}},"selectionRange":{"end":{"character":1,"line":0},"start":{"character":0,"line":0}}}]}"#;

@@ -3,6 +3,17 @@
 use ls_server::{Ending, ReadFrom, WriteTo, serve_plain};
 use std::alloc::{AllocError, Global};
 
+/// The answer to `initialize` with id 1: 217 bytes.
+pub const CAPABILITIES: &str =
+    r#"{"id":1,"jsonrpc":"2.0","result":{"capabilities":{"definitionProvider":true,"documentSymbolProvider":true,"positionEncoding":"utf-16","textDocumentSync":{"change":2,"openClose":true}},"serverInfo":{"name":"abnf_ls"}}}"#;
+
+/// The body that opens a document with this text, which is written as JSON writes it.
+pub fn open(alloc: Global, text: &str) -> Result<String, AllocError> {
+    format!(in alloc;
+        "{{\"method\":\"textDocument/didOpen\",\"params\":{{\"textDocument\":{{\"uri\":\"file:///g\",\"version\":1,\"text\":\"{text}\"}}}}}}"
+    )
+}
+
 /// The frames of these bodies, one after the other.
 pub fn frames(alloc: Global, bodies: &[&str]) -> Result<Vec<u8>, AllocError> {
     let mut bytes = Vec::new(alloc);

@@ -1,0 +1,29 @@
+#!/usr/bin/env python3
+"""Checks that the grammars which the tests read are those of examples/, byte for byte.
+
+Tests can't read files, so crates/end_to_end/src/grammars.rt has each grammar as a constant RFC_N.
+"""
+import os
+import re
+import sys
+
+TOP = os.path.dirname(os.path.dirname(os.path.abspath(__file__)))
+
+
+def read(*path):
+    with open(os.path.join(TOP, *path), encoding="utf-8") as file:
+        return file.read()
+
+
+def main():
+    source = read("crates", "end_to_end", "src", "grammars.rt")
+    constants = dict(re.findall(r'const RFC_(\d+): &str =\s*r##"(.*?)"##;', source, re.S))
+    files = {name[3:-5]: read("examples", name) for name in os.listdir(os.path.join(TOP, "examples"))}
+    wrong = sorted(number for number in files.keys() | constants.keys() if files.get(number) != constants.get(number))
+    for number in wrong:
+        print(f"examples/rfc{number}.abnf and RFC_{number} in the tests differ", file=sys.stderr)
+    sys.exit(1 if wrong else 0)
+
+
+if __name__ == "__main__":
+    main()
