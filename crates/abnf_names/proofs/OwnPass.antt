@@ -11,7 +11,9 @@ use Rattle.abnf_names.specs.declared.parsed.Parsed.{Parsed}
 use Rattle.abnf_names.specs.declared.place.NamePlace.{NamePlace}
 use Rattle.abnf_names.specs.declared.place.Spot.{Spot}
 use Rattle.abnf_names.specs.Leaf.{same}
-use Rattle.abnf_names.specs.Said.{Block, Head, Name, head_of}
+use Rattle.abnf_syntax.specs.declared.block.Head.{Head}
+use Rattle.abnf_syntax.specs.Heads.{head_of}
+use Rattle.abnf_names.specs.Said.{Block, Name, name_of}
 use Rattle.abnf_names.specs.Places.{Named, places_of_name}
 use Rattle.abnf_names.specs.Rules.{defined, defines, with_name, head_name}
 use Rattle.abnf_names.specs.Passes.{block_of, name_place, spot_name, members_of, if_same, is_unknown, Grouped, AreOwn, ArePlaced}
@@ -38,26 +40,26 @@ pub defined_same : (blocks : List Block) (b : Block) → head_name b ≡ None �
 defined_same blocks b e = ap (fold with_name []) (heads_more blocks b None e ∙ append-nil (filter_map head_name blocks))
 
 -- a block with a head is put under its name
-pub own_more : (old new : Grouped Parsed) (p : Parsed) (h : Head) → head_of p.block.items ≡ Some h → new.0 ≡ with_name old.0 h.name →
-    ((m : Name) → members_of new m ≡ members_of old m ++ if_same h.name m p) → (blocks : List Block) → AreOwn blocks old → AreOwn (blocks ++ block_of p ∷ []) new
+pub own_more : (old new : Grouped Parsed) (p : Parsed) (h : Head) → head_of p.block.items ≡ Some h → new.0 ≡ with_name old.0 (name_of h) →
+    ((m : Name) → members_of new m ≡ members_of old m ++ if_same (name_of h) m p) → (blocks : List Block) → AreOwn blocks old → AreOwn (blocks ++ block_of p ∷ []) new
 own_more old new p h e names members blocks own = record {
-  names = names ∙ (ap (λ ns. with_name ns h.name) own.names ∙ sym (defined_more blocks (block_of p) h.name (ap (option_map (λ (x : Head). x.name)) e)));
+  names = names ∙ (ap (λ ns. with_name ns (name_of h)) own.names ∙ sym (defined_more blocks (block_of p) (name_of h) (ap (option_map name_of) e)));
   members = λ m.
       ap (map block_of) (members m)
-      ∙ (map-append block_of (members_of old m) (if_same h.name m p)
-      ∙ (ap (λ front. front ++ map block_of (if_same h.name m p)) (own.members m)
-      ∙ (ap (λ back. filter (defines m) blocks ++ back) (one_if block_of (same h.name m) p ∙ ap (λ b. if b then block_of p ∷ [] else []) (sym (ap (λ o. option_map_or (λ (head : Head). same head.name m) o false) e)))
+      ∙ (map-append block_of (members_of old m) (if_same (name_of h) m p)
+      ∙ (ap (λ front. front ++ map block_of (if_same (name_of h) m p)) (own.members m)
+      ∙ (ap (λ back. filter (defines m) blocks ++ back) (one_if block_of (same (name_of h) m) p ∙ ap (λ b. if b then block_of p ∷ [] else []) (sym (ap (λ o. option_map_or (λ (head : Head). same (name_of head) m) o false) e)))
       ∙ sym (filter-append (defines m) blocks (block_of p ∷ [])))));
 }
 
 -- one without a head isn't
 pub own_same : (groups : Grouped Parsed) (p : Parsed) → head_of p.block.items ≡ None → (blocks : List Block) → AreOwn blocks groups → AreOwn (blocks ++ block_of p ∷ []) groups
 own_same groups p e blocks own = record {
-  names = own.names ∙ sym (defined_same blocks (block_of p) (ap (option_map (λ (x : Head). x.name)) e));
+  names = own.names ∙ sym (defined_same blocks (block_of p) (ap (option_map name_of) e));
   members = λ m.
       own.members m
       ∙ (sym (append-nil (filter (defines m) blocks))
-      ∙ (ap (λ b. filter (defines m) blocks ++ (if b then block_of p ∷ [] else [])) (sym (ap (λ o. option_map_or (λ (head : Head). same head.name m) o false) e))
+      ∙ (ap (λ b. filter (defines m) blocks ++ (if b then block_of p ∷ [] else [])) (sym (ap (λ o. option_map_or (λ (head : Head). same (name_of head) m) o false) e))
       ∙ sym (filter-append (defines m) blocks (block_of p ∷ []))));
 }
 

@@ -2,21 +2,17 @@
 use Rattle.std.specs.Prelude.{◌≡◌, Bool, not, List, [], ◌∷◌, map, filter, if◌then◌else◌}
 use Rattle.std.specs.List.{list_any}
 use Rattle.abnf_names.specs.declared.parsed.Parsed.{Parsed}
-use Rattle.abnf_names.specs.declared.parsed.HeadToken.{HeadToken}
 use Rattle.abnf_names.specs.declared.place.Spot.{Spot}
 use Rattle.abnf_names.specs.declared.place.NamePlace.{NamePlace}
 use Rattle.abnf_names.specs.Names.{folded_text}
 use Rattle.abnf_names.specs.Leaf.{same}
-use Rattle.abnf_names.specs.Said.{Block, Head, Name}
+use Rattle.abnf_names.specs.Said.{Block, Name}
 use Rattle.abnf_names.specs.Places.{Named, places_of_name}
 use Rattle.abnf_names.specs.Rules.{defined, defines, needed}
 use Rattle.abnf_names.specs.Core.{core_name}
 
 abbrev pub block_of : Parsed → Block
 block_of p = record { items = p.block.items; said = p.said }
-
-abbrev pub head_in : HeadToken → Head
-head_in h = record { name = folded_text h.name; adds = h.adds }
 
 abbrev pub named_at : Spot → Named
 named_at s = record { text = s.name.0.now; place = s.place; defines = s.defines }

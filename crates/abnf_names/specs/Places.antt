@@ -3,15 +3,17 @@ use Rattle.std.specs.Prelude.{ℕ, Bool, true, false, not, ◌&&◌, ◌||◌, n
 use Rattle.std.specs.Option.{is_some}
 use Rattle.abnf_token.specs.declared.token.Kind.{Kind}
 use Rattle.abnf_token.specs.declared.token.Kind.TheVariants.{Number}
+use Rattle.abnf_token.specs.declared.folded.Folded.{Folded}
 use Rattle.abnf_token.specs.Folded.{lowercase}
 use Rattle.ls_text.specs.declared.position.Place.{Place}
-use Rattle.ls_text.specs.Positions.{place_start, place_end}
+use Rattle.ls_text.specs.Positions.{place_at}
 use Rattle.abnf_syntax.specs.declared.item.Item.{Item}
 use Rattle.abnf_syntax.specs.Kinds.{is_name, is_bad}
 use Rattle.abnf_syntax.specs.Grammar.{kind_of}
 use Rattle.abnf_syntax.specs.Faults.{place_of}
+use Rattle.abnf_syntax.specs.Heads.{head_of}
 use Rattle.abnf_names.specs.Leaf.{same}
-use Rattle.abnf_names.specs.Said.{Block, Name, head_of}
+use Rattle.abnf_names.specs.Said.{Block, Name}
 
 -- A name in the text, as it is written there. `defines` says that it is a block's head.
 pub record Named : Type 0 where
@@ -51,12 +53,27 @@ abbrev pub or_else : Option Named → Option Named → Option Named
 or_else (Some n) other = Some n
 or_else None other = other
 
--- The first place that holds the character behind the offset, else the first that ends at the offset. Offsets count characters
--- of the text.
+-- whether the place holds what stands behind that point, which is an empty place
+abbrev pub holds : Place → Named → Bool
+holds at n = nat_eq n.place.line at.line && (nat_le n.place.start at.start && nat_lt at.start n.place.end)
+
+abbrev pub ends_at : Place → Named → Bool
+ends_at at n = nat_eq n.place.line at.line && nat_eq n.place.end at.start
+
+-- the first place that holds what stands behind that point, else the first that ends there
+abbrev pub found_at : Place → List Named → Option Named
+found_at at places = or_else (find (holds at) places) (find (ends_at at) places)
+
+-- the same at an offset, which counts characters of the text
 abbrev pub at_offset : List ℕ → List Named → ℕ → Option Named
-at_offset text places offset =
-    or_else (find (λ n. nat_le (place_start text n.place) offset && nat_lt offset (place_end text n.place)) places)
-    (find (λ n. nat_eq (place_end text n.place) offset) places)
+at_offset text places offset = found_at (place_at text offset) places
+
+-- a place, and the name as it is written there
+abbrev pub place_and_text : Named → Place × List ℕ
+place_and_text n = (n.place, n.text)
+
+abbrev pub place_and_name : Place × Folded → Place × List ℕ
+place_and_name p = (p.0, p.1.0.now)
 
 -- the places of a name, in the order of the text
 abbrev pub places_of_name : Name → List Named → List Named

@@ -7,15 +7,16 @@ use Rattle.abnf_token.specs.Folded.{lowercase}
 use Rattle.abnf_syntax.specs.declared.fault.SyntaxFault.{SyntaxFault}
 use Rattle.abnf_syntax.specs.declared.fault.SyntaxFault.TheVariants as f
 use Rattle.abnf_syntax.specs.declared.tree.Rule.{Rule}
+use Rattle.abnf_syntax.specs.Heads.{head_of}
 use Rattle.abnf_names.specs.Part.{Part, alt, opaque}
 use Rattle.abnf_names.specs.Leaf.{same}
 use Rattle.abnf_names.specs.Tree.{parts, alternatives}
 use Rattle.abnf_names.specs.Core.{CoreRule, core_rules, core_name, needs}
-use Rattle.abnf_names.specs.Said.{Block, AreSaid, Name, head_of}
+use Rattle.abnf_names.specs.Said.{Block, AreSaid, Name, name_of}
 use Rattle.abnf_names.specs.Places.{Named, places_of}
 
 abbrev pub defines : Name → Block → Bool
-defines name block = option_map_or (λ head. same head.name name) (head_of block.items) false
+defines name block = option_map_or (λ head. same (name_of head) name) (head_of block.items) false
 
 abbrev pub adds : Block → Bool
 adds block = option_map_or (λ head. head.adds) (head_of block.items) false
@@ -30,7 +31,7 @@ abbrev pub with_name : List Name → Name → List Name
 with_name names name = if list_any (same name) names then names else names ++ name ∷ []
 
 abbrev pub head_name : Block → Option Name
-head_name block = option_map (λ head. head.name) (head_of block.items)
+head_name block = option_map name_of (head_of block.items)
 
 -- the names that the blocks define, each where it is defined first
 abbrev pub defined : List Block → List Name

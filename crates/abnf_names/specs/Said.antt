@@ -1,12 +1,12 @@
--- The blocks of a text, each with the rule that it says or the fault that it shows, and their heads.
-use Rattle.std.specs.Prelude.{ℕ, List, [], ◌∷◌, Option, Some, None, Result, Ok, Err, Bool, ◌&&◌, if◌then◌else◌}
+-- The blocks of a text, each with the rule that it says or the fault that it shows, and the names of their heads.
+use Rattle.std.specs.Prelude.{ℕ, List, [], ◌∷◌, Result, Ok, Err}
 use Rattle.abnf_token.specs.Classes.{Text}
 use Rattle.abnf_token.specs.Folded.{lowercase}
+use Rattle.abnf_syntax.specs.declared.block.Head.{Head}
 use Rattle.abnf_syntax.specs.declared.item.Item.{Item}
 use Rattle.abnf_syntax.specs.declared.fault.SyntaxFault.{SyntaxFault}
 use Rattle.abnf_syntax.specs.declared.tree.Rule.{Rule}
-use Rattle.abnf_syntax.specs.Kinds.{is_name, is_defined_as, is_adds}
-use Rattle.abnf_syntax.specs.Grammar.{Derives, kind_of}
+use Rattle.abnf_syntax.specs.Grammar.{Derives}
 use Rattle.abnf_syntax.specs.Faults.{Faults}
 use Rattle.abnf_syntax.specs.Blocks.{line_texts, AreBlocks}
 use Rattle.abnf_syntax.specs.Items.{AreItems}
@@ -41,12 +41,6 @@ pub record AreSaid (text : List ℕ) (blocks : List Block) : Type 0 where
 abbrev pub Name : Type 0
 Name = List ℕ
 
--- The head of a block: its first item where that is a name and `=` or `=/` follows. `adds` says that it is `=/`.
-pub record Head : Type 0 where
-  pub name : Name
-  pub adds : Bool
-
-abbrev pub head_of : List Item → Option Head
-head_of (first ∷ second ∷ items) =
-    if is_name (kind_of first) && is_defined_as (kind_of second) then Some (record { name = lowercase first.token.text.now; adds = is_adds (kind_of second) }) else None
-head_of _ = None
+-- the name that a head defines or adds to
+abbrev pub name_of : Head → Name
+name_of head = lowercase head.name.text.now

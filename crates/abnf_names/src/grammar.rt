@@ -1,10 +1,10 @@
 //! The grammar of a text.
 
-ghost use Rattle.std.specs.Prelude.{◌≡◌, ◌<◌, IfOk, length, map};
+ghost use Rattle.std.specs.Prelude.{◌≡◌, ◌<◌, IfOk, length, map, option_map};
 ghost use Rattle.abnf_names.specs.Part.{root_number};
 ghost use Rattle.abnf_names.specs.Nodes.{AreNodes};
 ghost use Rattle.abnf_names.specs.Names.{folded_text};
-ghost use Rattle.abnf_names.specs.Places.{places_of_name};
+ghost use Rattle.abnf_names.specs.Places.{at_offset, place_and_name, place_and_text, places_of_name};
 ghost use Rattle.abnf_names.specs.Rules.{rule_number, IsGrammar};
 ghost use Rattle.abnf_names.specs.Passes.{name_place};
 
@@ -14,7 +14,7 @@ use crate::names::RuleNames;
 use crate::node::{Node, NodeNo, RuleNo};
 use crate::own::{faults_of, own_groups, own_names, placed, unknown_names};
 use crate::parsed::parsed_blocks;
-use crate::place::{NamePlace, Spot, places_of};
+use crate::place::{NamePlace, Spot, found_at, places_of};
 use crate::rules::push_rules;
 use abnf_syntax::SyntaxFault;
 use abnf_token::Folded;
@@ -119,6 +119,19 @@ impl<'t> Grammar<'t> {
         ensures { result ≡ rule_number self.now.names (folded_text name.entry) }
     {
         self.names.rule_of(name)
+    }
+
+    /// The name at an offset, which counts characters of the text, and its place. That is the place which holds the character
+    /// behind the offset, else the one that ends there. There is none in a comment, a quoted string or prose, and a name that
+    /// follows a bad token or a number at once has none. An offset past the text's end is taken for the end.
+    pub fn name_at(&self, offset: usize) -> Option<(Place, Folded<'t>)>
+        ensures { option_map place_and_name result ≡ option_map place_and_text (at_offset self.now.text self.now.places offset) }
+    {
+        let at = self.source.place_at(offset);
+        match found_at(self.spots.as_slice(), at) {
+            Some(spot) => Some((spot.place, spot.name)),
+            None => None,
+        }
     }
 
     /// The places of a name, in the order of the text.

@@ -8,9 +8,10 @@ ghost use Rattle.abnf_names.specs.Passes as spec;
 
 use crate::groups::Groups;
 use crate::names::Names;
-use crate::parsed::{Parsed, head_of};
+use crate::parsed::Parsed;
 use crate::place::{NamePlace, Spot};
 use abnf_syntax::SyntaxFault;
+use abnf_token::Folded;
 use ls_lists::List;
 use ls_text::Place;
 use std::alloc::{AllocError, Global};
@@ -19,9 +20,9 @@ use std::alloc::{AllocError, Global};
 fn add_own<'t>(names: &mut Names<'t>, parsed: &Parsed<'t>) -> Result<(), AllocError>
     ensures { OnOk result (names.new ≡ fold with_name names.old (filter_map head_name (spec.block_of parsed.now ∷ []))) }
 {
-    match head_of(parsed.block.items.as_slice()) {
+    match parsed.block.head() {
         Some(head) => {
-            names.add(head.name)?;
+            names.add(Folded(head.name.text))?;
             Ok(())
         }
         None => Ok(()),
@@ -47,8 +48,8 @@ fn with_block<'t>(
 ) -> Result<Groups<'t, Parsed<'t>>, AllocError>
     ensures { IfOk result (λ g. (blocks : List said.Block) → spec.AreOwn blocks groups.entry → spec.AreOwn (blocks ++ spec.block_of parsed.entry ∷ []) g) }
 {
-    match head_of(parsed.block.items.as_slice()) {
-        Some(head) => groups.with(alloc, head.name, parsed),
+    match parsed.block.head() {
+        Some(head) => groups.with(alloc, Folded(head.name.text), parsed),
         None => Ok(groups),
     }
 }

@@ -1,11 +1,10 @@
 //! The blocks of a text, each with what it says.
 
-ghost use Rattle.std.specs.Prelude.{◌≡◌, ◌<◌, length, map, IfOk, option_map};
-ghost use Rattle.abnf_names.specs.Said.{Says, AreSaid, head_of};
+ghost use Rattle.std.specs.Prelude.{◌≡◌, ◌<◌, length, map, IfOk};
+ghost use Rattle.abnf_names.specs.Said.{Says, AreSaid};
 ghost use Rattle.abnf_names.specs.Passes as spec;
 
-use abnf_syntax::{Block, Item, Rule, SyntaxFault, blocks, parse_block};
-use abnf_token::{Folded, Kind};
+use abnf_syntax::{Block, Rule, SyntaxFault, blocks, parse_block};
 use ls_text::Snapshot;
 use std::alloc::{AllocError, Global};
 
@@ -14,33 +13,6 @@ use std::alloc::{AllocError, Global};
 pub(crate) struct Parsed<'t> {
     pub block: Block<'t>,
     pub said: Result<Rule<'t>, SyntaxFault>,
-}
-
-/// The name at the head of a block, and whether `=/` follows it.
-#[derive(Clone, Copy, Debug)]
-pub(crate) struct HeadToken<'t> {
-    pub name: Folded<'t>,
-    pub adds: bool,
-}
-
-/// The head of a block with these items.
-pub(crate) fn head_of<'t>(items: &[Item<'t>]) -> Option<HeadToken<'t>>
-    ensures { option_map spec.head_in result ≡ head_of items.now }
-{
-    let [first, second, ..] = items else {
-        return None;
-    };
-    match (first.token.kind, second.token.kind) {
-        (Kind::Name, Kind::Defines) => Some(HeadToken {
-            name: Folded(first.token.text),
-            adds: false,
-        }),
-        (Kind::Name, Kind::Adds) => Some(HeadToken {
-            name: Folded(first.token.text),
-            adds: true,
-        }),
-        _ => None,
-    }
 }
 
 /// What a block says, unless memory is refused.

@@ -1,12 +1,12 @@
 //! The places of names.
 
-ghost use Rattle.std.specs.Prelude.{◌≡◌, ◌++◌, map, IfOk, OnOk};
+ghost use Rattle.std.specs.Prelude.{◌≡◌, ◌++◌, map, find, option_map, IfOk, OnOk};
 ghost use Rattle.abnf_syntax.specs.Faults.{place_of};
 ghost use Rattle.abnf_names.specs.Places as places;
 ghost use Rattle.abnf_names.specs.Passes as spec;
 
-use crate::parsed::{Parsed, head_of};
-use abnf_syntax::Item;
+use crate::parsed::Parsed;
+use abnf_syntax::{Block, Item};
 use abnf_token::{Folded, Kind, Token};
 use ls_lists::List;
 use ls_text::Place;
@@ -77,13 +77,13 @@ fn push_use<'t>(spots: &mut List<Spot<'t>>, before: Kind, item: Item<'t>) -> Res
 }
 
 /// Adds the places in a block.
-fn push_places<'t>(spots: &mut List<Spot<'t>>, items: &[Item<'t>]) -> Result<(), AllocError>
-    ensures { OnOk result (map spec.named_at spots.new ≡ map spec.named_at spots.old ++ places.places_in items.now) }
+fn push_places<'t>(spots: &mut List<Spot<'t>>, block: &Block<'t>) -> Result<(), AllocError>
+    ensures { OnOk result (map spec.named_at spots.new ≡ map spec.named_at spots.old ++ places.places_in block.now.items) }
 {
-    let Some((first, rest)) = items.split_first() else {
+    let Some((first, rest)) = block.items.as_slice().split_first() else {
         return Ok(());
     };
-    push_named(spots, head_of(items).is_some(), *first)?;
+    push_named(spots, block.head().is_some(), *first)?;
     let mut before = first.token.kind;
     for item in rest {
         push_use(spots, before, *item)?;
@@ -101,7 +101,55 @@ pub(crate) fn places_of<'t>(
 {
     let mut spots = List::new(alloc);
     for p in parsed {
-        push_places(&mut spots, p.block.items.as_slice())?;
+        push_places(&mut spots, &p.block)?;
     }
     Ok(spots)
+}
+
+/// Whether a spot holds what stands behind a point, which is an empty place.
+fn holds(spot: &Spot<'_>, at: Place) -> bool
+    ensures { result ≡ places.holds at (spec.named_at spot.now) }
+{
+    spot.place.line == at.line && spot.place.start <= at.start && at.start < spot.place.end
+}
+
+/// Whether a spot ends at a point.
+fn ends_at(spot: &Spot<'_>, at: Place) -> bool
+    ensures { result ≡ places.ends_at at (spec.named_at spot.now) }
+{
+    spot.place.line == at.line && spot.place.end == at.start
+}
+
+/// The first spot that holds what stands behind a point.
+fn first_holding<'t>(spots: &[Spot<'t>], at: Place) -> Option<Spot<'t>>
+    ensures { option_map spec.named_at result ≡ find (places.holds at) (map spec.named_at spots.now) }
+{
+    for spot in spots {
+        if holds(spot, at) {
+            return Some(*spot);
+        }
+    }
+    None
+}
+
+/// The first spot that ends at a point.
+fn first_ending<'t>(spots: &[Spot<'t>], at: Place) -> Option<Spot<'t>>
+    ensures { option_map spec.named_at result ≡ find (places.ends_at at) (map spec.named_at spots.now) }
+{
+    for spot in spots {
+        if ends_at(spot, at) {
+            return Some(*spot);
+        }
+    }
+    None
+}
+
+/// The first spot that holds what stands behind a point, else the first that ends there.
+pub(crate) fn found_at<'t>(spots: &[Spot<'t>], at: Place) -> Option<Spot<'t>>
+    ensures { option_map spec.named_at result ≡ places.found_at at (map spec.named_at spots.now) }
+{
+    match first_holding(spots, at) {
+        Some(spot) => Some(spot),
+        None => first_ending(spots, at),
+    }
 }

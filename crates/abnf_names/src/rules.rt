@@ -15,7 +15,7 @@ use crate::core_tree::push_core;
 use crate::groups::Groups;
 use crate::names::{Names, RuleNames};
 use crate::node::{Node, NodeNo};
-use crate::parsed::{Parsed, head_of};
+use crate::parsed::Parsed;
 use crate::tree::{fill, push_concatenations};
 use abnf_token::Folded;
 use ls_lists::List;
@@ -28,7 +28,7 @@ const MAX_NESTING: usize = 64;
 fn is_adding(parsed: &Parsed<'_>) -> bool
     ensures { result ≡ rules.adds (spec.block_of parsed.now) }
 {
-    match head_of(parsed.block.items.as_slice()) {
+    match parsed.block.head() {
         Some(head) => head.adds,
         None => false,
     }

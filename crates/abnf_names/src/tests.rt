@@ -153,6 +153,79 @@ fn finds_places(rt: HostRuntime) -> Result<(), Fail> {
     Ok(())
 }
 
+/// The line, the first byte and the end of the place at an offset, and the name there.
+fn at<'t>(grammar: &Grammar<'t>, offset: usize) -> Option<(usize, usize, usize, &'t str)> {
+    let (place, name) = grammar.name_at(offset)?;
+    Some((place.line, place.start, place.end, name.0))
+}
+
+#[test]
+fn finds_names_at_offsets(rt: HostRuntime) -> Result<(), Fail> {
+    let text = snapshot(rt.alloc(), "a = b c")?;
+    let grammar = Grammar::of(rt.alloc(), &text)?;
+    let a = Some((0, 0, 1, "a"));
+    let b = Some((0, 4, 5, "b"));
+    let c = Some((0, 6, 7, "c"));
+    // Past the text's end is its end.
+    let rows = [a, a, None, None, b, b, c, c, c, c];
+    for (offset, want) in rows.iter().enumerate() {
+        assert_eq!(rt; at(&grammar, offset), *want, "{offset}");
+    }
+    let text = snapshot(rt.alloc(), "a=Bc")?;
+    let grammar = Grammar::of(rt.alloc(), &text)?;
+    let b = Some((0, 2, 4, "Bc"));
+    for (offset, want) in [a, a, b, b, b].iter().enumerate() {
+        assert_eq!(rt; at(&grammar, offset), *want, "{offset}");
+    }
+    Ok(())
+}
+
+#[test]
+fn finds_names_behind_wide_characters(rt: HostRuntime) -> Result<(), Fail> {
+    let text = snapshot(
+        rt.alloc(),
+        "x = y ; \u{20AC}\u{1F600} z\r\na = \"\u{E9}\" b\r\n",
+    )?;
+    let grammar = Grammar::of(rt.alloc(), &text)?;
+    let rows = [
+        (0, Some((0, 0, 1, "x"))),
+        (5, Some((0, 4, 5, "y"))),
+        (6, None),
+        // in the comment, and at its end
+        (11, None),
+        (12, None),
+        (13, None),
+        (14, Some((1, 0, 1, "a"))),
+        (15, Some((1, 0, 1, "a"))),
+        (19, None),
+        (21, None),
+        (22, Some((1, 9, 10, "b"))),
+        (23, Some((1, 9, 10, "b"))),
+        // between CR and LF
+        (24, Some((1, 9, 10, "b"))),
+        (25, None),
+        (1000, None),
+    ];
+    for (offset, want) in rows {
+        assert_eq!(rt; at(&grammar, offset), want, "{offset}");
+    }
+    Ok(())
+}
+
+#[test]
+fn finds_no_name_in_a_misspelled_number(rt: HostRuntime) -> Result<(), Fail> {
+    let text = snapshot(rt.alloc(), "a = %item\nitem = \"i\"")?;
+    let grammar = Grammar::of(rt.alloc(), &text)?;
+    for offset in 2..10 {
+        assert_eq!(rt; at(&grammar, offset), None, "{offset}");
+    }
+    assert_eq!(rt; at(&grammar, 10), Some((1, 0, 4, "item")));
+    assert_eq!(rt; at(&grammar, 14), Some((1, 0, 4, "item")));
+    assert_eq!(rt; at(&grammar, 20), None);
+    assert_eq!(rt; at(&grammar, 100), None);
+    Ok(())
+}
+
 /// Whether a node is a repetition with these bounds.
 fn repeats(node: Option<&Node<'_>>, bounds: (u32, Option<u32>), at: usize) -> bool {
     match node {

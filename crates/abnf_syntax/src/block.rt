@@ -7,7 +7,7 @@ ghost use Rattle.abnf_syntax.specs.Bounds.{bounds};
 ghost use Rattle.abnf_syntax.specs.Gather as spec;
 
 use crate::item::Item;
-use crate::kinds::{is_defined_as, is_item, is_name};
+use crate::kinds::{is_adds, is_defined_as, is_item, is_name};
 use abnf_token::{Token, tokens};
 use ls_lists::List;
 use ls_text::Snapshot;
@@ -24,17 +24,28 @@ pub struct Block<'t> {
     pub items: List<Item<'t>>,
 }
 
+/// The head of a block: the name that it defines, or that it adds to.
+#[derive(Clone, Copy, Debug)]
+pub struct Head<'t> {
+    pub name: Token<'t>,
+    /// Whether `=/` follows the name; else `=` does.
+    pub adds: bool,
+}
+
 impl<'t> Block<'t> {
     ghost use Rattle.abnf_syntax.specs.Heads.{head_of};
 
     /// The head: its first item, where that is a name and `=` or `=/` follows. A faulty block may have one too.
-    pub fn head(&self) -> Option<Token<'t>>
+    pub fn head(&self) -> Option<Head<'t>>
         ensures { result ≡ head_of self.now.items }
     {
         match self.items.as_slice() {
             [first, second, ..] => {
                 if is_name(first.token.kind) && is_defined_as(second.token.kind) {
-                    Some(first.token)
+                    Some(Head {
+                        name: first.token,
+                        adds: is_adds(second.token.kind),
+                    })
                 } else {
                     None
                 }

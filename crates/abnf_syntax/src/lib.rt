@@ -17,7 +17,7 @@ mod parser;
 mod tests;
 mod tree;
 
-pub use block::{Block, blocks};
+pub use block::{Block, Head, blocks};
 pub use fault::SyntaxFault;
 pub use item::Item;
 pub use parse::parse_block;

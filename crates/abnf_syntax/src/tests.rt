@@ -183,3 +183,29 @@ fn items_know_what_stands_before(rt: HostRuntime) -> Result<(), Fail> {
     }
     Ok(())
 }
+
+/// The name at the head of a text's first block, and whether `=/` follows it.
+fn head_of<'t>(alloc: Global, snapshot: &'t Snapshot) -> Result<Option<(&'t str, bool)>, Fail> {
+    let found = blocks(alloc, snapshot)?;
+    match found.first() {
+        None => Ok(None),
+        Some(block) => Ok(block.head().map(|head| (head.name.text, head.adds))),
+    }
+}
+
+#[test]
+fn finds_heads(rt: HostRuntime) -> Result<(), Fail> {
+    let rows = [
+        ("a = \"x\"", Some(("a", false))),
+        ("a\n  =/ ?", Some(("a", true))),
+        ("a", None),
+        ("a \"x\"", None),
+        ("= \"x\"", None),
+        ("\"a\" = \"x\"", None),
+    ];
+    for (text, want) in rows {
+        let snapshot = snapshot(rt.alloc(), text)?;
+        assert_eq!(rt; head_of(rt.alloc(), &snapshot)?, want, "{text}");
+    }
+    Ok(())
+}

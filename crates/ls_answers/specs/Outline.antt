@@ -11,6 +11,7 @@ use Rattle.abnf_syntax.specs.Faults.{place_of}
 use Rattle.abnf_syntax.specs.Heads.{head_of}
 use Rattle.abnf_syntax.specs.Items.{AreItems}
 use Rattle.abnf_syntax.specs.declared.block.Block.{Block}
+use Rattle.abnf_syntax.specs.declared.block.Head.{Head}
 use Rattle.abnf_syntax.specs.declared.item.Item.{Item}
 use Rattle.ls_answers.specs.declared.answer.Symbol.{Symbol}
 
@@ -27,8 +28,8 @@ from_to text None last = place_range utf16_len text (record { line = 0; start = 
 abbrev pub extent : List ℕ → List Item → Range
 extent text items = from_to text (slice_get items 0) (slice_get items (length items - 1))
 
-abbrev pub symbol_with : List ℕ → Block → Token → Symbol
-symbol_with text block head = record { name = head.text.now; range = extent text block.items; name_range = token_range text head }
+abbrev pub symbol_with : List ℕ → Block → Head → Symbol
+symbol_with text block head = record { name = head.name.text.now; range = extent text block.items; name_range = token_range text head.name }
 
 -- the symbol of a block, if it has a head; the block may be faulty behind it, and its name may be defined elsewhere too
 abbrev pub symbol_of : List ℕ → Block → Option Symbol

@@ -37,11 +37,11 @@ fn push_symbol(
     let Some(head) = block.head() else {
         return Ok(());
     };
-    let name = Text::from_str(alloc, head.text)?;
+    let name = Text::from_str(alloc, head.name.text)?;
     let symbol = Symbol {
         name,
         range: extent(snapshot, block.items.as_slice()),
-        name_range: snapshot.range_of(&place_of(&head)),
+        name_range: snapshot.range_of(&place_of(&head.name)),
     };
     symbols.push(symbol)?;
     Ok(())

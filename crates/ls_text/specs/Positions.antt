@@ -16,6 +16,14 @@ abbrev pub position_in : (ℕ → ℕ) → ℕ → List ℕ → ℕ → Position
 position_in width l text bytes =
     record { line = l; character = sum_by width (take (fitting len_utf8 text bytes) text) }
 
+-- the empty place at an offset: its line, and the bytes of UTF-8 before it there
+abbrev pub place_at : List ℕ → ℕ → Place
+place_at t o = record {
+  line = line_at t (lowered t o);
+  start = units_at len_utf8 t (lowered t o);
+  end = units_at len_utf8 t (lowered t o);
+}
+
 -- the offsets of a place's two ends, which count bytes of UTF-8 within their line
 abbrev pub place_start : List ℕ → Place → ℕ
 place_start t p = offset_of len_utf8 t p.line p.start

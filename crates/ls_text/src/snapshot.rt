@@ -6,9 +6,9 @@ ghost use Rattle.std.specs.String.{string_bytes, string_len};
 ghost use Rattle.std.specs.Option.{option_map};
 ghost use Rattle.std.specs.List.{slice_get};
 ghost use Rattle.ls_text.specs.Lines.{line_ends, lines, utf16_len, offset_of};
-ghost use Rattle.ls_text.specs.Positions.{position_of, position_in, place_range};
+ghost use Rattle.ls_text.specs.Positions.{position_of, position_in, place_at, place_range};
 ghost use Rattle.ls_text.specs.Edits.{position_offset, replaced, edited, edited_all, is_too_large};
-ghost use Rattle.ls_text.specs.Cut.{AreLines, IsCut, text_of};
+ghost use Rattle.ls_text.specs.Cut.{AreLines, IsCut, text_of, width_of};
 
 use crate::cut::lines_of;
 use crate::edit::{Edit, push_shared, push_text, spliced, spot_of};
@@ -179,16 +179,36 @@ impl Snapshot {
         }
     }
 
-    /// The position of an offset, which counts characters. Past the text's end it is that of the end, and between CR and LF
-    /// that before the CR.
-    pub fn position_of(&self, offset: usize) -> Position
-        ensures { result ≡ position_of utf16_len self.now offset }
+    // The position of an offset, whose character counts these units.
+    fn position_by(&self, units: Units, offset: usize) -> Position
+        ensures { result ≡ position_of (width_of units) self.now offset }
     {
         let line = line_of(&self.starts, offset);
         let before = offset - self.starts[line];
         Position {
             line: line as u32,
-            character: units_before(&self.lines[line], Units::Utf16, before),
+            character: units_before(&self.lines[line], units, before),
+        }
+    }
+
+    /// The position of an offset, which counts characters. Past the text's end it is that of the end, and between CR and LF
+    /// that before the CR.
+    pub fn position_of(&self, offset: usize) -> Position
+        ensures { result ≡ position_of utf16_len self.now offset }
+    {
+        self.position_by(Units::Utf16, offset)
+    }
+
+    /// The empty place at an offset, which counts characters. Past the text's end it is that at the end, and between CR and
+    /// LF that before the CR.
+    pub fn place_at(&self, offset: usize) -> Place
+        ensures { result ≡ place_at self.now offset }
+    {
+        let at = self.position_by(Units::Utf8, offset);
+        Place {
+            line: at.line as usize,
+            start: at.character as usize,
+            end: at.character as usize,
         }
     }
 

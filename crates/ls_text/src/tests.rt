@@ -120,6 +120,31 @@ fn finds_offsets_and_positions(rt: HostRuntime) -> Result<(), Fail> {
 }
 
 #[test]
+fn finds_places(rt: HostRuntime) -> Result<(), Fail> {
+    let text = snapshot(rt.alloc(), "a\u{E9}\r\n\u{20AC}\u{1F600}z")?;
+    let places = [
+        (0, (0, 0)),
+        (1, (0, 1)),
+        (2, (0, 3)),
+        (3, (0, 3)),
+        (4, (1, 0)),
+        (5, (1, 3)),
+        (6, (1, 7)),
+        (7, (1, 8)),
+        (8, (1, 8)),
+    ];
+    for (offset, (line, bytes)) in places {
+        let want = Place {
+            line,
+            start: bytes,
+            end: bytes,
+        };
+        assert_eq!(rt; text.place_at(offset), want, "{offset}");
+    }
+    Ok(())
+}
+
+#[test]
 fn refuses_large_texts(rt: HostRuntime) -> Result<(), Fail> {
     let mut text = String::from_str(rt.alloc(), "a")?;
     for _ in 0..22u32 {
