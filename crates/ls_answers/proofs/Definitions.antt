@@ -8,9 +8,9 @@ use Rattle.ls_text.specs.declared.position.Position.{Position}
 use Rattle.ls_text.specs.declared.position.Range.{Range}
 use Rattle.abnf_names.specs.declared.place.NamePlace.{NamePlace}
 use Rattle.abnf_names.specs.Passes.{name_place}
-use Rattle.abnf_names.specs.Places.{Named, at_offset, places_of_name}
+use Rattle.abnf_names.specs.Places.{Named, at_offset, place_and_text, places_of_name}
 use Rattle.abnf_names.specs.Rules.{Grammar, IsGrammar}
-use Rattle.ls_answers.specs.Places.{AreDefinitions, defining, defining_ranges, place_at}
+use Rattle.ls_answers.specs.Places.{AreDefinitions, defining_ranges, place_at}
 
 -- the ranges of those places that define
 abbrev ranges_of : List ℕ → List Named → List Range
@@ -26,24 +26,17 @@ same_ranges : (text : List ℕ) (places : List Named) → defining_ranges text (
 same_ranges text [] = refl
 same_ranges text (n ∷ ns) = one_more text n ns n.defines refl (same_ranges text ns)
 
--- a place and the name that stands there
-abbrev pub Shown : Type 0
-Shown = Place × List ℕ
-
-abbrev pub shown : Named → Shown
-shown n = (n.place, n.text)
-
-found : (o : Option Named) (s : Shown) → Some s ≡ option_map shown o → (n : Named) × (o ≡ Some n) × (n.text ≡ s.1)
+found : (o : Option Named) (s : Place × List ℕ) → Some s ≡ option_map place_and_text o → (n : Named) × (o ≡ Some n) × (n.text ≡ s.1)
 found None s e = absurd (cc)
 found (Some n) s e = (n, refl, cc)
 
-none : (o : Option Named) → None ≡ option_map shown o → o ≡ None
+none : (o : Option Named) → None ≡ option_map place_and_text o → o ≡ None
 none None e = refl
 none (Some n) e = absurd (cc)
 
-defined-there : (text : List ℕ) (at : Position) (g : Grammar) (offset : ℕ) (s : Shown) (places : List NamePlace) (ranges : List Range)
+defined-there : (text : List ℕ) (at : Position) (g : Grammar) (offset : ℕ) (s : Place × List ℕ) (places : List NamePlace) (ranges : List Range)
     → IsGrammar g → g.text ≡ text → offset ≡ offset_of utf16_len g.text at.line at.character
-    → Some s ≡ option_map shown (at_offset g.text g.places offset) → places ≡ map name_place (places_of_name (lowercase s.1) g.places)
+    → Some s ≡ option_map place_and_text (at_offset g.text g.places offset) → places ≡ map name_place (places_of_name (lowercase s.1) g.places)
     → ranges ≡ defining_ranges text places → AreDefinitions text at ranges
 defined-there text at g offset s places ranges right of_text is_offset is_found are is =
     let n = found (at_offset g.text g.places offset) s is_found in
@@ -52,9 +45,9 @@ defined-there text at g offset s places ranges right of_text is_offset is_found 
     record { grammar = g; of_text = of_text; right = right; ranges_are = rw (here, n.2) same }
 
 -- with a name at the position
-pub with-name : {E : Type 0} (text : List ℕ) (at : Position) (g : Grammar) (offset : ℕ) (s : Shown) (places : List NamePlace) (given : Result (List Range) E)
+pub with-name : {E : Type 0} (text : List ℕ) (at : Position) (g : Grammar) (offset : ℕ) (s : Place × List ℕ) (places : List NamePlace) (given : Result (List Range) E)
     → IsGrammar g → g.text ≡ text → offset ≡ offset_of utf16_len g.text at.line at.character
-    → Some s ≡ option_map shown (at_offset g.text g.places offset) → places ≡ map name_place (places_of_name (lowercase s.1) g.places)
+    → Some s ≡ option_map place_and_text (at_offset g.text g.places offset) → places ≡ map name_place (places_of_name (lowercase s.1) g.places)
     → IfOk given (λ ranges. ranges ≡ defining_ranges text places) → IfOk given (λ ranges. AreDefinitions text at ranges)
 with-name text at g offset s places (Ok ranges) right of_text is_offset is_found are is = defined-there text at g offset s places ranges right of_text is_offset is_found are is
 with-name text at g offset s places (Err e) right of_text is_offset is_found are is = is
@@ -62,7 +55,7 @@ with-name text at g offset s places (Err e) right of_text is_offset is_found are
 -- without one
 pub with-none : (text : List ℕ) (at : Position) (g : Grammar) (offset : ℕ) (ranges : List Range)
     → IsGrammar g → g.text ≡ text → offset ≡ offset_of utf16_len g.text at.line at.character
-    → None ≡ option_map shown (at_offset g.text g.places offset) → ranges ≡ [] → AreDefinitions text at ranges
+    → None ≡ option_map place_and_text (at_offset g.text g.places offset) → ranges ≡ [] → AreDefinitions text at ranges
 with-none text at g offset ranges right of_text is_offset is_none is =
     let here : place_at g at ≡ None = ap (λ o. at_offset g.text g.places o) (sym is_offset) ∙ none (at_offset g.text g.places offset) is_none in
     record { grammar = g; of_text = of_text; right = right; ranges_are = rw (here) is }

@@ -1,4 +1,4 @@
-use Rattle.std.proofs.Common.{sym, ◌∙◌, ap}
+use Rattle.std.proofs.Common.{◌∙◌, ap}
 use Rattle.ls_text.specs.Lines.{utf16_len, offset_of}
 use Rattle.ls_answers.proofs.Definitions.{with-name, with-none}
 use Rattle.ls_answers.proofs.places.definitions.Goals as goal
