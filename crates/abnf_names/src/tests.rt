@@ -153,76 +153,98 @@ fn finds_places(rt: HostRuntime) -> Result<(), Fail> {
     Ok(())
 }
 
-/// The line, the first byte and the end of the place at an offset, and the name there.
-fn at<'t>(grammar: &Grammar<'t>, offset: usize) -> Option<(usize, usize, usize, &'t str)> {
-    let (place, name) = grammar.name_at(offset)?;
-    Some((place.line, place.start, place.end, name.0))
+/// The line, the first byte and the end of the place at an offset, and the name there; an empty one where there is none.
+fn name_at<'t>(grammar: &Grammar<'t>, offset: usize) -> (usize, usize, usize, &'t str) {
+    match grammar.name_at(offset) {
+        Some((place, name)) => (place.line, place.start, place.end, name.0),
+        None => (0, 0, 0, ""),
+    }
+}
+
+/// The first offset of a text that has another name than this.
+fn first_wrong(
+    alloc: Global,
+    text: &str,
+    rows: &[(usize, (usize, usize, usize, &str))],
+) -> Result<Option<usize>, Fail> {
+    let text = snapshot(alloc, text)?;
+    let grammar = Grammar::of(alloc, &text)?;
+    for (offset, want) in rows {
+        if name_at(&grammar, *offset) != *want {
+            return Ok(Some(*offset));
+        }
+    }
+    Ok(None)
 }
 
 #[test]
 fn finds_names_at_offsets(rt: HostRuntime) -> Result<(), Fail> {
-    let text = snapshot(rt.alloc(), "a = b c")?;
-    let grammar = Grammar::of(rt.alloc(), &text)?;
-    let a = Some((0, 0, 1, "a"));
-    let b = Some((0, 4, 5, "b"));
-    let c = Some((0, 6, 7, "c"));
-    // Past the text's end is its end.
-    let rows = [a, a, None, None, b, b, c, c, c, c];
-    for (offset, want) in rows.iter().enumerate() {
-        assert_eq!(rt; at(&grammar, offset), *want, "{offset}");
-    }
-    let text = snapshot(rt.alloc(), "a=Bc")?;
-    let grammar = Grammar::of(rt.alloc(), &text)?;
-    let b = Some((0, 2, 4, "Bc"));
-    for (offset, want) in [a, a, b, b, b].iter().enumerate() {
-        assert_eq!(rt; at(&grammar, offset), *want, "{offset}");
-    }
+    let (a, b, c) = ((0, 0, 1, "a"), (0, 4, 5, "b"), (0, 6, 7, "c"));
+    let none = (0, 0, 0, "");
+    let rows = [
+        (0, a),
+        (1, a),
+        (2, none),
+        (3, none),
+        (4, b),
+        (5, b),
+        (6, c),
+        (7, c),
+        // Past the text's end is its end.
+        (8, c),
+        (1000, c),
+    ];
+    assert_eq!(rt; first_wrong(rt.alloc(), "a = b c", rows.as_slice())?, None);
+    Ok(())
+}
+
+#[test]
+fn finds_names_beside_an_equals_sign(rt: HostRuntime) -> Result<(), Fail> {
+    let (a, b) = ((0, 0, 1, "a"), (0, 2, 4, "Bc"));
+    let rows = [(0, a), (1, a), (2, b), (3, b), (4, b)];
+    assert_eq!(rt; first_wrong(rt.alloc(), "a=Bc", rows.as_slice())?, None);
     Ok(())
 }
 
 #[test]
 fn finds_names_behind_wide_characters(rt: HostRuntime) -> Result<(), Fail> {
-    let text = snapshot(
-        rt.alloc(),
-        "x = y ; \u{20AC}\u{1F600} z\r\na = \"\u{E9}\" b\r\n",
-    )?;
-    let grammar = Grammar::of(rt.alloc(), &text)?;
+    let text = "x = y ; \u{20AC}\u{1F600} z\r\na = \"\u{E9}\" b\r\n";
+    let (a, b) = ((1, 0, 1, "a"), (1, 9, 10, "b"));
+    let none = (0, 0, 0, "");
     let rows = [
-        (0, Some((0, 0, 1, "x"))),
-        (5, Some((0, 4, 5, "y"))),
-        (6, None),
+        (5, (0, 4, 5, "y")),
         // in the comment, and at its end
-        (11, None),
-        (12, None),
-        (13, None),
-        (14, Some((1, 0, 1, "a"))),
-        (15, Some((1, 0, 1, "a"))),
-        (19, None),
-        (21, None),
-        (22, Some((1, 9, 10, "b"))),
-        (23, Some((1, 9, 10, "b"))),
+        (11, none),
+        (12, none),
+        (13, none),
+        (14, a),
+        (15, a),
+        (21, none),
+        (22, b),
+        (23, b),
         // between CR and LF
-        (24, Some((1, 9, 10, "b"))),
-        (25, None),
-        (1000, None),
+        (24, b),
+        (25, none),
     ];
-    for (offset, want) in rows {
-        assert_eq!(rt; at(&grammar, offset), want, "{offset}");
-    }
+    assert_eq!(rt; first_wrong(rt.alloc(), text, rows.as_slice())?, None);
     Ok(())
 }
 
 #[test]
 fn finds_no_name_in_a_misspelled_number(rt: HostRuntime) -> Result<(), Fail> {
-    let text = snapshot(rt.alloc(), "a = %item\nitem = \"i\"")?;
-    let grammar = Grammar::of(rt.alloc(), &text)?;
-    for offset in 2..10 {
-        assert_eq!(rt; at(&grammar, offset), None, "{offset}");
-    }
-    assert_eq!(rt; at(&grammar, 10), Some((1, 0, 4, "item")));
-    assert_eq!(rt; at(&grammar, 14), Some((1, 0, 4, "item")));
-    assert_eq!(rt; at(&grammar, 20), None);
-    assert_eq!(rt; at(&grammar, 100), None);
+    let item = (1, 0, 4, "item");
+    let none = (0, 0, 0, "");
+    let rows = [
+        (4, none),
+        (5, none),
+        (9, none),
+        (10, item),
+        (14, item),
+        (20, none),
+        (100, none),
+    ];
+    let text = "a = %item\nitem = \"i\"";
+    assert_eq!(rt; first_wrong(rt.alloc(), text, rows.as_slice())?, None);
     Ok(())
 }
 
