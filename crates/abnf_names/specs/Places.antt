@@ -10,8 +10,9 @@ use Rattle.abnf_syntax.specs.declared.item.Item.{Item}
 use Rattle.abnf_syntax.specs.Kinds.{is_name, is_bad}
 use Rattle.abnf_syntax.specs.Grammar.{kind_of}
 use Rattle.abnf_syntax.specs.Faults.{place_of}
-use Rattle.abnf_names.specs.Leaf.{same}
-use Rattle.abnf_names.specs.Said.{Block, Name, head_of}
+use Rattle.abnf_parts.specs.Leaf.{same}
+use Rattle.abnf_parts.specs.Names.{Name}
+use Rattle.abnf_names.specs.Said.{Block, head_of}
 
 -- A name in the text, as it is written there. `defines` says that it is a block's head.
 pub record Named : Type 0 where

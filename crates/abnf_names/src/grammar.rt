@@ -1,21 +1,19 @@
 //! The grammar of a text.
 
 ghost use Rattle.std.specs.Prelude.{◌≡◌, ◌<◌, IfOk, length, map};
-ghost use Rattle.abnf_names.specs.Part.{root_number};
-ghost use Rattle.abnf_names.specs.Nodes.{AreNodes};
-ghost use Rattle.abnf_names.specs.Names.{folded_text};
+ghost use Rattle.abnf_parts.specs.Part.{root_number};
+ghost use Rattle.abnf_parts.specs.Nodes.{AreNodes};
+ghost use Rattle.abnf_parts.specs.Names.{folded_text, rule_number};
 ghost use Rattle.abnf_names.specs.Places.{places_of_name};
-ghost use Rattle.abnf_names.specs.Rules.{rule_number, IsGrammar};
+ghost use Rattle.abnf_names.specs.Rules.{IsGrammar};
 ghost use Rattle.abnf_names.specs.Passes.{name_place};
 
-use crate::core_rule::{core_names, needed_rules};
 use crate::groups::Groups;
-use crate::names::RuleNames;
-use crate::node::{Node, NodeNo, RuleNo};
 use crate::own::{faults_of, own_groups, own_names, placed, unknown_names};
 use crate::parsed::parsed_blocks;
 use crate::place::{NamePlace, Spot, places_of};
 use crate::rules::push_rules;
+use abnf_parts::{Node, NodeNo, RuleNames, RuleNo, core_names, needed_rules};
 use abnf_syntax::SyntaxFault;
 use abnf_token::Folded;
 use ls_lists::List;

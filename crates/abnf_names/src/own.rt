@@ -2,14 +2,15 @@
 
 ghost use Rattle.std.specs.Prelude.{◌≡◌, ◌++◌, ◌∷◌, [], List, map, fold, filter, filter_map, option_map, IfOk, OnOk};
 ghost use Rattle.abnf_names.specs.Said as said;
-ghost use Rattle.abnf_names.specs.Rules.{with_name, defined, head_name, faults_of, fault_place, block_fault};
+ghost use Rattle.abnf_names.specs.Rules.{defined, head_name, faults_of, fault_place, block_fault};
+ghost use Rattle.abnf_parts.specs.Names.{with_name};
 ghost use Rattle.abnf_names.specs.Places.{Named};
 ghost use Rattle.abnf_names.specs.Passes as spec;
 
 use crate::groups::Groups;
-use crate::names::Names;
 use crate::parsed::{Parsed, head_of};
 use crate::place::{NamePlace, Spot};
+use abnf_parts::Names;
 use abnf_syntax::SyntaxFault;
 use ls_lists::List;
 use ls_text::Place;

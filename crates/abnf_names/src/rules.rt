@@ -1,22 +1,18 @@
 //! The nodes of the rules.
 
-ghost use Rattle.std.specs.Prelude.{◌≡◌, ◌<◌, ◌^◌, List, [], map, if◌then◌else◌, flat_map, OnOk};
-ghost use Rattle.abnf_names.specs.Part.{subparts, alt};
-ghost use Rattle.abnf_names.specs.Tree.{parts};
-ghost use Rattle.abnf_names.specs.Names.{folded_text, all_names};
+ghost use Rattle.std.specs.Prelude.{◌≡◌, List, [], map, if◌then◌else◌, flat_map, OnOk};
+ghost use Rattle.abnf_parts.specs.Part.{subparts, alt};
+ghost use Rattle.abnf_parts.specs.Tree.{parts};
+ghost use Rattle.abnf_parts.specs.Names.{folded_text, all_names, rule_number};
 ghost use Rattle.abnf_names.specs.Said as said;
 ghost use Rattle.abnf_names.specs.Rules as rules;
 ghost use Rattle.abnf_names.specs.Passes as spec;
-ghost use Rattle.abnf_names.specs.CoreTable as table;
-ghost use Rattle.abnf_names.specs.Pushed.{Adds, AddsTrees};
+ghost use Rattle.abnf_parts.specs.CoreTable as table;
+ghost use Rattle.abnf_parts.specs.Pushed.{Adds, AddsTrees};
 
-use crate::core_rule::Core;
-use crate::core_tree::push_core;
 use crate::groups::Groups;
-use crate::names::{Names, RuleNames};
-use crate::node::{Node, NodeNo};
 use crate::parsed::{Parsed, head_of};
-use crate::tree::{fill, push_concatenations};
+use abnf_parts::{Core, Node, NodeNo, RuleNames, fill, push_concatenations, push_needed};
 use abnf_token::Folded;
 use ls_lists::List;
 use std::alloc::{AllocError, Global};
@@ -42,7 +38,7 @@ fn push_alternatives<'t>(
     nodes: &mut Vec<Node<'t>>,
     numbers: &mut List<NodeNo>,
 ) -> Result<(), AllocError>
-    ensures { OnOk result (AddsTrees (rules.said_alternatives (rules.rule_number (all_names names.now)) (spec.block_of parsed.now)) nodes.old.items nodes.new.items numbers.old numbers.new) }
+    ensures { OnOk result (AddsTrees (rules.said_alternatives (rule_number (all_names names.now)) (spec.block_of parsed.now)) nodes.old.items nodes.new.items numbers.old numbers.new) }
 {
     match &parsed.said {
         Ok(rule) => push_concatenations(
@@ -70,7 +66,7 @@ fn push_if<'t>(
     nodes: &mut Vec<Node<'t>>,
     numbers: &mut List<NodeNo>,
 ) -> Result<(), AllocError>
-    ensures { OnOk result (AddsTrees (if counts then rules.said_alternatives (rules.rule_number (all_names names.now)) (spec.block_of parsed.now) else []) nodes.old.items nodes.new.items numbers.old numbers.new) }
+    ensures { OnOk result (AddsTrees (if counts then rules.said_alternatives (rule_number (all_names names.now)) (spec.block_of parsed.now) else []) nodes.old.items nodes.new.items numbers.old numbers.new) }
 {
     if counts {
         push_alternatives(alloc, names, parsed, nodes, numbers)
@@ -87,7 +83,7 @@ fn push_counted<'t>(
     nodes: &mut Vec<Node<'t>>,
     numbers: &mut List<NodeNo>,
 ) -> Result<(), AllocError>
-    ensures { OnOk result (AddsTrees (flat_map (rules.said_alternatives (rules.rule_number (all_names names.now))) (rules.counted (map spec.block_of blocks.now))) nodes.old.items nodes.new.items numbers.old numbers.new) }
+    ensures { OnOk result (AddsTrees (flat_map (rules.said_alternatives (rule_number (all_names names.now))) (rules.counted (map spec.block_of blocks.now))) nodes.old.items nodes.new.items numbers.old numbers.new) }
 {
     let mut is_defined = false;
     for parsed in blocks {
@@ -105,7 +101,7 @@ fn push_rule<'t>(
     blocks: &[Parsed<'t>],
     nodes: &mut Vec<Node<'t>>,
 ) -> Result<(), AllocError>
-    ensures { OnOk result (Adds (subparts (alt (parts (flat_map (rules.said_alternatives (rules.rule_number (all_names names.now))) (rules.counted (map spec.block_of blocks.now)))))) nodes.old.items nodes.new.items) }
+    ensures { OnOk result (Adds (subparts (alt (parts (flat_map (rules.said_alternatives (rule_number (all_names names.now))) (rules.counted (map spec.block_of blocks.now)))))) nodes.old.items nodes.new.items) }
 {
     let at = nodes.len();
     let mut numbers = List::new(alloc);
@@ -129,25 +125,6 @@ pub(crate) fn push_own<'t>(
     for name in own {
         roots.push(NodeNo::new(nodes.len()))?;
         push_rule(alloc, names, groups.members_of(*name), nodes)?;
-    }
-    Ok(())
-}
-
-/// The core rules that are needed, whose roots' numbers are added to `roots`.
-pub(crate) fn push_needed<'t>(
-    alloc: Global,
-    first: usize,
-    names: &Names<'t>,
-    needed: &[Core],
-    nodes: &mut Vec<Node<'t>>,
-    roots: &mut List<NodeNo>,
-) -> Result<(), AllocError>
-    requires { first < 2 ^ 63 }
-    ensures { OnOk result (AddsTrees (map (λ core. (table.core_of core).tree (table.number_in first names.now)) needed.now) nodes.old.items nodes.new.items roots.old roots.new) }
-{
-    for core in needed {
-        roots.push(NodeNo::new(nodes.len()))?;
-        push_core(alloc, first, names, *core, nodes)?;
     }
     Ok(())
 }

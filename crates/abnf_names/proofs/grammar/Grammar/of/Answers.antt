@@ -1,16 +1,16 @@
 use Rattle.std.proofs.Common.{◌≡◌, ◌∙◌, [], sym, ap, subst, map, List, ℕ}
 use Rattle.std.specs.Prelude.{fold, filter}
-use Rattle.abnf_names.specs.declared.node.Node.{Node}
-use Rattle.abnf_names.specs.declared.core_rule.Core.{Core}
+use Rattle.abnf_parts.specs.declared.node.Node.{Node}
+use Rattle.abnf_parts.specs.declared.core_rule.Core.{Core}
 use Rattle.abnf_names.specs.declared.parsed.Parsed.{Parsed}
 use Rattle.abnf_names.specs.declared.place.Spot.{Spot}
-use Rattle.abnf_names.specs.Said.{Name}
-use Rattle.abnf_names.specs.Core.{core_name}
-use Rattle.abnf_names.specs.CoreTable.{core_of}
+use Rattle.abnf_parts.specs.Names.{Name, with_name}
+use Rattle.abnf_parts.specs.Core.{core_name}
+use Rattle.abnf_parts.specs.CoreTable.{core_of}
 use Rattle.abnf_names.specs.Places.{places_of}
-use Rattle.abnf_names.specs.Rules.{defined, needed, rules_of, faults_of, with_name}
+use Rattle.abnf_names.specs.Rules.{defined, needed, rules_of, faults_of}
 use Rattle.abnf_names.specs.Passes.{block_of, named_at, spot_name, is_unknown, AreNames, ArePlaced}
-use Rattle.abnf_names.specs.Pushed.{AddsTrees}
+use Rattle.abnf_parts.specs.Pushed.{AddsTrees}
 use Rattle.abnf_names.proofs.Kept.{kept, names_made}
 use Rattle.abnf_names.proofs.grammar.Grammar.of.Goals as goal
 
