@@ -9,11 +9,11 @@ ghost use Rattle.abnf_names.specs.Rules.{IsGrammar};
 ghost use Rattle.abnf_names.specs.Passes.{name_place};
 
 use crate::groups::Groups;
-use crate::own::{faults_of, own_groups, own_names, placed, unknown_names};
+use crate::own::{faults_of, placed, rule_names};
 use crate::parsed::parsed_blocks;
 use crate::place::{NamePlace, Spot, places_of};
-use crate::rules::push_rules;
-use abnf_parts::{Node, NodeNo, RuleNames, RuleNo, core_names, needed_rules};
+use crate::rules::numbered_rules;
+use abnf_parts::{Node, NodeNo, RuleNames, RuleNo};
 use abnf_syntax::SyntaxFault;
 use abnf_token::Folded;
 use ls_lists::List;
@@ -70,26 +70,12 @@ impl<'t> Grammar<'t> {
         let spots = places_of(alloc, parsed.as_slice())?;
         let faults = faults_of(alloc, parsed.as_slice())?;
         let by_name = placed(alloc, spots.as_slice())?;
-        let own = own_names(alloc, parsed.as_slice())?;
-        let unknown = unknown_names(alloc, &own, spots.as_slice())?;
-        let needed = needed_rules(alloc, &unknown)?;
-        let core = core_names(alloc, needed.as_slice())?;
-        let names = RuleNames::new(own, core);
-        let groups = own_groups(alloc, parsed)?;
-        let mut nodes = Vec::new(alloc);
-        let mut roots = List::new(alloc);
-        push_rules(
-            alloc,
-            &names,
-            &groups,
-            needed.as_slice(),
-            &mut nodes,
-            &mut roots,
-        )?;
+        let (names, needed) = rule_names(alloc, parsed.as_slice(), spots.as_slice())?;
+        let (nodes, roots) = numbered_rules(alloc, &names, parsed, needed.as_slice())?;
         Ok(Grammar {
             source: snapshot,
             nodes,
-            roots: roots.into_vec(),
+            roots,
             names,
             spots,
             by_name,

@@ -1,6 +1,6 @@
 //! The nodes of the rules.
 
-ghost use Rattle.std.specs.Prelude.{◌≡◌, List, [], map, if◌then◌else◌, flat_map, OnOk};
+ghost use Rattle.std.specs.Prelude.{◌≡◌, List, [], map, if◌then◌else◌, flat_map, IfOk, OnOk};
 ghost use Rattle.abnf_parts.specs.Part.{subparts, alt};
 ghost use Rattle.abnf_parts.specs.Tree.{parts};
 ghost use Rattle.abnf_parts.specs.Names.{folded_text, all_names, rule_number};
@@ -11,6 +11,7 @@ ghost use Rattle.abnf_parts.specs.CoreTable as table;
 ghost use Rattle.abnf_parts.specs.Pushed.{Adds, AddsTrees};
 
 use crate::groups::Groups;
+use crate::own::own_groups;
 use crate::parsed::{Parsed, head_of};
 use abnf_parts::{Core, Node, NodeNo, RuleNames, fill, push_concatenations, push_needed};
 use abnf_token::Folded;
@@ -112,7 +113,7 @@ fn push_rule<'t>(
 }
 
 /// The rules of the text, whose roots' numbers are added to `roots`.
-pub(crate) fn push_own<'t>(
+fn push_own<'t>(
     alloc: Global,
     names: &RuleNames<'t>,
     groups: &Groups<'t, Parsed<'t>>,
@@ -130,7 +131,7 @@ pub(crate) fn push_own<'t>(
 }
 
 /// All rules, those of the text first.
-pub(crate) fn push_rules<'t>(
+fn push_rules<'t>(
     alloc: Global,
     names: &RuleNames<'t>,
     groups: &Groups<'t, Parsed<'t>>,
@@ -144,4 +145,22 @@ pub(crate) fn push_rules<'t>(
     let core = names.core();
     push_own(alloc, names, groups, own.as_slice(), nodes, roots)?;
     push_needed(alloc, own.len(), core, needed, nodes, roots)
+}
+
+/// The nodes of all rules, and the numbers of their roots.
+pub(crate) fn numbered_rules<'t>(
+    alloc: Global,
+    names: &RuleNames<'t>,
+    parsed: Vec<Parsed<'t>>,
+    needed: &[Core],
+) -> Result<(Vec<Node<'t>>, Vec<NodeNo>), AllocError>
+    requires names { spec.AreNames (map spec.block_of parsed.items) names.now }
+    requires needed { map table.core_of needed.now ≡ rules.needed (map spec.block_of parsed.items) }
+    ensures { IfOk result (λ r. AddsTrees (rules.rules_of (map spec.block_of parsed.entry.items)) [] r.0.items [] r.1.items) }
+{
+    let groups = own_groups(alloc, parsed)?;
+    let mut nodes = Vec::new(alloc);
+    let mut roots = List::new(alloc);
+    push_rules(alloc, names, &groups, needed, &mut nodes, &mut roots)?;
+    Ok((nodes, roots.into_vec()))
 }
