@@ -1,28 +1,10 @@
 -- Things that are put under names.
 use Rattle.std.proofs.Common.{◌≡◌, ℕ, suc, Bool, true, false, List, [], ◌∷◌, ◌++◌, length, set, get_or, refl, sym, ap, subst, ◌∙◌, append-nil, arith}
-use Rattle.std.specs.Prelude.{position, Option, Some, None, option_map, if◌then◌else◌, ◌||◌}
-use Rattle.std.specs.List.{list_any}
-use Rattle.std.specs.Option.{is_some}
-use Rattle.std.specs.Cmp.Lexicographic.{same_text, other_text}
-use Rattle.abnf_names.specs.Leaf.{same}
-use Rattle.abnf_names.specs.Said.{Name}
-use Rattle.abnf_names.specs.Rules.{with_name}
+use Rattle.std.specs.Prelude.{position, Option, Some, None, option_map, if◌then◌else◌}
+use Rattle.abnf_parts.specs.Leaf.{same}
+use Rattle.abnf_parts.specs.Names.{Name}
+use Rattle.abnf_parts.proofs.NameLaws.{never, same_is, same_refl, position-cons}
 use Rattle.abnf_names.specs.Passes.{members_in, if_same}
-use Rattle.abnf_names.proofs.NameLaws.{position-cons}
-
-pub never : {A : Type 0} (b : Bool) → b ≡ true → b ≡ false → A
-never true e f = absurd (cc (f))
-never false e f = absurd (cc (e))
-
-pub same_is : (s t : Name) → same s t ≡ true → s ≡ t
-same_is s t h = same_text s t (sym h)
-
-refl_by : (s : Name) (b : Bool) → same s s ≡ b → same s s ≡ true
-refl_by s true e = e
-refl_by s false e = absurd (other_text s s (sym e) refl)
-
-pub same_refl : (s : Name) → same s s ≡ true
-same_refl s = refl_by s (same s s) refl
 
 some_is : (j k : ℕ) → Some j ≡ Some k → j ≡ k
 some_is j k g = cc g
@@ -30,15 +12,6 @@ some_is j k g = cc g
 none_below : (o : Option ℕ) → option_map suc o ≡ None → o ≡ None
 none_below None g = refl
 none_below (Some j) g = absurd (cc g)
-
-sym_by : (s t : Name) (b c : Bool) → same s t ≡ b → same t s ≡ c → b ≡ c
-sym_by s t true true e f = refl
-sym_by s t true false e f = never (same t s) (subst (λ k. same t k ≡ true) (sym (same_is s t e)) (same_refl t)) f
-sym_by s t false true e f = never (same s t) (subst (λ k. same s k ≡ true) (sym (same_is t s f)) (same_refl s)) e
-sym_by s t false false e f = refl
-
-pub same_sym : (s t : Name) → same s t ≡ same t s
-same_sym s t = sym_by s t (same s t) (same t s) refl refl
 
 module _ {T : Type 0} (n : Name) (x : T) where
   here_by : (b c : Bool) (a m : Name) (list rest : List T) → same n a ≡ true → same m a ≡ b → same n m ≡ c →
@@ -127,22 +100,3 @@ module _ {T : Type 0} (n : Name) where
   lost [] members h = refl
   lost (a ∷ names) [] h = refl
   lost (a ∷ names) (list ∷ members) h = lost_by (same n a) names list members (sym (position-cons (same n) a names) ∙ h) (λ e. lost names members e)
-
--- a name is there where it has a place
-pub position_any : (n : Name) (names : List Name) → list_any (same n) names ≡ is_some (position (same n) names)
-position_any n [] = refl
-position_any n (a ∷ names) = any_by (same n a) (position_any n names) ∙ ap is_some (sym (position-cons (same n) a names))
-  where
-    some_suc : (o : Option ℕ) → is_some o ≡ is_some (option_map suc o)
-    some_suc None = refl
-    some_suc (Some k) = refl
-
-    any_by : (b : Bool) → list_any (same n) names ≡ is_some (position (same n) names) → (b || list_any (same n) names) ≡ is_some (if b then Some 0 else option_map suc (position (same n) names))
-    any_by true e = refl
-    any_by false e = e ∙ some_suc (position (same n) names)
-
-pub with_there : (n : Name) (names : List Name) (k : ℕ) → position (same n) names ≡ Some k → with_name names n ≡ names
-with_there n names k h = ap (λ b. if b then names else names ++ n ∷ []) (position_any n names ∙ ap is_some h)
-
-pub with_new : (n : Name) (names : List Name) → position (same n) names ≡ None → with_name names n ≡ names ++ n ∷ []
-with_new n names h = ap (λ b. if b then names else names ++ n ∷ []) (position_any n names ∙ ap is_some h)

@@ -3,24 +3,25 @@ use Rattle.std.proofs.Common.{◌≡◌, ℕ, List, [], map, sym, ap, ◌∙◌}
 use Rattle.std.specs.Prelude.{fold, filter}
 use Rattle.ls_text.specs.declared.position.Place.{Place}
 use Rattle.abnf_syntax.specs.declared.fault.SyntaxFault.{SyntaxFault}
-use Rattle.abnf_names.specs.declared.core_rule.Core.{Core}
+use Rattle.abnf_parts.specs.declared.core_rule.Core.{Core}
 use Rattle.abnf_names.specs.declared.place.Spot.{Spot}
 use Rattle.abnf_names.specs.declared.grammar.Grammar.TheInside.{Inside}
-use Rattle.abnf_names.specs.Part.{Part}
-use Rattle.abnf_names.specs.Core.{core_rules, core_name}
-use Rattle.abnf_names.specs.CoreTable.{core_of}
-use Rattle.abnf_names.specs.Said.{Block, AreSaid, Name}
+use Rattle.abnf_parts.specs.Part.{Part}
+use Rattle.abnf_parts.specs.Core.{core_rules, core_name, is_needed}
+use Rattle.abnf_parts.specs.CoreTable.{core_of}
+use Rattle.abnf_names.specs.Said.{Block, AreSaid}
+use Rattle.abnf_parts.specs.Names.{Name, all_names, with_name}
 use Rattle.abnf_names.specs.Places.{Named, places_of}
-use Rattle.abnf_names.specs.Names.{all_names}
-use Rattle.abnf_names.specs.Nodes.{trees_at}
-use Rattle.abnf_names.specs.Rules.{defined, needed, undefined, names_of, rules_of, faults_of, is_needed, with_name, Grammar}
+use Rattle.abnf_parts.specs.Nodes.{trees_at}
+use Rattle.abnf_names.specs.Rules.{defined, needed, undefined, names_of, rules_of, faults_of, Grammar}
 use Rattle.abnf_names.specs.Passes.{named_at, spot_name, is_unknown, AreNames, ArePlaced}
 use Rattle.abnf_names.specs.Inside.{IsGrammarInside}
-use Rattle.abnf_names.specs.Pushed.{AddsTrees}
-use Rattle.abnf_names.proofs.ApartLaws.{map_both, needed_names, needed_all}
+use Rattle.abnf_parts.specs.Pushed.{AddsTrees}
+use Rattle.abnf_parts.proofs.ApartLaws.{map_both, needed_names}
+use Rattle.abnf_names.proofs.NeededPass.{needed_all}
 use Rattle.abnf_names.proofs.RulePass.{names_are}
 use Rattle.abnf_names.proofs.Closed.{rules_closed}
-use Rattle.abnf_names.proofs.Tied.{tied, IsTied}
+use Rattle.abnf_parts.proofs.Tied.{tied, IsTied}
 
 pub same_grammar : (text : List ℕ) (names ns : List Name) (rules rs : List Part) (places ps : List Named) (faults fs : List (Place × SyntaxFault)) → names ≡ ns → rules ≡ rs → places ≡ ps → faults ≡ fs →
     (let g : Grammar = record { text = text; names = names; rules = rules; places = places; faults = faults } in g) ≡ (let g : Grammar = record { text = text; names = ns; rules = rs; places = ps; faults = fs } in g)

@@ -1,14 +1,8 @@
-pub mod NameLaws
 pub mod ReachLaws
-pub mod Numbered
-pub mod Pushing
 pub mod BlockPass
 pub mod GroupLaws
 pub mod OwnPass
-pub mod CoreLaws
-pub mod NeededLaws
+pub mod NeededPass
 pub mod RulePass
-pub mod ApartLaws
-pub mod Tied
-pub mod Kept
 pub mod Closed
+pub mod Kept

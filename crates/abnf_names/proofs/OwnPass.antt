@@ -10,14 +10,15 @@ use Rattle.abnf_token.specs.Folded.{lowercase}
 use Rattle.abnf_names.specs.declared.parsed.Parsed.{Parsed}
 use Rattle.abnf_names.specs.declared.place.NamePlace.{NamePlace}
 use Rattle.abnf_names.specs.declared.place.Spot.{Spot}
-use Rattle.abnf_names.specs.Leaf.{same}
+use Rattle.abnf_parts.specs.Leaf.{same}
+use Rattle.abnf_parts.specs.Names.{Name, with_name}
 use Rattle.abnf_syntax.specs.declared.block.Head.{Head}
 use Rattle.abnf_syntax.specs.Heads.{head_of}
-use Rattle.abnf_names.specs.Said.{Block, Name, name_of}
+use Rattle.abnf_names.specs.Said.{Block, name_of}
 use Rattle.abnf_names.specs.Places.{Named, places_of_name}
-use Rattle.abnf_names.specs.Rules.{defined, defines, with_name, head_name}
+use Rattle.abnf_names.specs.Rules.{defined, defines, head_name}
 use Rattle.abnf_names.specs.Passes.{block_of, name_place, spot_name, members_of, if_same, is_unknown, Grouped, AreOwn, ArePlaced}
-use Rattle.abnf_names.proofs.GroupLaws.{same_sym, position_any}
+use Rattle.abnf_parts.proofs.NameLaws.{same_sym, position_any}
 
 -- one more item that a loop has seen
 pub map_take-next : {X Y : Type 0} (f : X → Y) (xs : List X) (i : ℕ) (x d : X) → i < length xs → x ≡ get_or xs i d → map f (take (i + 1) xs) ≡ map f (take i xs) ++ f x ∷ []

@@ -1,43 +1,22 @@
 -- The alternatives of a rule, block by block.
-use Rattle.std.proofs.Common.{◌≡◌, ◌<◌, ◌+◌, ℕ, suc, Bool, true, false, List, [], ◌∷◌, ◌++◌, map, drop, length, get_or, refl, sym, ap, subst, ◌∙◌, append-nil, append_assoc, length-append, arith}
+use Rattle.std.proofs.Common.{◌≡◌, ◌<◌, ◌+◌, ℕ, suc, Bool, true, false, List, [], ◌∷◌, ◌++◌, map, drop, length, get_or, refl, sym, ap, subst, ◌∙◌, append-nil, append_assoc, arith}
 use Rattle.std.proofs.Math.Seq.{drop-cons}
 use Rattle.std.proofs.lemmas.Grind.{flat_map-append}
 use Rattle.std.specs.Prelude.{Option, flat_map, filter, not, ◌||◌, if◌then◌else◌}
-use Rattle.abnf_names.specs.declared.node.Node.{Node}
+use Rattle.abnf_parts.specs.declared.node.Node.{Node}
 use Rattle.abnf_names.specs.declared.parsed.Parsed.{Parsed}
-use Rattle.abnf_names.specs.Part.{Part, alt, subparts, all_subparts, numbers}
-use Rattle.abnf_names.specs.Tree.{parts}
-use Rattle.abnf_names.specs.Said.{Block, Name}
-use Rattle.abnf_names.specs.Rules.{counted, adds, defines, names_of, rule_number, rule_tree, rules_of, core_tree, needed, defined, said_alternatives}
-use Rattle.abnf_names.specs.Names.{folded_text, all_names}
-use Rattle.abnf_names.specs.CoreTable.{core_of, number_in}
-use Rattle.abnf_names.specs.declared.core_rule.Core.{Core}
+use Rattle.abnf_parts.specs.Part.{Part, alt, subparts}
+use Rattle.abnf_parts.specs.Tree.{parts}
+use Rattle.abnf_names.specs.Said.{Block}
+use Rattle.abnf_parts.specs.Names.{Name, rule_number, folded_text, all_names}
+use Rattle.abnf_names.specs.Rules.{counted, adds, defines, names_of, rule_tree, rules_of, core_tree, needed, defined, said_alternatives}
+use Rattle.abnf_parts.specs.CoreTable.{core_of, number_in}
+use Rattle.abnf_parts.specs.declared.core_rule.Core.{Core}
 use Rattle.abnf_token.specs.declared.folded.Folded.{Folded}
-use Rattle.abnf_names.proofs.ApartLaws.{map_both}
+use Rattle.abnf_parts.proofs.ApartLaws.{map_both}
 use Rattle.abnf_names.specs.Passes.{block_of, members_of, Grouped, AreOwn, AreNames}
-use Rattle.abnf_names.specs.Pushed.{Adds, AddsTrees}
-use Rattle.abnf_names.proofs.Pushing.{adds_both, adds_length, trees_none}
-
-all_subparts-append : (ps qs : List Part) → all_subparts (parts (ps ++ qs)) ≡ all_subparts (parts ps) ++ all_subparts (parts qs)
-all_subparts-append [] qs = refl
-all_subparts-append (p ∷ ps) qs = ap (λ rest. subparts p ++ rest) (all_subparts-append ps qs) ∙ sym (append_assoc (subparts p) (all_subparts (parts ps)) (all_subparts (parts qs)))
-
-numbers-append : (n : ℕ) (ps qs : List Part) → numbers n (parts (ps ++ qs)) ≡ numbers n (parts ps) ++ numbers (n + length (all_subparts (parts ps))) (parts qs)
-numbers-append n [] qs = ap (λ k. numbers k (parts qs)) (let e : n ≡ n + 0 = omega arith in e)
-numbers-append n (p ∷ ps) qs =
-    let len : length (subparts p ++ all_subparts (parts ps)) ≡ length (subparts p) + length (all_subparts (parts ps)) = length-append (subparts p) (all_subparts (parts ps)) in
-    ap (λ rest. n ∷ rest) (numbers-append (n + length (subparts p)) ps qs
-    ∙ ap (λ k. numbers (n + length (subparts p)) (parts ps) ++ numbers k (parts qs)) (let e : n + length (subparts p) + length (all_subparts (parts ps)) ≡ n + length (subparts p ++ all_subparts (parts ps)) = omega (arith, len) in e))
-
-pub trees_both : (ps qs : List Part) (old mid new : List Node) (a b c : List ℕ) → AddsTrees ps old mid a b → AddsTrees qs mid new b c → AddsTrees (ps ++ qs) old new a c
-trees_both ps qs old mid new a b c h k = record {
-  nodes = subst (λ all. Adds all old new) (sym (all_subparts-append ps qs)) (adds_both (all_subparts (parts ps)) (all_subparts (parts qs)) old mid new h.nodes k.nodes);
-  numbers_are =
-      k.numbers_are
-      ∙ (ap (λ x. x ++ numbers (length mid) (parts qs)) h.numbers_are
-      ∙ (append_assoc a (numbers (length old) (parts ps)) (numbers (length mid) (parts qs))
-      ∙ ap (λ x. a ++ x) (ap (λ n. numbers (length old) (parts ps) ++ numbers n (parts qs)) (adds_length (all_subparts (parts ps)) old mid h.nodes) ∙ sym (numbers-append (length old) ps qs))));
-}
+use Rattle.abnf_parts.specs.Pushed.{Adds, AddsTrees}
+use Rattle.abnf_parts.proofs.Pushing.{trees_none, trees_both}
 
 -- the alternatives of those blocks in front that count, where it is known whether one with `=` was among them
 pub record HasPushed (said : Block → List Part) (all : List Block) (is_defined : Bool) (left : List Block) (old new : List Node) (before after : List ℕ) : Type 0 where

@@ -5,8 +5,8 @@ use Rattle.ls_text.specs.declared.position.Place.{Place}
 use Rattle.abnf_syntax.specs.declared.fault.SyntaxFault.{SyntaxFault}
 use Rattle.abnf_syntax.specs.declared.fault.SyntaxFault.TheVariants as f
 use Rattle.std.proofs.Common.{◌≡◌, zero, suc}
-use Rattle.abnf_names.specs.Part.{Part}
-use Rattle.abnf_names.specs.PartCode.{trees_code}
+use Rattle.abnf_parts.specs.Part.{Part}
+use Rattle.abnf_parts.specs.PartCode.{trees_code}
 use Rattle.abnf_names.specs.Places.{Named}
 use Rattle.abnf_names.specs.Rules.{Grammar}
 

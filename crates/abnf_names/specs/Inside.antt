@@ -1,8 +1,8 @@
 -- What a grammar's fields hold.
 use Rattle.std.specs.Prelude.{map}
-use Rattle.abnf_names.specs.Names.{all_names}
+use Rattle.abnf_parts.specs.Names.{all_names}
 use Rattle.abnf_names.specs.Rules.{Grammar, IsGrammar}
-use Rattle.abnf_names.specs.Nodes.{trees_at, AreNumbered}
+use Rattle.abnf_parts.specs.Nodes.{trees_at, AreNumbered}
 use Rattle.abnf_names.specs.Passes.{named_at, ArePlaced}
 use Rattle.abnf_names.specs.declared.grammar.Grammar.TheInside.{Inside}
 

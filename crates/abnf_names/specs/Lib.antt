@@ -1,17 +1,6 @@
-pub mod Part
-pub mod PartCode
-pub mod Generates
-pub mod Nodes
-pub mod Leaf
-pub mod Tree
-pub mod Core
 pub mod Said
 pub mod Places
-pub mod Names
 pub mod Rules
 pub mod GrammarCode
-pub mod Reach
-pub mod Pushed
 pub mod Passes
-pub mod CoreTable
 pub mod Inside

@@ -4,12 +4,12 @@ use Rattle.std.specs.List.{list_any}
 use Rattle.abnf_names.specs.declared.parsed.Parsed.{Parsed}
 use Rattle.abnf_names.specs.declared.place.Spot.{Spot}
 use Rattle.abnf_names.specs.declared.place.NamePlace.{NamePlace}
-use Rattle.abnf_names.specs.Names.{folded_text}
-use Rattle.abnf_names.specs.Leaf.{same}
-use Rattle.abnf_names.specs.Said.{Block, Name}
+use Rattle.abnf_parts.specs.Names.{folded_text, Name}
+use Rattle.abnf_parts.specs.Leaf.{same}
+use Rattle.abnf_names.specs.Said.{Block}
 use Rattle.abnf_names.specs.Places.{Named, places_of_name}
 use Rattle.abnf_names.specs.Rules.{defined, defines, needed}
-use Rattle.abnf_names.specs.Core.{core_name}
+use Rattle.abnf_parts.specs.Core.{core_name}
 
 abbrev pub block_of : Parsed → Block
 block_of p = record { items = p.block.items; said = p.said }

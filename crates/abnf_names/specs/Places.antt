@@ -12,8 +12,9 @@ use Rattle.abnf_syntax.specs.Kinds.{is_name, is_bad}
 use Rattle.abnf_syntax.specs.Grammar.{kind_of}
 use Rattle.abnf_syntax.specs.Faults.{place_of}
 use Rattle.abnf_syntax.specs.Heads.{head_of}
-use Rattle.abnf_names.specs.Leaf.{same}
-use Rattle.abnf_names.specs.Said.{Block, Name}
+use Rattle.abnf_parts.specs.Leaf.{same}
+use Rattle.abnf_parts.specs.Names.{Name}
+use Rattle.abnf_names.specs.Said.{Block}
 
 -- A name in the text, as it is written there. `defines` says that it is a block's head.
 pub record Named : Type 0 where

@@ -1,5 +1,5 @@
 -- The rules of a text, by its blocks.
-use Rattle.std.specs.Prelude.{◌≡◌, ℕ, ◌+◌, List, [], ◌∷◌, ◌++◌, map, flat_map, filter_map, filter, position, fold, length, Option, Some, None, option_map, Result, Ok, Err, Bool, false, not, if◌then◌else◌}
+use Rattle.std.specs.Prelude.{◌≡◌, ℕ, ◌+◌, List, [], ◌∷◌, ◌++◌, map, flat_map, filter_map, filter, fold, length, Option, Some, None, option_map, Result, Ok, Err, Bool, false, not, if◌then◌else◌}
 use Rattle.std.specs.List.{list_any}
 use Rattle.std.specs.Option.{option_map_or}
 use Rattle.ls_text.specs.declared.position.Place.{Place}
@@ -8,11 +8,12 @@ use Rattle.abnf_syntax.specs.declared.fault.SyntaxFault.{SyntaxFault}
 use Rattle.abnf_syntax.specs.declared.fault.SyntaxFault.TheVariants as f
 use Rattle.abnf_syntax.specs.declared.tree.Rule.{Rule}
 use Rattle.abnf_syntax.specs.Heads.{head_of}
-use Rattle.abnf_names.specs.Part.{Part, alt, opaque}
-use Rattle.abnf_names.specs.Leaf.{same}
-use Rattle.abnf_names.specs.Tree.{parts, alternatives}
-use Rattle.abnf_names.specs.Core.{CoreRule, core_rules, core_name, needs}
-use Rattle.abnf_names.specs.Said.{Block, AreSaid, Name, name_of}
+use Rattle.abnf_parts.specs.Part.{Part, alt, opaque}
+use Rattle.abnf_parts.specs.Leaf.{same}
+use Rattle.abnf_parts.specs.Tree.{parts, alternatives}
+use Rattle.abnf_parts.specs.Names.{Name, with_name, rule_number}
+use Rattle.abnf_parts.specs.Core.{CoreRule, core_rules, core_name, is_needed}
+use Rattle.abnf_names.specs.Said.{Block, AreSaid, name_of}
 use Rattle.abnf_names.specs.Places.{Named, places_of}
 
 abbrev pub defines : Name → Block → Bool
@@ -26,10 +27,6 @@ abbrev pub counted : List Block → List Block
 counted [] = []
 counted (block ∷ blocks) = block ∷ (if adds block then counted blocks else filter adds blocks)
 
--- a name, unless it is there
-abbrev pub with_name : List Name → Name → List Name
-with_name names name = if list_any (same name) names then names else names ++ name ∷ []
-
 abbrev pub head_name : Block → Option Name
 head_name block = option_map name_of (head_of block.items)
 
@@ -41,10 +38,7 @@ defined blocks = fold with_name [] (filter_map head_name blocks)
 abbrev pub undefined : List Block → List Name
 undefined blocks = filter (λ name. not (list_any (same name) (defined blocks))) (map (λ place. lowercase place.text) (places_of blocks))
 
--- Needed is a core rule that such a name stands for, and each that a needed one uses.
-abbrev pub is_needed : List Name → CoreRule → Bool
-is_needed names core = list_any (λ name. list_any (same (core_name core)) (needs (length core_rules) name)) names
-
+-- the core rules that are needed for these names
 abbrev pub needed : List Block → List CoreRule
 needed blocks = filter (is_needed (undefined blocks)) core_rules
 
@@ -52,11 +46,7 @@ needed blocks = filter (is_needed (undefined blocks)) core_rules
 abbrev pub names_of : List Block → List Name
 names_of blocks = defined blocks ++ map core_name (needed blocks)
 
--- the number of the rule that a name stands for: the first that has it
-abbrev pub rule_number : List Name → Name → Option ℕ
-rule_number names name = position (same name) names
-
--- the same inside the core rules, where names stand for core rules alone
+-- the number of the rule that a name stands for inside the core rules, where names stand for core rules alone
 abbrev pub core_number : List Block → Name → Option ℕ
 core_number blocks name = option_map (λ r. length (defined blocks) + r) (rule_number (map core_name (needed blocks)) name)
 

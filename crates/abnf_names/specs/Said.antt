@@ -10,6 +10,7 @@ use Rattle.abnf_syntax.specs.Grammar.{Derives}
 use Rattle.abnf_syntax.specs.Faults.{Faults}
 use Rattle.abnf_syntax.specs.Blocks.{line_texts, AreBlocks}
 use Rattle.abnf_syntax.specs.Items.{AreItems}
+use Rattle.abnf_parts.specs.Names.{Name}
 
 -- a block: its items, and the rule that they say or the fault that they show
 pub record Block : Type 0 where
@@ -36,10 +37,6 @@ pub record AreSaid (text : List ℕ) (blocks : List Block) : Type 0 where
   pub bounds : List (ℕ × ℕ)
   pub all : AreBlocks (line_texts text) 0 bounds
   pub each : AreWithin (line_texts text) bounds blocks
-
--- a name with its letters made small
-abbrev pub Name : Type 0
-Name = List ℕ
 
 -- the name that a head defines or adds to
 abbrev pub name_of : Head → Name

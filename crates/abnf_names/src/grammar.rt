@@ -1,21 +1,19 @@
 //! The grammar of a text.
 
 ghost use Rattle.std.specs.Prelude.{◌≡◌, ◌<◌, IfOk, length, map, option_map};
-ghost use Rattle.abnf_names.specs.Part.{root_number};
-ghost use Rattle.abnf_names.specs.Nodes.{AreNodes};
-ghost use Rattle.abnf_names.specs.Names.{folded_text};
+ghost use Rattle.abnf_parts.specs.Part.{root_number};
+ghost use Rattle.abnf_parts.specs.Nodes.{AreNodes};
+ghost use Rattle.abnf_parts.specs.Names.{folded_text, rule_number};
 ghost use Rattle.abnf_names.specs.Places.{at_offset, place_and_name, place_and_text, places_of_name};
-ghost use Rattle.abnf_names.specs.Rules.{rule_number, IsGrammar};
+ghost use Rattle.abnf_names.specs.Rules.{IsGrammar};
 ghost use Rattle.abnf_names.specs.Passes.{name_place};
 
-use crate::core_rule::{core_names, needed_rules};
 use crate::groups::Groups;
-use crate::names::RuleNames;
-use crate::node::{Node, NodeNo, RuleNo};
-use crate::own::{faults_of, own_groups, own_names, placed, unknown_names};
+use crate::own::{faults_of, placed, rule_names};
 use crate::parsed::parsed_blocks;
 use crate::place::{NamePlace, Spot, found_at, places_of};
-use crate::rules::push_rules;
+use crate::rules::numbered_rules;
+use abnf_parts::{Node, NodeNo, RuleNames, RuleNo};
 use abnf_syntax::SyntaxFault;
 use abnf_token::Folded;
 use ls_lists::List;
@@ -72,26 +70,12 @@ impl<'t> Grammar<'t> {
         let spots = places_of(alloc, parsed.as_slice())?;
         let faults = faults_of(alloc, parsed.as_slice())?;
         let by_name = placed(alloc, spots.as_slice())?;
-        let own = own_names(alloc, parsed.as_slice())?;
-        let unknown = unknown_names(alloc, &own, spots.as_slice())?;
-        let needed = needed_rules(alloc, &unknown)?;
-        let core = core_names(alloc, needed.as_slice())?;
-        let names = RuleNames::new(own, core);
-        let groups = own_groups(alloc, parsed)?;
-        let mut nodes = Vec::new(alloc);
-        let mut roots = List::new(alloc);
-        push_rules(
-            alloc,
-            &names,
-            &groups,
-            needed.as_slice(),
-            &mut nodes,
-            &mut roots,
-        )?;
+        let (names, needed) = rule_names(alloc, parsed.as_slice(), spots.as_slice())?;
+        let (nodes, roots) = numbered_rules(alloc, &names, parsed, needed.as_slice())?;
         Ok(Grammar {
             source: snapshot,
             nodes,
-            roots: roots.into_vec(),
+            roots,
             names,
             spots,
             by_name,

@@ -1,12 +1,10 @@
 //! Things that are put under names.
 
 ghost use Rattle.std.specs.Prelude.{◌≡◌, ◌++◌, [], IfOk};
-ghost use Rattle.abnf_names.specs.Said.{Name};
-ghost use Rattle.abnf_names.specs.Rules.{with_name};
-ghost use Rattle.abnf_names.specs.Names.{folded_text};
+ghost use Rattle.abnf_parts.specs.Names.{Name, with_name, folded_text};
 ghost use Rattle.abnf_names.specs.Passes.{members_of, if_same};
 
-use crate::names::Names;
+use abnf_parts::Names;
 use abnf_token::Folded;
 use ls_lists::List;
 use std::alloc::{AllocError, Global};

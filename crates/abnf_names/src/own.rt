@@ -2,14 +2,16 @@
 
 ghost use Rattle.std.specs.Prelude.{◌≡◌, ◌++◌, ◌∷◌, [], List, map, fold, filter, filter_map, option_map, IfOk, OnOk};
 ghost use Rattle.abnf_names.specs.Said as said;
-ghost use Rattle.abnf_names.specs.Rules.{with_name, defined, head_name, faults_of, fault_place, block_fault};
-ghost use Rattle.abnf_names.specs.Places.{Named};
+ghost use Rattle.abnf_names.specs.Rules.{defined, needed, head_name, faults_of, fault_place, block_fault};
+ghost use Rattle.abnf_parts.specs.Names.{with_name};
+ghost use Rattle.abnf_names.specs.Places.{Named, places_of};
 ghost use Rattle.abnf_names.specs.Passes as spec;
+ghost use Rattle.abnf_parts.specs.CoreTable as table;
 
 use crate::groups::Groups;
-use crate::names::Names;
 use crate::parsed::Parsed;
 use crate::place::{NamePlace, Spot};
+use abnf_parts::{Core, Names, RuleNames, core_names, needed_rules};
 use abnf_syntax::SyntaxFault;
 use abnf_token::Folded;
 use ls_lists::List;
@@ -30,7 +32,7 @@ fn add_own<'t>(names: &mut Names<'t>, parsed: &Parsed<'t>) -> Result<(), AllocEr
 }
 
 /// The names that the blocks define.
-pub(crate) fn own_names<'t>(alloc: Global, parsed: &[Parsed<'t>]) -> Result<Names<'t>, AllocError>
+fn own_names<'t>(alloc: Global, parsed: &[Parsed<'t>]) -> Result<Names<'t>, AllocError>
     ensures { IfOk result (λ names. names ≡ defined (map spec.block_of parsed.now)) }
 {
     let mut names = Names::new(alloc);
@@ -115,7 +117,7 @@ fn add_unknown<'t>(
 }
 
 /// The names that stand in the text and that no block defines.
-pub(crate) fn unknown_names<'t>(
+fn unknown_names<'t>(
     alloc: Global,
     own: &Names<'t>,
     spots: &[Spot<'t>],
@@ -127,6 +129,23 @@ pub(crate) fn unknown_names<'t>(
         add_unknown(own, &mut names, spot)?;
     }
     Ok(names)
+}
+
+/// The names of the rules of the text and of the core rules that it needs, and these core rules.
+pub(crate) fn rule_names<'t>(
+    alloc: Global,
+    parsed: &[Parsed<'t>],
+    spots: &[Spot<'t>],
+) -> Result<(RuleNames<'t>, List<Core>), AllocError>
+    requires { map spec.named_at spots.now ≡ places_of (map spec.block_of parsed.now) }
+    ensures names { IfOk result (λ r. spec.AreNames (map spec.block_of parsed.now) r.0) }
+    ensures needed { IfOk result (λ r. map table.core_of r.1 ≡ needed (map spec.block_of parsed.now)) }
+{
+    let own = own_names(alloc, parsed)?;
+    let unknown = unknown_names(alloc, &own, spots)?;
+    let needed = needed_rules(alloc, &unknown)?;
+    let core = core_names(alloc, needed.as_slice())?;
+    Ok((RuleNames::new(own, core), needed))
 }
 
 /// The place of a fault; there is none for memory.

@@ -1,22 +1,19 @@
 //! The nodes of the rules.
 
-ghost use Rattle.std.specs.Prelude.{◌≡◌, ◌<◌, ◌^◌, List, [], map, if◌then◌else◌, flat_map, OnOk};
-ghost use Rattle.abnf_names.specs.Part.{subparts, alt};
-ghost use Rattle.abnf_names.specs.Tree.{parts};
-ghost use Rattle.abnf_names.specs.Names.{folded_text, all_names};
+ghost use Rattle.std.specs.Prelude.{◌≡◌, List, [], map, if◌then◌else◌, flat_map, IfOk, OnOk};
+ghost use Rattle.abnf_parts.specs.Part.{subparts, alt};
+ghost use Rattle.abnf_parts.specs.Tree.{parts};
+ghost use Rattle.abnf_parts.specs.Names.{folded_text, all_names, rule_number};
 ghost use Rattle.abnf_names.specs.Said as said;
 ghost use Rattle.abnf_names.specs.Rules as rules;
 ghost use Rattle.abnf_names.specs.Passes as spec;
-ghost use Rattle.abnf_names.specs.CoreTable as table;
-ghost use Rattle.abnf_names.specs.Pushed.{Adds, AddsTrees};
+ghost use Rattle.abnf_parts.specs.CoreTable as table;
+ghost use Rattle.abnf_parts.specs.Pushed.{Adds, AddsTrees};
 
-use crate::core_rule::Core;
-use crate::core_tree::push_core;
 use crate::groups::Groups;
-use crate::names::{Names, RuleNames};
-use crate::node::{Node, NodeNo};
+use crate::own::own_groups;
 use crate::parsed::Parsed;
-use crate::tree::{fill, push_concatenations};
+use abnf_parts::{Core, Node, NodeNo, RuleNames, fill, push_concatenations, push_needed};
 use abnf_token::Folded;
 use ls_lists::List;
 use std::alloc::{AllocError, Global};
@@ -42,7 +39,7 @@ fn push_alternatives<'t>(
     nodes: &mut Vec<Node<'t>>,
     numbers: &mut List<NodeNo>,
 ) -> Result<(), AllocError>
-    ensures { OnOk result (AddsTrees (rules.said_alternatives (rules.rule_number (all_names names.now)) (spec.block_of parsed.now)) nodes.old.items nodes.new.items numbers.old numbers.new) }
+    ensures { OnOk result (AddsTrees (rules.said_alternatives (rule_number (all_names names.now)) (spec.block_of parsed.now)) nodes.old.items nodes.new.items numbers.old numbers.new) }
 {
     match &parsed.said {
         Ok(rule) => push_concatenations(
@@ -70,7 +67,7 @@ fn push_if<'t>(
     nodes: &mut Vec<Node<'t>>,
     numbers: &mut List<NodeNo>,
 ) -> Result<(), AllocError>
-    ensures { OnOk result (AddsTrees (if counts then rules.said_alternatives (rules.rule_number (all_names names.now)) (spec.block_of parsed.now) else []) nodes.old.items nodes.new.items numbers.old numbers.new) }
+    ensures { OnOk result (AddsTrees (if counts then rules.said_alternatives (rule_number (all_names names.now)) (spec.block_of parsed.now) else []) nodes.old.items nodes.new.items numbers.old numbers.new) }
 {
     if counts {
         push_alternatives(alloc, names, parsed, nodes, numbers)
@@ -87,7 +84,7 @@ fn push_counted<'t>(
     nodes: &mut Vec<Node<'t>>,
     numbers: &mut List<NodeNo>,
 ) -> Result<(), AllocError>
-    ensures { OnOk result (AddsTrees (flat_map (rules.said_alternatives (rules.rule_number (all_names names.now))) (rules.counted (map spec.block_of blocks.now))) nodes.old.items nodes.new.items numbers.old numbers.new) }
+    ensures { OnOk result (AddsTrees (flat_map (rules.said_alternatives (rule_number (all_names names.now))) (rules.counted (map spec.block_of blocks.now))) nodes.old.items nodes.new.items numbers.old numbers.new) }
 {
     let mut is_defined = false;
     for parsed in blocks {
@@ -105,7 +102,7 @@ fn push_rule<'t>(
     blocks: &[Parsed<'t>],
     nodes: &mut Vec<Node<'t>>,
 ) -> Result<(), AllocError>
-    ensures { OnOk result (Adds (subparts (alt (parts (flat_map (rules.said_alternatives (rules.rule_number (all_names names.now))) (rules.counted (map spec.block_of blocks.now)))))) nodes.old.items nodes.new.items) }
+    ensures { OnOk result (Adds (subparts (alt (parts (flat_map (rules.said_alternatives (rule_number (all_names names.now))) (rules.counted (map spec.block_of blocks.now)))))) nodes.old.items nodes.new.items) }
 {
     let at = nodes.len();
     let mut numbers = List::new(alloc);
@@ -116,7 +113,7 @@ fn push_rule<'t>(
 }
 
 /// The rules of the text, whose roots' numbers are added to `roots`.
-pub(crate) fn push_own<'t>(
+fn push_own<'t>(
     alloc: Global,
     names: &RuleNames<'t>,
     groups: &Groups<'t, Parsed<'t>>,
@@ -133,27 +130,8 @@ pub(crate) fn push_own<'t>(
     Ok(())
 }
 
-/// The core rules that are needed, whose roots' numbers are added to `roots`.
-pub(crate) fn push_needed<'t>(
-    alloc: Global,
-    first: usize,
-    names: &Names<'t>,
-    needed: &[Core],
-    nodes: &mut Vec<Node<'t>>,
-    roots: &mut List<NodeNo>,
-) -> Result<(), AllocError>
-    requires { first < 2 ^ 63 }
-    ensures { OnOk result (AddsTrees (map (λ core. (table.core_of core).tree (table.number_in first names.now)) needed.now) nodes.old.items nodes.new.items roots.old roots.new) }
-{
-    for core in needed {
-        roots.push(NodeNo::new(nodes.len()))?;
-        push_core(alloc, first, names, *core, nodes)?;
-    }
-    Ok(())
-}
-
 /// All rules, those of the text first.
-pub(crate) fn push_rules<'t>(
+fn push_rules<'t>(
     alloc: Global,
     names: &RuleNames<'t>,
     groups: &Groups<'t, Parsed<'t>>,
@@ -167,4 +145,22 @@ pub(crate) fn push_rules<'t>(
     let core = names.core();
     push_own(alloc, names, groups, own.as_slice(), nodes, roots)?;
     push_needed(alloc, own.len(), core, needed, nodes, roots)
+}
+
+/// The nodes of all rules, and the numbers of their roots.
+pub(crate) fn numbered_rules<'t>(
+    alloc: Global,
+    names: &RuleNames<'t>,
+    parsed: Vec<Parsed<'t>>,
+    needed: &[Core],
+) -> Result<(Vec<Node<'t>>, Vec<NodeNo>), AllocError>
+    requires names { spec.AreNames (map spec.block_of parsed.items) names.now }
+    requires needed { map table.core_of needed.now ≡ rules.needed (map spec.block_of parsed.items) }
+    ensures { IfOk result (λ r. AddsTrees (rules.rules_of (map spec.block_of parsed.entry.items)) [] r.0.items [] r.1.items) }
+{
+    let groups = own_groups(alloc, parsed)?;
+    let mut nodes = Vec::new(alloc);
+    let mut roots = List::new(alloc);
+    push_rules(alloc, names, &groups, needed, &mut nodes, &mut roots)?;
+    Ok((nodes, roots.into_vec()))
 }

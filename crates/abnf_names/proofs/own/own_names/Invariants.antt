@@ -1,6 +1,7 @@
 use Rattle.std.proofs.Common.{◌≡◌, map, drop}
 use Rattle.std.specs.Prelude.{fold, filter_map}
-use Rattle.abnf_names.specs.Rules.{with_name, head_name, defined}
+use Rattle.abnf_names.specs.Rules.{head_name, defined}
+use Rattle.abnf_parts.specs.Names.{with_name}
 use Rattle.abnf_names.specs.Passes.{block_of}
 use Rattle.abnf_names.proofs.own.own_names.Given as goal
 

@@ -1,6 +1,6 @@
 use Rattle.std.proofs.Common.{◌≡◌, map, drop}
 use Rattle.std.specs.Prelude.{fold, filter, []}
-use Rattle.abnf_names.specs.Rules.{with_name}
+use Rattle.abnf_parts.specs.Names.{with_name}
 use Rattle.abnf_names.specs.Passes.{is_unknown, spot_name}
 use Rattle.abnf_names.proofs.own.unknown_names.Given as goal
 

@@ -1,7 +1,7 @@
 use Rattle.std.proofs.Common.{◌+◌, map, drop, subst, List}
 use Rattle.abnf_names.specs.Said.{Block}
-use Rattle.abnf_names.specs.Names.{all_names}
-use Rattle.abnf_names.specs.Rules.{said_alternatives, rule_number}
+use Rattle.abnf_parts.specs.Names.{all_names, rule_number}
+use Rattle.abnf_names.specs.Rules.{said_alternatives}
 use Rattle.abnf_names.specs.Passes.{block_of}
 use Rattle.abnf_names.proofs.RulePass.{HasPushed, pushed_more, drop_next}
 use Rattle.abnf_names.proofs.rules.push_counted.Goals as goal

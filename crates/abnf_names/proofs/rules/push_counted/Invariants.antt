@@ -1,6 +1,6 @@
 use Rattle.std.proofs.Common.{map, drop}
-use Rattle.abnf_names.specs.Names.{all_names}
-use Rattle.abnf_names.specs.Rules.{said_alternatives, rule_number}
+use Rattle.abnf_parts.specs.Names.{all_names, rule_number}
+use Rattle.abnf_names.specs.Rules.{said_alternatives}
 use Rattle.abnf_names.specs.Passes.{block_of}
 use Rattle.abnf_names.proofs.RulePass.{HasPushed}
 use Rattle.abnf_names.proofs.rules.push_counted.Given as goal

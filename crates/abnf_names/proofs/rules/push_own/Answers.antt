@@ -1,7 +1,7 @@
 use Rattle.std.proofs.Common.{◌∷◌, ◌++◌, [], ◌∙◌, ap, refl}
-use Rattle.abnf_names.specs.Names.{folded_text, all_names}
+use Rattle.abnf_parts.specs.Names.{folded_text, all_names}
 use Rattle.abnf_names.specs.Rules.{rule_tree}
-use Rattle.abnf_names.proofs.Pushing.{trees_next}
+use Rattle.abnf_parts.proofs.Pushing.{trees_next}
 use Rattle.abnf_names.proofs.RulePass.{rule_is}
 use Rattle.abnf_names.proofs.rules.push_own.Goals as goal
 

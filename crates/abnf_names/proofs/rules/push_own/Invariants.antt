@@ -1,9 +1,9 @@
 use Rattle.std.proofs.Common.{◌≡◌, List, map, take}
-use Rattle.abnf_names.specs.Names.{folded_text, all_names}
+use Rattle.abnf_parts.specs.Names.{folded_text, all_names}
 use Rattle.abnf_names.specs.Said.{Block}
 use Rattle.abnf_names.specs.Rules.{rule_tree, names_of}
 use Rattle.abnf_names.specs.Passes.{AreOwn}
-use Rattle.abnf_names.specs.Pushed.{AddsTrees}
+use Rattle.abnf_parts.specs.Pushed.{AddsTrees}
 use Rattle.abnf_names.proofs.rules.push_own.Given as goal
 
 abbrev pub invariant-loop-name : goal.invariant-loop-name

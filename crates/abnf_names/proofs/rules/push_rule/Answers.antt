@@ -1,9 +1,9 @@
 use Rattle.std.proofs.Common.{◌∙◌, map, refl}
 use Rattle.std.specs.Prelude.{flat_map}
-use Rattle.abnf_names.specs.Names.{all_names}
-use Rattle.abnf_names.specs.Rules.{said_alternatives, rule_number, counted}
+use Rattle.abnf_parts.specs.Names.{all_names, rule_number}
+use Rattle.abnf_names.specs.Rules.{said_alternatives, counted}
 use Rattle.abnf_names.specs.Passes.{block_of}
-use Rattle.abnf_names.proofs.Pushing.{choice_added}
+use Rattle.abnf_parts.proofs.Pushing.{choice_added}
 use Rattle.abnf_names.proofs.rules.push_rule.Goals as goal
 
 pub returns : goal.returns

@@ -1,8 +1,8 @@
 use Rattle.std.proofs.Common.{◌∙◌, ap, subst, length, map, List}
-use Rattle.abnf_names.specs.Said.{Name}
-use Rattle.abnf_names.specs.CoreTable.{core_of, number_in}
-use Rattle.abnf_names.specs.Pushed.{AddsTrees}
-use Rattle.abnf_names.proofs.Pushing.{on_ok}
+use Rattle.abnf_parts.specs.Names.{Name}
+use Rattle.abnf_parts.specs.CoreTable.{core_of, number_in}
+use Rattle.abnf_parts.specs.Pushed.{AddsTrees}
+use Rattle.abnf_parts.proofs.Pushing.{on_ok}
 use Rattle.abnf_names.proofs.RulePass.{rules_added, names_are}
 use Rattle.abnf_names.proofs.rules.push_rules.Goals as goal
 

@@ -1,5 +1,5 @@
 use Rattle.std.proofs.Common.{◌∙◌, sym, ap}
-use Rattle.abnf_names.specs.Names.{folded_text}
+use Rattle.abnf_parts.specs.Names.{folded_text}
 use Rattle.abnf_names.specs.Passes.{members_of}
 use Rattle.abnf_names.proofs.GroupLaws.{found, lost}
 use Rattle.abnf_names.proofs.groups.Groups.members_of.Goals as goal

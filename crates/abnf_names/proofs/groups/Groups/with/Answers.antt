@@ -1,8 +1,8 @@
 use Rattle.std.proofs.Common.{◌∙◌, ◌+◌, sym, ap, length, [], ◌∷◌, ◌++◌, set, length-append}
-use Rattle.abnf_names.specs.Names.{folded_text}
-use Rattle.abnf_names.specs.Rules.{with_name}
+use Rattle.abnf_parts.specs.Names.{folded_text, with_name}
 use Rattle.abnf_names.specs.Passes.{members_of, members_in, if_same}
-use Rattle.abnf_names.proofs.GroupLaws.{hit, miss, with_there, with_new}
+use Rattle.abnf_names.proofs.GroupLaws.{hit, miss}
+use Rattle.abnf_parts.proofs.NameLaws.{with_there, with_new}
 use Rattle.abnf_names.proofs.groups.Groups.with.Goals as goal
 
 pub returns-in_ok-push-in-Some-clause-names : goal.returns-in_ok-push-in-Some-clause-names

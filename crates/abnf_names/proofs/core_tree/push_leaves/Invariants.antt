@@ -1,8 +1,0 @@
-use Rattle.std.proofs.Common.{map, take}
-use Rattle.abnf_names.specs.CoreTable.{leaf_part, number_in}
-use Rattle.abnf_names.specs.Pushed.{AddsTrees}
-use Rattle.abnf_names.proofs.core_tree.push_leaves.Given as goal
-
-abbrev pub invariant-loop-leaf : goal.invariant-loop-leaf
-invariant-loop-leaf l =
-    AddsTrees (map (leaf_part (number_in l.first l.names)) (take l.leaf-index l.leaves)) l.initial.nodes.items l.nodes.items l.initial.numbers l.numbers

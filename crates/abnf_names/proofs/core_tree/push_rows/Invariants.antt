@@ -1,8 +1,0 @@
-use Rattle.std.proofs.Common.{map, take}
-use Rattle.abnf_names.specs.CoreTable.{row_part, number_in}
-use Rattle.abnf_names.specs.Pushed.{AddsTrees}
-use Rattle.abnf_names.proofs.core_tree.push_rows.Given as goal
-
-abbrev pub invariant-loop-row : goal.invariant-loop-row
-invariant-loop-row l =
-    AddsTrees (map (row_part (number_in l.first l.names)) (take l.row-index l.rows)) l.initial.nodes.items l.nodes.items l.initial.numbers l.numbers

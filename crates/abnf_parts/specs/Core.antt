@@ -1,0 +1,99 @@
+-- The core rules of RFC 5234, Appendix B.1.
+use Rattle.std.specs.Prelude.{ℕ, zero, suc, List, [], ◌∷◌, flat_map, filter_map, find, length, Option, Some, None, Bool, false, codes}
+use Rattle.std.specs.List.{list_any}
+use Rattle.abnf_token.specs.Folded.{lowercase}
+use Rattle.abnf_parts.specs.Part.{Part, quoted, series, span, seq, alt, rep, ref, subparts}
+use Rattle.abnf_parts.specs.Leaf.{same}
+use Rattle.abnf_parts.specs.Names.{Name}
+use Rattle.abnf_parts.specs.Tree.{parts}
+
+-- a name and its tree, where it is known which rules names stand for
+pub record CoreRule : Type 0 where
+  pub name : List ℕ
+  pub tree : (List ℕ → Option ℕ) → Part
+
+abbrev any_of : List Part → Part
+any_of ps = alt (parts ps)
+
+abbrev in_order : List Part → Part
+in_order ps = seq (parts ps)
+
+abbrev one : ℕ → Part
+one character = series (character ∷ [])
+
+abbrev text : List ℕ → Part
+text letters = quoted letters false
+
+abbrev rule : (List ℕ → Option ℕ) → List ℕ → Part
+rule number name = ref name (number (lowercase name))
+
+abbrev pub alpha : CoreRule
+alpha = record { name = codes "ALPHA"; tree = λ number. any_of (span 0x41 0x5A ∷ span 0x61 0x7A ∷ []) }
+
+abbrev pub bit : CoreRule
+bit = record { name = codes "BIT"; tree = λ number. any_of (text (codes "0") ∷ text (codes "1") ∷ []) }
+
+abbrev pub char : CoreRule
+char = record { name = codes "CHAR"; tree = λ number. any_of (span 0x01 0x7F ∷ []) }
+
+abbrev pub cr : CoreRule
+cr = record { name = codes "CR"; tree = λ number. any_of (one 0x0D ∷ []) }
+
+abbrev pub crlf : CoreRule
+crlf = record { name = codes "CRLF"; tree = λ number. any_of (in_order (rule number (codes "CR") ∷ rule number (codes "LF") ∷ []) ∷ []) }
+
+abbrev pub ctl : CoreRule
+ctl = record { name = codes "CTL"; tree = λ number. any_of (span 0x00 0x1F ∷ one 0x7F ∷ []) }
+
+abbrev pub digit : CoreRule
+digit = record { name = codes "DIGIT"; tree = λ number. any_of (span 0x30 0x39 ∷ []) }
+
+abbrev pub dquote : CoreRule
+dquote = record { name = codes "DQUOTE"; tree = λ number. any_of (one 0x22 ∷ []) }
+
+abbrev pub hexdig : CoreRule
+hexdig = record { name = codes "HEXDIG"; tree = λ number. any_of (rule number (codes "DIGIT") ∷ text (codes "A") ∷ text (codes "B") ∷ text (codes "C") ∷ text (codes "D") ∷ text (codes "E") ∷ text (codes "F") ∷ []) }
+
+abbrev pub htab : CoreRule
+htab = record { name = codes "HTAB"; tree = λ number. any_of (one 0x09 ∷ []) }
+
+abbrev pub lf : CoreRule
+lf = record { name = codes "LF"; tree = λ number. any_of (one 0x0A ∷ []) }
+
+abbrev pub lwsp : CoreRule
+lwsp = record { name = codes "LWSP"; tree = λ number. any_of (rep 0 None (any_of (rule number (codes "WSP") ∷ in_order (rule number (codes "CRLF") ∷ rule number (codes "WSP") ∷ []) ∷ [])) ∷ []) }
+
+abbrev pub octet : CoreRule
+octet = record { name = codes "OCTET"; tree = λ number. any_of (span 0x00 0xFF ∷ []) }
+
+abbrev pub sp : CoreRule
+sp = record { name = codes "SP"; tree = λ number. any_of (one 0x20 ∷ []) }
+
+abbrev pub vchar : CoreRule
+vchar = record { name = codes "VCHAR"; tree = λ number. any_of (span 0x21 0x7E ∷ []) }
+
+abbrev pub wsp : CoreRule
+wsp = record { name = codes "WSP"; tree = λ number. any_of (rule number (codes "SP") ∷ rule number (codes "HTAB") ∷ []) }
+
+abbrev pub core_rules : List CoreRule
+core_rules = alpha ∷ bit ∷ char ∷ cr ∷ crlf ∷ ctl ∷ digit ∷ dquote ∷ hexdig ∷ htab ∷ lf ∷ lwsp ∷ octet ∷ sp ∷ vchar ∷ wsp ∷ []
+
+abbrev pub core_name : CoreRule → List ℕ
+core_name core = lowercase core.name
+
+abbrev pub name_used : Part → Option (List ℕ)
+name_used (ref name rule) = Some (lowercase name)
+name_used _ = None
+
+abbrev pub names_used : Option CoreRule → List (List ℕ)
+names_used None = []
+names_used (Some core) = filter_map name_used (subparts (core.tree (λ name. None)))
+
+-- a name, those that its core rule uses, those that these use, and so on for so many steps
+abbrev pub needs : ℕ → List ℕ → List (List ℕ)
+needs zero name = name ∷ []
+needs (suc steps) name = name ∷ flat_map (needs steps) (names_used (find (λ core. same (core_name core) name) core_rules))
+
+-- Needed is a core rule that one of these names stands for, and each that a needed one uses.
+abbrev pub is_needed : List Name → CoreRule → Bool
+is_needed names core = list_any (λ name. list_any (same (core_name core)) (needs (length core_rules) name)) names

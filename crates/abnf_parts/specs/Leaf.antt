@@ -1,0 +1,70 @@
+-- What the token of an element or of a repeat stands for.
+use Rattle.std.specs.Prelude.{ℕ, ◌+◌, ◌*◌, ◌==◌, Bool, nat_eq, ◌||◌, List, [], ◌∷◌, Option, Some, None, if◌then◌else◌, unwrap_or, codes, min}
+use Rattle.std.specs.Cmp.Lexicographic.{pointwise}
+use Rattle.std.specs.Char.{digit_value}
+use Rattle.std.specs.List.{list_any, before_first, after_first}
+use Rattle.abnf_token.specs.declared.token.Token.{Token}
+use Rattle.abnf_token.specs.Classes.{base_of}
+use Rattle.abnf_token.specs.Folded.{lowercase}
+use Rattle.abnf_token.specs.Numbers.{number_of}
+use Rattle.abnf_parts.specs.Part.{Part, quoted, series, span, rep, opaque}
+
+-- the two texts are the same, byte by byte
+abbrev pub same : List ℕ → List ℕ → Bool
+same s t = pointwise nat_eq s t
+
+-- what stands before the first such byte, or the whole text
+abbrev pub before : ℕ → List ℕ → List ℕ
+before byte text = before_first (λ b. b == byte) text
+
+-- what stands behind it, or nothing
+abbrev pub behind : ℕ → List ℕ → List ℕ
+behind byte text = after_first (λ b. b == byte) text
+
+abbrev pub has : ℕ → List ℕ → Bool
+has byte text = list_any (λ b. b == byte) text
+
+-- The text between the quotes, which is exact where `%s` stands before it (RFC 7405 section 2.1).
+abbrev pub quoted_part : List ℕ → Part
+quoted_part text = quoted (before 0x22 (behind 0x22 text)) (same (lowercase (before 0x22 text)) (codes "%s"))
+
+-- the greatest number that a grammar may hold
+abbrev pub max_number : ℕ
+max_number = 4294967295
+
+-- A number with one more digit. It is cut at the greatest number, which no number of a rule exceeds.
+abbrev pub with_digit : ℕ → ℕ → ℕ → ℕ
+with_digit base number byte = min (number * base + digit_value byte) max_number
+
+abbrev pub is_separator : ℕ → Bool
+is_separator b = b == 0x2E || b == 0x2D
+
+-- the numbers between `.` or `-`, where `number` is that of the digits since the last of these
+abbrev pub numbers_from : ℕ → ℕ → List ℕ → List ℕ
+numbers_from base number [] = number ∷ []
+numbers_from base number (b ∷ bs) = if is_separator b then number ∷ numbers_from base 0 bs else numbers_from base (with_digit base number b) bs
+
+-- from the first number to the second
+abbrev pub span_of : List ℕ → Part
+span_of (low ∷ high ∷ rest) = span low high
+span_of _ = opaque
+
+-- Numbers with `-` are a range; others, one or more, are a series (RFC 5234 sections 2.3 and 3.4).
+abbrev pub number_in : ℕ → List ℕ → Part
+number_in base digits = if has 0x2D digits then span_of (numbers_from base 0 digits) else series (numbers_from base 0 digits)
+
+abbrev pub number_part : List ℕ → Part
+number_part (percent ∷ letter ∷ digits) = number_in (base_of letter) digits
+number_part _ = opaque
+
+-- `a*b` is at least a and at most b, where a is 0 and b has no bound if they don't stand there (RFC 5234 section 3.6); n is
+-- exactly n (RFC 5234 section 3.7).
+abbrev pub bounds : List ℕ → ℕ × Option ℕ
+bounds text =
+    if has 0x2A text then (unwrap_or (number_of (before 0x2A text) 10) 0, number_of (behind 0x2A text) 10)
+    else (unwrap_or (number_of text 10) 0, Some (unwrap_or (number_of text 10) 0))
+
+-- a part, repeated as told
+abbrev pub repeated : Option Token → Part → Part
+repeated None p = p
+repeated (Some t) p = let b = bounds t.text.now in rep b.0 b.1 p

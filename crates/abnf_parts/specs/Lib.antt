@@ -1,0 +1,11 @@
+pub mod Part
+pub mod PartCode
+pub mod Generates
+pub mod Nodes
+pub mod Leaf
+pub mod Tree
+pub mod Names
+pub mod Core
+pub mod Reach
+pub mod Pushed
+pub mod CoreTable

@@ -1,0 +1,25 @@
+-- Names of rules, which are read without case.
+use Rattle.std.specs.Prelude.{ℕ, List, [], ◌∷◌, ◌++◌, Option, position, if◌then◌else◌}
+use Rattle.std.specs.List.{list_any}
+use Rattle.abnf_token.specs.declared.folded.Folded.{Folded}
+use Rattle.abnf_token.specs.Folded.{lowercase}
+use Rattle.abnf_parts.specs.Leaf.{same}
+
+-- a name with its letters made small
+abbrev pub Name : Type 0
+Name = List ℕ
+
+abbrev pub folded_text : Folded → List ℕ
+folded_text name = lowercase name.0.now
+
+-- the names of the rules of a text, and then those of core rules
+abbrev pub all_names : List (List ℕ) × List (List ℕ) → List (List ℕ)
+all_names names = names.0 ++ names.1
+
+-- a name, unless it is there
+abbrev pub with_name : List Name → Name → List Name
+with_name names name = if list_any (same name) names then names else names ++ name ∷ []
+
+-- the number of the rule that a name stands for: the first that has it
+abbrev pub rule_number : List Name → Name → Option ℕ
+rule_number names name = position (same name) names

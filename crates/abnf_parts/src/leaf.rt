@@ -1,0 +1,128 @@
+//! The nodes of single tokens.
+
+ghost use Rattle.std.specs.Prelude.{◌≡◌, ◌<◌, ℕ, IfOk, drop};
+ghost use Rattle.std.specs.Char.{digit_value};
+ghost use Rattle.abnf_token.specs.Classes as classes;
+ghost use Rattle.abnf_parts.specs.Leaf as leaf;
+ghost use Rattle.abnf_parts.specs.Nodes.{IsNode};
+
+use crate::node::Node;
+use abnf_token::{Folded, Token, number_of};
+use ls_lists::List;
+use std::alloc::{AllocError, Global};
+
+/// The text before the first such character, and the text behind it; the whole text and none, where there is no such
+/// character.
+fn cut(text: &str, at: char) -> (&str, &str)
+    requires { at < 128 }
+    ensures before { result.0.now ≡ leaf.before at text.now }
+    ensures behind { result.1.now ≡ leaf.behind at text.now }
+{
+    match text.split_once(at) {
+        Some(parts) => parts,
+        None => (text, ""),
+    }
+}
+
+/// The node of a quoted text.
+pub(crate) fn quoted_node<'t>(token: Token<'t>) -> Node<'t>
+    ensures { (n : ℕ) → IsNode n (leaf.quoted_part token.entry.text.now) result }
+{
+    let (mark, rest) = cut(token.text, '"');
+    let (text, _) = cut(rest, '"');
+    Node::Quoted {
+        text,
+        exact: Folded(mark) == Folded("%s"),
+    }
+}
+
+/// Whether the byte stands in the text.
+fn has(text: &[u8], byte: u8) -> bool
+    ensures { result ≡ leaf.has byte text.now }
+{
+    text.contains(&byte)
+}
+
+/// The value of a digit or a letter, 36 for any other byte.
+fn digit_value(byte: u8) -> u32
+    ensures { result ≡ digit_value byte }
+{
+    match byte {
+        b'0'..=b'9' => u32::from(byte - b'0'),
+        b'A'..=b'Z' => u32::from(byte - b'A') + 10,
+        b'a'..=b'z' => u32::from(byte - b'a') + 10,
+        _ => 36,
+    }
+}
+
+/// A number with one more digit.
+fn with_digit(base: u32, number: u32, byte: u8) -> u32
+    ensures { result ≡ leaf.with_digit base number byte }
+{
+    number
+        .saturating_mul(base)
+        .saturating_add(digit_value(byte))
+}
+
+/// The base of the numbers after this letter.
+fn base_of(letter: u8) -> u32
+    ensures { result ≡ classes.base_of letter }
+{
+    match letter.to_ascii_lowercase() {
+        b'b' => 2,
+        b'd' => 10,
+        b'x' => 16,
+        _ => 0,
+    }
+}
+
+/// The numbers between `.` or `-`.
+fn numbers(alloc: Global, base: u32, digits: &[u8]) -> Result<List<u32>, AllocError>
+    ensures { IfOk result (λ ns. ns ≡ leaf.numbers_from base 0 digits.now) }
+{
+    let mut numbers = List::new(alloc);
+    let mut number = 0;
+    for byte in digits {
+        if *byte == b'.' || *byte == b'-' {
+            numbers.push(number)?;
+            number = 0;
+        } else {
+            number = with_digit(base, number, *byte);
+        }
+    }
+    numbers.push(number)?;
+    Ok(numbers)
+}
+
+/// The node of a number, a series or a range.
+pub(crate) fn number_node<'t>(alloc: Global, token: Token<'t>) -> Result<Node<'t>, AllocError>
+    ensures { IfOk result (λ node. (n : ℕ) → IsNode n (leaf.number_part token.entry.text.now) node) }
+{
+    let [_, letter, digits @ ..] = token.text.as_bytes() else {
+        return Ok(Node::Opaque);
+    };
+    let numbers = numbers(alloc, base_of(*letter), digits)?;
+    if !has(digits, b'-') {
+        return Ok(Node::Series(numbers));
+    }
+    match numbers.as_slice() {
+        [low, high, ..] => Ok(Node::Span {
+            low: *low,
+            high: *high,
+        }),
+        _ => Ok(Node::Opaque),
+    }
+}
+
+/// The least and the most of a repeat.
+pub(crate) fn repeat_bounds<'t>(token: Token<'t>) -> (u32, Option<u32>)
+    ensures { result ≡ leaf.bounds token.entry.text.now }
+{
+    if has(token.text.as_bytes(), b'*') {
+        let (least, most) = cut(token.text, '*');
+        (number_of(least, 10).unwrap_or(0), number_of(most, 10))
+    } else {
+        let count = number_of(token.text, 10).unwrap_or(0);
+        (count, Some(count))
+    }
+}

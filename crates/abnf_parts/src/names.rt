@@ -1,0 +1,136 @@
+//! The names of the rules.
+
+ghost use Rattle.std.specs.Prelude.{◌≡◌, [], ◌<◌, ◌^◌, ◌++◌, length, map, IfSome, OnOk};
+ghost use Rattle.std.specs.List.{list_any};
+ghost use Rattle.abnf_parts.specs.Leaf.{same};
+ghost use Rattle.abnf_parts.specs.Names.{rule_number, with_name, folded_text, all_names};
+
+use crate::node::RuleNo;
+use abnf_token::Folded;
+use indexmap::IndexSet;
+use std::alloc::{AllocFailed, Global};
+use std::marker::Model;
+
+/// Names, each once, in the order in which they came. Contracts see the list of names with their letters made small.
+#[derive(Drop)]
+pub struct Names<'t> {
+    names: IndexSet<Folded<'t>>,
+}
+
+impl<'t> Model for Names<'t> {
+    ghost use Rattle.std.specs.Prelude.{List, ℕ, map};
+    ghost use Rattle.abnf_parts.specs.Names.{folded_text};
+
+    ghost Value = { List (List ℕ) };
+
+    ghost view = { λ n. map folded_text n.names.keys };
+}
+
+impl<'t> Names<'t> {
+    /// No names.
+    pub fn new(alloc: Global) -> Names<'t>
+        ensures { result ≡ [] }
+    {
+        Names {
+            names: IndexSet::new(alloc),
+        }
+    }
+
+    /// The place of a name among them, from 0; `None` if it isn't there.
+    pub fn index_of(&self, name: Folded<'t>) -> Option<usize>
+        ensures index { result ≡ rule_number self.now (folded_text name.entry) }
+        ensures small { IfSome result (λ i. i < 2 ^ 63) }
+    {
+        let _bounded = self.names.len();
+        self.names.get_index_of(&name)
+    }
+
+    /// Whether the name is there.
+    pub(crate) fn contains(&self, name: Folded<'t>) -> bool
+        ensures { result ≡ list_any (same (folded_text name.entry)) self.now }
+    {
+        match self.index_of(name) {
+            Some(_) => true,
+            None => false,
+        }
+    }
+
+    /// The names in their order, each as it was written when it came.
+    pub fn as_slice(&self) -> &[Folded<'t>]
+        ensures { map folded_text result.now ≡ self.now }
+    {
+        self.names.as_slice()
+    }
+
+    /// How many names there are.
+    pub fn len(&self) -> usize
+        ensures len { result ≡ length self.now }
+        ensures small { result < 2 ^ 63 }
+    {
+        self.names.len()
+    }
+
+    /// Adds a name unless it is there.
+    ///
+    /// # Errors
+    ///
+    /// Where an allocation is refused.
+    pub fn add(&mut self, name: Folded<'t>) -> Result<(), AllocFailed<Folded<'t>>>
+        ensures { OnOk result (self.new ≡ with_name self.old (folded_text name.entry)) }
+    {
+        self.names.insert(name)?;
+        Ok(())
+    }
+}
+
+/// The names of the rules of a text, and then those of the core rules that it needs. Contracts see the two lists. A name may stand
+/// in both; it then stands for the rule of the text.
+#[derive(Drop)]
+pub struct RuleNames<'t> {
+    own: Names<'t>,
+    core: Names<'t>,
+}
+
+impl<'t> Model for RuleNames<'t> {
+    ghost use Rattle.std.specs.Prelude.{List, ℕ};
+
+    ghost Value = { List (List ℕ) × List (List ℕ) };
+
+    ghost view = { λ n. (n.own, n.core) };
+}
+
+impl<'t> RuleNames<'t> {
+    /// These names of the text's rules and of core rules.
+    pub fn new(own: Names<'t>, core: Names<'t>) -> RuleNames<'t>
+        ensures { result ≡ (own.entry, core.entry) }
+    {
+        RuleNames { own, core }
+    }
+
+    /// The names of the rules of the text.
+    pub fn own(&self) -> &Names<'t>
+        ensures { result.now ≡ self.now.0 }
+    {
+        &self.own
+    }
+
+    /// The names of the core rules that are needed.
+    pub fn core(&self) -> &Names<'t>
+        ensures { result.now ≡ self.now.1 }
+    {
+        &self.core
+    }
+
+    /// The first rule of this name: that of the text, else the core rule. Core rules are numbered behind those of the text.
+    pub fn rule_of(&self, name: Folded<'t>) -> Option<RuleNo>
+        ensures { result ≡ rule_number (all_names self.now) (folded_text name.entry) }
+    {
+        if let Some(rule) = self.own.index_of(name) {
+            return Some(RuleNo::new(rule));
+        }
+        match self.core.index_of(name) {
+            Some(rule) => Some(RuleNo::new(self.own.len() + rule)),
+            None => None,
+        }
+    }
+}
