@@ -15,6 +15,3 @@ mod rules;
 pub use abnf_parts::{Node, NodeNo, RuleNo};
 pub use grammar::Grammar;
 pub use place::NamePlace;
-
-#[cfg(test)]
-mod tests;

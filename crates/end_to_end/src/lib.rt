@@ -1,7 +1,7 @@
-//! Whole sessions, from the bytes of a client to the bytes of the server.
+//! Whole sessions, from the bytes of a client to the bytes of the server, and worked grammars.
 //!
 //! The crates below prove what each call answers. Here are the bytes of worked sessions, and devices that fail,
-//! which no contract can show.
+//! which no contract can show. The tests of `abnf_names` stand here too, since a crate with tests is proved twice.
 #![tactic(auto)]
 
 mod devices;
@@ -13,6 +13,8 @@ mod edits;
 mod examples;
 #[cfg(test)]
 mod grammars;
+#[cfg(test)]
+mod names;
 #[cfg(test)]
 mod sessions;
 #[cfg(test)]

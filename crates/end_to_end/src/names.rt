@@ -1,6 +1,6 @@
 //! Texts with their rules, nodes and places, written out by hand.
 
-use crate::{Grammar, NamePlace, Node, NodeNo, RuleNo};
+use abnf_names::{Grammar, NamePlace, Node, NodeNo, RuleNo};
 use abnf_syntax::SyntaxFault;
 use abnf_token::Folded;
 use ls_text::{Place, Snapshot};
