@@ -1,5 +1,7 @@
 pub mod NameLaws
 pub mod ReachLaws
+pub mod SearchLaws
+pub mod UsersLaws
 pub mod Numbered
 pub mod Pushing
 pub mod BlockPass

@@ -11,6 +11,8 @@ pub mod Names
 pub mod Rules
 pub mod GrammarCode
 pub mod Reach
+pub mod Search
+pub mod Users
 pub mod Pushed
 pub mod Passes
 pub mod CoreTable

@@ -17,6 +17,7 @@ mod node;
 mod own;
 mod parsed;
 mod place;
+mod reach;
 mod rules;
 mod tree;
 
