@@ -16,6 +16,7 @@ use Rattle.abnf_names.specs.Nodes.{trees_at}
 use Rattle.abnf_names.specs.Rules.{defined, needed, undefined, names_of, rules_of, faults_of, is_needed, with_name, Grammar}
 use Rattle.abnf_names.specs.Passes.{named_at, spot_name, is_unknown, AreNames, ArePlaced}
 use Rattle.abnf_names.specs.Inside.{IsGrammarInside}
+use Rattle.abnf_names.specs.Reach.{AreReaching}
 use Rattle.abnf_names.specs.Pushed.{AddsTrees}
 use Rattle.abnf_names.proofs.ApartLaws.{map_both, needed_names, needed_all}
 use Rattle.abnf_names.proofs.RulePass.{names_are}
@@ -31,8 +32,8 @@ same_grammar text names ns rules rs places ps faults fs n r p f =
     ∙ ap (λ x. record { text = text; names = ns; rules = rs; places = ps; faults = x }) f))
 
 pub kept : (g : Inside) (blocks : List Block) → AreSaid g.source.now blocks → AreNames blocks g.names → AddsTrees (rules_of blocks) [] g.nodes.items [] g.roots.items →
-    map named_at g.spots ≡ places_of blocks → g.faults ≡ faults_of blocks → ArePlaced (map named_at g.spots) g.by_name → IsGrammarInside g
-kept g blocks said are added places faults placed =
+    map named_at g.spots ≡ places_of blocks → g.faults ≡ faults_of blocks → ArePlaced (map named_at g.spots) g.by_name → AreReaching (trees_at g.nodes.items g.roots.items) g.opaque.items → IsGrammarInside g
+kept g blocks said are added places faults placed reaching =
     let t : IsTied (rules_of blocks) g.nodes.items g.roots.items = tied (rules_of blocks) g.nodes.items g.roots.items added (rules_closed blocks) in
     record {
       numbered = t.numbered;
@@ -43,6 +44,7 @@ kept g blocks said are added places faults placed =
             (sym (names_are blocks g.names are)) t.back places faults;
       };
       placed = placed;
+      reaching = reaching;
     }
 
 -- the names of the rules, by the passes that made them

@@ -1,17 +1,17 @@
 -- The users of each place, and the search among them, say which rules lead to an opaque part.
 use Rattle.std.proofs.Common.{◌≡◌, ◌≤◌, ◌<◌, ◌+◌, ◌-◌, ◌⊎◌, inl, inr, ⊎_elim, ℕ, zero, suc, Bool, true, false, List, [], ◌∷◌, ◌++◌, map, take, drop, length, get_or, set, refl, sym, ap, subst, ◌∙◌, arith, length-append, append_assoc}
-use Rattle.std.specs.Prelude.{◌↔◌, Option, Some, None, fold, slice_get, slice_range, Contains}
+use Rattle.std.specs.Prelude.{◌↔◌, Option, Some, None, fold, slice_get, Contains}
 use Rattle.std.proofs.lemmas.Bool.{cases_lt, cases_eq}
 use Rattle.std.proofs.lemmas.List.{length-set, length-map, get_or-set_same, get_or-set_other, get_or-map, get_or_append_left, same_lists, take-map, drop-map, take_at, drop_at, map_more}
 use Rattle.std.proofs.lemmas.List.Sums.{fold-append}
 use Rattle.std.proofs.lemmas.List.Elements.{Contains-append_left, Contains-append_right, Contains-push, Contains-push_cases, Contains-get_or}
-use Rattle.std.proofs.lemmas.Option.{slice_get_within, get_or_from_slice_get, slice_get-get_or}
+use Rattle.std.proofs.lemmas.Option.{slice_get_within, get_or_from_slice_get, slice_get-get_or, slice_get_read}
 use Rattle.abnf_names.specs.declared.node.Node.{Node}
 use Rattle.abnf_names.specs.Part.{Part, quoted, series, span, seq, alt, rep, ref, opaque, subparts, parts_of, root_number}
 use Rattle.abnf_names.specs.Nodes.{IsNode, AreNodes, AreRoots}
 use Rattle.abnf_names.specs.Reach.{ReachesOpaque, AreReaching}
 use Rattle.abnf_names.specs.Search.{users_at, LeadsBy, LeadsToLast, AreWithin, AreMarks}
-use Rattle.abnf_names.specs.Users.{place_of_part, place_of_node, LeadsTo, with_user, AreUsers}
+use Rattle.abnf_names.specs.Users.{place_of_part, place_of_node, LeadsTo, IsRangeOf, nodes_of, with_user, AreUsers}
 use Rattle.abnf_names.proofs.ReachLaws.{marked, reaches_first, reaches_more}
 
 -- in a list through a function
@@ -199,23 +199,27 @@ next_root (t ∷ trees) (suc r) root e =
     omega (arith, more, here, inner)
 
 -- the nodes of rule r
-module _ (trees : List Part) (nodes : List Node) (are : AreNodes trees nodes) (r start end : ℕ) (root : Part)
-    (is : slice_get trees r ≡ Some root) (start_is : start ≡ root_number trees r) (end_is : end ≡ root_number trees (suc r)) where
-  end_at : end ≡ start + length (subparts root)
-  end_at = end_is ∙ (next_root trees r root is ∙ ap (λ n. n + length (subparts root)) (sym start_is))
+module _ (trees : List Part) (nodes : List Node) (are : AreNodes trees nodes) (r : ℕ) (below : r < length trees) where
+  abbrev root : Part
+  root = get_or trees r opaque
 
-  pub start_before : start ≤ end
-  start_before = omega (arith, end_at)
+  is : slice_get trees r ≡ Some root
+  is = slice_get-get_or trees r opaque below
 
-  pub end_within : end ≤ length nodes
+  start_before : root_number trees r ≤ root_number trees (suc r)
+  start_before = omega (arith, next_root trees r root is)
+
+  end_within : root_number trees (suc r) ≤ length nodes
   end_within =
       let parts = cut trees r root is in
       let all : length (parts_of trees) ≡ root_number trees r + length (subparts root ++ parts.0) = ap length parts.1 ∙ length-append (parts_of (take r trees)) (subparts root ++ parts.0) in
       let more : length (subparts root ++ parts.0) ≡ length (subparts root) + length parts.0 = length-append (subparts root) parts.0 in
-      omega (arith, all, more, end_at, start_is, are.one_each)
+      omega (arith, all, more, next_root trees r root is, are.one_each)
 
-  rule_places : (last : ℕ) → map (place_of_node last) (slice_range nodes start end) ≡ map (place_of_part last) (subparts root)
+  rule_places : (last : ℕ) → map (place_of_node last) (nodes_of nodes trees r) ≡ map (place_of_part last) (subparts root)
   rule_places last =
+      let start = root_number trees r in
+      let end = root_number trees (suc r) in
       let f = place_of_node last in
       let g = place_of_part last in
       let parts = cut trees r root is in
@@ -223,14 +227,14 @@ module _ (trees : List Part) (nodes : List Node) (are : AreNodes trees nodes) (r
       ∙ (ap (take (end - start)) (sym (drop-map f start nodes) ∙ (ap (drop start) (all_places trees nodes are last) ∙ drop-map g start (parts_of trees)))
       ∙ (take-map g (end - start) (drop start (parts_of trees))
       ∙ ap (map g) (ap (λ ps. take (end - start) (drop start ps)) parts.1
-      ∙ (ap (take (end - start)) (drop_at (parts_of (take r trees)) (subparts root ++ parts.0) start (sym start_is))
-      ∙ take_at (subparts root) parts.0 (end - start) (omega (arith, end_at))))))
+      ∙ (ap (take (end - start)) (drop_at (parts_of (take r trees)) (subparts root ++ parts.0) start refl)
+      ∙ take_at (subparts root) parts.0 (end - start) (let size : length (subparts root) ≡ end - start = omega (arith, next_root trees r root is) in size)))))
 
-  pub places_within : (q : ℕ) → Contains (map (place_of_node (length trees)) (slice_range nodes start end)) (Some q) → q < suc (length trees)
+  pub places_within : (q : ℕ) → Contains (map (place_of_node (length trees)) (nodes_of nodes trees r)) (Some q) → q < suc (length trees)
   places_within q c = leads_within trees nodes are r q (root, is, subst (λ os. Contains os (Some q)) (rule_places (length trees)) c)
 
   -- one more rule was read
-  pub users_more : (old new : List (List ℕ)) → AreUsers trees r old → new ≡ fold (with_user r) old (map (place_of_node (length trees)) (slice_range nodes start end)) → AreUsers trees (r + 1) new
+  pub users_more : (old new : List (List ℕ)) → AreUsers trees r old → new ≡ fold (with_user r) old (map (place_of_node (length trees)) (nodes_of nodes trees r)) → AreUsers trees (r + 1) new
   users_more old new h e =
       let os = map (place_of_part (length trees)) (subparts root) in
       let made : fold (with_user r) old os ≡ new = ap (fold (with_user r) old) (sym (rule_places (length trees))) ∙ sym e in
@@ -249,6 +253,19 @@ module _ (trees : List Part) (nodes : List Node) (are : AreNodes trees nodes) (r
     where
       same_root : (p : Part) → Some p ≡ Some root → p ≡ root
       same_root p e = cc e
+
+-- in the numbers that the code has
+pub is_range : (trees : List Part) (nodes : List Node) (roots : List ℕ) → AreNodes trees nodes → AreRoots trees roots → (r root start end : ℕ) → r < length roots → root ≡ get_or roots r root → start ≡ root →
+    end ≡ root_number trees (suc r) → IsRangeOf trees nodes r start end
+is_range trees nodes roots are at r root start end l is s e =
+    let start_is : start ≡ root_number trees r = s ∙ at.each r root (slice_get_read roots (length roots) r root refl l is) in
+    let below : r < length trees = subst (λ n. r < n) at.one_each l in
+    record {
+      start_is = start_is;
+      end_is = e;
+      ordered = omega (arith, start_is, e, start_before trees nodes are r below);
+      within = omega (arith, e, end_within trees nodes are r below);
+    }
 
 -- no rule was read
 pub users_none : (trees : List Part) (users : List (List ℕ)) → length users ≡ suc (length trees) → ((place : ℕ) → users_at users place ≡ []) → AreUsers trees 0 users

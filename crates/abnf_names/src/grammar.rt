@@ -1,8 +1,9 @@
 //! The grammar of a text.
 
-ghost use Rattle.std.specs.Prelude.{◌≡◌, ◌<◌, IfOk, length, map};
+ghost use Rattle.std.specs.Prelude.{◌≡◌, ◌<◌, ◌↔◌, IfOk, IsTrue, length, map};
 ghost use Rattle.abnf_names.specs.Part.{root_number};
 ghost use Rattle.abnf_names.specs.Nodes.{AreNodes};
+ghost use Rattle.abnf_names.specs.Reach.{ReachesOpaque};
 ghost use Rattle.abnf_names.specs.Names.{folded_text};
 ghost use Rattle.abnf_names.specs.Places.{places_of_name};
 ghost use Rattle.abnf_names.specs.Rules.{rule_number, IsGrammar};
@@ -15,6 +16,7 @@ use crate::node::{Node, NodeNo, RuleNo};
 use crate::own::{faults_of, own_groups, own_names, placed, unknown_names};
 use crate::parsed::parsed_blocks;
 use crate::place::{NamePlace, Spot, places_of};
+use crate::reach::reaching;
 use crate::rules::push_rules;
 use abnf_syntax::SyntaxFault;
 use abnf_token::Folded;
@@ -42,6 +44,7 @@ pub struct Grammar<'t> {
     spots: List<Spot<'t>>,
     by_name: Groups<'t, NamePlace>,
     faults: List<(Place, SyntaxFault)>,
+    opaque: Vec<bool>,
 }
 
 impl<'t> Model for Grammar<'t> {
@@ -88,14 +91,17 @@ impl<'t> Grammar<'t> {
             &mut nodes,
             &mut roots,
         )?;
+        let roots = roots.into_vec();
+        let opaque = reaching(alloc, nodes.as_slice(), roots.as_slice())?;
         Ok(Grammar {
             source: snapshot,
             nodes,
-            roots: roots.into_vec(),
+            roots,
             names,
             spots,
             by_name,
             faults,
+            opaque,
         })
     }
 
@@ -133,6 +139,15 @@ impl<'t> Grammar<'t> {
         ensures { result.now ≡ self.now.faults }
     {
         self.faults.as_slice()
+    }
+
+    /// Whether a chain of uses leads from a rule to prose or to a faulty block, so that not all of what it generates is known. The
+    /// rule must be one of this grammar.
+    pub fn reaches_opaque(&self, rule: RuleNo) -> bool
+        requires { rule < length self.now.rules }
+        ensures { IsTrue result ↔ ReachesOpaque self.now.rules rule }
+    {
+        self.opaque[rule.get()]
     }
 
     /// The text that the grammar was made of. What is known of a grammar is that of its text.

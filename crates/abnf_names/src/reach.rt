@@ -175,6 +175,25 @@ fn end_of(nodes: &[Node<'_>], roots: &[NodeNo], rule: usize) -> usize
     }
 }
 
+/// The numbers from which and up to which the nodes are those of a rule.
+fn range_of(nodes: &[Node<'_>], roots: &[NodeNo], rule: usize) -> (usize, usize)
+    requires numbered { AreNumbered nodes.now roots.now }
+    requires rule { rule < length roots.now }
+    ensures { spec.IsRangeOf (trees_at nodes.now roots.now) nodes.now rule result.0 result.1 }
+{
+    (roots[rule].get(), end_of(nodes, roots, rule))
+}
+
+/// The nodes of a rule.
+fn nodes_of<'g, 't>(nodes: &'g [Node<'t>], roots: &[NodeNo], rule: usize) -> &'g [Node<'t>]
+    requires numbered { AreNumbered nodes.now roots.now }
+    requires rule { rule < length roots.now }
+    ensures { result.now ≡ spec.nodes_of nodes.now (trees_at nodes.now roots.now) rule }
+{
+    let (start, end) = range_of(nodes, roots, rule);
+    &nodes[start..end]
+}
+
 /// For each place the rules that lead there.
 fn users_of(
     alloc: Global,
@@ -187,9 +206,7 @@ fn users_of(
     let last = roots.len();
     let mut users = no_users(alloc, last + 1)?;
     for rule in 0..last {
-        let start = roots[rule].get();
-        let end = end_of(nodes, roots, rule);
-        add_users(rule, last, &nodes[start..end], &mut users)?;
+        add_users(rule, last, nodes_of(nodes, roots, rule), &mut users)?;
     }
     Ok(users)
 }

@@ -14,6 +14,9 @@ use Rattle.abnf_names.specs.Pushed.{AddsTrees}
 use Rattle.abnf_names.proofs.Kept.{kept, names_made}
 use Rattle.abnf_names.proofs.grammar.Grammar.of.Goals as goal
 
+pub reaching-opaque-requires : goal.reaching-opaque-requires
+reaching-opaque-requires c = ?
+
 pub invariant_of-result : goal.invariant_of-result
 invariant_of-result c =
     let blocks = map block_of c.in_ok-parsed.parsed.items in
