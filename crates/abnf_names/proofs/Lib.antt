@@ -14,3 +14,4 @@ pub mod ApartLaws
 pub mod Tied
 pub mod Kept
 pub mod Closed
+pub mod Within

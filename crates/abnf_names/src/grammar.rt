@@ -1,20 +1,23 @@
 //! The grammar of a text.
 
-ghost use Rattle.std.specs.Prelude.{◌≡◌, ◌<◌, ◌↔◌, IfOk, IsTrue, length, map};
+ghost use Rattle.std.specs.Prelude.{◌≡◌, ◌<◌, ◌↔◌, [], IfOk, IsTrue, length, map};
 ghost use Rattle.abnf_names.specs.Part.{root_number};
 ghost use Rattle.abnf_names.specs.Nodes.{AreNodes};
 ghost use Rattle.abnf_names.specs.Reach.{ReachesOpaque};
 ghost use Rattle.abnf_names.specs.Names.{folded_text};
 ghost use Rattle.abnf_names.specs.Places.{places_of_name};
 ghost use Rattle.abnf_names.specs.Rules.{rule_number, IsGrammar};
-ghost use Rattle.abnf_names.specs.Passes.{name_place};
+ghost use Rattle.abnf_names.specs.Places as places;
+ghost use Rattle.abnf_names.specs.Rules as rules;
+ghost use Rattle.abnf_names.specs.Passes.{name_place, block_of, named_at, AreNames};
+ghost use Rattle.abnf_names.specs.Pushed.{AddsTrees};
 
 use crate::core_rule::{core_names, needed_rules};
 use crate::groups::Groups;
 use crate::names::RuleNames;
 use crate::node::{Node, NodeNo, RuleNo};
 use crate::own::{faults_of, own_groups, own_names, placed, unknown_names};
-use crate::parsed::parsed_blocks;
+use crate::parsed::{Parsed, parsed_blocks};
 use crate::place::{NamePlace, Spot, places_of};
 use crate::reach::reaching;
 use crate::rules::push_rules;
@@ -62,6 +65,47 @@ impl<'t> Model for Grammar<'t> {
     ghost invariant = { IsGrammarInside };
 }
 
+/// The rules of a text, numbered.
+#[derive(Drop)]
+struct Numbered<'t> {
+    names: RuleNames<'t>,
+    nodes: Vec<Node<'t>>,
+    roots: Vec<NodeNo>,
+}
+
+/// The rules that these blocks say, with the core rules that they need.
+fn number_rules<'t>(
+    alloc: Global,
+    parsed: Vec<Parsed<'t>>,
+    spots: &[Spot<'t>],
+) -> Result<Numbered<'t>, AllocError>
+    requires { map named_at spots.now ≡ places.places_of (map block_of parsed.items) }
+    ensures names { IfOk result (λ n. AreNames (map block_of parsed.entry.items) n.names) }
+    ensures nodes { IfOk result (λ n. AddsTrees (rules.rules_of (map block_of parsed.entry.items)) [] n.nodes.items [] n.roots.items) }
+{
+    let own = own_names(alloc, parsed.as_slice())?;
+    let unknown = unknown_names(alloc, &own, spots)?;
+    let needed = needed_rules(alloc, &unknown)?;
+    let core = core_names(alloc, needed.as_slice())?;
+    let names = RuleNames::new(own, core);
+    let groups = own_groups(alloc, parsed)?;
+    let mut nodes = Vec::new(alloc);
+    let mut roots = List::new(alloc);
+    push_rules(
+        alloc,
+        &names,
+        &groups,
+        needed.as_slice(),
+        &mut nodes,
+        &mut roots,
+    )?;
+    Ok(Numbered {
+        names,
+        nodes,
+        roots: roots.into_vec(),
+    })
+}
+
 impl<'t> Grammar<'t> {
     /// The grammar of a text.
     ///
@@ -75,23 +119,11 @@ impl<'t> Grammar<'t> {
         let spots = places_of(alloc, parsed.as_slice())?;
         let faults = faults_of(alloc, parsed.as_slice())?;
         let by_name = placed(alloc, spots.as_slice())?;
-        let own = own_names(alloc, parsed.as_slice())?;
-        let unknown = unknown_names(alloc, &own, spots.as_slice())?;
-        let needed = needed_rules(alloc, &unknown)?;
-        let core = core_names(alloc, needed.as_slice())?;
-        let names = RuleNames::new(own, core);
-        let groups = own_groups(alloc, parsed)?;
-        let mut nodes = Vec::new(alloc);
-        let mut roots = List::new(alloc);
-        push_rules(
-            alloc,
-            &names,
-            &groups,
-            needed.as_slice(),
-            &mut nodes,
-            &mut roots,
-        )?;
-        let roots = roots.into_vec();
+        let Numbered {
+            names,
+            nodes,
+            roots,
+        } = number_rules(alloc, parsed, spots.as_slice())?;
         let opaque = reaching(alloc, nodes.as_slice(), roots.as_slice())?;
         Ok(Grammar {
             source: snapshot,
