@@ -89,8 +89,8 @@ adds_all old (place ∷ places) =
       more = λ x c. rest.more x (one.more x c);
       has = λ x c. ⊎_elim (λ (e : place ≡ x). rest.more x (one.has x (0, omega arith, e))) (λ (r : Contains places x). rest.has x r) (head_or place x places c);
       only = λ x c. ⊎_elim
-      (λ (o : Contains (with_place old place) x). ⊎_elim (λ (p : Contains old x). inl p) (λ (p : Contains (place ∷ []) x). inr (0, omega arith, one_only place x p)) (one.only x o))
-      (λ (r : Contains places x). inr (suc r.0, omega (arith, r.1), r.2)) (rest.only x c);
+          (λ (o : Contains (with_place old place) x). ⊎_elim (λ (p : Contains old x). inl p) (λ (p : Contains (place ∷ []) x). inr (0, omega arith, one_only place x p)) (one.only x o))
+          (λ (r : Contains places x). inr (suc r.0, omega (arith, r.1), r.2)) (rest.only x c);
       same = λ k l. rest.same k (omega (arith, one.longer)) ∙ one.same k l;
       longer = omega (arith, one.longer, rest.longer);
     }
@@ -114,11 +114,11 @@ searched_more users found first place h is =
       right = λ x c. ⊎_elim (λ (o : Contains found x). h.right x o) (λ (u : Contains (users_at users place) x). (suc steps.0, (place, u, steps.1))) (added.only x c);
       last = λ x e. added.more x (h.last x e);
       closed = λ k x l c. ⊎_elim
-      (λ (before : k < first). added.more x (h.closed k x before (subst (λ p. Contains (users_at users p) x) (added.same k (omega (arith, slice_get_within found first place is))) c)))
-      (λ (now : first ≤ k). added.has x (subst (λ p. Contains (users_at users p) x)
-      (added.same k (let at : k ≡ first = omega arith in omega (arith, at, slice_get_within found first place is))
-      ∙ (ap (λ n. get_or found n 0) (let at : k ≡ first = omega arith in at) ∙ get_or_from_slice_get found first place 0 is)) c))
-      (cases_lt k first);
+          (λ (before : k < first). added.more x (h.closed k x before (subst (λ p. Contains (users_at users p) x) (added.same k (omega (arith, slice_get_within found first place is))) c)))
+          (λ (now : first ≤ k). added.has x (subst (λ p. Contains (users_at users p) x)
+          (added.same k (let at : k ≡ first = omega arith in omega (arith, at, slice_get_within found first place is))
+          ∙ (ap (λ n. get_or found n 0) (let at : k ≡ first = omega arith in at) ∙ get_or_from_slice_get found first place 0 is)) c))
+          (cases_lt k first);
     }
 
 found_by : (users : List (List ℕ)) (found : List ℕ) (first : ℕ) → IsSearched users found first → length found ≤ first → (steps place : ℕ) → LeadsBy users steps place → Contains found place
@@ -134,7 +134,7 @@ searched_all users found first marks h none len on = record {
   one_each = len;
   each = λ place. (
     λ e. h.right place ((on place).0 e),
-    λ leads. (on place).1 (found_by users found first h (past found first none) leads.0 place leads.1)
+    λ leads. (on place).1 (found_by users found first h (past found first none) leads.0 place leads.1),
   );
 }
   where

@@ -61,15 +61,15 @@ module _ (r : ℕ) where
       none_only place (suc k, l, e) = absurd (omega arith)
   one_user users (Some q) within = record {
     only = λ place x c. ⊎_elim
-    (λ (e : place ≡ q). ⊎_elim (λ (o : Contains (users_at users q) x). inl (subst (λ p. Contains (users_at users p) x) (sym e) o)) (λ (s : r ≡ x). inr (sym s, (0, omega arith, ap Some (sym e))))
-    (Contains-push_cases (users_at users q) r x (subst (λ xs. Contains xs x) (at_place users q (within q refl)) (subst (λ p. Contains (users_at (with_user r users (Some q)) p) x) e c))))
-    (λ (ne : place ≡ q → ⊥). inl (subst (λ xs. Contains xs x) (at_other users q place ne) c))
-    (cases_eq place q);
+        (λ (e : place ≡ q). ⊎_elim (λ (o : Contains (users_at users q) x). inl (subst (λ p. Contains (users_at users p) x) (sym e) o)) (λ (s : r ≡ x). inr (sym s, (0, omega arith, ap Some (sym e))))
+        (Contains-push_cases (users_at users q) r x (subst (λ xs. Contains xs x) (at_place users q (within q refl)) (subst (λ p. Contains (users_at (with_user r users (Some q)) p) x) e c))))
+        (λ (ne : place ≡ q → ⊥). inl (subst (λ xs. Contains xs x) (at_other users q place ne) c))
+        (cases_eq place q);
     more = λ place x c. ⊎_elim
-    (λ (e : place ≡ q). subst (λ p. Contains (users_at (with_user r users (Some q)) p) x) (sym e)
-    (subst (λ xs. Contains xs x) (sym (at_place users q (within q refl))) (Contains-append_left (users_at users q) (r ∷ []) x (subst (λ p. Contains (users_at users p) x) e c))))
-    (λ (ne : place ≡ q → ⊥). subst (λ xs. Contains xs x) (sym (at_other users q place ne)) c)
-    (cases_eq place q);
+        (λ (e : place ≡ q). subst (λ p. Contains (users_at (with_user r users (Some q)) p) x) (sym e)
+        (subst (λ xs. Contains xs x) (sym (at_place users q (within q refl))) (Contains-append_left (users_at users q) (r ∷ []) x (subst (λ p. Contains (users_at users p) x) e c))))
+        (λ (ne : place ≡ q → ⊥). subst (λ xs. Contains xs x) (sym (at_other users q place ne)) c)
+        (cases_eq place q);
     has = λ place c. subst (λ p. Contains (users_at (with_user r users (Some q)) p) r) (some_only place c)
         (subst (λ xs. Contains xs r) (sym (at_place users q (within q refl))) (Contains-push (users_at users q) r));
   }
@@ -97,9 +97,9 @@ module _ (r : ℕ) where
       all_users os (with_user r users o) (λ q c. subst (λ n. q < n) (sym (length-with_user users o)) (within q (tail_of o (Some q) os c))) in
       record {
         only = λ place x c. ⊎_elim
-        (λ (m : Contains (users_at (with_user r users o) place) x). ⊎_elim (λ (u : Contains (users_at users place) x). inl u)
-        (λ (h : (x ≡ r) × Contains (o ∷ []) (Some place)). inr (h.0, Contains-append_left (o ∷ []) os (Some place) h.1)) (one.only place x m))
-        (λ (h : (x ≡ r) × Contains os (Some place)). inr (h.0, tail_of o (Some place) os h.1)) (rest.only place x c);
+            (λ (m : Contains (users_at (with_user r users o) place) x). ⊎_elim (λ (u : Contains (users_at users place) x). inl u)
+            (λ (h : (x ≡ r) × Contains (o ∷ []) (Some place)). inr (h.0, Contains-append_left (o ∷ []) os (Some place) h.1)) (one.only place x m))
+            (λ (h : (x ≡ r) × Contains os (Some place)). inr (h.0, tail_of o (Some place) os h.1)) (rest.only place x c);
         more = λ place x c. rest.more place x (one.more place x c);
         has = λ place c. ⊎_elim (λ (e : o ≡ Some place). rest.more place r (one.has place (0, omega arith, e))) (λ (t : Contains os (Some place)). rest.has place t) (head_or o (Some place) os c);
       }
@@ -169,14 +169,14 @@ module _ (trees : List Part) (nodes : List Node) (are : AreNodes trees nodes) wh
       let len : length (map f nodes) ≡ length nodes = length-map nodes f in
       same_lists (map f nodes) (map g (parts_of trees)) (len ∙ (are.one_each ∙ sym (length-map (parts_of trees) g)))
       (λ k d l.
-          let in_nodes : k < length nodes = subst (λ n. k < n) len l in
-          let in_parts : k < length (parts_of trees) = subst (λ n. k < n) are.one_each in_nodes in
-          let p = get_or (parts_of trees) k opaque in
-          let found = are.each k p (slice_get-get_or (parts_of trees) k opaque in_parts) in
-          get_or-map f nodes k found.0 d in_nodes
-          ∙ (ap f (get_or_from_slice_get nodes k found.0 found.0 found.1)
-          ∙ (node_place last k p found.0 found.2
-          ∙ sym (get_or-map g (parts_of trees) k opaque d in_parts))))
+      let in_nodes : k < length nodes = subst (λ n. k < n) len l in
+      let in_parts : k < length (parts_of trees) = subst (λ n. k < n) are.one_each in_nodes in
+      let p = get_or (parts_of trees) k opaque in
+      let found = are.each k p (slice_get-get_or (parts_of trees) k opaque in_parts) in
+      get_or-map f nodes k found.0 d in_nodes
+      ∙ (ap f (get_or_from_slice_get nodes k found.0 found.0 found.1)
+      ∙ (node_place last k p found.0 found.2
+      ∙ sym (get_or-map g (parts_of trees) k opaque d in_parts))))
 
 -- where the parts of a rule stand
 cut : (trees : List Part) (r : ℕ) (root : Part) → slice_get trees r ≡ Some root → (rest : List Part) × (parts_of trees ≡ parts_of (take r trees) ++ (subparts root ++ rest))
@@ -243,12 +243,12 @@ module _ (trees : List Part) (nodes : List Node) (are : AreNodes trees nodes) (r
       record {
         one_each = sym (ap length made) ∙ (length-users r os old ∙ h.one_each);
         right = λ place x c. ⊎_elim (λ (u : Contains (users_at old place) x). h.right place x u)
-        (λ (w : (x ≡ r) × Contains os (Some place)). subst (λ y. LeadsTo trees y place) (sym w.0) (root, is, w.1)) (added.only place x c);
+            (λ (w : (x ≡ r) × Contains os (Some place)). subst (λ y. LeadsTo trees y place) (sym w.0) (root, is, w.1)) (added.only place x c);
         all = λ place x l leads. ⊎_elim (λ (before : x < r). added.more place x (h.all place x before leads))
-        (λ (now : r ≤ x). let at : x ≡ r = omega arith in subst (λ y. Contains (users_at new place) y) (sym at)
-        (added.has place (subst (λ p. Contains (map (place_of_part (length trees)) (subparts p)) (Some place))
-        (let same : leads.0 ≡ root = same_root leads.0 (sym leads.1 ∙ (ap (slice_get trees) at ∙ is)) in same) leads.2)))
-        (cases_lt x r);
+            (λ (now : r ≤ x). let at : x ≡ r = omega arith in subst (λ y. Contains (users_at new place) y) (sym at)
+            (added.has place (subst (λ p. Contains (map (place_of_part (length trees)) (subparts p)) (Some place))
+            (let same : leads.0 ≡ root = same_root leads.0 (sym leads.1 ∙ (ap (slice_get trees) at ∙ is)) in same) leads.2)))
+            (cases_lt x r);
       }
     where
       same_root : (p : Part) → Some p ≡ Some root → p ≡ root
@@ -302,8 +302,7 @@ module _ (trees : List Part) (nodes : List Node) (are : AreNodes trees nodes) (u
   reaching marks kept last on cut len = record {
     one_each = len;
     each = λ r l.
-        let same : get_or marks r false ≡ get_or kept r false = ap (λ bs. get_or bs r false) cut ∙ get_or_append_left kept last false r (subst (λ n. r < n) (sym len) l) in
-        (
+        let same : get_or marks r false ≡ get_or kept r false = ap (λ bs. get_or bs r false) cut ∙ get_or_append_left kept last false r (subst (λ n. r < n) (sym len) l) in (
           λ e. ⊎_elim (λ (past : r ≡ length trees). absurd (omega (arith, past))) (λ (reach : ReachesOpaque trees r). reach)
               (let steps : LeadsToLast users r = (on.each r).0 (same ∙ e) in reaches_by steps.0 r steps.1),
           λ reach. sym same ∙ (on.each r).1 (leads_last r reach),

@@ -1,6 +1,6 @@
 //! The grammar of a text.
 
-ghost use Rattle.std.specs.Prelude.{◌≡◌, ◌<◌, ◌↔◌, [], IfOk, IsTrue, length, map};
+ghost use Rattle.std.specs.Prelude.{◌≡◌, ◌<◌, ◌↔◌, [], IfOk, IfSome, IsTrue, length, map};
 ghost use Rattle.abnf_names.specs.Part.{root_number};
 ghost use Rattle.abnf_names.specs.Nodes.{AreNodes};
 ghost use Rattle.abnf_names.specs.Reach.{ReachesOpaque};
@@ -154,7 +154,8 @@ impl<'t> Grammar<'t> {
 
     /// The rule that a name stands for in the text: the text's rule, else the core rule if one is needed.
     pub fn rule_of(&self, name: Folded<'t>) -> Option<RuleNo>
-        ensures { result ≡ rule_number self.now.names (folded_text name.entry) }
+        ensures rule { result ≡ rule_number self.now.names (folded_text name.entry) }
+        ensures within { IfSome result (λ r. r < length self.now.rules) }
     {
         self.names.rule_of(name)
     }
