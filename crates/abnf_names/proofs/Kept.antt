@@ -3,6 +3,7 @@ use Rattle.std.proofs.Common.{◌≡◌, ℕ, List, [], map, sym, ap, ◌∙◌}
 use Rattle.std.specs.Prelude.{fold, filter}
 use Rattle.ls_text.specs.declared.position.Place.{Place}
 use Rattle.abnf_syntax.specs.declared.fault.SyntaxFault.{SyntaxFault}
+use Rattle.abnf_parts.specs.declared.node.Node.{Node}
 use Rattle.abnf_parts.specs.declared.core_rule.Core.{Core}
 use Rattle.abnf_names.specs.declared.place.Spot.{Spot}
 use Rattle.abnf_names.specs.declared.grammar.Grammar.TheInside.{Inside}
@@ -12,7 +13,8 @@ use Rattle.abnf_parts.specs.CoreTable.{core_of}
 use Rattle.abnf_names.specs.Said.{Block, AreSaid}
 use Rattle.abnf_parts.specs.Names.{Name, all_names, with_name}
 use Rattle.abnf_names.specs.Places.{Named, places_of}
-use Rattle.abnf_parts.specs.Nodes.{trees_at}
+use Rattle.abnf_parts.specs.Nodes.{trees_at, AreNumbered}
+use Rattle.abnf_parts.specs.Reach.{AreReaching}
 use Rattle.abnf_names.specs.Rules.{defined, needed, undefined, names_of, rules_of, faults_of, Grammar}
 use Rattle.abnf_names.specs.Passes.{named_at, spot_name, is_unknown, AreNames, ArePlaced}
 use Rattle.abnf_names.specs.Inside.{IsGrammarInside}
@@ -31,9 +33,13 @@ same_grammar text names ns rules rs places ps faults fs n r p f =
     ∙ (ap (λ x. record { text = text; names = ns; rules = rs; places = x; faults = faults }) p
     ∙ ap (λ x. record { text = text; names = ns; rules = rs; places = ps; faults = x }) f))
 
+-- what was pushed is numbered
+pub numbered : (blocks : List Block) (nodes : List Node) (roots : List ℕ) → AddsTrees (rules_of blocks) [] nodes [] roots → AreNumbered nodes roots
+numbered blocks nodes roots added = (tied (rules_of blocks) nodes roots added (rules_closed blocks)).numbered
+
 pub kept : (g : Inside) (blocks : List Block) → AreSaid g.source.now blocks → AreNames blocks g.names → AddsTrees (rules_of blocks) [] g.nodes.items [] g.roots.items →
-    map named_at g.spots ≡ places_of blocks → g.faults ≡ faults_of blocks → ArePlaced (map named_at g.spots) g.by_name → IsGrammarInside g
-kept g blocks said are added places faults placed =
+    map named_at g.spots ≡ places_of blocks → g.faults ≡ faults_of blocks → ArePlaced (map named_at g.spots) g.by_name → AreReaching (trees_at g.nodes.items g.roots.items) g.opaque.items → IsGrammarInside g
+kept g blocks said are added places faults placed reaching =
     let t : IsTied (rules_of blocks) g.nodes.items g.roots.items = tied (rules_of blocks) g.nodes.items g.roots.items added (rules_closed blocks) in
     record {
       numbered = t.numbered;
@@ -44,6 +50,7 @@ kept g blocks said are added places faults placed =
             (sym (names_are blocks g.names are)) t.back places faults;
       };
       placed = placed;
+      reaching = reaching;
     }
 
 -- the names of the rules, by the passes that made them

@@ -1,4 +1,6 @@
 pub mod ReachLaws
+pub mod SearchLaws
+pub mod UsersLaws
 pub mod BlockPass
 pub mod GroupLaws
 pub mod OwnPass
@@ -6,3 +8,4 @@ pub mod NeededPass
 pub mod RulePass
 pub mod Closed
 pub mod Kept
+pub mod Within

@@ -3,6 +3,7 @@ use Rattle.std.specs.Prelude.{map}
 use Rattle.abnf_parts.specs.Names.{all_names}
 use Rattle.abnf_names.specs.Rules.{Grammar, IsGrammar}
 use Rattle.abnf_parts.specs.Nodes.{trees_at, AreNumbered}
+use Rattle.abnf_parts.specs.Reach.{AreReaching}
 use Rattle.abnf_names.specs.Passes.{named_at, ArePlaced}
 use Rattle.abnf_names.specs.declared.grammar.Grammar.TheInside.{Inside}
 
@@ -19,3 +20,4 @@ pub record IsGrammarInside (g : Inside) : Type 0 where
   pub numbered : AreNumbered g.nodes.items g.roots.items
   pub is_grammar : IsGrammar (grammar_inside g)
   pub placed : ArePlaced (map named_at g.spots) g.by_name
+  pub reaching : AreReaching (trees_at g.nodes.items g.roots.items) g.opaque.items

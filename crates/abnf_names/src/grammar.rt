@@ -1,9 +1,10 @@
 //! The grammar of a text.
 
-ghost use Rattle.std.specs.Prelude.{◌≡◌, ◌<◌, IfOk, length, map, option_map};
+ghost use Rattle.std.specs.Prelude.{◌≡◌, ◌<◌, ◌↔◌, IfOk, IfSome, IsTrue, length, map, option_map};
 ghost use Rattle.abnf_parts.specs.Part.{root_number};
 ghost use Rattle.abnf_parts.specs.Nodes.{AreNodes};
 ghost use Rattle.abnf_parts.specs.Names.{folded_text, rule_number};
+ghost use Rattle.abnf_parts.specs.Reach.{ReachesOpaque};
 ghost use Rattle.abnf_names.specs.Places.{at_offset, place_and_name, place_and_text, places_of_name};
 ghost use Rattle.abnf_names.specs.Rules.{IsGrammar};
 ghost use Rattle.abnf_names.specs.Passes.{name_place};
@@ -12,6 +13,7 @@ use crate::groups::Groups;
 use crate::own::{faults_of, placed, rule_names};
 use crate::parsed::parsed_blocks;
 use crate::place::{NamePlace, Spot, found_at, places_of};
+use crate::reach::reaching;
 use crate::rules::numbered_rules;
 use abnf_parts::{Node, NodeNo, RuleNames, RuleNo};
 use abnf_syntax::SyntaxFault;
@@ -40,6 +42,7 @@ pub struct Grammar<'t> {
     spots: List<Spot<'t>>,
     by_name: Groups<'t, NamePlace>,
     faults: List<(Place, SyntaxFault)>,
+    opaque: Vec<bool>,
 }
 
 impl<'t> Model for Grammar<'t> {
@@ -72,6 +75,7 @@ impl<'t> Grammar<'t> {
         let by_name = placed(alloc, spots.as_slice())?;
         let (names, needed) = rule_names(alloc, parsed.as_slice(), spots.as_slice())?;
         let (nodes, roots) = numbered_rules(alloc, &names, parsed, needed.as_slice())?;
+        let opaque = reaching(alloc, nodes.as_slice(), roots.as_slice())?;
         Ok(Grammar {
             source: snapshot,
             nodes,
@@ -80,6 +84,7 @@ impl<'t> Grammar<'t> {
             spots,
             by_name,
             faults,
+            opaque,
         })
     }
 
@@ -100,7 +105,8 @@ impl<'t> Grammar<'t> {
 
     /// The rule that a name stands for in the text: the text's rule, else the core rule if one is needed.
     pub fn rule_of(&self, name: Folded<'t>) -> Option<RuleNo>
-        ensures { result ≡ rule_number self.now.names (folded_text name.entry) }
+        ensures rule { result ≡ rule_number self.now.names (folded_text name.entry) }
+        ensures within { IfSome result (λ r. r < length self.now.rules) }
     {
         self.names.rule_of(name)
     }
@@ -130,6 +136,15 @@ impl<'t> Grammar<'t> {
         ensures { result.now ≡ self.now.faults }
     {
         self.faults.as_slice()
+    }
+
+    /// Whether a chain of uses leads from a rule to prose or to a faulty block, so that not all of what it generates is known. The
+    /// rule must be one of this grammar.
+    pub fn reaches_opaque(&self, rule: RuleNo) -> bool
+        requires { rule < length self.now.rules }
+        ensures { IsTrue result ↔ ReachesOpaque self.now.rules rule }
+    {
+        self.opaque[rule.get()]
     }
 
     /// The text that the grammar was made of. What is known of a grammar is that of its text.

@@ -10,6 +10,7 @@ mod groups;
 mod own;
 mod parsed;
 mod place;
+mod reach;
 mod rules;
 
 pub use abnf_parts::{Node, NodeNo, RuleNo};

@@ -1,5 +1,5 @@
 -- Which rules lead to an opaque part.
-use Rattle.std.specs.Prelude.{◌≡◌, ℕ, zero, suc, Some, List, slice_get, Contains}
+use Rattle.std.specs.Prelude.{◌≡◌, ℕ, zero, suc, ◌<◌, ◌↔◌, Bool, false, IsTrue, Some, List, length, slice_get, slice_index_or, Contains}
 use Rattle.abnf_parts.specs.Part.{Part, ref, opaque, subparts}
 
 -- a chain of so many uses leads from rule r to an opaque part
@@ -10,3 +10,8 @@ ReachesBy rules (suc uses) r =
 
 abbrev pub ReachesOpaque : List Part → ℕ → Type 0
 ReachesOpaque rules r = (uses : ℕ) × ReachesBy rules uses r
+
+-- the marks say of each rule whether such a chain leads from it
+pub record AreReaching (rules : List Part) (marks : List Bool) : Type 0 where
+  pub one_each : length marks ≡ length rules
+  pub each : (r : ℕ) → r < length rules → IsTrue (slice_index_or marks r false) ↔ ReachesOpaque rules r

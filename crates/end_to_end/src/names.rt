@@ -302,3 +302,79 @@ fn reads_many_rules(rt: HostRuntime) -> Result<(), Fail> {
     assert!(rt; refers(grammar.nodes().get(199_999), "r100000", None));
     Ok(())
 }
+
+/// Whether the rule of a name leads to prose or to a faulty block, if there is such a rule.
+fn reaches<'t>(grammar: &Grammar<'t>, name: Folded<'t>) -> Option<bool> {
+    match grammar.rule_of(name) {
+        Some(rule) => Some(grammar.reaches_opaque(rule)),
+        None => None,
+    }
+}
+
+#[test]
+fn reaches_prose_by_uses(rt: HostRuntime) -> Result<(), Fail> {
+    let text = snapshot(
+        rt.alloc(),
+        "a = b\nb = c\nc = <prose>\nd = \"x\"\ne = d\nf = nope / ALPHA / LWSP",
+    )?;
+    let grammar = Grammar::of(rt.alloc(), &text)?;
+    for (name, want) in [
+        ("a", Some(true)),
+        ("b", Some(true)),
+        ("c", Some(true)),
+        ("d", Some(false)),
+        ("e", Some(false)),
+        ("f", Some(false)),
+        ("ALPHA", Some(false)),
+        ("LWSP", Some(false)),
+        ("WSP", Some(false)),
+        ("nope", None),
+    ] {
+        assert_eq!(rt; reaches(&grammar, Folded(name)), want, "{name}");
+    }
+    Ok(())
+}
+
+#[test]
+fn reaches_against_uses_alone(rt: HostRuntime) -> Result<(), Fail> {
+    let text = snapshot(rt.alloc(), "a = b\nb = a\nc = b / <p>")?;
+    let grammar = Grammar::of(rt.alloc(), &text)?;
+    assert_eq!(rt; reaches(&grammar, Folded("a")), Some(false));
+    assert_eq!(rt; reaches(&grammar, Folded("b")), Some(false));
+    assert_eq!(rt; reaches(&grammar, Folded("c")), Some(true));
+    Ok(())
+}
+
+#[test]
+fn reaches_faulty_blocks(rt: HostRuntime) -> Result<(), Fail> {
+    let text = snapshot(
+        rt.alloc(),
+        "a = b\nb = (\nc = \"x\" 2(\"y\" [b])\nd = c\ne = \"x\"",
+    )?;
+    let grammar = Grammar::of(rt.alloc(), &text)?;
+    for (name, want) in [
+        ("a", true),
+        ("b", true),
+        ("c", true),
+        ("d", true),
+        ("e", false),
+    ] {
+        assert_eq!(rt; reaches(&grammar, Folded(name)), Some(want), "{name}");
+    }
+    Ok(())
+}
+
+/// Many rules, each of which uses the one before, and the first is prose.
+#[test]
+fn reaches_along_many_rules(rt: HostRuntime) -> Result<(), Fail> {
+    let mut text = String::from_str(rt.alloc(), "r0 = <p>\n")?;
+    for n in 1..100_000 {
+        text.push_str(format!(in rt.alloc(); "r{n} = r{}\n", n - 1)?.as_str())?;
+    }
+    let text = snapshot(rt.alloc(), text.as_str())?;
+    let grammar = Grammar::of(rt.alloc(), &text)?;
+    assert_eq!(rt; reaches(&grammar, Folded("r0")), Some(true));
+    assert_eq!(rt; reaches(&grammar, Folded("r50000")), Some(true));
+    assert_eq!(rt; reaches(&grammar, Folded("r99999")), Some(true));
+    Ok(())
+}

@@ -1,0 +1,30 @@
+-- Each rule that a name stands for is one of the rules of the grammar.
+use Rattle.std.proofs.Common.{◌≡◌, ◌<◌, ◌+◌, ℕ, List, [], map, length, refl, sym, ap, subst, ◌∙◌, length-append}
+use Rattle.std.specs.Prelude.{Option, Some, None, IfSome}
+use Rattle.std.proofs.lemmas.List.{length-map}
+use Rattle.std.proofs.lemmas.List.Quantifiers.{position-Some}
+use Rattle.abnf_parts.specs.Leaf.{same}
+use Rattle.abnf_parts.specs.Core.{core_name}
+use Rattle.abnf_parts.specs.Names.{Name, rule_number}
+use Rattle.abnf_names.specs.Said.{Block}
+use Rattle.abnf_names.specs.Rules.{defined, needed, rule_tree, core_tree, rules_of, names_of, Grammar, IsGrammar}
+use Rattle.abnf_names.specs.declared.grammar.Grammar.TheInside.{Inside}
+use Rattle.abnf_names.specs.Inside.{grammar_inside, IsGrammarInside}
+
+one_name_each : (blocks : List Block) → length (names_of blocks) ≡ length (rules_of blocks)
+one_name_each blocks =
+    let own = defined blocks in
+    let core = needed blocks in
+    length-append own (map core_name core)
+    ∙ (ap (λ n. length own + n) (length-map core core_name)
+    ∙ sym (length-append (map (rule_tree blocks) own) (map (core_tree blocks) core)
+    ∙ (ap (λ n. n + length (map (core_tree blocks) core)) (length-map own (rule_tree blocks)) ∙ ap (λ n. length own + n) (length-map core (core_tree blocks)))))
+
+if_some : (o : Option ℕ) (n : ℕ) → ((r : ℕ) → o ≡ Some r → r < n) → IfSome o (λ r. r < n)
+if_some None n h = tt
+if_some (Some r) n h = h r refl
+
+pub rule_within : (g : Grammar) → IsGrammar g → (name : Name) → IfSome (rule_number g.names name) (λ r. r < length g.rules)
+rule_within g h name =
+    let count : length g.names ≡ length g.rules = ap (λ k. length k.names) h.is ∙ (one_name_each h.blocks ∙ sym (ap (λ k. length k.rules) h.is)) in
+    if_some (rule_number g.names name) (length g.rules) (λ r e. subst (λ n. r < n) count (position-Some (same name) g.names r [] e).0)
