@@ -8,8 +8,6 @@ use Rattle.abnf_parts.specs.Core.{core_name}
 use Rattle.abnf_parts.specs.Names.{Name, rule_number}
 use Rattle.abnf_names.specs.Said.{Block}
 use Rattle.abnf_names.specs.Rules.{defined, needed, rule_tree, core_tree, rules_of, names_of, Grammar, IsGrammar}
-use Rattle.abnf_names.specs.declared.grammar.Grammar.TheInside.{Inside}
-use Rattle.abnf_names.specs.Inside.{grammar_inside, IsGrammarInside}
 
 one_name_each : (blocks : List Block) → length (names_of blocks) ≡ length (rules_of blocks)
 one_name_each blocks =

@@ -1,4 +1,4 @@
-use Rattle.std.proofs.Common.{◌≡◌, ◌∙◌, [], sym, ap, subst, map, List}
+use Rattle.std.proofs.Common.{◌∙◌, [], sym, ap, subst, map, List}
 use Rattle.std.specs.Prelude.{fold}
 use Rattle.abnf_parts.specs.declared.core_rule.Core.{Core}
 use Rattle.abnf_parts.specs.Names.{Name, with_name}

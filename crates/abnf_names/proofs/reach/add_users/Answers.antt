@@ -1,6 +1,4 @@
-use Rattle.std.proofs.Common.{◌≡◌, ◌<◌, ◌∙◌, Some, ap, sym, subst, get_or, length, map, take}
-use Rattle.std.specs.Prelude.{Contains}
-use Rattle.std.proofs.lemmas.List.Elements.{Contains-get_or}
+use Rattle.std.proofs.Common.{◌<◌, ◌∙◌, ap, sym, subst, map, take}
 use Rattle.abnf_names.specs.Users.{place_of_node, with_user}
 use Rattle.abnf_names.proofs.UsersLaws.{place_in, users_kept, users_next}
 use Rattle.abnf_names.proofs.reach.add_users.Goals as goal

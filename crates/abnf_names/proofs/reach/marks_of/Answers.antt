@@ -1,5 +1,5 @@
-use Rattle.std.proofs.Common.{◌≡◌, ◌<◌, ◌+◌, ◌∙◌, [], ℕ, List, length, get_or, subst, sym, ap}
-use Rattle.std.specs.Prelude.{fold, slice_get, Some, Contains}
+use Rattle.std.proofs.Common.{◌≡◌, ◌<◌, ◌+◌, ◌∙◌, [], ℕ, List, length, subst, sym, ap}
+use Rattle.std.specs.Prelude.{fold, Contains}
 use Rattle.std.proofs.lemmas.List.{get_or_read}
 use Rattle.abnf_names.specs.Search.{users_at, with_place, IsSearched}
 use Rattle.abnf_names.proofs.SearchLaws.{searched_more, searched_all}

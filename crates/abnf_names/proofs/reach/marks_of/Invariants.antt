@@ -1,4 +1,4 @@
-use Rattle.std.proofs.Common.{◌≡◌, ◌-◌, ◌≤◌, length}
+use Rattle.std.proofs.Common.{◌≡◌, ◌-◌, length}
 use Rattle.abnf_names.specs.Search.{IsSearched}
 use Rattle.abnf_names.proofs.reach.marks_of.Given as goal
 
