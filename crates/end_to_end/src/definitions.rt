@@ -23,7 +23,10 @@ fn asks(
     let input = frames(alloc, &[INITIALIZE, open.as_str(), request.as_str()])?;
     let wanted = frames(alloc, &[CAPABILITIES, answer])?;
     let (output, ending) = served(alloc, &input);
-    assert!(rt; output.as_slice() == wanted.as_slice(), "{beside} in {text}");
+    assert!(rt;
+        output.as_slice() == wanted.as_slice(),
+        "{beside} in {text}"
+    );
     assert_eq!(rt; ending.status(), 1);
     Ok(())
 }
@@ -52,7 +55,13 @@ fn definitions(rt: HostRuntime) -> Result<(), Fail> {
     asks(&rt, alloc, "a = nothing", at_4, nowhere)?;
     // No name stands there: a string, a comment, the end of the text.
     asks(&rt, alloc, r#"a = \"a\""#, at_4, nowhere)?;
-    asks(&rt, alloc, "a = ; a", r#","position":{"character":6,"line":0}"#, nowhere)?;
+    asks(
+        &rt,
+        alloc,
+        "a = ; a",
+        r#","position":{"character":6,"line":0}"#,
+        nowhere,
+    )?;
     asks(&rt, alloc, "", at_4, nowhere)?;
     Ok(())
 }
@@ -60,8 +69,10 @@ fn definitions(rt: HostRuntime) -> Result<(), Fail> {
 #[test]
 fn ends_of_names(rt: HostRuntime) -> Result<(), Fail> {
     let alloc = rt.alloc();
-    let of_a = r#"{"id":2,"jsonrpc":"2.0","result":[{"range":{"end":{"character":1,"line":0},"start":{"character":0,"line":0}},"uri":"file:///g"}]}"#;
-    let of_b = r#"{"id":2,"jsonrpc":"2.0","result":[{"range":{"end":{"character":1,"line":1},"start":{"character":0,"line":1}},"uri":"file:///g"}]}"#;
+    let of_a =
+        r#"{"id":2,"jsonrpc":"2.0","result":[{"range":{"end":{"character":1,"line":0},"start":{"character":0,"line":0}},"uri":"file:///g"}]}"#;
+    let of_b =
+        r#"{"id":2,"jsonrpc":"2.0","result":[{"range":{"end":{"character":1,"line":1},"start":{"character":0,"line":1}},"uri":"file:///g"}]}"#;
     let text = r#"a=b\nb=\"\""#;
     // A name ends where the cursor stands behind its last letter, also at the end of the line and past it.
     for (character, wanted) in [(0, of_a), (1, of_a), (2, of_b), (3, of_b), (9, of_b)] {
@@ -70,7 +81,13 @@ fn ends_of_names(rt: HostRuntime) -> Result<(), Fail> {
     }
     // Characters outside the first plane are two units of UTF-16 each.
     let late = r#","position":{"character":9,"line":0}"#;
-    asks(&rt, alloc, r#"b=\"🀄🀄\" b"#, late, r#"{"id":2,"jsonrpc":"2.0","result":[{"range":{"end":{"character":1,"line":0},"start":{"character":0,"line":0}},"uri":"file:///g"}]}"#)?;
+    asks(
+        &rt,
+        alloc,
+        r#"b=\"🀄🀄\" b"#,
+        late,
+        r#"{"id":2,"jsonrpc":"2.0","result":[{"range":{"end":{"character":1,"line":0},"start":{"character":0,"line":0}},"uri":"file:///g"}]}"#,
+    )?;
     Ok(())
 }
 

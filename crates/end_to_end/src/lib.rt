@@ -4,9 +4,9 @@
 //! which no contract can show. The tests of `abnf_names` stand here too, since a crate with tests is proved twice.
 #![tactic(auto)]
 
-mod devices;
 #[cfg(test)]
 mod definitions;
+mod devices;
 #[cfg(test)]
 mod edits;
 #[cfg(test)]
