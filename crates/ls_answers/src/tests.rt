@@ -19,7 +19,9 @@ fn an_outline(rt: HostRuntime) -> Result<(), Fail> {
     assert_eq!(rt; done.ticket(), 7);
     assert_eq!(rt; done.snapshot().line_count(), 6);
     assert!(rt; matches!(done.ask(), Ask::Symbols));
-    let Answer::Symbols(symbols) = done.answer()?;
+    let Answer::Symbols(symbols) = done.answer()? else {
+        panic!(rt; "no symbols");
+    };
     let want = [("a", 0, 1, 5), ("A", 3, 3, 8), ("b", 4, 4, 5)];
     assert_eq!(rt; symbols.len(), want.len());
     for (symbol, (name, first, last, end)) in symbols.as_slice().iter().zip(want.iter()) {
