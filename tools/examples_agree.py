@@ -1,7 +1,7 @@
 #!/usr/bin/env python3
 """Checks that the grammars which the tests read are those of examples/, byte for byte.
 
-Tests can't read files, so crates/end_to_end/src/grammars.rt has each grammar as a constant RFC_N.
+Tests can't read files, so crates/worked_grammars/src/grammars.rt has each grammar as a constant RFC_N.
 """
 import os
 import re
@@ -16,7 +16,7 @@ def read(*path):
 
 
 def main():
-    source = read("crates", "end_to_end", "src", "grammars.rt")
+    source = read("crates", "worked_grammars", "src", "grammars.rt")
     constants = dict(re.findall(r'const RFC_(\d+): &str =\s*r##"(.*?)"##;', source, re.S))
     files = {name[3:-5]: read("examples", name) for name in os.listdir(os.path.join(TOP, "examples"))}
     wrong = sorted(number for number in files.keys() | constants.keys() if files.get(number) != constants.get(number))

@@ -66,6 +66,18 @@ fn definitions(rt: HostRuntime) -> Result<(), Fail> {
     Ok(())
 }
 
+/// Asks for the definition at a character of the first line.
+fn asks_at(
+    rt: &impl Abort,
+    alloc: Global,
+    text: &str,
+    character: u32,
+    answer: &str,
+) -> Result<(), Fail> {
+    let position = format!(in alloc; ",\"position\":{{\"character\":{character},\"line\":0}}")?;
+    asks(rt, alloc, text, position.as_str(), answer)
+}
+
 #[test]
 fn ends_of_names(rt: HostRuntime) -> Result<(), Fail> {
     let alloc = rt.alloc();
@@ -75,20 +87,13 @@ fn ends_of_names(rt: HostRuntime) -> Result<(), Fail> {
         r#"{"id":2,"jsonrpc":"2.0","result":[{"range":{"end":{"character":1,"line":1},"start":{"character":0,"line":1}},"uri":"file:///g"}]}"#;
     let text = r#"a=b\nb=\"\""#;
     // A name ends where the cursor stands behind its last letter, also at the end of the line and past it.
-    for (character, wanted) in [(0, of_a), (1, of_a), (2, of_b), (3, of_b), (9, of_b)] {
-        let position = format!(in alloc; ",\"position\":{{\"character\":{character},\"line\":0}}")?;
-        asks(&rt, alloc, text, position.as_str(), wanted)?;
-    }
+    asks_at(&rt, alloc, text, 0, of_a)?;
+    asks_at(&rt, alloc, text, 1, of_a)?;
+    asks_at(&rt, alloc, text, 2, of_b)?;
+    asks_at(&rt, alloc, text, 3, of_b)?;
+    asks_at(&rt, alloc, text, 9, of_b)?;
     // Characters outside the first plane are two units of UTF-16 each.
-    let late = r#","position":{"character":9,"line":0}"#;
-    asks(
-        &rt,
-        alloc,
-        r#"b=\"🀄🀄\" b"#,
-        late,
-        r#"{"id":2,"jsonrpc":"2.0","result":[{"range":{"end":{"character":1,"line":0},"start":{"character":0,"line":0}},"uri":"file:///g"}]}"#,
-    )?;
-    Ok(())
+    asks_at(&rt, alloc, r#"a=\"🀄🀄\" a"#, 9, of_a)
 }
 
 #[test]

@@ -311,6 +311,16 @@ fn reaches<'t>(grammar: &Grammar<'t>, name: Folded<'t>) -> Option<bool> {
     }
 }
 
+/// Whether that is so of each of these names.
+fn all_reach<'t>(grammar: &Grammar<'t>, names: &[&'t str], want: Option<bool>) -> bool {
+    for name in names {
+        if reaches(grammar, Folded(name)) != want {
+            return false;
+        }
+    }
+    true
+}
+
 #[test]
 fn reaches_prose_by_uses(rt: HostRuntime) -> Result<(), Fail> {
     let text = snapshot(
@@ -318,20 +328,10 @@ fn reaches_prose_by_uses(rt: HostRuntime) -> Result<(), Fail> {
         "a = b\nb = c\nc = <prose>\nd = \"x\"\ne = d\nf = nope / ALPHA / LWSP",
     )?;
     let grammar = Grammar::of(rt.alloc(), &text)?;
-    for (name, want) in [
-        ("a", Some(true)),
-        ("b", Some(true)),
-        ("c", Some(true)),
-        ("d", Some(false)),
-        ("e", Some(false)),
-        ("f", Some(false)),
-        ("ALPHA", Some(false)),
-        ("LWSP", Some(false)),
-        ("WSP", Some(false)),
-        ("nope", None),
-    ] {
-        assert_eq!(rt; reaches(&grammar, Folded(name)), want, "{name}");
-    }
+    assert!(rt; all_reach(&grammar, &["a", "b", "c"], Some(true)));
+    assert!(rt; all_reach(&grammar, &["d", "e", "f"], Some(false)));
+    assert!(rt; all_reach(&grammar, &["ALPHA", "LWSP", "WSP"], Some(false)));
+    assert!(rt; all_reach(&grammar, &["nope"], None));
     Ok(())
 }
 
@@ -339,9 +339,8 @@ fn reaches_prose_by_uses(rt: HostRuntime) -> Result<(), Fail> {
 fn reaches_against_uses_alone(rt: HostRuntime) -> Result<(), Fail> {
     let text = snapshot(rt.alloc(), "a = b\nb = a\nc = b / <p>")?;
     let grammar = Grammar::of(rt.alloc(), &text)?;
-    assert_eq!(rt; reaches(&grammar, Folded("a")), Some(false));
-    assert_eq!(rt; reaches(&grammar, Folded("b")), Some(false));
-    assert_eq!(rt; reaches(&grammar, Folded("c")), Some(true));
+    assert!(rt; all_reach(&grammar, &["a", "b"], Some(false)));
+    assert!(rt; all_reach(&grammar, &["c"], Some(true)));
     Ok(())
 }
 
@@ -352,15 +351,8 @@ fn reaches_faulty_blocks(rt: HostRuntime) -> Result<(), Fail> {
         "a = b\nb = (\nc = \"x\" 2(\"y\" [b])\nd = c\ne = \"x\"",
     )?;
     let grammar = Grammar::of(rt.alloc(), &text)?;
-    for (name, want) in [
-        ("a", true),
-        ("b", true),
-        ("c", true),
-        ("d", true),
-        ("e", false),
-    ] {
-        assert_eq!(rt; reaches(&grammar, Folded(name)), Some(want), "{name}");
-    }
+    assert!(rt; all_reach(&grammar, &["a", "b", "c", "d"], Some(true)));
+    assert!(rt; all_reach(&grammar, &["e"], Some(false)));
     Ok(())
 }
 
@@ -373,8 +365,6 @@ fn reaches_along_many_rules(rt: HostRuntime) -> Result<(), Fail> {
     }
     let text = snapshot(rt.alloc(), text.as_str())?;
     let grammar = Grammar::of(rt.alloc(), &text)?;
-    assert_eq!(rt; reaches(&grammar, Folded("r0")), Some(true));
-    assert_eq!(rt; reaches(&grammar, Folded("r50000")), Some(true));
-    assert_eq!(rt; reaches(&grammar, Folded("r99999")), Some(true));
+    assert!(rt; all_reach(&grammar, &["r0", "r50000", "r99999"], Some(true)));
     Ok(())
 }

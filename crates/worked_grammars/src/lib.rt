@@ -1,0 +1,11 @@
+//! Worked grammars: the tests of `abnf_names`, and the grammars of `examples/`.
+//!
+//! They stand above the crates that they test, since a crate with tests is proved twice, and those take long.
+#![tactic(auto)]
+
+#[cfg(test)]
+mod examples;
+#[cfg(test)]
+mod grammars;
+#[cfg(test)]
+mod names;
