@@ -360,8 +360,8 @@ fn reaches_faulty_blocks(rt: HostRuntime) -> Result<(), Fail> {
 #[test]
 fn reaches_along_many_rules(rt: HostRuntime) -> Result<(), Fail> {
     let mut text = String::from_str(rt.alloc(), "r0 = <p>\n")?;
-    for n in 1..100_000 {
-        text.push_str(format!(in rt.alloc(); "r{n} = r{}\n", n - 1)?.as_str())?;
+    for n in 0..99_999 {
+        text.push_str(format!(in rt.alloc(); "r{} = r{n}\n", n + 1)?.as_str())?;
     }
     let text = snapshot(rt.alloc(), text.as_str())?;
     let grammar = Grammar::of(rt.alloc(), &text)?;
