@@ -1,17 +1,14 @@
 //! The grammars of `examples/`: their rules, what their names stand for, and where these are defined.
 
+use super::check::{holds, snapshot};
 use super::grammars::{RFC_3339, RFC_3986, RFC_5234, RFC_8259};
-use abnf_names::{Grammar, Node};
+use abnf_names::{Grammar, Node, RuleNo};
 use abnf_token::Folded;
 use ls_answers::{Answer, Ask, Job, run};
-use ls_text::{Position, Range, Snapshot};
+use ls_text::{Position, Range};
 use std::alloc::Global;
 use std::sync::Arc;
 use std::test::Fail;
-
-fn snapshot(alloc: Global, text: &str) -> Result<Snapshot, Fail> {
-    Ok(Snapshot::of_text(alloc, String::from_str(alloc, text)?)?)
-}
 
 fn position(line: u32, character: u32) -> Position {
     Position { line, character }
@@ -27,23 +24,43 @@ fn are_known(nodes: &[Node<'_>]) -> bool {
     true
 }
 
-/// Whether a grammar has no fault, so many rules, of which this one is the last, and no name but theirs and those of core rules.
-fn has_rules(alloc: Global, text: &str, count: usize, last: &str) -> Result<bool, Fail> {
-    let snapshot = snapshot(alloc, text)?;
-    let grammar = Grammar::of(alloc, &snapshot)?;
-    let is_last = match grammar.rule_of(Folded(last)) {
-        Some(rule) => rule.get() + 1 == count,
-        None => false,
-    };
-    Ok(is_last && grammar.faults().is_empty() && are_known(grammar.nodes()))
+/// Whether a grammar has no fault, its last rule has this number, and all names stand for its rules or core rules.
+fn has_rules<'t>(grammar: &Grammar<'t>, last: Folded<'t>, number: usize) -> bool {
+    grammar.rule_of(last) == Some(RuleNo::new(number))
+        && grammar.faults().is_empty()
+        && are_known(grammar.nodes())
 }
 
 #[test]
 fn rules(rt: HostRuntime) -> Result<(), Fail> {
-    assert!(rt; has_rules(rt.alloc(), RFC_3339, 13, "date-time")?);
-    assert!(rt; has_rules(rt.alloc(), RFC_3986, 36, "sub-delims")?);
-    assert!(rt; has_rules(rt.alloc(), RFC_5234, 37, "WSP")?);
-    assert!(rt; has_rules(rt.alloc(), RFC_8259, 30, "unescaped")?);
+    assert!(rt;
+        holds(
+            rt.alloc(),
+            RFC_3339,
+            |grammar| has_rules(grammar, Folded("date-time"), 12)
+        )?
+    );
+    assert!(rt;
+        holds(
+            rt.alloc(),
+            RFC_3986,
+            |grammar| has_rules(grammar, Folded("sub-delims"), 35)
+        )?
+    );
+    assert!(rt;
+        holds(
+            rt.alloc(),
+            RFC_5234,
+            |grammar| has_rules(grammar, Folded("WSP"), 36)
+        )?
+    );
+    assert!(rt;
+        holds(
+            rt.alloc(),
+            RFC_8259,
+            |grammar| has_rules(grammar, Folded("unescaped"), 29)
+        )?
+    );
     Ok(())
 }
 
