@@ -6,7 +6,7 @@ use Rattle.std.proofs.lemmas.List.{length-map}
 use Rattle.abnf_syntax.specs.declared.fault.SyntaxFault.{SyntaxFault}
 use Rattle.abnf_syntax.specs.declared.tree.Rule.{Rule}
 use Rattle.abnf_parts.specs.Part.{alt, parts_of}
-use Rattle.abnf_parts.specs.Leaf.{same}
+use Rattle.std.specs.Str.{bytes_eq}
 use Rattle.abnf_parts.specs.Tree.{parts}
 use Rattle.abnf_parts.specs.Names.{Name, rule_number}
 use Rattle.abnf_parts.specs.Core.{core_rules, core_name, is_needed}
@@ -44,10 +44,10 @@ rules_closed blocks =
     parts_closed (length (rules_of blocks)) (rules_of blocks)
     (all_both (IsClosed (length (rules_of blocks))) own core
     (own_closed (length (rules_of blocks)) blocks (rule_number (names_of blocks))
-    (λ n r e. subst (λ k. r < k) (named ∙ sym total) (position_within (same n) (names_of blocks) r e)) (defined blocks))
+    (λ n r e. subst (λ k. r < k) (named ∙ sym total) (position_within (bytes_eq n) (names_of blocks) r e)) (defined blocks))
     (trees_closed (length (rules_of blocks)) (core_number blocks) (needed blocks)
     (all_filter (λ c. IsClosed (length (rules_of blocks)) (c.tree (core_number blocks))) (is_needed (undefined blocks)) core_rules
     (cores_closed (length (rules_of blocks)) (core_number blocks)
     (λ n r e. subst (λ k. r < k) (sym total)
     (core_within (length (defined blocks)) (rule_number (map core_name (needed blocks)) n) (length (needed blocks)) r
-    (λ k f. subst (λ l. k < l) (length-map (needed blocks) core_name) (position_within (same n) (map core_name (needed blocks)) k f)) e))))))
+    (λ k f. subst (λ l. k < l) (length-map (needed blocks) core_name) (position_within (bytes_eq n) (map core_name (needed blocks)) k f)) e))))))

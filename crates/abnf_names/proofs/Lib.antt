@@ -1,5 +1,6 @@
 pub mod ReachLaws
 pub mod SearchLaws
+pub mod SpotLaws
 pub mod UsersLaws
 pub mod BlockPass
 pub mod GroupLaws

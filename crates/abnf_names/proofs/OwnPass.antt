@@ -10,7 +10,7 @@ use Rattle.abnf_token.specs.Folded.{lowercase}
 use Rattle.abnf_names.specs.declared.parsed.Parsed.{Parsed}
 use Rattle.abnf_names.specs.declared.place.NamePlace.{NamePlace}
 use Rattle.abnf_names.specs.declared.place.Spot.{Spot}
-use Rattle.abnf_parts.specs.Leaf.{same}
+use Rattle.std.specs.Str.{bytes_eq}
 use Rattle.abnf_parts.specs.Names.{Name, with_name}
 use Rattle.abnf_syntax.specs.declared.block.Head.{Head}
 use Rattle.abnf_syntax.specs.Heads.{head_of}
@@ -49,7 +49,7 @@ own_more old new p h e names members blocks own = record {
       ap (map block_of) (members m)
       ∙ (map-append block_of (members_of old m) (if_same (name_of h) m p)
       ∙ (ap (λ front. front ++ map block_of (if_same (name_of h) m p)) (own.members m)
-      ∙ (ap (λ back. filter (defines m) blocks ++ back) (one_if block_of (same (name_of h) m) p ∙ ap (λ b. if b then block_of p ∷ [] else []) (sym (ap (λ o. option_map_or (λ (head : Head). same (name_of head) m) o false) e)))
+      ∙ (ap (λ back. filter (defines m) blocks ++ back) (one_if block_of (bytes_eq (name_of h) m) p ∙ ap (λ b. if b then block_of p ∷ [] else []) (sym (ap (λ o. option_map_or (λ (head : Head). bytes_eq (name_of head) m) o false) e)))
       ∙ sym (filter-append (defines m) blocks (block_of p ∷ [])))));
 }
 
@@ -60,7 +60,7 @@ own_same groups p e blocks own = record {
   members = λ m.
       own.members m
       ∙ (sym (append-nil (filter (defines m) blocks))
-      ∙ (ap (λ b. filter (defines m) blocks ++ (if b then block_of p ∷ [] else [])) (sym (ap (λ o. option_map_or (λ (head : Head). same (name_of head) m) o false) e))
+      ∙ (ap (λ b. filter (defines m) blocks ++ (if b then block_of p ∷ [] else [])) (sym (ap (λ o. option_map_or (λ (head : Head). bytes_eq (name_of head) m) o false) e))
       ∙ sym (filter-append (defines m) blocks (block_of p ∷ []))));
 }
 
@@ -70,9 +70,9 @@ pub placed_more : (old new : Grouped NamePlace) (n : Named) → ((m : Name) → 
 placed_more old new n members places h m =
     members m
     ∙ (ap (λ front. front ++ if_same (lowercase n.text) m (name_place n)) (h m)
-    ∙ (ap (λ back. map name_place (places_of_name m places) ++ back) (ap (λ b. if b then name_place n ∷ [] else []) (same_sym (lowercase n.text) m) ∙ sym (one_if name_place (same m (lowercase n.text)) n))
+    ∙ (ap (λ back. map name_place (places_of_name m places) ++ back) (ap (λ b. if b then name_place n ∷ [] else []) (same_sym (lowercase n.text) m) ∙ sym (one_if name_place (bytes_eq m (lowercase n.text)) n))
     ∙ (sym (map-append name_place (places_of_name m places) (places_of_name m (n ∷ [])))
-    ∙ ap (map name_place) (sym (filter-append (λ x. same m (lowercase x.text)) places (n ∷ []))))))
+    ∙ ap (map name_place) (sym (filter-append (λ x. bytes_eq m (lowercase x.text)) places (n ∷ []))))))
 
 -- what is known of two clauses together
 pub ok_both : {A E : Type 0} (r : Result A E) (P Q R : A → Type 0) → ((x : A) → P x → Q x → R x) → IfOk r P → IfOk r Q → IfOk r R
@@ -92,10 +92,10 @@ unknown_next test names n rest = by (test n)
     by true = refl
     by false = refl
 
-pub known : (own names : List Name) (n : Name) (k : ℕ) → position (same n) own ≡ Some k → names ≡ fold with_name names (filter (is_unknown own) (n ∷ []))
+pub known : (own names : List Name) (n : Name) (k : ℕ) → position (bytes_eq n) own ≡ Some k → names ≡ fold with_name names (filter (is_unknown own) (n ∷ []))
 known own names n k h = sym (ap (λ b. fold with_name names (cond (not b) (n ∷ []) [])) (position_any n own ∙ ap is_some h))
 
-pub unknown : (own names : List Name) (n : Name) → position (same n) own ≡ None → with_name names n ≡ fold with_name names (filter (is_unknown own) (n ∷ []))
+pub unknown : (own names : List Name) (n : Name) → position (bytes_eq n) own ≡ None → with_name names n ≡ fold with_name names (filter (is_unknown own) (n ∷ []))
 unknown own names n h = sym (ap (λ b. fold with_name names (cond (not b) (n ∷ []) [])) (position_any n own ∙ ap is_some h))
 
 pub unknown_step : (own : List Name) (spots : List Spot) (i : ℕ) (spot d : Spot) → i < length spots → spot ≡ get_or spots i d → (all names now : List Name) →

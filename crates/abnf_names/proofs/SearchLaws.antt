@@ -1,12 +1,18 @@
 -- A search finds all places that lead to the last one, and no others.
 use Rattle.std.proofs.Common.{◌≡◌, ◌≤◌, ◌<◌, ◌+◌, ◌⊎◌, inl, inr, ⊎_elim, ℕ, zero, suc, Bool, true, false, List, [], ◌∷◌, ◌++◌, length, get_or, refl, sym, ap, subst, ◌∙◌, arith}
-use Rattle.std.specs.Prelude.{◌==◌, ◌||◌, ◌↔◌, if◌then◌else◌, Option, Some, None, IfSome, fold, slice_get, Contains}
+use Rattle.std.specs.Prelude.{◌==◌, ◌||◌, ◌↔◌, if◌then◌else◌, Option, Some, None, IfSome, fold, slice_get, slice_index_or, Contains}
 use Rattle.std.specs.List.{list_any}
 use Rattle.std.proofs.lemmas.Bool.{eq-eqb, eqb-true, or_cases, cases_lt, false≢true}
 use Rattle.std.proofs.lemmas.List.{get_or_past, get_or_default, get_or_append_left, length_push}
 use Rattle.std.proofs.lemmas.List.Elements.{Contains-append_left, Contains-push, Contains-push_cases}
 use Rattle.std.proofs.lemmas.Option.{slice_get_within, get_or_from_slice_get}
-use Rattle.abnf_names.specs.Search.{users_at, LeadsBy, LeadsToLast, with_place, AreMarks, AreMarked, IsSearched}
+use Rattle.abnf_names.specs.Search.{users_at, LeadsBy, LeadsToLast, with_place, AreMarks, AreMarked}
+
+-- what was found leads to the last place, which was found too; and so were all users of the first places that were found
+pub record IsSearched (users : List (List ℕ)) (found : List ℕ) (first : ℕ) : Type 0 where
+  pub right : (place : ℕ) → Contains found place → LeadsToLast users place
+  pub last : (place : ℕ) → suc place ≡ length users → Contains found place
+  pub closed : (k place : ℕ) → k < first → Contains (users_at users (slice_index_or found k 0)) place → Contains found place
 
 or_true : (b : Bool) → (b || true) ≡ true
 or_true true = refl

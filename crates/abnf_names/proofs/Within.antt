@@ -3,7 +3,7 @@ use Rattle.std.proofs.Common.{◌≡◌, ◌<◌, ◌+◌, ℕ, List, [], map, l
 use Rattle.std.specs.Prelude.{Option, Some, None, IfSome}
 use Rattle.std.proofs.lemmas.List.{length-map}
 use Rattle.std.proofs.lemmas.List.Quantifiers.{position-Some}
-use Rattle.abnf_parts.specs.Leaf.{same}
+use Rattle.std.specs.Str.{bytes_eq}
 use Rattle.abnf_parts.specs.Core.{core_name}
 use Rattle.abnf_parts.specs.Names.{Name, rule_number}
 use Rattle.abnf_names.specs.Said.{Block}
@@ -25,4 +25,4 @@ if_some (Some r) n h = h r refl
 pub rule_within : (g : Grammar) → IsGrammar g → (name : Name) → IfSome (rule_number g.names name) (λ r. r < length g.rules)
 rule_within g h name =
     let count : length g.names ≡ length g.rules = ap (λ k. length k.names) h.is ∙ (one_name_each h.blocks ∙ sym (ap (λ k. length k.rules) h.is)) in
-    if_some (rule_number g.names name) (length g.rules) (λ r e. subst (λ n. r < n) count (position-Some (same name) g.names r [] e).0)
+    if_some (rule_number g.names name) (length g.rules) (λ r e. subst (λ n. r < n) count (position-Some (bytes_eq name) g.names r [] e).0)

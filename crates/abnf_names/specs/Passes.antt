@@ -1,13 +1,15 @@
 -- What the passes over a text's blocks hold. Only contracts of private functions speak of it.
-use Rattle.std.specs.Prelude.{◌≡◌, Bool, not, List, [], ◌∷◌, map, filter, if◌then◌else◌}
+use Rattle.std.specs.Prelude.{◌≡◌, Bool, not, List, [], ◌∷◌, map, filter, find, Option, if◌then◌else◌}
 use Rattle.std.specs.List.{list_any}
+use Rattle.std.specs.Option.{option_or}
+use Rattle.ls_text.specs.declared.position.Place.{Place}
 use Rattle.abnf_names.specs.declared.parsed.Parsed.{Parsed}
 use Rattle.abnf_names.specs.declared.place.Spot.{Spot}
 use Rattle.abnf_names.specs.declared.place.NamePlace.{NamePlace}
 use Rattle.abnf_parts.specs.Names.{folded_text, Name}
-use Rattle.abnf_parts.specs.Leaf.{same}
+use Rattle.std.specs.Str.{bytes_eq}
 use Rattle.abnf_names.specs.Said.{Block}
-use Rattle.abnf_names.specs.Places.{Named, places_of_name}
+use Rattle.abnf_names.specs.Places.{Named, holds, ends_at, places_of_name}
 use Rattle.abnf_names.specs.Rules.{defined, defines, needed}
 use Rattle.abnf_parts.specs.Core.{core_name}
 
@@ -16,6 +18,10 @@ block_of p = record { items = p.block.items; said = p.said }
 
 abbrev pub named_at : Spot → Named
 named_at s = record { text = s.name.0.now; place = s.place; defines = s.defines }
+
+-- the first spot that holds what stands behind that point, else the first that ends there
+abbrev pub spot_at : Place → List Spot → Option Spot
+spot_at at spots = option_or (find (λ spot. holds at (named_at spot)) spots) (find (λ spot. ends_at at (named_at spot)) spots)
 
 abbrev pub name_place : Named → NamePlace
 name_place n = record { place = n.place; defines = n.defines }
@@ -28,14 +34,14 @@ Grouped T = List Name × List (List T)
 abbrev pub members_in : {T : Type 0} → List Name → List (List T) → Name → List T
 members_in [] members name = []
 members_in (n ∷ names) [] name = []
-members_in (n ∷ names) (list ∷ members) name = if same name n then list else members_in names members name
+members_in (n ∷ names) (list ∷ members) name = if bytes_eq name n then list else members_in names members name
 
 abbrev pub members_of : {T : Type 0} → Grouped T → Name → List T
 members_of groups name = members_in groups.0 groups.1 name
 
 -- one more thing, where the names are the same
 abbrev pub if_same : {T : Type 0} → Name → Name → T → List T
-if_same name other item = if same name other then item ∷ [] else []
+if_same name other item = if bytes_eq name other then item ∷ [] else []
 
 -- the names that these blocks define, and under each name its blocks
 pub record AreOwn (blocks : List Block) (groups : Grouped Parsed) : Type 0 where
@@ -48,7 +54,7 @@ ArePlaced places groups = (name : Name) → members_of groups name ≡ map name_
 
 -- the names that no rule of the text has
 abbrev pub is_unknown : List Name → Name → Bool
-is_unknown own name = not (list_any (same name) own)
+is_unknown own name = not (list_any (bytes_eq name) own)
 
 abbrev pub spot_name : Spot → Name
 spot_name spot = folded_text spot.name

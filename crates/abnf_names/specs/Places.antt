@@ -1,6 +1,6 @@
 -- The places of names in a text.
-use Rattle.std.specs.Prelude.{ℕ, Bool, true, false, not, ◌&&◌, ◌||◌, nat_le, nat_lt, nat_eq, List, [], ◌∷◌, ◌++◌, flat_map, find, filter, Option, Some, None, if◌then◌else◌}
-use Rattle.std.specs.Option.{is_some}
+use Rattle.std.specs.Prelude.{ℕ, Bool, true, false, not, ◌&&◌, ◌||◌, nat_le, nat_lt, nat_eq, List, [], ◌∷◌, ◌++◌, flat_map, find, filter, Option, if◌then◌else◌}
+use Rattle.std.specs.Option.{is_some, option_or}
 use Rattle.abnf_token.specs.declared.token.Kind.{Kind}
 use Rattle.abnf_token.specs.declared.token.Kind.TheVariants.{Number}
 use Rattle.abnf_token.specs.declared.folded.Folded.{Folded}
@@ -12,7 +12,7 @@ use Rattle.abnf_syntax.specs.Kinds.{is_name, is_bad}
 use Rattle.abnf_syntax.specs.Grammar.{kind_of}
 use Rattle.abnf_syntax.specs.Faults.{place_of}
 use Rattle.abnf_syntax.specs.Heads.{head_of}
-use Rattle.abnf_parts.specs.Leaf.{same}
+use Rattle.std.specs.Str.{bytes_eq}
 use Rattle.abnf_parts.specs.Names.{Name}
 use Rattle.abnf_names.specs.Said.{Block}
 
@@ -50,10 +50,6 @@ places_in (item ∷ items) = named (is_some (head_of (item ∷ items))) item ++ 
 abbrev pub places_of : List Block → List Named
 places_of blocks = flat_map (λ block. places_in block.items) blocks
 
-abbrev pub or_else : Option Named → Option Named → Option Named
-or_else (Some n) other = Some n
-or_else None other = other
-
 -- whether the place holds what stands behind that point, which is an empty place
 abbrev pub holds : Place → Named → Bool
 holds at n = nat_eq n.place.line at.line && (nat_le n.place.start at.start && nat_lt at.start n.place.end)
@@ -63,7 +59,7 @@ ends_at at n = nat_eq n.place.line at.line && nat_eq n.place.end at.start
 
 -- the first place that holds what stands behind that point, else the first that ends there
 abbrev pub found_at : Place → List Named → Option Named
-found_at at places = or_else (find (holds at) places) (find (ends_at at) places)
+found_at at places = option_or (find (holds at) places) (find (ends_at at) places)
 
 -- the same at an offset, which counts characters of the text
 abbrev pub at_offset : List ℕ → List Named → ℕ → Option Named
@@ -78,4 +74,4 @@ place_and_name p = (p.0, p.1.0.now)
 
 -- the places of a name, in the order of the text
 abbrev pub places_of_name : Name → List Named → List Named
-places_of_name name places = filter (λ n. same name (lowercase n.text)) places
+places_of_name name places = filter (λ n. bytes_eq name (lowercase n.text)) places

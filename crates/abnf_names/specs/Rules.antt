@@ -9,7 +9,7 @@ use Rattle.abnf_syntax.specs.declared.fault.SyntaxFault.TheVariants as f
 use Rattle.abnf_syntax.specs.declared.tree.Rule.{Rule}
 use Rattle.abnf_syntax.specs.Heads.{head_of}
 use Rattle.abnf_parts.specs.Part.{Part, alt, opaque}
-use Rattle.abnf_parts.specs.Leaf.{same}
+use Rattle.std.specs.Str.{bytes_eq}
 use Rattle.abnf_parts.specs.Tree.{parts, alternatives}
 use Rattle.abnf_parts.specs.Names.{Name, with_name, rule_number}
 use Rattle.abnf_parts.specs.Core.{CoreRule, core_rules, core_name, is_needed}
@@ -17,7 +17,7 @@ use Rattle.abnf_names.specs.Said.{Block, AreSaid, name_of}
 use Rattle.abnf_names.specs.Places.{Named, places_of}
 
 abbrev pub defines : Name → Block → Bool
-defines name block = option_map_or (λ head. same (name_of head) name) (head_of block.items) false
+defines name block = option_map_or (λ head. bytes_eq (name_of head) name) (head_of block.items) false
 
 abbrev pub adds : Block → Bool
 adds block = option_map_or (λ head. head.adds) (head_of block.items) false
@@ -36,7 +36,7 @@ defined blocks = fold with_name [] (filter_map head_name blocks)
 
 -- the names that stand at a place of the text and that no block defines
 abbrev pub undefined : List Block → List Name
-undefined blocks = filter (λ name. not (list_any (same name) (defined blocks))) (map (λ place. lowercase place.text) (places_of blocks))
+undefined blocks = filter (λ name. not (list_any (bytes_eq name) (defined blocks))) (map (λ place. lowercase place.text) (places_of blocks))
 
 -- the core rules that are needed for these names
 abbrev pub needed : List Block → List CoreRule

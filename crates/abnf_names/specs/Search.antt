@@ -35,9 +35,3 @@ unmarked false = 1
 pub record AreMarked (marks : List Bool) (places : List ℕ) : Type 0 where
   pub each : (place : ℕ) → list_any (λ p. p == place) places ≡ slice_index_or marks place false
   pub once : sum_by unmarked marks + length places ≡ length marks
-
--- what was found leads to the last place, which was found too; and so were all users of the first places that were found
-pub record IsSearched (users : List (List ℕ)) (found : List ℕ) (first : ℕ) : Type 0 where
-  pub right : (place : ℕ) → Contains found place → LeadsToLast users place
-  pub last : (place : ℕ) → suc place ≡ length users → Contains found place
-  pub closed : (k place : ℕ) → k < first → Contains (users_at users (slice_index_or found k 0)) place → Contains found place

@@ -1,13 +1,12 @@
 //! The places of names.
 
 ghost use Rattle.std.specs.Prelude.{◌≡◌, ◌++◌, map, find, option_map, IfOk, OnOk};
-ghost use Rattle.abnf_syntax.specs.Faults.{place_of};
 ghost use Rattle.abnf_names.specs.Places as places;
 ghost use Rattle.abnf_names.specs.Passes as spec;
 
 use crate::parsed::Parsed;
-use abnf_syntax::{Block, Item};
-use abnf_token::{Folded, Kind, Token};
+use abnf_syntax::{Block, Item, place_of};
+use abnf_token::{Folded, Kind};
 use ls_lists::List;
 use ls_text::Place;
 use std::alloc::{AllocError, Global};
@@ -25,16 +24,6 @@ pub(crate) struct Spot<'t> {
     pub name: Folded<'t>,
     pub place: Place,
     pub defines: bool,
-}
-
-fn place_of<'t>(token: Token<'t>) -> Place
-    ensures { result ≡ place_of token.entry }
-{
-    Place {
-        line: token.line,
-        start: token.start,
-        end: token.start + token.text.len(),
-    }
 }
 
 /// Adds the place of an item that is a name.
@@ -121,32 +110,22 @@ fn ends_at(spot: &Spot<'_>, at: Place) -> bool
 }
 
 /// The first spot that holds what stands behind a point.
-fn first_holding<'t>(spots: &[Spot<'t>], at: Place) -> Option<Spot<'t>>
-    ensures { option_map spec.named_at result ≡ find (places.holds at) (map spec.named_at spots.now) }
+fn first_holding<'s, 't>(spots: &'s [Spot<'t>], at: Place) -> Option<&'s Spot<'t>>
+    ensures { option_map (λ spot. spot.now) result ≡ find (λ spot. places.holds at (spec.named_at spot)) spots.now }
 {
-    for spot in spots {
-        if holds(spot, at) {
-            return Some(*spot);
-        }
-    }
-    None
+    spots.iter().find(|spot| holds(spot, at))
 }
 
 /// The first spot that ends at a point.
-fn first_ending<'t>(spots: &[Spot<'t>], at: Place) -> Option<Spot<'t>>
-    ensures { option_map spec.named_at result ≡ find (places.ends_at at) (map spec.named_at spots.now) }
+fn first_ending<'s, 't>(spots: &'s [Spot<'t>], at: Place) -> Option<&'s Spot<'t>>
+    ensures { option_map (λ spot. spot.now) result ≡ find (λ spot. places.ends_at at (spec.named_at spot)) spots.now }
 {
-    for spot in spots {
-        if ends_at(spot, at) {
-            return Some(*spot);
-        }
-    }
-    None
+    spots.iter().find(|spot| ends_at(spot, at))
 }
 
 /// The first spot that holds what stands behind a point, else the first that ends there.
-pub(crate) fn found_at<'t>(spots: &[Spot<'t>], at: Place) -> Option<Spot<'t>>
-    ensures { option_map spec.named_at result ≡ places.found_at at (map spec.named_at spots.now) }
+pub(crate) fn found_at<'s, 't>(spots: &'s [Spot<'t>], at: Place) -> Option<&'s Spot<'t>>
+    ensures { option_map (λ spot. spot.now) result ≡ spec.spot_at at spots.now }
 {
     match first_holding(spots, at) {
         Some(spot) => Some(spot),

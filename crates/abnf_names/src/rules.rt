@@ -14,12 +14,10 @@ use crate::groups::Groups;
 use crate::own::own_groups;
 use crate::parsed::Parsed;
 use abnf_parts::{Core, Node, NodeNo, RuleNames, fill, push_concatenations, push_needed};
+use abnf_syntax::MAX_NESTING;
 use abnf_token::Folded;
 use ls_lists::List;
 use std::alloc::{AllocError, Global};
-
-/// How deep groups and options may nest.
-const MAX_NESTING: usize = 64;
 
 /// Whether `=/` follows the name at a block's head.
 fn is_adding(parsed: &Parsed<'_>) -> bool

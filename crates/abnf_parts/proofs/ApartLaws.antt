@@ -3,7 +3,7 @@ use Rattle.std.proofs.Common.{◌≡◌, Bool, true, false, cond, List, [], ◌�
 use Rattle.std.specs.Prelude.{fold, filter, ◌||◌, if◌then◌else◌}
 use Rattle.std.specs.List.{list_any, AllByRecursion}
 use Rattle.std.proofs.lemmas.List.Folds.{list_any-append}
-use Rattle.abnf_parts.specs.Leaf.{same}
+use Rattle.std.specs.Str.{bytes_eq}
 use Rattle.abnf_parts.specs.Names.{Name, with_name}
 use Rattle.abnf_parts.specs.Core.{CoreRule, core_rules, core_name}
 use Rattle.abnf_parts.proofs.NameLaws.{same_sym}
@@ -19,10 +19,10 @@ filter_same p q e (x ∷ xs) = ap (λ b. cond b (x ∷ filter p xs) (filter p xs
 -- no name stands twice
 abbrev AreApart : List Name → Type 0
 AreApart [] = Unit {0}
-AreApart (n ∷ names) = (list_any (same n) names ≡ false) × AreApart names
+AreApart (n ∷ names) = (list_any (bytes_eq n) names ≡ false) × AreApart names
 
 abbrev AreNew : List Name → List Name → Type 0
-AreNew names more = AllByRecursion (λ n. list_any (same n) names ≡ false) more
+AreNew names more = AllByRecursion (λ n. list_any (bytes_eq n) names ≡ false) more
 
 front_false : (b rest : Bool) → (b || rest) ≡ false → b ≡ false
 front_false true rest h = h
@@ -33,11 +33,11 @@ rest_false true true h = h
 rest_false true false h = refl
 rest_false false rest h = h
 
-new_more : (names : List Name) (n : Name) (more : List Name) → list_any (same n) more ≡ false → AreNew names more → AreNew (names ++ n ∷ []) more
+new_more : (names : List Name) (n : Name) (more : List Name) → list_any (bytes_eq n) more ≡ false → AreNew names more → AreNew (names ++ n ∷ []) more
 new_more names n [] h new = tt
 new_more names n (m ∷ more) h new = (
-  list_any-append (same m) names (n ∷ []) ∙ (ap (λ b. b || (same m n || false)) new.0 ∙ ap (λ b. b || false) (same_sym m n ∙ front_false (same n m) (list_any (same n) more) h)),
-  new_more names n more (rest_false (same n m) (list_any (same n) more) h) new.1,
+  list_any-append (bytes_eq m) names (n ∷ []) ∙ (ap (λ b. b || (bytes_eq m n || false)) new.0 ∙ ap (λ b. b || false) (same_sym m n ∙ front_false (bytes_eq n m) (list_any (bytes_eq n) more) h)),
+  new_more names n more (rest_false (bytes_eq n m) (list_any (bytes_eq n) more) h) new.1,
 )
 
 fold_apart : (names more : List Name) → AreApart more → AreNew names more → fold with_name names more ≡ names ++ more
@@ -60,9 +60,9 @@ module _ (test : CoreRule → Bool) where
   any_filter other [] h = h
   any_filter other (c ∷ cs) h = any_filter_by (test c) other c cs h (any_filter other cs (rest_false (other (core_name c)) (list_any other (map core_name cs)) h))
 
-  apart_filter_by : (b : Bool) (c : CoreRule) (cs : List CoreRule) → list_any (same (core_name c)) (map core_name cs) ≡ false → AreApart (map core_name (filter test cs)) →
+  apart_filter_by : (b : Bool) (c : CoreRule) (cs : List CoreRule) → list_any (bytes_eq (core_name c)) (map core_name cs) ≡ false → AreApart (map core_name (filter test cs)) →
       AreApart (map core_name (cond b (c ∷ filter test cs) (filter test cs)))
-  apart_filter_by true c cs h rest = (any_filter (same (core_name c)) cs h, rest)
+  apart_filter_by true c cs h rest = (any_filter (bytes_eq (core_name c)) cs h, rest)
   apart_filter_by false c cs h rest = rest
 
   apart_filter : (cs : List CoreRule) → AreApart (map core_name cs) → AreApart (map core_name (filter test cs))

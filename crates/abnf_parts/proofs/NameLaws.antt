@@ -6,7 +6,7 @@ use Rattle.std.specs.Prelude.{position, nat_lt, Option, Some, None, option_map, 
 use Rattle.std.specs.List.{position_or_len, list_any}
 use Rattle.std.specs.Option.{is_some}
 use Rattle.std.specs.Cmp.Lexicographic.{same_text, other_text}
-use Rattle.abnf_parts.specs.Leaf.{same}
+use Rattle.std.specs.Str.{bytes_eq}
 use Rattle.abnf_parts.specs.Names.{Name, with_name}
 
 module _ {X Y : Type 0} (f : X → Y) (test : Y → Bool) where
@@ -72,40 +72,40 @@ pub never : {A : Type 0} (b : Bool) → b ≡ true → b ≡ false → A
 never true e f = absurd (cc (f))
 never false e f = absurd (cc (e))
 
-pub same_is : (s t : Name) → same s t ≡ true → s ≡ t
+pub same_is : (s t : Name) → bytes_eq s t ≡ true → s ≡ t
 same_is s t h = same_text s t (sym h)
 
-refl_by : (s : Name) (b : Bool) → same s s ≡ b → same s s ≡ true
+refl_by : (s : Name) (b : Bool) → bytes_eq s s ≡ b → bytes_eq s s ≡ true
 refl_by s true e = e
 refl_by s false e = absurd (other_text s s (sym e) refl)
 
-pub same_refl : (s : Name) → same s s ≡ true
-same_refl s = refl_by s (same s s) refl
+pub same_refl : (s : Name) → bytes_eq s s ≡ true
+same_refl s = refl_by s (bytes_eq s s) refl
 
-sym_by : (s t : Name) (b c : Bool) → same s t ≡ b → same t s ≡ c → b ≡ c
+sym_by : (s t : Name) (b c : Bool) → bytes_eq s t ≡ b → bytes_eq t s ≡ c → b ≡ c
 sym_by s t true true e f = refl
-sym_by s t true false e f = never (same t s) (subst (λ k. same t k ≡ true) (sym (same_is s t e)) (same_refl t)) f
-sym_by s t false true e f = never (same s t) (subst (λ k. same s k ≡ true) (sym (same_is t s f)) (same_refl s)) e
+sym_by s t true false e f = never (bytes_eq t s) (subst (λ k. bytes_eq t k ≡ true) (sym (same_is s t e)) (same_refl t)) f
+sym_by s t false true e f = never (bytes_eq s t) (subst (λ k. bytes_eq s k ≡ true) (sym (same_is t s f)) (same_refl s)) e
 sym_by s t false false e f = refl
 
-pub same_sym : (s t : Name) → same s t ≡ same t s
-same_sym s t = sym_by s t (same s t) (same t s) refl refl
+pub same_sym : (s t : Name) → bytes_eq s t ≡ bytes_eq t s
+same_sym s t = sym_by s t (bytes_eq s t) (bytes_eq t s) refl refl
 
 -- a name is there where it has a place
-pub position_any : (n : Name) (names : List Name) → list_any (same n) names ≡ is_some (position (same n) names)
+pub position_any : (n : Name) (names : List Name) → list_any (bytes_eq n) names ≡ is_some (position (bytes_eq n) names)
 position_any n [] = refl
-position_any n (a ∷ names) = any_by (same n a) (position_any n names) ∙ ap is_some (sym (position-cons (same n) a names))
+position_any n (a ∷ names) = any_by (bytes_eq n a) (position_any n names) ∙ ap is_some (sym (position-cons (bytes_eq n) a names))
   where
     some_suc : (o : Option ℕ) → is_some o ≡ is_some (option_map suc o)
     some_suc None = refl
     some_suc (Some k) = refl
 
-    any_by : (b : Bool) → list_any (same n) names ≡ is_some (position (same n) names) → (b || list_any (same n) names) ≡ is_some (if b then Some 0 else option_map suc (position (same n) names))
+    any_by : (b : Bool) → list_any (bytes_eq n) names ≡ is_some (position (bytes_eq n) names) → (b || list_any (bytes_eq n) names) ≡ is_some (if b then Some 0 else option_map suc (position (bytes_eq n) names))
     any_by true e = refl
-    any_by false e = e ∙ some_suc (position (same n) names)
+    any_by false e = e ∙ some_suc (position (bytes_eq n) names)
 
-pub with_there : (n : Name) (names : List Name) (k : ℕ) → position (same n) names ≡ Some k → with_name names n ≡ names
+pub with_there : (n : Name) (names : List Name) (k : ℕ) → position (bytes_eq n) names ≡ Some k → with_name names n ≡ names
 with_there n names k h = ap (λ b. if b then names else names ++ n ∷ []) (position_any n names ∙ ap is_some h)
 
-pub with_new : (n : Name) (names : List Name) → position (same n) names ≡ None → with_name names n ≡ names ++ n ∷ []
+pub with_new : (n : Name) (names : List Name) → position (bytes_eq n) names ≡ None → with_name names n ≡ names ++ n ∷ []
 with_new n names h = ap (λ b. if b then names else names ++ n ∷ []) (position_any n names ∙ ap is_some h)

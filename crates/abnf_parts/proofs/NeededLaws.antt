@@ -5,7 +5,7 @@ use Rattle.std.specs.List.{list_any, AllByRecursion}
 use Rattle.std.proofs.lemmas.List.Folds.{list_any-append}
 use Rattle.abnf_parts.specs.declared.core_rule.Core.{Core}
 use Rattle.abnf_parts.specs.declared.core_rule.Core.TheVariants.{Alpha, Bit, Char, Cr, Crlf, Ctl, Digit, Dquote, Hexdig, Htab, Lf, Lwsp, Octet, Sp, Vchar, Wsp}
-use Rattle.abnf_parts.specs.Leaf.{same}
+use Rattle.std.specs.Str.{bytes_eq}
 use Rattle.abnf_parts.specs.Names.{Name, with_name}
 use Rattle.abnf_parts.specs.Core.{CoreRule, core_rules, core_name, names_used, needs, is_needed}
 use Rattle.abnf_parts.specs.CoreTable.{core_of, users_of, is_wanted}
@@ -13,10 +13,10 @@ use Rattle.abnf_parts.proofs.NameLaws.{same_is, same_sym, never}
 
 -- for a core rule, at a name
 abbrev Agrees : Core → Name → Type 0
-Agrees core name = list_any (same name) (users_of core) ≡ list_any (same (core_name (core_of core))) (needs (length core_rules) name)
+Agrees core name = list_any (bytes_eq name) (users_of core) ≡ list_any (bytes_eq (core_name (core_of core))) (needs (length core_rules) name)
 
 abbrev is_core : Name → CoreRule → Bool
-is_core name core = same (core_name core) name
+is_core name core = bytes_eq (core_name core) name
 
 agree_at : (core : Core) → AllByRecursion (λ c. Agrees core (core_name c)) core_rules
 agree_at Alpha = (refl, (refl, (refl, (refl, (refl, (refl, (refl, (refl, (refl, (refl, (refl, (refl, (refl, (refl, (refl, (refl, tt))))))))))))))))
@@ -65,35 +65,35 @@ module _ (P : Name → Type 0) (name : Name) where
   decide [] all = inr (refl, refl)
   decide (c ∷ cs) all = decide_by (is_core name c) c cs refl all.0 (decide cs all.1)
 
-none_by : (b : Bool) (name u : Name) (rest : Bool) → same name u ≡ b → list_any (is_core u) core_rules ≡ true → list_any (is_core name) core_rules ≡ false → rest ≡ false → (b || rest) ≡ false
+none_by : (b : Bool) (name u : Name) (rest : Bool) → bytes_eq name u ≡ b → list_any (is_core u) core_rules ≡ true → list_any (is_core name) core_rules ≡ false → rest ≡ false → (b || rest) ≡ false
 none_by true name u rest e all h r = never (list_any (is_core name) core_rules) (subst (λ n. list_any (is_core n) core_rules ≡ true) (sym (same_is name u e)) all) h
 none_by false name u rest e all h r = r
 
-none_of : (name : Name) (users : List Name) → AllByRecursion (λ user. list_any (is_core user) core_rules ≡ true) users → list_any (is_core name) core_rules ≡ false → list_any (same name) users ≡ false
+none_of : (name : Name) (users : List Name) → AllByRecursion (λ user. list_any (is_core user) core_rules ≡ true) users → list_any (is_core name) core_rules ≡ false → list_any (bytes_eq name) users ≡ false
 none_of name [] all h = refl
-none_of name (u ∷ users) all h = none_by (same name u) name u (list_any (same name) users) refl all.0 h (none_of name users all.1 h)
+none_of name (u ∷ users) all h = none_by (bytes_eq name u) name u (list_any (bytes_eq name) users) refl all.0 h (none_of name users all.1 h)
 
 first_false : (b rest : Bool) → (b || rest) ≡ false → b ≡ false
 first_false true rest h = h
 first_false false rest h = refl
 
-own_false : (core : Core) (name : Name) → list_any (same name) (users_of core) ≡ false → same (core_name (core_of core)) name ≡ false
-own_false Alpha name h = same_sym (core_name (core_of Alpha)) name ∙ first_false (same name (core_name (core_of Alpha))) _ h
-own_false Bit name h = same_sym (core_name (core_of Bit)) name ∙ first_false (same name (core_name (core_of Bit))) _ h
-own_false Char name h = same_sym (core_name (core_of Char)) name ∙ first_false (same name (core_name (core_of Char))) _ h
-own_false Cr name h = same_sym (core_name (core_of Cr)) name ∙ first_false (same name (core_name (core_of Cr))) _ h
-own_false Crlf name h = same_sym (core_name (core_of Crlf)) name ∙ first_false (same name (core_name (core_of Crlf))) _ h
-own_false Ctl name h = same_sym (core_name (core_of Ctl)) name ∙ first_false (same name (core_name (core_of Ctl))) _ h
-own_false Digit name h = same_sym (core_name (core_of Digit)) name ∙ first_false (same name (core_name (core_of Digit))) _ h
-own_false Dquote name h = same_sym (core_name (core_of Dquote)) name ∙ first_false (same name (core_name (core_of Dquote))) _ h
-own_false Hexdig name h = same_sym (core_name (core_of Hexdig)) name ∙ first_false (same name (core_name (core_of Hexdig))) _ h
-own_false Htab name h = same_sym (core_name (core_of Htab)) name ∙ first_false (same name (core_name (core_of Htab))) _ h
-own_false Lf name h = same_sym (core_name (core_of Lf)) name ∙ first_false (same name (core_name (core_of Lf))) _ h
-own_false Lwsp name h = same_sym (core_name (core_of Lwsp)) name ∙ first_false (same name (core_name (core_of Lwsp))) _ h
-own_false Octet name h = same_sym (core_name (core_of Octet)) name ∙ first_false (same name (core_name (core_of Octet))) _ h
-own_false Sp name h = same_sym (core_name (core_of Sp)) name ∙ first_false (same name (core_name (core_of Sp))) _ h
-own_false Vchar name h = same_sym (core_name (core_of Vchar)) name ∙ first_false (same name (core_name (core_of Vchar))) _ h
-own_false Wsp name h = same_sym (core_name (core_of Wsp)) name ∙ first_false (same name (core_name (core_of Wsp))) _ h
+own_false : (core : Core) (name : Name) → list_any (bytes_eq name) (users_of core) ≡ false → bytes_eq (core_name (core_of core)) name ≡ false
+own_false Alpha name h = same_sym (core_name (core_of Alpha)) name ∙ first_false (bytes_eq name (core_name (core_of Alpha))) _ h
+own_false Bit name h = same_sym (core_name (core_of Bit)) name ∙ first_false (bytes_eq name (core_name (core_of Bit))) _ h
+own_false Char name h = same_sym (core_name (core_of Char)) name ∙ first_false (bytes_eq name (core_name (core_of Char))) _ h
+own_false Cr name h = same_sym (core_name (core_of Cr)) name ∙ first_false (bytes_eq name (core_name (core_of Cr))) _ h
+own_false Crlf name h = same_sym (core_name (core_of Crlf)) name ∙ first_false (bytes_eq name (core_name (core_of Crlf))) _ h
+own_false Ctl name h = same_sym (core_name (core_of Ctl)) name ∙ first_false (bytes_eq name (core_name (core_of Ctl))) _ h
+own_false Digit name h = same_sym (core_name (core_of Digit)) name ∙ first_false (bytes_eq name (core_name (core_of Digit))) _ h
+own_false Dquote name h = same_sym (core_name (core_of Dquote)) name ∙ first_false (bytes_eq name (core_name (core_of Dquote))) _ h
+own_false Hexdig name h = same_sym (core_name (core_of Hexdig)) name ∙ first_false (bytes_eq name (core_name (core_of Hexdig))) _ h
+own_false Htab name h = same_sym (core_name (core_of Htab)) name ∙ first_false (bytes_eq name (core_name (core_of Htab))) _ h
+own_false Lf name h = same_sym (core_name (core_of Lf)) name ∙ first_false (bytes_eq name (core_name (core_of Lf))) _ h
+own_false Lwsp name h = same_sym (core_name (core_of Lwsp)) name ∙ first_false (bytes_eq name (core_name (core_of Lwsp))) _ h
+own_false Octet name h = same_sym (core_name (core_of Octet)) name ∙ first_false (bytes_eq name (core_name (core_of Octet))) _ h
+own_false Sp name h = same_sym (core_name (core_of Sp)) name ∙ first_false (bytes_eq name (core_name (core_of Sp))) _ h
+own_false Vchar name h = same_sym (core_name (core_of Vchar)) name ∙ first_false (bytes_eq name (core_name (core_of Vchar))) _ h
+own_false Wsp name h = same_sym (core_name (core_of Wsp)) name ∙ first_false (bytes_eq name (core_name (core_of Wsp))) _ h
 
 needs_none : (steps : ℕ) (name : Name) → find (is_core name) core_rules ≡ None → needs (suc steps) name ≡ name ∷ []
 needs_none steps name e = ap (λ o. name ∷ flat_map (needs steps) (names_used o)) e
@@ -101,7 +101,7 @@ needs_none steps name e = ap (λ o. name ∷ flat_map (needs steps) (names_used 
 agrees_other : (core : Core) (name : Name) → find (is_core name) core_rules ≡ None → list_any (is_core name) core_rules ≡ false → Agrees core name
 agrees_other core name e f =
     let none = none_of name (users_of core) (covered core) f in
-    none ∙ sym (ap (list_any (same (core_name (core_of core)))) (needs_none 15 name e) ∙ ap (λ b. b || false) (own_false core name none))
+    none ∙ sym (ap (list_any (bytes_eq (core_name (core_of core)))) (needs_none 15 name e) ∙ ap (λ b. b || false) (own_false core name none))
 
 agrees : (core : Core) (name : Name) → Agrees core name
 agrees core name = ⊎_elim (λ h. h) (λ h. agrees_other core name h.0 h.1) (decide (Agrees core) name core_rules (agree_at core))
@@ -121,16 +121,16 @@ none_any : (users : List Name) → list_any (λ u. false) users ≡ false
 none_any [] = refl
 none_any (u ∷ users) = none_any users
 
-any_sym : (n : Name) (users : List Name) → list_any (λ u. same u n) users ≡ list_any (same n) users
+any_sym : (n : Name) (users : List Name) → list_any (λ u. bytes_eq u n) users ≡ list_any (bytes_eq n) users
 any_sym n [] = refl
-any_sym n (u ∷ users) = ap (λ b. b || list_any (λ v. same v n) users) (same_sym u n) ∙ ap (λ b. same n u || b) (any_sym n users)
+any_sym n (u ∷ users) = ap (λ b. b || list_any (λ v. bytes_eq v n) users) (same_sym u n) ∙ ap (λ b. bytes_eq n u || b) (any_sym n users)
 
 swapped : (core : Core) (unknown : List Name) → is_wanted unknown (users_of core) ≡ is_needed unknown (core_of core)
 swapped core [] = none_any (users_of core)
 swapped core (n ∷ unknown) =
-    or_split (λ u. same u n) (λ u. list_any (same u) unknown) (users_of core)
-    ∙ (ap (λ b. b || list_any (λ u. list_any (same u) unknown) (users_of core)) (any_sym n (users_of core) ∙ agrees core n)
-    ∙ ap (λ b. list_any (same (core_name (core_of core))) (needs (length core_rules) n) || b) (swapped core unknown))
+    or_split (λ u. bytes_eq u n) (λ u. list_any (bytes_eq u) unknown) (users_of core)
+    ∙ (ap (λ b. b || list_any (λ u. list_any (bytes_eq u) unknown) (users_of core)) (any_sym n (users_of core) ∙ agrees core n)
+    ∙ ap (λ b. list_any (bytes_eq (core_name (core_of core))) (needs (length core_rules) n) || b) (swapped core unknown))
 
 pub needed_is : (core : Core) (unknown users : List Name) (b : Bool) → users ≡ users_of core → b ≡ is_wanted unknown users → b ≡ is_needed unknown (core_of core)
 needed_is core unknown users b u h = h ∙ (ap (is_wanted unknown) u ∙ swapped core unknown)
@@ -145,17 +145,17 @@ or_false false = refl
 
 -- a test that passes for a name of a list or not tells no more names when they are there once each
 module _ (test : Name → Bool) where
-  kept_by : (b c : Bool) (x : Name) (names : List Name) → list_any (same x) names ≡ b → test x ≡ c → (b ≡ true → c ≡ true → list_any test names ≡ true) →
+  kept_by : (b c : Bool) (x : Name) (names : List Name) → list_any (bytes_eq x) names ≡ b → test x ≡ c → (b ≡ true → c ≡ true → list_any test names ≡ true) →
       list_any test (if b then names else names ++ x ∷ []) ≡ (list_any test names || c)
   kept_by true true x names e f g = g refl refl ∙ sym (ap (λ b. b || true) (g refl refl))
   kept_by true false x names e f g = sym (or_false (list_any test names))
   kept_by false c x names e f g = list_any-append test names (x ∷ []) ∙ ap (λ b. list_any test names || b) (or_false (test x) ∙ f)
 
-  there : (x : Name) (names : List Name) → list_any (same x) names ≡ true → test x ≡ true → list_any test names ≡ true
+  there : (x : Name) (names : List Name) → list_any (bytes_eq x) names ≡ true → test x ≡ true → list_any test names ≡ true
   there x [] h t = absurd (cc h)
-  there x (n ∷ names) h t = by (same x n) refl h (λ rest. there x names rest t)
+  there x (n ∷ names) h t = by (bytes_eq x n) refl h (λ rest. there x names rest t)
     where
-      by : (b : Bool) → same x n ≡ b → (b || list_any (same x) names) ≡ true → (list_any (same x) names ≡ true → list_any test names ≡ true) → (test n || list_any test names) ≡ true
+      by : (b : Bool) → bytes_eq x n ≡ b → (b || list_any (bytes_eq x) names) ≡ true → (list_any (bytes_eq x) names ≡ true → list_any test names ≡ true) → (test n || list_any test names) ≡ true
       by true e g rest = ap (λ b. b || list_any test names) (subst (λ m. test m ≡ true) (same_is x n e) t)
       by false e g rest = ap (λ b. test n || b) (rest g) ∙ or_true (test n)
 
@@ -163,7 +163,7 @@ module _ (test : Name → Bool) where
   any_folded names [] = sym (or_false (list_any test names))
   any_folded names (x ∷ xs) =
       any_folded (with_name names x) xs
-      ∙ (ap (λ b. b || list_any test xs) (kept_by (list_any (same x) names) (test x) x names refl refl (there x names))
+      ∙ (ap (λ b. b || list_any test xs) (kept_by (list_any (bytes_eq x) names) (test x) x names refl refl (there x names))
       ∙ or_assoc (list_any test names) (test x) (list_any test xs))
     where
       or_assoc : (a b c : Bool) → ((a || b) || c) ≡ (a || (b || c))
@@ -171,4 +171,4 @@ module _ (test : Name → Bool) where
       or_assoc false b c = refl
 
 pub needed_folded : (xs : List Name) (core : CoreRule) → is_needed (fold with_name [] xs) core ≡ is_needed xs core
-needed_folded xs core = any_folded (λ name. list_any (same (core_name core)) (needs (length core_rules) name)) [] xs
+needed_folded xs core = any_folded (λ name. list_any (bytes_eq (core_name core)) (needs (length core_rules) name)) [] xs

@@ -3,7 +3,7 @@ use Rattle.std.specs.Prelude.{ℕ, zero, suc, List, [], ◌∷◌, flat_map, fil
 use Rattle.std.specs.List.{list_any}
 use Rattle.abnf_token.specs.Folded.{lowercase}
 use Rattle.abnf_parts.specs.Part.{Part, quoted, series, span, seq, alt, rep, ref, subparts}
-use Rattle.abnf_parts.specs.Leaf.{same}
+use Rattle.std.specs.Str.{bytes_eq}
 use Rattle.abnf_parts.specs.Names.{Name}
 use Rattle.abnf_parts.specs.Tree.{parts}
 
@@ -92,8 +92,8 @@ names_used (Some core) = filter_map name_used (subparts (core.tree (λ name. Non
 -- a name, those that its core rule uses, those that these use, and so on for so many steps
 abbrev pub needs : ℕ → List ℕ → List (List ℕ)
 needs zero name = name ∷ []
-needs (suc steps) name = name ∷ flat_map (needs steps) (names_used (find (λ core. same (core_name core) name) core_rules))
+needs (suc steps) name = name ∷ flat_map (needs steps) (names_used (find (λ core. bytes_eq (core_name core) name) core_rules))
 
 -- Needed is a core rule that one of these names stands for, and each that a needed one uses.
 abbrev pub is_needed : List Name → CoreRule → Bool
-is_needed names core = list_any (λ name. list_any (same (core_name core)) (needs (length core_rules) name)) names
+is_needed names core = list_any (λ name. list_any (bytes_eq (core_name core)) (needs (length core_rules) name)) names

@@ -11,7 +11,7 @@ use Rattle.abnf_parts.specs.Part.{Part, quoted, series, span, seq, alt, rep, ref
 use Rattle.abnf_parts.specs.Tree.{parts, join}
 use Rattle.abnf_parts.specs.declared.node.Node.{Node}
 use Rattle.abnf_parts.specs.declared.node.Node.TheVariants.{Alt, Rep}
-use Rattle.abnf_parts.specs.Leaf.{same}
+use Rattle.std.specs.Str.{bytes_eq}
 use Rattle.abnf_parts.specs.Names.{Name}
 use Rattle.abnf_parts.specs.Core.{CoreRule, alpha, bit, char, cr, crlf, ctl, digit, dquote, hexdig, htab, lf, lwsp, octet, sp, vchar, wsp}
 
@@ -55,7 +55,7 @@ tree_by core inner = inner
 
 -- the rule that a name stands for inside the core rules, which have these names, and numbers from the first on
 abbrev pub number_in : ℕ → List Name → Name → Option ℕ
-number_in first names name = option_map (λ r. first + r) (position (same name) names)
+number_in first names name = option_map (λ r. first + r) (position (bytes_eq name) names)
 
 -- a choice of one repetition was pushed, whose body comes next
 abbrev pub IsRepeated : List Node → List Node → Type 0
@@ -82,4 +82,4 @@ users_of Wsp = codes "wsp" ∷ codes "lwsp" ∷ []
 
 -- one of these names stands in the text and is defined nowhere
 abbrev pub is_wanted : List Name → List Name → Bool
-is_wanted unknown users = list_any (λ user. list_any (same user) unknown) users
+is_wanted unknown users = list_any (λ user. list_any (bytes_eq user) unknown) users

@@ -1,6 +1,6 @@
 -- What the token of an element or of a repeat stands for.
-use Rattle.std.specs.Prelude.{ℕ, ◌+◌, ◌*◌, ◌==◌, Bool, nat_eq, ◌||◌, List, [], ◌∷◌, Option, Some, None, if◌then◌else◌, unwrap_or, codes, min}
-use Rattle.std.specs.Cmp.Lexicographic.{pointwise}
+use Rattle.std.specs.Prelude.{ℕ, ◌+◌, ◌*◌, ◌==◌, Bool, ◌||◌, List, [], ◌∷◌, Option, Some, None, if◌then◌else◌, unwrap_or, codes, min}
+use Rattle.std.specs.Str.{bytes_eq}
 use Rattle.std.specs.Char.{digit_value}
 use Rattle.std.specs.List.{list_any, before_first, after_first}
 use Rattle.abnf_token.specs.declared.token.Token.{Token}
@@ -8,10 +8,6 @@ use Rattle.abnf_token.specs.Classes.{base_of}
 use Rattle.abnf_token.specs.Folded.{lowercase}
 use Rattle.abnf_token.specs.Numbers.{number_of}
 use Rattle.abnf_parts.specs.Part.{Part, quoted, series, span, rep, opaque}
-
--- the two texts are the same, byte by byte
-abbrev pub same : List ℕ → List ℕ → Bool
-same s t = pointwise nat_eq s t
 
 -- what stands before the first such byte, or the whole text
 abbrev pub before : ℕ → List ℕ → List ℕ
@@ -26,7 +22,7 @@ has byte text = list_any (λ b. b == byte) text
 
 -- The text between the quotes, which is exact where `%s` stands before it (RFC 7405 section 2.1).
 abbrev pub quoted_part : List ℕ → Part
-quoted_part text = quoted (before 0x22 (behind 0x22 text)) (same (lowercase (before 0x22 text)) (codes "%s"))
+quoted_part text = quoted (before 0x22 (behind 0x22 text)) (bytes_eq (lowercase (before 0x22 text)) (codes "%s"))
 
 -- the greatest number that a grammar may hold
 abbrev pub max_number : ℕ

@@ -3,7 +3,7 @@ use Rattle.std.specs.Prelude.{ℕ, List, [], ◌∷◌, ◌++◌, Option, positi
 use Rattle.std.specs.List.{list_any}
 use Rattle.abnf_token.specs.declared.folded.Folded.{Folded}
 use Rattle.abnf_token.specs.Folded.{lowercase}
-use Rattle.abnf_parts.specs.Leaf.{same}
+use Rattle.std.specs.Str.{bytes_eq}
 
 -- a name with its letters made small
 abbrev pub Name : Type 0
@@ -18,8 +18,8 @@ all_names names = names.0 ++ names.1
 
 -- a name, unless it is there
 abbrev pub with_name : List Name → Name → List Name
-with_name names name = if list_any (same name) names then names else names ++ name ∷ []
+with_name names name = if list_any (bytes_eq name) names then names else names ++ name ∷ []
 
 -- the number of the rule that a name stands for: the first that has it
 abbrev pub rule_number : List Name → Name → Option ℕ
-rule_number names name = position (same name) names
+rule_number names name = position (bytes_eq name) names

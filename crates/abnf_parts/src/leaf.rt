@@ -1,13 +1,11 @@
 //! The nodes of single tokens.
 
 ghost use Rattle.std.specs.Prelude.{◌≡◌, ◌<◌, ℕ, IfOk, drop};
-ghost use Rattle.std.specs.Char.{digit_value};
-ghost use Rattle.abnf_token.specs.Classes as classes;
 ghost use Rattle.abnf_parts.specs.Leaf as leaf;
 ghost use Rattle.abnf_parts.specs.Nodes.{IsNode};
 
 use crate::node::Node;
-use abnf_token::{Folded, Token, number_of};
+use abnf_token::{Folded, Token, base_of, digit_value, number_of};
 use ls_lists::List;
 use std::alloc::{AllocError, Global};
 
@@ -43,18 +41,6 @@ fn has(text: &[u8], byte: u8) -> bool
     text.contains(&byte)
 }
 
-/// The value of a digit or a letter, 36 for any other byte.
-fn digit_value(byte: u8) -> u32
-    ensures { result ≡ digit_value byte }
-{
-    match byte {
-        b'0'..=b'9' => u32::from(byte - b'0'),
-        b'A'..=b'Z' => u32::from(byte - b'A') + 10,
-        b'a'..=b'z' => u32::from(byte - b'a') + 10,
-        _ => 36,
-    }
-}
-
 /// A number with one more digit.
 fn with_digit(base: u32, number: u32, byte: u8) -> u32
     ensures { result ≡ leaf.with_digit base number byte }
@@ -62,18 +48,6 @@ fn with_digit(base: u32, number: u32, byte: u8) -> u32
     number
         .saturating_mul(base)
         .saturating_add(digit_value(byte))
-}
-
-/// The base of the numbers after this letter.
-fn base_of(letter: u8) -> u32
-    ensures { result ≡ classes.base_of letter }
-{
-    match letter.to_ascii_lowercase() {
-        b'b' => 2,
-        b'd' => 10,
-        b'x' => 16,
-        _ => 0,
-    }
 }
 
 /// The numbers between `.` or `-`.

@@ -2,7 +2,7 @@
 
 ghost use Rattle.std.specs.Prelude.{◌≡◌, [], ◌<◌, ◌^◌, ◌++◌, length, map, IfSome, OnOk};
 ghost use Rattle.std.specs.List.{list_any};
-ghost use Rattle.abnf_parts.specs.Leaf.{same};
+ghost use Rattle.std.specs.Str.{bytes_eq};
 ghost use Rattle.abnf_parts.specs.Names.{rule_number, with_name, folded_text, all_names};
 
 use crate::node::RuleNo;
@@ -41,13 +41,14 @@ impl<'t> Names<'t> {
         ensures index { result ≡ rule_number self.now (folded_text name.entry) }
         ensures small { IfSome result (λ i. i < 2 ^ 63) }
     {
+        // What `len` ensures bounds the place too.
         let _bounded = self.names.len();
         self.names.get_index_of(&name)
     }
 
     /// Whether the name is there.
     pub(crate) fn contains(&self, name: Folded<'t>) -> bool
-        ensures { result ≡ list_any (same (folded_text name.entry)) self.now }
+        ensures { result ≡ list_any (bytes_eq (folded_text name.entry)) self.now }
     {
         match self.index_of(name) {
             Some(_) => true,

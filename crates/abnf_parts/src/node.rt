@@ -62,8 +62,7 @@ impl NodeNo {
     pub fn get(self) -> usize
         ensures { result ≡ self }
     {
-        let NodeNo(number) = self;
-        number
+        self.0
     }
 }
 

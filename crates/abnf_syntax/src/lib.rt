@@ -21,4 +21,5 @@ pub use block::{Block, Head, blocks};
 pub use fault::SyntaxFault;
 pub use item::Item;
 pub use parse::parse_block;
+pub use parser::{MAX_NESTING, place_of};
 pub use tree::{Alternation, Concatenation, Element, Repetition, Rule};

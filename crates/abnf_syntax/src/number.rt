@@ -1,36 +1,10 @@
 //! The numbers of repeats and of numbers.
 
 ghost use Rattle.std.specs.Prelude.{◌≡◌, ◌+◌, ◌*◌, ◌^◌, nat_lt, if◌then◌else◌, Some, None};
-ghost use Rattle.std.specs.Char.{digit_value};
-ghost use Rattle.abnf_token.specs.Classes as classes;
 ghost use Rattle.abnf_syntax.specs.Numbers as numbers;
 ghost use Rattle.abnf_syntax.specs.Fitting as fitting;
 
-use abnf_token::{Kind, Token};
-
-/// The value of a digit or a letter, 36 for any other byte.
-fn value_of(byte: u8) -> u32
-    ensures { result ≡ digit_value byte }
-{
-    match byte {
-        b'0'..=b'9' => u32::from(byte - b'0'),
-        b'A'..=b'Z' => u32::from(byte - b'A') + 10,
-        b'a'..=b'z' => u32::from(byte - b'a') + 10,
-        _ => 36,
-    }
-}
-
-/// The base of the numbers after this letter, 0 where there is none.
-fn base_of(letter: u8) -> u32
-    ensures { result ≡ classes.base_of letter }
-{
-    match letter.to_ascii_lowercase() {
-        b'b' => 2,
-        b'd' => 10,
-        b'x' => 16,
-        _ => 0,
-    }
-}
+use abnf_token::{Kind, Token, base_of, digit_value};
 
 /// Whether the byte stands between two numbers.
 fn is_sign(byte: u8) -> bool
@@ -56,7 +30,7 @@ fn are_small(bytes: &[u8], base: u32) -> bool
             value = 0;
             continue;
         }
-        let digit = value_of(*byte);
+        let digit = digit_value(*byte);
         if digit >= base {
             return false;
         }

@@ -18,7 +18,7 @@ use ls_text::Place;
 use std::alloc::{AllocError, Global};
 
 /// How deep groups and options may nest.
-const MAX_NESTING: usize = 64;
+pub const MAX_NESTING: usize = 64;
 
 /// What stands between two brackets so far: the concatenations that a slash ended, the repetitions
 /// since, and a repeat that waits for its element.
@@ -130,8 +130,8 @@ impl<'t> Level<'t> {
     }
 }
 
-/// The place of a token.
-pub(crate) fn place_of<'t>(token: Token<'t>) -> Place
+/// The place of a token: its line, and the bytes of its text there.
+pub fn place_of<'t>(token: Token<'t>) -> Place
     ensures { result ≡ place_of token.entry }
 {
     Place {

@@ -13,7 +13,7 @@ mod scan;
 mod token;
 
 pub use folded::Folded;
-pub use number::number_of;
+pub use number::{base_of, digit_value, number_of};
 pub use scan::{TokenIter, tokens};
 pub use token::{Kind, Token};
 

@@ -10,7 +10,7 @@ use Rattle.abnf_names.specs.declared.place.NamePlace.{NamePlace}
 use Rattle.abnf_names.specs.Passes.{name_place}
 use Rattle.abnf_names.specs.Places.{Named, at_offset, place_and_text, places_of_name}
 use Rattle.abnf_names.specs.Rules.{Grammar, IsGrammar}
-use Rattle.ls_answers.specs.Places.{AreDefinitions, defining_ranges, place_at}
+use Rattle.ls_answers.specs.Places.{AreDefinitions, defining_ranges, name_at}
 
 -- the ranges of those places that define
 abbrev ranges_of : List ℕ → List Named → List Range
@@ -40,7 +40,7 @@ defined-there : (text : List ℕ) (at : Position) (g : Grammar) (offset : ℕ) (
     → ranges ≡ defining_ranges text places → AreDefinitions text at ranges
 defined-there text at g offset s places ranges right of_text is_offset is_found are is =
     let n = found (at_offset g.text g.places offset) s is_found in
-    let here : place_at g at ≡ Some n.0 = ap (λ o. at_offset g.text g.places o) (sym is_offset) ∙ n.1 in
+    let here : name_at g at ≡ Some n.0 = ap (λ o. at_offset g.text g.places o) (sym is_offset) ∙ n.1 in
     let same : ranges ≡ ranges_of text (places_of_name (lowercase s.1) g.places) = is ∙ (ap (defining_ranges text) are ∙ same_ranges text (places_of_name (lowercase s.1) g.places)) in
     record { grammar = g; of_text = of_text; right = right; ranges_are = rw (here, n.2) same }
 
@@ -57,5 +57,5 @@ pub with-none : (text : List ℕ) (at : Position) (g : Grammar) (offset : ℕ) (
     → IsGrammar g → g.text ≡ text → offset ≡ offset_of utf16_len g.text at.line at.character
     → None ≡ option_map place_and_text (at_offset g.text g.places offset) → ranges ≡ [] → AreDefinitions text at ranges
 with-none text at g offset ranges right of_text is_offset is_none is =
-    let here : place_at g at ≡ None = ap (λ o. at_offset g.text g.places o) (sym is_offset) ∙ none (at_offset g.text g.places offset) is_none in
+    let here : name_at g at ≡ None = ap (λ o. at_offset g.text g.places o) (sym is_offset) ∙ none (at_offset g.text g.places offset) is_none in
     record { grammar = g; of_text = of_text; right = right; ranges_are = rw (here) is }

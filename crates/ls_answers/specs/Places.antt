@@ -9,9 +9,9 @@ use Rattle.abnf_names.specs.declared.place.NamePlace.{NamePlace}
 use Rattle.abnf_names.specs.Places.{Named, at_offset, places_of_name}
 use Rattle.abnf_names.specs.Rules.{Grammar, IsGrammar}
 
--- the place that holds the position, else the one that ends there
-abbrev pub place_at : Grammar → Position → Option Named
-place_at g at = at_offset g.text g.places (offset_of utf16_len g.text at.line at.character)
+-- the name whose place holds the position, else the one whose place ends there
+abbrev pub name_at : Grammar → Position → Option Named
+name_at g at = at_offset g.text g.places (offset_of utf16_len g.text at.line at.character)
 
 -- the places where the same name is defined; names are compared without case (RFC 5234, section 2.1)
 abbrev pub defining : Grammar → Option Named → List Named
@@ -23,7 +23,7 @@ pub record AreDefinitions (text : List ℕ) (at : Position) (ranges : List Range
   pub grammar : Grammar
   pub of_text : grammar.text ≡ text
   pub right : IsGrammar grammar
-  pub ranges_are : ranges ≡ map (λ named. place_range utf16_len text named.place) (defining grammar (place_at grammar at))
+  pub ranges_are : ranges ≡ map (λ named. place_range utf16_len text named.place) (defining grammar (name_at grammar at))
 
 -- the ranges of those of the places that define their name
 abbrev pub defining_ranges : List ℕ → List NamePlace → List Range

@@ -1,12 +1,10 @@
 //! The outline of a text: its blocks that have a head.
 ghost use Rattle.std.specs.Prelude.{◌≡◌, ◌++◌, IfOk, OnOk};
-ghost use Rattle.abnf_syntax.specs.Faults.{place_of};
 ghost use Rattle.abnf_syntax.specs.Heads.{head_of};
 ghost use Rattle.ls_answers.specs.Outline.{IsOutline, extent, symbol_of, symbols_in};
 
 use crate::answer::Symbol;
-use abnf_syntax::{Block, Item, blocks};
-use abnf_token::Token;
+use abnf_syntax::{Block, Item, blocks, place_of};
 use ls_lists::{List, Text};
 use ls_text::{Place, Range, Snapshot};
 use std::alloc::{AllocError as Memory, Global};
@@ -41,21 +39,10 @@ fn push_symbol(
     let symbol = Symbol {
         name,
         range: extent(snapshot, block.items.as_slice()),
-        name_range: snapshot.range_of(&place_of(&head.name)),
+        name_range: snapshot.range_of(&place_of(head.name)),
     };
     symbols.push(symbol)?;
     Ok(())
-}
-
-/// Where a token stands.
-fn place_of(token: &Token) -> Place
-    ensures { result ≡ place_of token.now }
-{
-    Place {
-        line: token.line,
-        start: token.start,
-        end: token.start + token.text.len(),
-    }
 }
 
 /// From the first item to the end of the last.
@@ -64,8 +51,8 @@ fn extent(snapshot: &Snapshot, items: &[Item]) -> Range
 {
     match (items.first(), items.last()) {
         (Some(first), Some(last)) => {
-            let start = snapshot.range_of(&place_of(&first.token)).start;
-            let end = snapshot.range_of(&place_of(&last.token)).end;
+            let start = snapshot.range_of(&place_of(first.token)).start;
+            let end = snapshot.range_of(&place_of(last.token)).end;
             Range { start, end }
         }
         _ => snapshot.range_of(&Place {

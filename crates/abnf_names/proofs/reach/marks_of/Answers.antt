@@ -1,8 +1,8 @@
 use Rattle.std.proofs.Common.{◌≡◌, ◌<◌, ◌+◌, ◌∙◌, [], ℕ, List, length, subst, sym, ap}
 use Rattle.std.specs.Prelude.{fold, Contains}
 use Rattle.std.proofs.lemmas.List.{get_or_read}
-use Rattle.abnf_names.specs.Search.{users_at, with_place, IsSearched}
-use Rattle.abnf_names.proofs.SearchLaws.{searched_more, searched_all}
+use Rattle.abnf_names.specs.Search.{users_at, with_place}
+use Rattle.abnf_names.proofs.SearchLaws.{IsSearched, searched_more, searched_all}
 use Rattle.abnf_names.proofs.reach.marks_of.Goals as goal
 
 pub add_all-requires : goal.add_all-requires

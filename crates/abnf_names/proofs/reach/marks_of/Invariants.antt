@@ -1,5 +1,5 @@
 use Rattle.std.proofs.Common.{◌≡◌, ◌-◌, length}
-use Rattle.abnf_names.specs.Search.{IsSearched}
+use Rattle.abnf_names.proofs.SearchLaws.{IsSearched}
 use Rattle.abnf_names.proofs.reach.marks_of.Given as goal
 
 abbrev pub invariant-loop-place : goal.invariant-loop-place

@@ -1,6 +1,6 @@
 use Rattle.std.proofs.Common.{◌∙◌, ◌+◌, ◌<◌, sym, ap, length, arith}
 use Rattle.std.specs.Prelude.{Some, None}
-use Rattle.abnf_parts.specs.Leaf.{same}
+use Rattle.std.specs.Str.{bytes_eq}
 use Rattle.abnf_parts.specs.Names.{rule_number, folded_text, all_names}
 use Rattle.abnf_parts.proofs.NameLaws.{position-append, behind}
 use Rattle.abnf_parts.proofs.names.RuleNames.rule_of.Goals as goal
@@ -11,8 +11,8 @@ returns-in-Some c =
     let core = c.self.inside.core in
     let name = folded_text c.args.name in
     ap Some c.new.ensures
-    ∙ (ap (λ o. behind (same name) (length own) o (rule_number core name)) (sym c.in-Some.is ∙ c.index_of.ensures.index)
-    ∙ (sym (position-append (same name) own core) ∙ ap (λ names. rule_number (all_names names) name) c.self.view_is))
+    ∙ (ap (λ o. behind (bytes_eq name) (length own) o (rule_number core name)) (sym c.in-Some.is ∙ c.index_of.ensures.index)
+    ∙ (sym (position-append (bytes_eq name) own core) ∙ ap (λ names. rule_number (all_names names) name) c.self.view_is))
 
 pub overflow_add-len : goal.overflow_add-len
 overflow_add-len c =
@@ -26,15 +26,15 @@ returns-in-Some-index_of c =
     let core = c.self.inside.core in
     let name = folded_text c.args.name in
     ap Some (c.new-in-Some-index_of.ensures ∙ ap (λ n. n + c.in-Some-index_of.rule) c.len.ensures.len)
-    ∙ (ap (λ o. behind (same name) (length own) None o) (sym c.in-Some-index_of.is ∙ c.index_of-2.ensures.index)
-    ∙ (ap (λ o. behind (same name) (length own) o (rule_number core name)) (sym c.in_default.is ∙ c.index_of.ensures.index)
-    ∙ (sym (position-append (same name) own core) ∙ ap (λ names. rule_number (all_names names) name) c.self.view_is)))
+    ∙ (ap (λ o. behind (bytes_eq name) (length own) None o) (sym c.in-Some-index_of.is ∙ c.index_of-2.ensures.index)
+    ∙ (ap (λ o. behind (bytes_eq name) (length own) o (rule_number core name)) (sym c.in_default.is ∙ c.index_of.ensures.index)
+    ∙ (sym (position-append (bytes_eq name) own core) ∙ ap (λ names. rule_number (all_names names) name) c.self.view_is)))
 
 pub returns-in-None : goal.returns-in-None
 returns-in-None c =
     let own = c.self.inside.own in
     let core = c.self.inside.core in
     let name = folded_text c.args.name in
-    ap (λ o. behind (same name) (length own) None o) (sym c.in-None.is ∙ c.index_of-2.ensures.index)
-    ∙ (ap (λ o. behind (same name) (length own) o (rule_number core name)) (sym c.in_default.is ∙ c.index_of.ensures.index)
-    ∙ (sym (position-append (same name) own core) ∙ ap (λ names. rule_number (all_names names) name) c.self.view_is))
+    ap (λ o. behind (bytes_eq name) (length own) None o) (sym c.in-None.is ∙ c.index_of-2.ensures.index)
+    ∙ (ap (λ o. behind (bytes_eq name) (length own) o (rule_number core name)) (sym c.in_default.is ∙ c.index_of.ensures.index)
+    ∙ (sym (position-append (bytes_eq name) own core) ∙ ap (λ names. rule_number (all_names names) name) c.self.view_is))
