@@ -10,3 +10,4 @@ pub mod RulePass
 pub mod Closed
 pub mod Kept
 pub mod Within
+pub mod OneGrammar

@@ -2,11 +2,12 @@
 //!
 //! [`Grammar::of`] reads a text. Contracts see a grammar as its text, the names and trees of its rules, the places of names and the
 //! faults of blocks, all of which are functions of the text's blocks; the code has numbered nodes and hashed names, so that no call
-//! looks through all names.
+//! looks through all names. A text has one grammar ([`grammars_are_unique`]).
 #![tactic(auto)]
 
 mod grammar;
 mod groups;
+mod laws;
 mod own;
 mod parsed;
 mod place;
@@ -15,4 +16,5 @@ mod rules;
 
 pub use abnf_parts::{Node, NodeNo, RuleNo};
 pub use grammar::Grammar;
+pub use laws::grammars_are_unique;
 pub use place::NamePlace;

@@ -5,4 +5,5 @@ pub mod CoreLaws
 pub mod NeededLaws
 pub mod ApartLaws
 pub mod Closed
+pub mod Alike
 pub mod Tied

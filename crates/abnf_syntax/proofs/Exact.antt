@@ -33,7 +33,7 @@ none_shown head defined front (item ∷ rest) s a t h xs ys e =
     earlier head defined front rest item (suc (length xs)) (sym (same_fault defined front (item ∷ rest) s t) ∙ go.0)
     (λ us vs split less. none_shown head defined (front ++ item ∷ []) rest (shift s item) a (tracks_more defined front s item t) go.1 us vs split) xs ys e (omega arith)
 
-parse_none : (items : List Item) (rule : Rule) → parse items ≡ Ok rule → (before after : List Item) → items ≡ before ++ after → shown before after ≡ None
+pub parse_none : (items : List Item) (rule : Rule) → parse items ≡ Ok rule → (before after : List Item) → items ≡ before ++ after → shown before after ≡ None
 parse_none [] rule h before after e = absurd (cc)
 parse_none (head ∷ []) rule h before after e = neither _ _ _ rule h
 parse_none (head ∷ defined ∷ body) rule h before after e =
@@ -45,7 +45,7 @@ parse_none (head ∷ defined ∷ body) rule h before after e =
     head_earlier head defined body (suc (length before)) (rw named refl) (rw is_defined refl)
     (λ xs ys split less. none_shown head defined [] body (start defined) r.0 (record { last = refl; left = refl }) r.1 xs ys split) before after e (omega arith)
 
-some_not_none : {A : Type 0} (o : Option SyntaxFault) (fault : SyntaxFault) → o ≡ Some fault → o ≡ None → A
+pub some_not_none : {A : Type 0} (o : Option SyntaxFault) (fault : SyntaxFault) → o ≡ Some fault → o ≡ None → A
 some_not_none o fault h e = absurd (cc)
 
 cons_same : (x y : Item) (xs ys : List Item) → x ∷ xs ≡ y ∷ ys → (x ≡ y) × (xs ≡ ys)
@@ -64,7 +64,7 @@ same_front (x ∷ xs) ys (u ∷ us) vs h e =
 some_same : (x y : SyntaxFault) → ◌≡◌ {A = Option SyntaxFault} (Some x) (Some y) → x ≡ y
 some_same x y h = cc
 
-one_fault : (items : List Item) (x y : SyntaxFault) → Faults items x → Faults items y → x ≡ y
+pub one_fault : (items : List Item) (x y : SyntaxFault) → Faults items x → Faults items y → x ≡ y
 one_fault items x y f g =
     elim (cases_order (length f.front) (length g.front)) [
       | inl same ↦

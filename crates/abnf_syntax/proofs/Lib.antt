@@ -11,3 +11,4 @@ pub mod BlockLaws
 pub mod GatherLaws
 pub mod ContentLaws
 pub mod Exact
+pub mod Bare

@@ -1,2 +1,3 @@
 pub mod Outlines
 pub mod Definitions
+pub mod OneAnswer

@@ -6,9 +6,11 @@ mod conversation;
 mod device;
 mod ending;
 mod keeper;
+mod laws;
 mod serve;
 
 pub use device::{DeviceFault, ReadFrom, Sink, Source, WriteTo};
 pub use ending::Ending;
+pub use laws::sessions_are_unique;
 pub use ls_session::{Session, Status, Turn};
 pub use serve::{ServeFault, serve_limited, serve_plain};

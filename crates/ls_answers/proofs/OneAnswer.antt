@@ -1,0 +1,102 @@
+-- A question about a text has one answer.
+use Rattle.std.proofs.Common.{◌≡◌, ℕ, ◌-◌, List, [], ◌∷◌, length, map, Option, Some, None, option_map, refl, sym, ap, subst, ◌∙◌}
+use Rattle.std.specs.Prelude.{All, slice_get}
+use Rattle.std.specs.List.{filter_map, cons_option}
+use Rattle.std.proofs.lemmas.List.{length-map}
+use Rattle.std.proofs.lemmas.List.Elements.{All-head, All-tail}
+use Rattle.std.proofs.lemmas.Option.{slice_get-map}
+use Rattle.ls_text.specs.Lines.{utf16_len}
+use Rattle.ls_text.specs.Positions.{place_range}
+use Rattle.ls_text.specs.declared.position.Position.{Position}
+use Rattle.ls_text.specs.declared.position.Range.{Range}
+use Rattle.abnf_token.specs.Classes.{Text}
+use Rattle.abnf_syntax.specs.declared.block.Block.{Block}
+use Rattle.abnf_syntax.specs.declared.block.Head.{Head}
+use Rattle.abnf_syntax.specs.declared.item.Item.{Item}
+use Rattle.abnf_syntax.specs.Blocks.{line_texts}
+use Rattle.abnf_syntax.specs.Bounds.{bounds}
+use Rattle.abnf_syntax.specs.Heads.{head_of}
+use Rattle.abnf_syntax.specs.Items.{AreItems}
+use Rattle.abnf_syntax.proofs.Bare.{bare, bare_head, head_bare, one_list, same_items}
+use Rattle.abnf_names.specs.Places.{Named}
+use Rattle.abnf_names.specs.Rules.{Grammar}
+use Rattle.abnf_names.proofs.OneGrammar.{one_grammar}
+use Rattle.ls_answers.specs.declared.answer.Symbol.{Symbol}
+use Rattle.ls_answers.specs.declared.answer.Answer.{Answer}
+use Rattle.ls_answers.specs.declared.answer.Answer.TheVariants as answer
+use Rattle.ls_answers.specs.declared.ask.Ask.{Ask}
+use Rattle.ls_answers.specs.declared.ask.Ask.TheVariants as ask
+use Rattle.ls_answers.specs.Outline.{from_to, extent, symbol_with, symbol_of, IsOutline}
+use Rattle.ls_answers.specs.Places.{AreDefinitions, defining, name_at}
+use Rattle.ls_answers.specs.Answers.{IsAnswer}
+
+cons_same : {A : Type 0} {x y : A} {xs ys : List A} → x ∷ xs ≡ y ∷ ys → (x ≡ y) × (xs ≡ ys)
+cons_same h = (cc, cc)
+
+-- ---- outlines
+
+abbrev bare_block : Block → Block
+bare_block block = record { first = block.first; end = block.end; items = map bare block.items }
+
+from_to_bare : (text : List ℕ) (o p : Option Item) → from_to text (option_map bare o) (option_map bare p) ≡ from_to text o p
+from_to_bare text None p = refl
+from_to_bare text (Some x) None = refl
+from_to_bare text (Some x) (Some y) = refl
+
+extent_bare : (text : List ℕ) (xs : List Item) → extent text (map bare xs) ≡ extent text xs
+extent_bare text xs =
+    ap (λ n. from_to text (slice_get (map bare xs) 0) (slice_get (map bare xs) (n - 1))) (length-map xs bare)
+    ∙ ((λ i. from_to text (slice_get-map bare xs 0 i) (slice_get-map bare xs (length xs - 1) i))
+    ∙ from_to_bare text (slice_get xs 0) (slice_get xs (length xs - 1)))
+
+symbol_by : (text : List ℕ) (block : Block) (o : Option Head) → option_map (symbol_with text (bare_block block)) (option_map bare_head o) ≡ option_map (symbol_with text block) o
+symbol_by text block None = refl
+symbol_by text block (Some head) = ap (λ (range : Range). Some (record (symbol_with text block head) { range = range })) (extent_bare text block.items)
+
+symbol_bare : (text : List ℕ) (block : Block) → symbol_of text (bare_block block) ≡ symbol_of text block
+symbol_bare text block = ap (option_map (symbol_with text (bare_block block))) (head_bare block.items) ∙ symbol_by text block (head_of block.items)
+
+symbols_bare : (text : List ℕ) (blocks : List Block) → filter_map (symbol_of text) (map bare_block blocks) ≡ filter_map (symbol_of text) blocks
+symbols_bare text [] = refl
+symbols_bare text (block ∷ blocks) = (λ i. cons_option (symbol_bare text block i) (symbols_bare text blocks i))
+
+abbrev HasItems : List Text → Block → Type 0
+HasItems ls block = AreItems ls block.first block.end block.items
+
+same_block : (ls : List Text) (b c : Block) → bounds b ≡ bounds c → HasItems ls b → HasItems ls c → bare_block b ≡ bare_block c
+same_block ls b c e p q =
+    let first : b.first ≡ c.first = ap (λ (n : ℕ × ℕ). n.0) e in
+    let end : b.end ≡ c.end = ap (λ (n : ℕ × ℕ). n.1) e in
+    let there : AreItems ls b.first b.end c.items = subst (λ (n : ℕ × ℕ). AreItems ls n.0 n.1 c.items) (sym e) q in
+    let items_are = same_items ls b.first b.end b.items c.items p there in
+    (λ i. record { first = first i; end = end i; items = items_are i })
+
+same_blocks : (ls : List Text) (bs cs : List Block) → map bounds bs ≡ map bounds cs → All (HasItems ls) bs → All (HasItems ls) cs → map bare_block bs ≡ map bare_block cs
+same_blocks ls [] [] e p q = refl
+same_blocks ls [] (c ∷ cs) e p q = absurd (cc)
+same_blocks ls (b ∷ bs) [] e p q = absurd (cc)
+same_blocks ls (b ∷ bs) (c ∷ cs) e p q =
+    let h = cons_same e in
+    (λ i. same_block ls b c h.0 (All-head (HasItems ls) b bs p) (All-head (HasItems ls) c cs q) i
+    ∷ same_blocks ls bs cs h.1 (All-tail (HasItems ls) b bs p) (All-tail (HasItems ls) c cs q) i)
+
+one_outline : (text : List ℕ) (xs ys : List Symbol) → IsOutline text xs → IsOutline text ys → xs ≡ ys
+one_outline text xs ys p q =
+    let ls = line_texts text in
+    let blocks_are = same_blocks ls p.blocks q.blocks (one_list ls 0 (map bounds p.blocks) (map bounds q.blocks) p.all q.all) p.items q.items in
+    p.symbols_are ∙ (sym (symbols_bare text p.blocks) ∙ (ap (filter_map (symbol_of text)) blocks_are ∙ (symbols_bare text q.blocks ∙ sym q.symbols_are)))
+
+-- ---- definitions
+
+one_list_of_places : (text : List ℕ) (at : Position) (xs ys : List Range) → AreDefinitions text at xs → AreDefinitions text at ys → xs ≡ ys
+one_list_of_places text at xs ys p q =
+    let same = one_grammar p.grammar q.grammar p.right q.right (p.of_text ∙ sym q.of_text) in
+    p.ranges_are ∙ (ap (λ (g : Grammar). map (λ (named : Named). place_range utf16_len text named.place) (defining g (name_at g at))) same ∙ sym q.ranges_are)
+
+pub one_answer : (text : List ℕ) (question : Ask) (a b : Answer) → IsAnswer text question a → IsAnswer text question b → a ≡ b
+one_answer text ask.Symbols (answer.Symbols xs) (answer.Symbols ys) p q = ap answer.Symbols (one_outline text xs ys p q)
+one_answer text ask.Symbols (answer.Symbols xs) (answer.Places ys) p q = absurd q
+one_answer text ask.Symbols (answer.Places xs) b p q = absurd p
+one_answer text (ask.Definition at) (answer.Places xs) (answer.Places ys) p q = ap answer.Places (one_list_of_places text at xs ys p q)
+one_answer text (ask.Definition at) (answer.Places xs) (answer.Symbols ys) p q = absurd q
+one_answer text (ask.Definition at) (answer.Symbols xs) b p q = absurd p

@@ -1,0 +1,10 @@
+//! A law of answers.
+ghost use Rattle.std.specs.Prelude.{◌≡◌, List, ℕ};
+ghost use Rattle.ls_answers.specs.Answers.{IsAnswer};
+ghost use Rattle.ls_answers.specs.declared.answer.Answer.{Answer};
+ghost use Rattle.ls_answers.specs.declared.ask.Ask.{Ask};
+
+/// A question about a text has one answer.
+pub fn answers_are_unique()
+    ensures { (text : List ℕ) (question : Ask) (a b : Answer) → IsAnswer text question a → IsAnswer text question b → a ≡ b }
+{}

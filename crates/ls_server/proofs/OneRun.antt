@@ -1,0 +1,59 @@
+-- On a list of messages one thing is said.
+use Rattle.std.proofs.Common.{◌≡◌, ℕ, List, [], ◌∷◌, ◌++◌, Option, Some, None, inl, inr, sym, ap, ◌∙◌}
+use Rattle.ls_rpc.specs.declared.message.Id.{Id}
+use Rattle.ls_answers.specs.declared.ask.Ask.{Ask}
+use Rattle.ls_answers.proofs.OneAnswer.{one_answer}
+use Rattle.ls_session.specs.Bodies.{reply_body}
+use Rattle.ls_session.specs.declared.event.ClientEvent.{ClientEvent}
+use Rattle.ls_session.specs.declared.event.ClientEvent.TheVariants.{DidOpen, DidChange, DidClose, Request, Say}
+use Rattle.ls_session.specs.declared.event.Status.{Status}
+use Rattle.ls_session.specs.declared.event.Turn.{Turn}
+use Rattle.ls_session.specs.declared.event.Turn.TheVariants as turn
+use Rattle.ls_server.specs.declared.keeper.Document.{Document}
+use Rattle.ls_server.specs.Kept as kept
+use Rattle.ls_server.specs.Kept.{Kept, IsReplied, IsRepliedOn, document_at}
+use Rattle.ls_server.specs.Talk.{Talk, IsAnswered, IsAnsweredOn, IsReply, turn_on, exit_of, after}
+use Rattle.ls_server.specs.Runs.{Says, frames_for}
+
+one_body : (id : Id) (uri text : List ℕ) (ask : Ask) (a b : List ℕ) → kept.IsReply id uri text ask a → kept.IsReply id uri text ask b → a ≡ b
+unfolding kept.IsReply
+one_body id uri text ask a b p q = p.2 ∙ (ap (reply_body id uri) (one_answer text ask p.0 q.0 p.1 q.1) ∙ sym q.2)
+
+one_reply_on : (id : Id) (ask : Ask) (o : Option Document) (a b : Option (List ℕ)) → IsRepliedOn id ask o a → IsRepliedOn id ask o b → a ≡ b
+one_reply_on id ask None a b p q = p ∙ sym q
+one_reply_on id ask (Some document) None b p q = absurd p
+one_reply_on id ask (Some document) (Some a) None p q = absurd q
+one_reply_on id ask (Some document) (Some a) (Some b) p q = ap Some (one_body id document.uri document.snapshot ask a b p q)
+
+one_reply_to : (id : Id) (uri : List ℕ) (ask : Ask) (k : Kept) (a b : Option (List ℕ)) → IsReplied id uri ask k a → IsReplied id uri ask k b → a ≡ b
+unfolding IsReplied
+one_reply_to id uri ask k a b p q = one_reply_on id ask (document_at uri k.documents) a b p q
+
+one_answer_to : (event : ClientEvent) (k : Kept) (a b : Option (List ℕ)) → IsAnswered event k a → IsAnswered event k b → a ≡ b
+one_answer_to (DidOpen uri label text) k a b p q = p ∙ sym q
+one_answer_to (DidChange uri label edits) k a b p q = p ∙ sym q
+one_answer_to (DidClose uri) k a b p q = p ∙ sym q
+one_answer_to (Request id uri ask links) k a b p q = one_reply_to id uri ask k a b p q
+one_answer_to (Say body) k a b p q = p ∙ sym q
+
+one_on : (t : Turn) (k : Kept) (a b : Option (List ℕ)) → IsAnsweredOn t k a → IsAnsweredOn t k b → a ≡ b
+one_on turn.Nothing k a b p q = p ∙ sym q
+one_on (turn.Event event) k a b p q = one_answer_to event k a b p q
+one_on (turn.Exit status) k a b p q = p ∙ sym q
+
+one_reply : (state : Talk) (body : List ℕ) (a b : Option (List ℕ)) → IsReply state body a → IsReply state body b → a ≡ b
+unfolding IsReply
+one_reply state body a b p q = one_on (turn_on state body).0 state.kept a b p q
+
+not_both : {A : Type 0} (o : Option Status) (status : Status) → o ≡ Some status → o ≡ None → A
+not_both o status p q = absurd (cc)
+
+pub one_saying : (state : Talk) (contents : List (List ℕ)) (a b : List ℕ) → Says state contents a → Says state contents b → a ≡ b
+one_saying state [] a b p q = p ∙ sym q
+one_saying state (body ∷ bodies) a b (inl p) (inl q) = p.2 ∙ sym q.2
+one_saying state (body ∷ bodies) a b (inl p) (inr q) = not_both (exit_of state body) p.0 p.1 q.2.0
+one_saying state (body ∷ bodies) a b (inr p) (inl q) = not_both (exit_of state body) q.0 q.1 p.2.0
+one_saying state (body ∷ bodies) a b (inr p) (inr q) =
+    p.2.3
+    ∙ ((λ i. frames_for (one_reply state body p.0 q.0 p.2.1 q.2.1 i) ++ one_saying (after state body) bodies p.1 q.1 p.2.2 q.2.2 i)
+    ∙ sym q.2.3)
