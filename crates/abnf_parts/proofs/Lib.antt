@@ -7,3 +7,4 @@ pub mod ApartLaws
 pub mod Closed
 pub mod Alike
 pub mod Tied
+pub mod Worked

@@ -9,3 +9,4 @@ pub mod Core
 pub mod Reach
 pub mod Pushed
 pub mod CoreTable
+pub mod Rows

@@ -5,11 +5,13 @@
 //! the alternatives of a rule's body, [`push_needed`] those of the core rules of RFC 5234 (appendix B.1), and [`RuleNames`] gives
 //! the number of the rule that a name stands for.
 //!
-//! What a part generates, and which rules lead to prose or to a faulty block, is defined here beside the trees.
+//! What a part generates, and which rules lead to prose or to a faulty block, is defined here beside the trees; [`laws`] says what
+//! worked rules generate.
 #![tactic(auto)]
 
 mod core_rule;
 mod core_tree;
+pub mod laws;
 mod leaf;
 mod names;
 mod node;
