@@ -4,11 +4,11 @@ use Rattle.std.specs.Coded.{Coded, code_by, coded_ℕ, coded_bool, coded_list, c
 use Rattle.std.proofs.Common.{inl, inr, ◌∙◌}
 use Rattle.abnf_parts.specs.Part.{Part, Parts, quoted, series, span, seq, alt, rep, ref, opaque, end, next}
 
-abbrev pub Token : Type 0
-Token = (List ℕ × Bool) ⊎ (List ℕ ⊎ ((ℕ × ℕ) ⊎ ((ℕ × Option ℕ) ⊎ ((List ℕ × Option ℕ) ⊎ ℕ))))
+abbrev pub Sign : Type 0
+Sign = (List ℕ × Bool) ⊎ (List ℕ ⊎ ((ℕ × ℕ) ⊎ ((ℕ × Option ℕ) ⊎ ((List ℕ × Option ℕ) ⊎ ℕ))))
 
-abbrev pub token_code : Coded Token
-token_code =
+abbrev pub sign_code : Coded Sign
+sign_code =
     coded⊎ (coded× (coded_list coded_ℕ) coded_bool)
     (coded⊎ (coded_list coded_ℕ)
     (coded⊎ (coded× coded_ℕ coded_ℕ)
@@ -16,11 +16,11 @@ token_code =
     (coded⊎ (coded× (coded_list coded_ℕ) (coded_option coded_ℕ))
     coded_ℕ))))
 
-abbrev pub mark : ℕ → Token
+abbrev pub mark : ℕ → Sign
 mark n = inr (inr (inr (inr (inr n))))
 
 abbrev mutual
-  pub post : Part → List Token → List Token
+  pub post : Part → List Sign → List Sign
   post (quoted text exact) ts = inl (text, exact) ∷ ts
   post (series characters) ts = inr (inl characters) ∷ ts
   post (span low high) ts = inr (inr (inl (low, high))) ∷ ts
@@ -30,14 +30,14 @@ abbrev mutual
   post (seq ps) ts = posts ps (mark 1 ∷ ts)
   post (alt ps) ts = posts ps (mark 2 ∷ ts)
 
-  pub posts : Parts → List Token → List Token
+  pub posts : Parts → List Sign → List Sign
   posts end ts = mark 3 ∷ ts
   posts (next p ps) ts = post p (posts ps (mark 4 ∷ ts))
 
 abbrev pub Run : Type 0
 Run = List Part → List Parts → Part
 
-abbrev pub step : Token → Run → Run
+abbrev pub step : Sign → Run → Run
 step (inl (text, exact)) go a b = go (quoted text exact ∷ a) b
 step (inr (inl characters)) go a b = go (series characters ∷ a) b
 step (inr (inr (inl (low, high)))) go a b = go (span low high ∷ a) b
@@ -50,13 +50,13 @@ step (inr (inr (inr (inr (inr (suc (suc (suc zero)))))))) go a b = go a (end ∷
 step (inr (inr (inr (inr (inr (suc (suc (suc (suc n))))))))) go (p ∷ a) (ps ∷ b) = go a (next p ps ∷ b)
 step _ go a b = opaque
 
-abbrev pub run : List Token → Run
+abbrev pub run : List Sign → Run
 run [] [] b = opaque
 run [] (p ∷ a) b = p
 run (t ∷ ts) a b = step t (run ts) a b
 
 mutual
-  run-post : (p : Part) (ts : List Token) (a : List Part) (b : List Parts) → run (post p ts) a b ≡ run ts (p ∷ a) b
+  run-post : (p : Part) (ts : List Sign) (a : List Part) (b : List Parts) → run (post p ts) a b ≡ run ts (p ∷ a) b
   run-post (quoted text exact) ts a b = refl
   run-post (series characters) ts a b = refl
   run-post (span low high) ts a b = refl
@@ -66,7 +66,7 @@ mutual
   run-post (seq ps) ts a b = run-posts ps (mark 1 ∷ ts) a b
   run-post (alt ps) ts a b = run-posts ps (mark 2 ∷ ts) a b
 
-  run-posts : (ps : Parts) (ts : List Token) (a : List Part) (b : List Parts) → run (posts ps ts) a b ≡ run ts a (ps ∷ b)
+  run-posts : (ps : Parts) (ts : List Sign) (a : List Part) (b : List Parts) → run (posts ps ts) a b ≡ run ts a (ps ∷ b)
   run-posts end ts a b = refl
   run-posts (next p ps) ts a b = run-post p (posts ps (mark 4 ∷ ts)) a b ∙ run-posts ps (mark 4 ∷ ts) (p ∷ a) b
 
@@ -74,7 +74,7 @@ pub part_back : (p : Part) → run (post p []) [] [] ≡ p
 part_back p = run-post p [] [] []
 
 abbrev pub part_code : Coded Part
-part_code = code_by (List Token) (coded_list token_code) (λ p. post p []) (λ ts. run ts [] []) part_back
+part_code = code_by (List Sign) (coded_list sign_code) (λ p. post p []) (λ ts. run ts [] []) part_back
 
 abbrev pub trees_code : Coded (List Part)
 trees_code = coded_list part_code

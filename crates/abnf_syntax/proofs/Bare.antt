@@ -70,7 +70,7 @@ one_list ls from (b ∷ bs) (c ∷ cs) p q =
 
 -- ---- items
 
-cons_same : {A : Type 0} {x y : A} {xs ys : List A} → x ∷ xs ≡ y ∷ ys → (x ≡ y) × (xs ≡ ys)
+pub cons_same : {A : Type 0} {x y : A} {xs ys : List A} → x ∷ xs ≡ y ∷ ys → (x ≡ y) × (xs ≡ ys)
 cons_same h = (cc, cc)
 
 abbrev View : Type 0

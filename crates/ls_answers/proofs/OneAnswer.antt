@@ -17,7 +17,7 @@ use Rattle.abnf_syntax.specs.Blocks.{line_texts}
 use Rattle.abnf_syntax.specs.Bounds.{bounds}
 use Rattle.abnf_syntax.specs.Heads.{head_of}
 use Rattle.abnf_syntax.specs.Items.{AreItems}
-use Rattle.abnf_syntax.proofs.Bare.{bare, bare_head, head_bare, one_list, same_items}
+use Rattle.abnf_syntax.proofs.Bare.{bare, bare_head, cons_same, head_bare, one_list, same_items}
 use Rattle.abnf_names.specs.Places.{Named}
 use Rattle.abnf_names.specs.Rules.{Grammar}
 use Rattle.abnf_names.proofs.OneGrammar.{one_grammar}
@@ -29,9 +29,6 @@ use Rattle.ls_answers.specs.declared.ask.Ask.TheVariants as ask
 use Rattle.ls_answers.specs.Outline.{from_to, extent, symbol_with, symbol_of, IsOutline}
 use Rattle.ls_answers.specs.Places.{AreDefinitions, defining, name_at}
 use Rattle.ls_answers.specs.Answers.{IsAnswer}
-
-cons_same : {A : Type 0} {x y : A} {xs ys : List A} → x ∷ xs ≡ y ∷ ys → (x ≡ y) × (xs ≡ ys)
-cons_same h = (cc, cc)
 
 -- ---- outlines
 
