@@ -2,7 +2,7 @@
 //!
 //! [`Grammar::of`] reads a text. Contracts see a grammar as its text, the names and trees of its rules, the places of names and the
 //! faults of blocks, all of which are functions of the text's blocks; the code has numbered nodes and hashed names, so that no call
-//! looks through all names. A text has one grammar ([`grammars_are_unique`]).
+//! looks through all names. A text has at most one grammar ([`grammars_are_unique`]).
 #![tactic(auto)]
 
 mod grammar;

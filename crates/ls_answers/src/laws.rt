@@ -4,7 +4,7 @@ ghost use Rattle.ls_answers.specs.Answers.{IsAnswer};
 ghost use Rattle.ls_answers.specs.declared.answer.Answer.{Answer};
 ghost use Rattle.ls_answers.specs.declared.ask.Ask.{Ask};
 
-/// A question about a text has one answer.
+/// A question about a text has at most one answer.
 pub fn answers_are_unique()
     ensures { (text : List ℕ) (question : Ask) (a b : Answer) → IsAnswer text question a → IsAnswer text question b → a ≡ b }
 {}

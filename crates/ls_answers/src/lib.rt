@@ -1,7 +1,8 @@
 //! Answers to questions about a text, each with its text and its question.
 //!
 //! A [`Job`] is a question about a snapshot; [`run`] gives a [`Done`], whose type keeps that its answer is the definition's for
-//! its own text and question, or that memory was refused. A question about a text has one answer ([`answers_are_unique`]).
+//! its own text and question, or that memory was refused. A question about a text has at most one answer
+//! ([`answers_are_unique`]).
 #![tactic(auto)]
 
 mod answer;
