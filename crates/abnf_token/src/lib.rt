@@ -16,6 +16,3 @@ pub use folded::Folded;
 pub use number::{base_of, digit_value, number_of};
 pub use scan::{TokenIter, tokens};
 pub use token::{Kind, Token};
-
-#[cfg(test)]
-mod tests;

@@ -18,8 +18,6 @@ mod line_end;
 mod position;
 mod shared;
 mod snapshot;
-#[cfg(test)]
-mod tests;
 mod units;
 
 pub use edit::Edit;

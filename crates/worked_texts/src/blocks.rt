@@ -1,6 +1,6 @@
 //! Texts with their blocks and faults, written out by hand.
 
-use crate::{Block, SyntaxFault, blocks, parse_block};
+use abnf_syntax::{Block, SyntaxFault, blocks, parse_block};
 use ls_text::{Place, Snapshot};
 use std::alloc::Global;
 use std::test::Fail;

@@ -1,4 +1,4 @@
-use crate::{Answer, Ask, Job, run};
+use ls_answers::{Answer, Ask, Job, run};
 use ls_text::Snapshot;
 use std::sync::Arc;
 use std::test::Fail;

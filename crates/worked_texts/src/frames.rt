@@ -1,6 +1,6 @@
 //! Frames as bytes, and that calls succeed with ample memory.
 
-use super::{FrameFault, Framer, write_frame};
+use ls_frame::{FrameFault, Framer, write_frame};
 use std::test::Fail;
 
 /// Takes a piece, and once more where memory was refused, which leaves all as it was.

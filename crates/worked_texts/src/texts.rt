@@ -1,7 +1,7 @@
 ghost use Rattle.std.specs.Prelude.{◌<◌};
 
-use crate::{Edit, Place, Position, Range, Snapshot, TextFault};
 use ls_lists::Text;
+use ls_text::{Edit, Place, Position, Range, Snapshot, TextFault};
 use std::alloc::{AllocError, Global};
 use std::test::Fail;
 

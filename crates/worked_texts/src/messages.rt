@@ -1,4 +1,4 @@
-use crate::{
+use ls_rpc::{
     INVALID_REQUEST, Id, Message, PARSE_ERROR, error_text, notice_text, read_id, read_message,
     result_text,
 };

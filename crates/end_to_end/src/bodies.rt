@@ -1,7 +1,9 @@
-use crate::{ClientEvent, DeskFault, Out, Refusal, Session, Status, Turn, body_of, refusal_body};
 use ls_answers::{Ask, Job, run};
 use ls_lists::{List, Text};
 use ls_rpc::Id;
+use ls_session::{
+    ClientEvent, DeskFault, Out, Refusal, Session, Status, Turn, body_of, refusal_body,
+};
 use ls_text::Snapshot;
 use std::sync::Arc;
 use std::test::Fail;

@@ -1,4 +1,4 @@
-use crate::{List, Text};
+use ls_lists::{List, Text};
 use std::test::Fail;
 
 #[test]

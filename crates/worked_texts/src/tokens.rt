@@ -1,9 +1,6 @@
 //! Lines with their tokens, written out by hand.
 
-use crate::folded::Folded;
-use crate::number::number_of;
-use crate::scan::tokens;
-use crate::token::Kind;
+use abnf_token::{Folded, Kind, number_of, tokens};
 use std::hash::{DefaultHasher, Hash, Hasher};
 use std::process::Abort;
 
