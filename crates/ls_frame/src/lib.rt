@@ -16,7 +16,7 @@ mod writer;
 
 pub use fault::FrameFault;
 pub use framer::Framer;
-pub use laws::streams_are_unique;
+pub use laws::{streams_are_unique, streams_exist};
 pub use writer::write_frame;
 
 #[cfg(test)]
