@@ -12,3 +12,4 @@ pub mod GatherLaws
 pub mod ContentLaws
 pub mod Exact
 pub mod Bare
+pub mod Exist

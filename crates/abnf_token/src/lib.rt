@@ -6,12 +6,14 @@
 //! compares names as ABNF does, without case. Nothing here allocates.
 #![tactic(auto)]
 
+mod existence;
 mod folded;
 mod machine;
 mod number;
 mod scan;
 mod token;
 
+pub use existence::lines_have_tokens;
 pub use folded::Folded;
 pub use number::{base_of, digit_value, number_of};
 pub use scan::{TokenIter, tokens};
