@@ -12,3 +12,5 @@ pub mod GatherLaws
 pub mod ContentLaws
 pub mod Exact
 pub mod Bare
+pub mod Early
+pub mod Cons
