@@ -46,3 +46,6 @@ invariant_of-result c =
     (subst (λ (ss : List Spot). ArePlaced (map named_at ss) c.in_ok-by_name.by_name) c.as_slice-3.ensures c.in_ok-by_name.ensures)
     (subst (λ (ns : List Node). AreReaching (trees_at ns c.in_ok-nodes.roots.items) c.in_ok-opaque.opaque.items) c.as_slice-7.ensures.value
     (subst (λ (rs : List ℕ). AreReaching (trees_at c.as_slice-7.result.now rs) c.in_ok-opaque.opaque.items) c.as_slice-8.ensures.value c.in_ok-opaque.ensures))
+
+pub returns-clause-grammar : goal.returns-clause-grammar
+returns-clause-grammar c = (invariant_of-result c).is_grammar
