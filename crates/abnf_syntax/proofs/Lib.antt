@@ -13,3 +13,5 @@ pub mod ContentLaws
 pub mod Exact
 pub mod Bare
 pub mod Exist
+pub mod Early
+pub mod Cons
