@@ -195,7 +195,7 @@ fn becomes(
     new: &str,
     after: &str,
     lines: usize,
-) -> Result<(), TextFault> {
+) -> Result<(), Fail> {
     let mut edits = Vec::new(alloc);
     edits.push(edit(alloc, Some(range), new)?)?;
     let text = snapshot(alloc, before)?;
