@@ -254,15 +254,15 @@ module _ (bytes bs : List ℕ) (n : ℕ) (value : bytes ≡ bs) (u : IsUtf8 bs) 
         }
 
 -- ---- what `line` finds
-module _ {X : Type 0} (value : X → Line) (held items : List X) (t : List ℕ) (i : ℕ) (items_are : items ≡ held) (h : AreLines (map value held)) (view_is : text_of (map value held) ≡ t) where
-  line_found : slice_get (lines t) i ≡ option_map line_text (option_map value (slice_get items i))
-  line_found = ap (λ x. slice_get x i) (ap lines (sym view_is) ∙ lines-text_of (map value held) h ∙ ap (λ x. map line_text (map value x)) (sym items_are)) ∙ slice_get-map line_text (map value items) i ∙ ap (option_map line_text) (slice_get-map value items i)
+module _ (ls : List Line) (t : List ℕ) (i : ℕ) (h : AreLines ls) (view_is : text_of ls ≡ t) where
+  line_found : slice_get (lines t) i ≡ option_map line_text (slice_get ls i)
+  line_found = ap (λ x. slice_get x i) (ap lines (sym view_is) ∙ lines-text_of ls h) ∙ slice_get-map line_text ls i
 
-  pub line_some : (x : X) (bytes : List ℕ) → i < length items → x ≡ get_or items i x → bytes ≡ string_bytes (value x).text → Some (chars bytes) ≡ slice_get (lines t) i
-  line_some x bytes lt e b = ap (λ y. Some (chars y)) b ∙ sym (line_found ∙ ap (λ y. option_map line_text (option_map value y)) (slice_get-get_or items i x lt) ∙ ap (λ y. Some (line_text (value y))) (sym e))
+  pub line_some : (x : Line) (bytes : List ℕ) → i < length ls → x ≡ get_or ls i x → bytes ≡ string_bytes x.text → Some (chars bytes) ≡ slice_get (lines t) i
+  line_some x bytes lt e b = ap (λ y. Some (chars y)) b ∙ sym (line_found ∙ ap (option_map line_text) (slice_get-get_or ls i x lt) ∙ ap (λ y. Some (line_text y)) (sym e))
 
-  pub line_none : length items ≤ i → None ≡ slice_get (lines t) i
-  line_none le = sym (line_found ∙ ap (λ y. option_map line_text (option_map value y)) (slice_get_past items i le))
+  pub line_none : length ls ≤ i → None ≡ slice_get (lines t) i
+  line_none le = sym (line_found ∙ ap (option_map line_text) (slice_get_past ls i le))
 
 -- the bytes of a line are the UTF-8 of its characters
 pub bytes_some : {found : Option (List ℕ)} (bytes : List ℕ) → IsUtf8 bytes → Some (chars bytes) ≡ found → Some bytes ≡ option_map encodes found

@@ -40,6 +40,12 @@ chars_le bs u = omega (arith, length-le-encodes (chars bs), ap length (encodes-c
 pub bytes_front : (xs ys : List Line) → length (encodes (text_of xs)) ≤ length (encodes (text_of (xs ++ ys)))
 bytes_front xs ys = omega (arith, ap (λ x. length (encodes x)) (text_of-append xs ys), ap length (encodes-append (text_of xs) (text_of ys)), length-append (encodes (text_of xs)) (encodes (text_of ys)))
 
+-- a line and its line end, after other bytes
+pub line_spelled : (bs line end : List ℕ) (l : Line) → IsUtf8 bs → line ≡ string_bytes l.text → IsUtf8 line → end ≡ end_text l.end → chars ((bs ++ line) ++ end) ≡ chars bs ++ (line_text l ++ end_text l.end)
+line_spelled bs line end l u text_is v end_is =
+    ap chars (append_assoc bs line end) ∙ chars-append bs (line ++ end) u
+    ∙ ap (λ z. chars bs ++ z) (chars-append line end v ∙ (λ i. chars (text_is i) ++ (ap chars end_is ∙ chars_end l.end) i))
+
 module _ {X : Type 0} (value : X → Line) (held : List X) (i : ℕ) (x : X) (lt : i < length held) (item : x ≡ get_or held i x) where
   pub held_more : take (i + 1) (map value held) ≡ take i (map value held) ++ value x ∷ []
   held_more = take-map value (i + 1) held ∙ map_more value held i x lt ∙ (λ k. sym (take-map value i held) k ++ value (sym item k) ∷ [])
@@ -47,13 +53,6 @@ module _ {X : Type 0} (value : X → Line) (held : List X) (i : ℕ) (x : X) (lt
   pub shared_more : (init : List Line) (now next : List X) (y : X) → value y ≡ value x → next ≡ now ++ y ∷ [] → map value now ≡ init ++ take i (map value held) → map value next ≡ init ++ take (i + 1) (map value held)
   shared_more init now next y same pushed before =
       ap (map value) pushed ∙ map-append value now (y ∷ []) ∙ (λ k. before k ++ same k ∷ []) ∙ append_assoc init (take i (map value held)) (value x ∷ []) ∙ ap (λ z. init ++ z) (sym held_more)
-
-  pub text_more : (front bs line end : List ℕ) → IsUtf8 bs → line ≡ string_bytes (value x).text → IsUtf8 line → end ≡ end_text (value x).end → chars bs ≡ front ++ text_of (take i (map value held)) → chars ((bs ++ line) ++ end) ≡ front ++ text_of (take (i + 1) (map value held))
-  text_more front bs line end u text_is v end_is before =
-      let spelled : chars ((bs ++ line) ++ end) ≡ chars bs ++ (chars line ++ end_text (value x).end) = ap chars (append_assoc bs line end) ∙ chars-append bs (line ++ end) u ∙ ap (λ z. chars bs ++ z) (chars-append line end v ∙ ap (λ z. chars line ++ z) (ap chars end_is ∙ chars_end (value x).end)) in
-      spelled ∙ (λ k. before k ++ (chars (text_is k) ++ end_text (value x).end))
-      ∙ append_assoc front (text_of (take i (map value held))) (line_text (value x) ++ end_text (value x).end)
-      ∙ ap (λ z. front ++ z) (sym (ap text_of held_more ∙ text_of-one (take i (map value held)) (value x)))
 
   pub indexed_more : (starts next : List ℕ) (len count ends : ℕ) → IsIndex starts len (take i (map value held)) → next ≡ starts ++ len ∷ [] → count ≡ length (line_text (value x)) → ends ≡ length (end_text (value x).end) → IsIndex next (len + (count + ends)) (take (i + 1) (map value held))
   indexed_more starts next len count ends index next_is count_is ends_is =

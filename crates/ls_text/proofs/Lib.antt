@@ -9,3 +9,4 @@ pub mod SpotLaws
 pub mod SameLaws
 pub mod EditLaws
 pub mod PlaceLaws
+pub mod ChunkLaws

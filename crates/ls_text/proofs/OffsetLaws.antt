@@ -13,6 +13,7 @@ use Rattle.ls_text.specs.Lines.{is_break, starts_with_lf, ends_with_cr, line_end
 use Rattle.ls_text.specs.Cut.{end_text, line_text, text_of, IsPlain, is_end_before, AreLines, start_of, text_at, IsIndex}
 use Rattle.ls_text.specs.declared.line_end.LineEnd.{LineEnd}
 use Rattle.ls_text.specs.declared.line_end.LineEnd.TheVariants.{Eof, Lf, Cr, CrLf}
+use Rattle.ls_text.specs.Chunks.{IsLineAt}
 use Rattle.ls_text.specs.declared.line.Line.{Line}
 use Rattle.ls_text.proofs.LineLaws.{plain_parts, line_ends-plain}
 
@@ -386,18 +387,14 @@ text_found (l ∷ ls) zero x lt e = ap line_text (sym e)
 text_found (l ∷ ls) (suc m) x lt e = text_found ls m x (omega (arith, lt)) e
 
 -- what `offset_of` computes
-module _ (w : ℕ → ℕ) (ls items : List Line) (starts : List ℕ) (len m c : ℕ) (t : List ℕ) (h : AreLines ls) (index : IsIndex starts len ls) (view_is : text_of ls ≡ t) (items_are : items ≡ ls) where
-  pub offset_found : (x : Line) (bytes : List ℕ) (start fit : ℕ) → m < length items → x ≡ get_or items m x → bytes ≡ string_bytes x.text → start ≡ get_or starts m start → fit ≡ fitting w (chars bytes) c → start + fit ≡ offset_of w t m c
-  offset_found x bytes start fit lt item bytes_are start_is fit_is =
-      let lt' : m < length ls = subst (λ y. m < length y) items_are lt in
-      let text_is : chars bytes ≡ text_at ls m = ap chars bytes_are ∙ sym (text_found ls m x lt' (subst (λ y. x ≡ get_or y m x) items_are item)) in
-      (λ i. (get_or_read starts m start (omega (arith, lt', index.count)) start_is 0 ∙ index.starts_are m lt') i + (fit_is ∙ ap (λ y. fitting w y c) text_is) i) ∙ sym (offset_of-line w ls h m c lt') ∙ ap (λ y. offset_of w y m c) view_is
+module _ (w : ℕ → ℕ) (ls : List Line) (m c : ℕ) (t : List ℕ) (h : AreLines ls) (view_is : text_of ls ≡ t) where
+  pub offset_found : (x : Line) (start fit : ℕ) → IsLineAt ls m x start → fit ≡ fitting w (line_text x) c → start + fit ≡ offset_of w t m c
+  offset_found x start fit at fit_is =
+      (λ i. at.start_is i + (fit_is ∙ ap (λ y. fitting w y c) (sym (text_found ls m x at.in_range at.line_is))) i) ∙ sym (offset_of-line w ls h m c at.in_range) ∙ ap (λ y. offset_of w y m c) view_is
 
-  pub offset_past : length items ≤ m → len ≡ offset_of w t m c
-  offset_past le = index.len_is ∙ sym (offset_of-past w ls h m c (subst (λ y. length y ≤ m) items_are le)) ∙ ap (λ y. offset_of w y m c) view_is
+  pub offset_past : (len : ℕ) → len ≡ length (text_of ls) → length ls ≤ m → len ≡ offset_of w t m c
+  offset_past len len_is le = len_is ∙ sym (offset_of-past w ls h m c le) ∙ ap (λ y. offset_of w y m c) view_is
 
-  pub offset_bound : (x : Line) (bytes : List ℕ) (start fit : ℕ) → m < length items → x ≡ get_or items m x → bytes ≡ string_bytes x.text → start ≡ get_or starts m start → fit ≡ fitting w (chars bytes) c → start + fit ≤ len
-  offset_bound x bytes start fit lt item bytes_are start_is fit_is =
-      let lt' : m < length ls = subst (λ y. m < length y) items_are lt in
-      let text_is : chars bytes ≡ text_at ls m = ap chars bytes_are ∙ sym (text_found ls m x lt' (subst (λ y. x ≡ get_or y m x) items_are item)) in
-      omega (arith, get_or_read starts m start (omega (arith, lt', index.count)) start_is 0, index.starts_are m lt', fit_is ∙ ap (λ y. fitting w y c) text_is, fitting_le w (text_at ls m) c, start_le ls m lt', index.len_is)
+pub offset_bound : (w : ℕ → ℕ) (ls : List Line) (m c : ℕ) (x : Line) (start fit : ℕ) → IsLineAt ls m x start → fit ≡ fitting w (line_text x) c → start + fit ≤ length (text_of ls)
+offset_bound w ls m c x start fit at fit_is =
+    omega (arith, at.start_is, fit_is ∙ ap (λ y. fitting w y c) (sym (text_found ls m x at.in_range at.line_is)), fitting_le w (text_at ls m) c, start_le ls m at.in_range)

@@ -8,12 +8,14 @@ use Rattle.std.proofs.lemmas.List.{get_or_read, take_all}
 use Rattle.std.proofs.lemmas.Bool.{cases_lt}
 use Rattle.ls_text.specs.Lines.{starts_with_lf, ends_with_cr, splits_crlf, line_at, units_at, lowered}
 use Rattle.ls_text.specs.Cut.{end_text, line_text, text_of, is_end_before, AreLines, start_of, text_at, end_at, IsKept}
+use Rattle.ls_text.specs.Chunks.{IsLineAt}
+use Rattle.std.specs.String.{string_bytes}
 use Rattle.ls_text.specs.Positions.{position_of}
 use Rattle.ls_text.specs.declared.position.Position.{Position}
 use Rattle.ls_text.specs.declared.line_end.LineEnd.{LineEnd}
 use Rattle.ls_text.specs.declared.line_end.LineEnd.TheVariants.{Eof, Lf, Cr, CrLf}
 use Rattle.ls_text.specs.declared.line.Line.{Line}
-use Rattle.ls_text.proofs.OffsetLaws.{take_past, drop_past, ends_with_cr-append, at_line, is_apart, start_le}
+use Rattle.ls_text.proofs.OffsetLaws.{take_past, drop_past, ends_with_cr-append, at_line, is_apart, start_le, text_found}
 
 cond_no : (b : Bool) (x y : ℕ) → b ≡ false → cond b x y ≡ y
 cond_no false x y e = refl
@@ -137,10 +139,6 @@ pub lines_some : (ls : List Line) → AreLines ls → 0 < length ls
 lines_some [] h = absurd h
 lines_some (l ∷ ls) h = omega arith
 
-start_first : (ls : List Line) → start_of ls 0 ≡ 0
-start_first [] = refl
-start_first (l ∷ ls) = refl
-
 -- the bytes of a line are no more than those of the text
 bytes_le : (x y z : List ℕ) → (length (encodes x) ≤ length (encodes (x ++ (y ++ z)))) × (length (encodes z) ≤ length (encodes (x ++ (y ++ z))))
 bytes_le x y z =
@@ -155,32 +153,20 @@ text_bytes_le [] m = omega arith
 text_bytes_le (l ∷ ls) zero = (bytes_le (line_text l) (end_text l.end) (text_of ls)).0
 text_bytes_le (l ∷ ls) (suc m) = omega (arith, text_bytes_le ls m, (bytes_le (line_text l) (end_text l.end) (text_of ls)).1)
 
--- the characters of a line held behind a pointer
-pub text_held : {X : Type 0} (value : X → Line) (held : List X) (m : ℕ) (x : X) → m < length held → x ≡ get_or held m x → text_at (map value held) m ≡ line_text (value x)
-text_held value [] m x lt e = absurd (omega (arith, lt))
-text_held value (l ∷ ls) zero x lt e = ap (λ y. line_text (value y)) (sym e)
-text_held value (l ∷ ls) (suc m) x lt e = text_held value ls m x (omega (arith, lt)) e
-
 pub same_position : (a b c d : ℕ) → a ≡ c → b ≡ d → ◌≡◌ {A = Position} (record { line = a; character = b }) (record { line = c; character = d })
 same_position a b c d e f = λ i. record { line = e i; character = f i }
 
-module _ (ls : List Line) (starts : List ℕ) (len : ℕ) (kept : IsKept ls starts len) (got : List ℕ) (got_is : got ≡ starts) where
-  pub first_start : get_or got 0 0 ≡ 0
-  first_start = ap (λ x. get_or x 0 0) got_is ∙ kept.index.starts_are 0 (lines_some ls kept.lines) ∙ start_first ls
+module _ (ls : List Line) (kept : IsKept ls) where
+  pub line_small : (m : ℕ) → m < length ls → m < 4_294_967_296
+  line_small m lt = omega (arith, lt, few_lines ls kept.lines, length-le-encodes (text_of ls), kept.small)
 
-  pub line_small : (m : ℕ) → m < length got → m < 4_294_967_296
-  line_small m lt = omega (arith, lt, ap length got_is, kept.index.count, few_lines ls kept.lines, length-le-encodes (text_of ls), kept.small)
+  pub bytes_small : (m : ℕ) (x : Line) (start : ℕ) → IsLineAt ls m x start → IsUtf8 (string_bytes x.text) → length (string_bytes x.text) ≤ 4_194_304
+  bytes_small m x start at u = omega (arith, ap length (encodes-chars (string_bytes x.text) u), ap (λ z. length (encodes z)) (text_found ls m x at.in_range at.line_is), text_bytes_le ls m, kept.small)
 
-  pub bytes_small : (m : ℕ) (bytes : List ℕ) → IsUtf8 bytes → text_at ls m ≡ chars bytes → length bytes ≤ 4_194_304
-  bytes_small m bytes u text_is = omega (arith, ap length (encodes-chars bytes u), ap (λ x. length (encodes x)) text_is, text_bytes_le ls m, kept.small)
-
-  pub position_found : (w : ℕ → ℕ) (t : List ℕ) → text_of ls ≡ t → (m o : ℕ) → m < length got → get_or got m 0 ≤ o → (m + 1 < length got → o < get_or got (m + 1) 0) → (bytes : List ℕ) → text_at ls m ≡ chars bytes → (start : ℕ) → start ≡ get_or starts m start → (units : ℕ) → units ≡ sum_by w (take (o - start) (chars bytes)) → ◌≡◌ {A = Position} (record { line = m; character = units }) (position_of w t o)
-  position_found w t view_is m o lt at_start before_next bytes text_is start start_is units units_is =
-      let count = ap length got_is in
-      let lt' : m < length ls = omega (arith, lt, kept.index.count) in
-      let start_at : start ≡ start_of ls m = get_or_read starts m start (omega (arith, lt', kept.index.count)) start_is 0 ∙ kept.index.starts_are m lt' in
-      let from_start : start_of ls m ≤ o = omega (arith, at_start, ap (λ x. get_or x m 0) got_is, kept.index.starts_are m lt') in
+  pub position_found : (w : ℕ → ℕ) (t : List ℕ) → text_of ls ≡ t → (m o : ℕ) (x : Line) (start : ℕ) → IsLineAt ls m x start → start ≤ o → (m + 1 < length ls → o < start_of ls (m + 1)) → (units : ℕ) → units ≡ sum_by w (take (o - start) (line_text x)) → ◌≡◌ {A = Position} (record { line = m; character = units }) (position_of w t o)
+  position_found w t view_is m o x start at at_start before_next units units_is =
+      let from_start : start_of ls m ≤ o = omega (arith, at_start, at.start_is) in
       let after : m + 1 ≡ suc m = omega arith in
-      let next : suc m < length ls → o < start_of ls (suc m) = λ more. subst (λ x. o < x) (ap (λ x. get_or x (suc m) 0) got_is ∙ kept.index.starts_are (suc m) more) (subst (λ k. o < get_or got k 0) after (before_next (omega (arith, more, kept.index.count)))) in
-      let at = position_in ls kept.lines m o lt' from_start next w units (units_is ∙ (λ i. sum_by w (take (o - start_at i) (sym text_is i)))) in
-      same_position m units _ _ (sym at.0) (sym at.1) ∙ ap (λ x. position_of w x o) view_is
+      let next : suc m < length ls → o < start_of ls (suc m) = subst (λ k. k < length ls → o < start_of ls k) after before_next in
+      let found = position_in ls kept.lines m o at.in_range from_start next w units (units_is ∙ (λ i. sum_by w (take (o - at.start_is i) (sym (text_found ls m x at.in_range at.line_is) i)))) in
+      same_position m units _ _ (sym found.0) (sym found.1) ∙ ap (λ y. position_of w y o) view_is

@@ -11,7 +11,8 @@ use Rattle.ls_text.specs.declared.line_end.LineEnd.{LineEnd}
 use Rattle.ls_text.specs.declared.line_end.LineEnd.TheVariants.{Eof, Lf, Cr, CrLf}
 use Rattle.ls_text.specs.declared.line.Line.{Line}
 use Rattle.ls_text.proofs.CutLaws.{lines-text_of, line_ends-text_of}
-use Rattle.ls_text.proofs.PositionLaws.{text_held}
+use Rattle.ls_text.proofs.OffsetLaws.{text_found}
+use Rattle.ls_text.specs.Chunks.{IsLineAt}
 use Rattle.ls_text.proofs.SpotLaws.{end_found}
 
 -- two line ends, each before what follows it
@@ -91,17 +92,17 @@ text_same (l ∷ ls) (m ∷ ms) e same =
     let rest = text_same ls ms (omega (arith, e)) (λ i lt. let there = same (suc i) (omega (arith, lt)) in record { text = there.text; end = there.end }) in
     λ i. first.text i ++ (end_text (first.end i) ++ rest i)
 
--- ---- lines held behind pointers
-module _ {X : Type 0} (value : X → Line) (xs ys : List X) (i : ℕ) (x y : X) (x_lt : i < length xs) (x_is : x ≡ get_or xs i x) (y_lt : i < length ys) (y_is : y ≡ get_or ys i y) where
-  pub same_held : string_bytes (value x).text ≡ string_bytes (value y).text → (value x).end ≡ (value y).end → IsSameAt (map value xs) (map value ys) i
+-- ---- lines found
+module _ (xs ys : List Line) (i : ℕ) (x y : Line) (x_start y_start : ℕ) (x_at : IsLineAt xs i x x_start) (y_at : IsLineAt ys i y y_start) where
+  pub same_held : string_bytes x.text ≡ string_bytes y.text → x.end ≡ y.end → IsSameAt xs ys i
   same_held bytes end_is = record {
-    text = text_held value xs i x x_lt x_is ∙ ap chars bytes ∙ sym (text_held value ys i y y_lt y_is);
-    end = end_found value xs i x x_lt x_is ∙ end_is ∙ sym (end_found value ys i y y_lt y_is);
+    text = text_found xs i x x_at.in_range x_at.line_is ∙ ap chars bytes ∙ sym (text_found ys i y y_at.in_range y_at.line_is);
+    end = end_found xs i x x_at.in_range x_at.line_is ∙ end_is ∙ sym (end_found ys i y y_at.in_range y_at.line_is);
   }
 
-  pub held_same : IsSameAt (map value xs) (map value ys) i → (string_bytes (value x).text ≡ string_bytes (value y).text) × ((value x).end ≡ (value y).end)
+  pub held_same : IsSameAt xs ys i → (string_bytes x.text ≡ string_bytes y.text) × (x.end ≡ y.end)
   held_same same =
-      let chars_are : chars (string_bytes (value x).text) ≡ chars (string_bytes (value y).text) = sym (text_held value xs i x x_lt x_is) ∙ same.text ∙ text_held value ys i y y_lt y_is in (
-        sym (encodes-chars (string_bytes (value x).text) (IsUtf8-string_bytes (value x).text)) ∙ ap encodes chars_are ∙ encodes-chars (string_bytes (value y).text) (IsUtf8-string_bytes (value y).text),
-        sym (end_found value xs i x x_lt x_is) ∙ same.end ∙ end_found value ys i y y_lt y_is,
+      let chars_are : chars (string_bytes x.text) ≡ chars (string_bytes y.text) = sym (text_found xs i x x_at.in_range x_at.line_is) ∙ same.text ∙ text_found ys i y y_at.in_range y_at.line_is in (
+        sym (encodes-chars (string_bytes x.text) (IsUtf8-string_bytes x.text)) ∙ ap encodes chars_are ∙ encodes-chars (string_bytes y.text) (IsUtf8-string_bytes y.text),
+        sym (end_found xs i x x_at.in_range x_at.line_is) ∙ same.end ∙ end_found ys i y y_at.in_range y_at.line_is,
       )

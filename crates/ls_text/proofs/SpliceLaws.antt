@@ -281,17 +281,16 @@ module _ (ls : List Line) (h : AreLines ls) (from to : Spot) (at_from : IsSpot l
       (text_of-append ms (drop (suc to.line) ls) ∙ ap (λ x. x ++ text_of (drop (suc to.line) ls)) (all ∙ joins))
 
   -- ---- what `spliced` makes of what it pushes
-  module _ {text rest : List ℕ} {old now : List Line} (old_is : old ≡ take kept ls) (cut : IsCutOnto old text rest now) (plain : IsPlain (chars rest)) (text_is : chars text ≡ middle_text ls kept from to new) where
-    now_is : now ≡ take kept ls ++ cut.cut
-    now_is = cut.joins ∙ ap (λ x. x ++ cut.cut) old_is
-
-    pub spliced_eof : {next : List Line} → IsPushed now rest Eof next → end_at ls to.line ≡ Eof → IsCut (wanted_text ls from to new) next
+  module _ {text rest : List ℕ} {now : List Line} (cut : IsCutOnto [] text rest now) (plain : IsPlain (chars rest)) (text_is : chars text ≡ middle_text ls kept from to new) where
+    pub spliced_eof : {next : List Line} → IsPushed now rest Eof next → end_at ls to.line ≡ Eof → IsCut (wanted_text ls from to new) (take kept ls ++ (next ++ drop (to.line + 1) ls))
     spliced_eof {next} pushed last =
         let rest_is : line_text pushed.line ≡ chars rest = ap chars pushed.text_is in
-        let next_is : next ≡ take kept ls ++ (cut.cut ++ pushed.line ∷ []) = pushed.joins ∙ ap (λ x. x ++ pushed.line ∷ []) now_is ∙ append_assoc (take kept ls) cut.cut (pushed.line ∷ []) in
-        subst (IsCut (wanted_text ls from to new)) (sym next_is) (spliced_last cut.cut pushed.line (ap (λ x. text_of cut.cut ++ x) rest_is ∙ cut.so_far.joins ∙ text_is) (subst (AreLinesBefore cut.cut) (sym rest_is) cut.so_far.before) (subst IsPlain (sym rest_is) plain) pushed.end_is last)
+        let after : to.line + 1 ≡ suc to.line = omega arith in
+        let next_is : next ++ drop (to.line + 1) ls ≡ cut.cut ++ pushed.line ∷ [] = (λ i. (pushed.joins ∙ ap (λ x. x ++ pushed.line ∷ []) cut.joins) i ++ (ap (λ k. drop k ls) after ∙ end_last ls h to.line at_to.line_in_range last) i) ∙ append-nil (cut.cut ++ pushed.line ∷ []) in
+        subst (λ z. IsCut (wanted_text ls from to new) (take kept ls ++ z)) (sym next_is) (spliced_last cut.cut pushed.line (ap (λ x. text_of cut.cut ++ x) rest_is ∙ cut.so_far.joins ∙ text_is) (subst (AreLinesBefore cut.cut) (sym rest_is) cut.so_far.before) (subst IsPlain (sym rest_is) plain) pushed.end_is last)
 
-    pub spliced_rest : {next : List Line} → next ≡ now ++ drop (suc to.line) ls → (end_at ls to.line ≡ Eof → ⊥) → IsCut (wanted_text ls from to new) next
-    spliced_rest {next} next_is inner =
-        let all : next ≡ take kept ls ++ (cut.cut ++ drop (suc to.line) ls) = next_is ∙ ap (λ x. x ++ drop (suc to.line) ls) now_is ∙ append_assoc (take kept ls) cut.cut (drop (suc to.line) ls) in
-        subst (IsCut (wanted_text ls from to new)) (sym all) (spliced_inner cut.cut (chars rest) (cut.so_far.joins ∙ text_is) cut.so_far.before plain inner)
+    pub spliced_rest : (end_at ls to.line ≡ Eof → ⊥) → IsCut (wanted_text ls from to new) (take kept ls ++ (now ++ drop (to.line + 1) ls))
+    spliced_rest inner =
+        let after : to.line + 1 ≡ suc to.line = omega arith in
+        let now_is : now ++ drop (to.line + 1) ls ≡ cut.cut ++ drop (suc to.line) ls = λ i. cut.joins i ++ drop (after i) ls in
+        subst (λ z. IsCut (wanted_text ls from to new) (take kept ls ++ z)) (sym now_is) (spliced_inner cut.cut (chars rest) (cut.so_far.joins ∙ text_is) cut.so_far.before plain inner)

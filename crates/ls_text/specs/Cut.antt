@@ -74,10 +74,9 @@ pub record IsIndex (starts : List ℕ) (len : ℕ) (ls : List Line) : Type 0 whe
   pub starts_are : (m : ℕ) → m < length ls → slice_index starts m ≡ start_of ls m
   pub len_is : len ≡ length (text_of ls)
 
--- what a snapshot keeps: the lines of a text of at most 4,194,304 bytes of UTF-8, and their index
-pub record IsKept (ls : List Line) (starts : List ℕ) (len : ℕ) : Type 0 where
+-- what a snapshot keeps: the lines of a text of at most 4,194,304 bytes of UTF-8
+pub record IsKept (ls : List Line) : Type 0 where
   pub lines : AreLines ls
-  pub index : IsIndex starts len ls
   pub small : length (encode_utf8_all (text_of ls)) ≤ 4_194_304
 
 -- these are the lines of the text t

@@ -6,7 +6,7 @@ use Rattle.std.proofs.lemmas.Str.{IsUtf8-string_bytes}
 use Rattle.ls_text.specs.Cut.{end_text, line_text, text_of}
 use Rattle.ls_text.specs.declared.line.Line.{Line}
 use Rattle.ls_text.proofs.HeldLaws.{held_bytes, held_bytes_le, indexed_more, chars_le}
-use Rattle.ls_text.proofs.snapshot.indexed.Goals as goal
+use Rattle.ls_text.proofs.chunk.chunk_of.Goals as goal
 
 pub returns-then-more-bytes-clause-too_large : goal.returns-then-more-bytes-clause-too_large
 returns-then-more-bytes-clause-too_large c = λ e.
@@ -56,7 +56,7 @@ loop-line-preserved c =
     let more_is : c.saturating_add-more.result ≡ c.len-in-loop-line.result + c.len-ends.result = omega (arith, c.saturating_add-more.ensures, c.if-more-bytes.false) in
     let count_is : c.deref-in-loop-line-2.result.now.char_count ≡ length (line_text (arc_value c.line-item.result)) = ap (λ (l : Line). l.char_count) c.deref-in-loop-line-2.ensures ∙ (arc_value c.line-item.result).counted in
     record {
-      index = indexed_more arc_value c.deref-line-items.result.now c.loop-line.line-index c.line-item.result c.loop-line-test.true c.line-item.is _ _ _ _ _ c.loop-line.invariant.index c.in_ok-push_start.ensures count_is ends_are;
+      index = indexed_more arc_value c.deref-line-items.result.now c.loop-line.line-index c.line-item.result c.loop-line-test.true c.line-item.is _ _ _ _ _ c.loop-line.invariant.index c.in_ok-push_number.ensures count_is ends_are;
       bytes_is = omega (arith, more_is, bytes_are, ends_are, c.loop-line.invariant.bytes_is, held_bytes arc_value c.deref-line-items.result.now c.loop-line.line-index c.line-item.result c.loop-line-test.true c.line-item.is (IsUtf8-string_bytes (arc_value c.line-item.result).text));
       small = omega (arith, c.if-more-bytes.false, c.loop-line.invariant.small);
       within = omega (arith, more_is, bytes_are, count_is, chars_le (string_bytes (arc_value c.line-item.result).text) (IsUtf8-string_bytes (arc_value c.line-item.result).text), c.loop-line.invariant.within);

@@ -2,7 +2,7 @@ use Rattle.std.proofs.Common.{◌≡◌, ◌≤◌, map, take, length}
 use Rattle.std.specs.Arc.{arc_value}
 use Rattle.std.specs.Str.{encode_utf8_all}
 use Rattle.ls_text.specs.Cut.{text_of, IsIndex}
-use Rattle.ls_text.proofs.snapshot.indexed.Given as goal
+use Rattle.ls_text.proofs.chunk.chunk_of.Given as goal
 
 abbrev pub invariant-loop-line : goal.invariant-loop-line
 invariant-loop-line l = record {
