@@ -4,3 +4,4 @@ pub mod Cuts
 pub mod Closing
 pub mod Laws
 pub mod Values
+pub mod MarkLaws
