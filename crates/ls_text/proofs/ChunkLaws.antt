@@ -8,21 +8,21 @@ use Rattle.std.proofs.lemmas.Bool.{cases_lt}
 use Rattle.std.proofs.lemmas.Str.{encodes-append, length-le-encodes}
 use Rattle.ls_text.specs.Cut.{text_of, end_text, line_text, start_of, IsIndex}
 use Rattle.ls_text.specs.Chunks.{char_length, byte_length, AreSums, IsSpine, IsLineAt}
-use Rattle.ls_text.specs.declared.line.Line.{Line}
+use Rattle.ls_text.specs.Cut.{Row}
 use Rattle.ls_text.proofs.HeldLaws.{text_of-append, text_of-one}
 use Rattle.ls_text.proofs.OffsetLaws.{start_le}
 
 -- ---- what is measured adds up
-pub char_length-append : (xs ys : List Line) → char_length (xs ++ ys) ≡ char_length xs + char_length ys
+pub char_length-append : (xs ys : List Row) → char_length (xs ++ ys) ≡ char_length xs + char_length ys
 char_length-append xs ys = ap length (text_of-append xs ys) ∙ length-append (text_of xs) (text_of ys)
 
-pub byte_length-append : (xs ys : List Line) → byte_length (xs ++ ys) ≡ byte_length xs + byte_length ys
+pub byte_length-append : (xs ys : List Row) → byte_length (xs ++ ys) ≡ byte_length xs + byte_length ys
 byte_length-append xs ys = ap (λ x. length (encodes x)) (text_of-append xs ys) ∙ ap length (encodes-append (text_of xs) (text_of ys)) ∙ length-append (encodes (text_of xs)) (encodes (text_of ys))
 
-pub chars_le_bytes : (ls : List Line) → char_length ls ≤ byte_length ls
+pub chars_le_bytes : (ls : List Row) → char_length ls ≤ byte_length ls
 chars_le_bytes ls = length-le-encodes (text_of ls)
 
-pub byte_length-front : (xs ys : List Line) → byte_length xs ≤ byte_length (xs ++ ys)
+pub byte_length-front : (xs ys : List Row) → byte_length xs ≤ byte_length (xs ++ ys)
 byte_length-front xs ys = omega (arith, byte_length-append xs ys)
 
 -- ---- lists of three parts
@@ -46,11 +46,11 @@ drop_in (x ∷ a) b c j le = ap (λ n. drop n (x ∷ (a ++ (b ++ c)))) (more (le
     more : (n j : ℕ) → suc n + j ≡ suc (n + j)
     more n j = omega arith
 
-pub get_in : (a b c : List Line) (j : ℕ) (d : Line) → j < length b → get_or (a ++ (b ++ c)) (length a + j) d ≡ get_or b j d
+pub get_in : (a b c : List Row) (j : ℕ) (d : Row) → j < length b → get_or (a ++ (b ++ c)) (length a + j) d ≡ get_or b j d
 get_in a b c j d lt = get_or-append-add a (b ++ c) j d ∙ get_or_append_left b c d j lt
 
 -- a line starts after the lines before it
-pub start_of-append : (a b : List Line) (j : ℕ) → start_of (a ++ b) (length a + j) ≡ char_length a + start_of b j
+pub start_of-append : (a b : List Row) (j : ℕ) → start_of (a ++ b) (length a + j) ≡ char_length a + start_of b j
 start_of-append [] b j = ap (start_of b) (zero_plus j) ∙ sym (zero_plus (start_of b j))
   where
     zero_plus : (j : ℕ) → 0 + j ≡ j
@@ -62,7 +62,7 @@ start_of-append (l ∷ a) b j =
     more : (n j : ℕ) → suc n + j ≡ suc (n + j)
     more n j = omega arith
 
-pub start_of-left : (a b : List Line) (j : ℕ) → j < length a → start_of (a ++ b) j ≡ start_of a j
+pub start_of-left : (a b : List Row) (j : ℕ) → j < length a → start_of (a ++ b) j ≡ start_of a j
 start_of-left [] b j lt = absurd (omega (arith, lt))
 start_of-left (l ∷ a) b zero lt = refl
 start_of-left (l ∷ a) b (suc j) lt = ap (λ n. length (line_text l) + (length (end_text l.end) + n)) (start_of-left a b j (omega (arith, lt)))
@@ -74,19 +74,19 @@ take_join xs front place le =
     (λ i. (sym (take-take front place xs le)) i ++ (sym (drop-take front (place - front) xs) ∙ ap (λ n. drop front (take n xs)) sum) i)
     ∙ take-append-drop front (take place xs)
 
-pub start_none : (ls : List Line) → start_of ls 0 ≡ 0
+pub start_none : (ls : List Row) → start_of ls 0 ≡ 0
 start_none [] = refl
 start_none (l ∷ ls) = refl
 
 -- ---- pieces
-module _ {X : Type 0} (value : X → List Line) where
+module _ {X : Type 0} (value : X → List Row) where
   pub pieces_push : (cs : List X) (x : X) → flat_map value (cs ++ x ∷ []) ≡ flat_map value cs ++ value x
   pieces_push cs x = flat_map-append value cs (x ∷ []) ∙ ap (λ z. flat_map value cs ++ z) (append-nil (value x))
 
   pub pieces_split : (cs : List X) (k : ℕ) → flat_map value (take k cs) ++ flat_map value (drop k cs) ≡ flat_map value cs
   pieces_split cs k = sym (flat_map-append value (take k cs) (drop k cs)) ∙ ap (flat_map value) (take-append-drop k cs)
 
-  pub sums_push : (measure : List Line → ℕ) → ((xs ys : List Line) → measure (xs ++ ys) ≡ measure xs + measure ys) → (cs : List X) (x : X) (sums : List ℕ) (total more : ℕ) → AreSums value measure cs sums total → more ≡ measure (value x) → AreSums value measure (cs ++ x ∷ []) (sums ++ total ∷ []) (total + more)
+  pub sums_push : (measure : List Row → ℕ) → ((xs ys : List Row) → measure (xs ++ ys) ≡ measure xs + measure ys) → (cs : List X) (x : X) (sums : List ℕ) (total more : ℕ) → AreSums value measure cs sums total → more ≡ measure (value x) → AreSums value measure (cs ++ x ∷ []) (sums ++ total ∷ []) (total + more)
   sums_push measure add cs x sums total more s more_is = record {
     count = omega (arith, length-append sums (total ∷ []), length-append cs (x ∷ []), s.count);
     sums_are = λ k lt. ⊎_elim (λ below. get_or_append_left sums (total ∷ []) 0 k (omega (arith, below, s.count)) ∙ s.sums_are k below ∙ ap (λ z. measure (flat_map value z)) (sym (take-append-le k cs (x ∷ []) (omega (arith, below)))))
@@ -122,18 +122,18 @@ module _ {X : Type 0} (value : X → List Line) where
   pieces_some (c ∷ cs) lt = omega arith
 
   -- the lines of one more piece
-  pub pieces_more : (cs : List X) (i : ℕ) (x : X) → i < length cs → x ≡ get_or cs i x → (now next init : List Line) → next ≡ now ++ value x → now ≡ init ++ flat_map value (take i cs) → next ≡ init ++ flat_map value (take (i + 1) cs)
+  pub pieces_more : (cs : List X) (i : ℕ) (x : X) → i < length cs → x ≡ get_or cs i x → (now next init : List Row) → next ≡ now ++ value x → now ≡ init ++ flat_map value (take i cs) → next ≡ init ++ flat_map value (take (i + 1) cs)
   pieces_more cs i x lt item now next init pushed before =
       pushed ∙ ap (λ z. z ++ value x) before ∙ append_assoc init (flat_map value (take i cs)) (value x) ∙ ap (λ z. init ++ z) (sym (pieces_next cs i x lt item))
 
-  pub pieces_bytes : (cs : List X) (i : ℕ) (x : X) → i < length cs → x ≡ get_or cs i x → (now piece init : List Line) → piece ≡ value x → now ≡ init ++ flat_map value (take i cs) → byte_length (now ++ piece) ≤ byte_length (init ++ flat_map value cs)
+  pub pieces_bytes : (cs : List X) (i : ℕ) (x : X) → i < length cs → x ≡ get_or cs i x → (now piece init : List Row) → piece ≡ value x → now ≡ init ++ flat_map value (take i cs) → byte_length (now ++ piece) ≤ byte_length (init ++ flat_map value cs)
   pieces_bytes cs i x lt item now piece init piece_is before =
       let some : now ++ piece ≡ init ++ flat_map value (take (i + 1) cs) = pieces_more cs i x lt item now (now ++ piece) init (ap (λ z. now ++ z) piece_is) before in
       let all : init ++ flat_map value cs ≡ (init ++ flat_map value (take (i + 1) cs)) ++ flat_map value (drop (i + 1) cs) = ap (λ z. init ++ z) (sym (pieces_split cs (i + 1))) ∙ sym (append_assoc init (flat_map value (take (i + 1) cs)) (flat_map value (drop (i + 1) cs))) in
       omega (arith, ap byte_length some, ap byte_length all, byte_length-front (init ++ flat_map value (take (i + 1) cs)) (flat_map value (drop (i + 1) cs)))
 
   -- ---- the piece found among sums
-  module _ (measure : List Line → ℕ) (add : (xs ys : List Line) → measure (xs ++ ys) ≡ measure xs + measure ys) (none : measure [] ≡ 0) (cs : List X) (sums : List ℕ) (total : ℕ) (s : AreSums value measure cs sums total) where
+  module _ (measure : List Row → ℕ) (add : (xs ys : List Row) → measure (xs ++ ys) ≡ measure xs + measure ys) (none : measure [] ≡ 0) (cs : List X) (sums : List ℕ) (total : ℕ) (s : AreSums value measure cs sums total) where
     pub sums_first : 0 < length cs → get_or sums 0 0 ≡ 0
     sums_first lt = s.sums_are 0 lt ∙ none
 
@@ -161,7 +161,7 @@ module _ {X : Type 0} (value : X → List Line) where
     pub piece_room : local ≤ length (value x)
     piece_room = omega (arith, room, ap length (pieces_next cs place x lt item), length-append (flat_map value (take place cs)) (value x))
 
-    pub before_is : (front : ℕ) → front ≤ place → (init mid last : List Line) → init ≡ [] → mid ≡ init ++ flat_map value (take (place - front) (drop front cs)) → last ≡ mid ++ take local (value x) → flat_map value (take front cs) ++ last ≡ take (length (flat_map value (take place cs)) + local) (flat_map value cs)
+    pub before_is : (front : ℕ) → front ≤ place → (init mid last : List Row) → init ≡ [] → mid ≡ init ++ flat_map value (take (place - front) (drop front cs)) → last ≡ mid ++ take local (value x) → flat_map value (take front cs) ++ last ≡ take (length (flat_map value (take place cs)) + local) (flat_map value cs)
     before_is front le init mid last init_is mid_is last_is =
         let a = flat_map value (take front cs) in
         let b = flat_map value (take (place - front) (drop front cs)) in
@@ -172,7 +172,7 @@ module _ {X : Type 0} (value : X → List Line) where
         ∙ sym (take_in (flat_map value (take place cs)) (value x) (flat_map value (drop (place + 1) cs)) local piece_room)
         ∙ ap (take (length (flat_map value (take place cs)) + local)) (sym (pieces_at cs place x lt item))
 
-    pub after_is : (back : ℕ) → place < back → (init mid last : List Line) → mid ≡ init ++ drop local (value x) → last ≡ mid ++ flat_map value (take (back - (place + 1)) (drop (place + 1) cs)) → last ++ flat_map value (drop back cs) ≡ init ++ drop (length (flat_map value (take place cs)) + local) (flat_map value cs)
+    pub after_is : (back : ℕ) → place < back → (init mid last : List Row) → mid ≡ init ++ drop local (value x) → last ≡ mid ++ flat_map value (take (back - (place + 1)) (drop (place + 1) cs)) → last ++ flat_map value (drop back cs) ≡ init ++ drop (length (flat_map value (take place cs)) + local) (flat_map value cs)
     after_is back le init mid last mid_is last_is =
         let sum : place + 1 + (back - (place + 1)) ≡ back = omega (arith, le) in
         let rest : flat_map value (take (back - (place + 1)) (drop (place + 1) cs)) ++ flat_map value (drop back cs) ≡ flat_map value (drop (place + 1) cs) =
@@ -184,7 +184,7 @@ module _ {X : Type 0} (value : X → List Line) where
         ∙ ap (λ z. init ++ z) (sym (drop_in (flat_map value (take place cs)) (value x) (flat_map value (drop (place + 1) cs)) local piece_room) ∙ ap (drop (length (flat_map value (take place cs)) + local)) (sym (pieces_at cs place x lt item)))
 
   -- ---- a line of a piece
-  pub line_at_piece : (cs : List X) (k : ℕ) (x : X) → k < length cs → x ≡ get_or cs k x → (first start local local_start : ℕ) (line : Line) → first ≡ length (flat_map value (take k cs)) → start ≡ char_length (flat_map value (take k cs)) → IsLineAt (value x) local line local_start → IsLineAt (flat_map value cs) (first + local) line (start + local_start)
+  pub line_at_piece : (cs : List X) (k : ℕ) (x : X) → k < length cs → x ≡ get_or cs k x → (first start local local_start : ℕ) (line : Row) → first ≡ length (flat_map value (take k cs)) → start ≡ char_length (flat_map value (take k cs)) → IsLineAt (value x) local line local_start → IsLineAt (flat_map value cs) (first + local) line (start + local_start)
   line_at_piece cs k x lt item first start local local_start line first_is start_is found =
       let a = flat_map value (take k cs) in
       let c = flat_map value (drop (k + 1) cs) in
@@ -196,7 +196,7 @@ module _ {X : Type 0} (value : X → List Line) where
       }))
 
 -- a line of lines held behind pointers
-pub line_held : {Y : Type 0} (v : Y → Line) (held : List Y) (starts : List ℕ) (len : ℕ) → IsIndex starts len (map v held) → (j : ℕ) (y : Y) (line : Line) (start : ℕ) → j < length held → y ≡ get_or held j y → line ≡ v y → start ≡ get_or starts j start → IsLineAt (map v held) j line start
+pub line_held : {Y : Type 0} (v : Y → Row) (held : List Y) (starts : List ℕ) (len : ℕ) → IsIndex starts len (map v held) → (j : ℕ) (y : Y) (line : Row) (start : ℕ) → j < length held → y ≡ get_or held j y → line ≡ v y → start ≡ get_or starts j start → IsLineAt (map v held) j line start
 line_held v held starts len index j y line start lt item line_is start_is =
     let lt' : j < length (map v held) = omega (arith, lt, length-map held v) in
     record {
@@ -205,26 +205,29 @@ line_held v held starts len index j y line start lt item line_is start_is =
       start_is = get_or_read starts j start (omega (arith, lt', index.count)) start_is 0 ∙ index.starts_are j lt';
     }
 
-pub line_start_le : (ls : List Line) (m : ℕ) (line : Line) (start : ℕ) → IsLineAt ls m line start → start ≤ byte_length ls
+pub line_start_le : (ls : List Row) (m : ℕ) (line : Row) (start : ℕ) → IsLineAt ls m line start → start ≤ byte_length ls
 line_start_le ls m line start found = omega (arith, found.start_is, start_le ls m found.in_range, chars_le_bytes ls)
 
--- ---- lines held behind pointers, some more of them
-module _ {Y : Type 0} (v : Y → Line) (held : List Y) (from to : ℕ) (le : from ≤ to) (now init empty part : List Line) (part_is : part ≡ empty ++ map v (take (to - from) (drop from held))) (empty_is : empty ≡ []) (before : now ≡ init ++ map v (take from held)) where
-  pub lines_more : (next piece : List Line) → next ≡ now ++ piece → piece ≡ part → next ≡ init ++ map v (take to held)
-  lines_more next piece next_is piece_is =
-      next_is ∙ (λ i. before i ++ (piece_is ∙ part_is ∙ ap (λ z. z ++ map v (take (to - from) (drop from held))) empty_is) i)
-      ∙ append_assoc init (map v (take from held)) (map v (take (to - from) (drop from held)))
-      ∙ ap (λ z. init ++ z) (sym (map-append v (take from held) (take (to - from) (drop from held))) ∙ ap (map v) (take_join held from to le))
+-- ---- the lines of a chunk, those of the next one, and those to come
+module _ (lines part next rest behind whole : List Row) (x : Row) (next_is : next ≡ part ++ x ∷ []) (rest_is : rest ≡ x ∷ behind) (before : (lines ++ part) ++ rest ≡ whole) where
+  pub part_more : (lines ++ next) ++ behind ≡ whole
+  part_more =
+      ap (λ z. (lines ++ z) ++ behind) next_is ∙ append_assoc lines (part ++ x ∷ []) behind ∙ ap (λ z. lines ++ z) (append_assoc part (x ∷ []) behind)
+      ∙ sym (append_assoc lines part (x ∷ behind)) ∙ ap (λ z. (lines ++ part) ++ z) (sym rest_is) ∙ before
 
-  pub lines_bytes : (piece : List Line) → piece ≡ part → byte_length (now ++ piece) ≤ byte_length (init ++ map v held)
-  lines_bytes piece piece_is =
-      let some : now ++ piece ≡ init ++ map v (take to held) = lines_more (now ++ piece) piece refl piece_is in
-      let all : init ++ map v held ≡ (init ++ map v (take to held)) ++ map v (drop to held) = ap (λ z. init ++ z) (sym (ap (map v) (take-append-drop to held)) ∙ map-append v (take to held) (drop to held)) ∙ sym (append_assoc init (map v (take to held)) (map v (drop to held))) in
-      omega (arith, ap byte_length some, ap byte_length all, byte_length-front (init ++ map v (take to held)) (map v (drop to held)))
+  pub part_done : (made empty : List Row) → made ≡ lines ++ next → empty ≡ [] → (made ++ empty) ++ behind ≡ whole
+  part_done made empty made_is empty_is = (λ i. (made_is i ++ empty_is i) ++ behind) ∙ ap (λ z. z ++ behind) (append-nil (lines ++ next)) ∙ part_more
+
+  pub part_bytes : byte_length (lines ++ next) ≤ byte_length whole
+  part_bytes = omega (arith, ap byte_length part_more, byte_length-front (lines ++ next) behind)
+
+pub nil_of : {X : Type 0} (xs : List X) → length xs ≡ 0 → xs ≡ []
+nil_of [] e = refl
+nil_of (x ∷ xs) e = absurd (omega arith)
 
 -- ---- what a spine finds
-module _ {X : Type 0} (value : X → List Line) (cs : List X) (firsts starts : List ℕ) (count chars bytes : ℕ) (s : IsSpine value cs firsts starts count chars bytes) where
-  pub spine_line : (got : List ℕ) → got ≡ firsts → (k at : ℕ) → k < length got → get_or got k 0 ≤ at → (k + 1 < length got → at < get_or got (k + 1) 0) → at < count → (x : X) → x ≡ get_or cs k x → (first start : ℕ) → first ≡ get_or firsts k first → start ≡ get_or starts k start → (held : List Line) → held ≡ value x → (line : Line) (local_start : ℕ) → (at - first < length held → IsLineAt held (at - first) line local_start) → IsLineAt (flat_map value cs) at line (start + local_start)
+module _ {X : Type 0} (value : X → List Row) (cs : List X) (firsts starts : List ℕ) (count chars bytes : ℕ) (s : IsSpine value cs firsts starts count chars bytes) where
+  pub spine_line : (got : List ℕ) → got ≡ firsts → (k at : ℕ) → k < length got → get_or got k 0 ≤ at → (k + 1 < length got → at < get_or got (k + 1) 0) → at < count → (x : X) → x ≡ get_or cs k x → (first start : ℕ) → first ≡ get_or firsts k first → start ≡ get_or starts k start → (held : List Row) → held ≡ value x → (line : Row) (local_start : ℕ) → (at - first < length held → IsLineAt held (at - first) line local_start) → IsLineAt (flat_map value cs) at line (start + local_start)
   spine_line got got_is k at in_range le next within x item first start first_is start_is held held_is line local_start found =
       let lt : k < length cs = omega (arith, in_range, ap length got_is, s.line_sums.count) in
       let first_at : first ≡ get_or firsts k 0 = get_or_read firsts k first (omega (arith, in_range, ap length got_is)) first_is 0 in
@@ -253,11 +256,11 @@ module _ {X : Type 0} (value : X → List Line) (cs : List X) (firsts starts : L
     start_at : start ≡ char_length (flat_map value (take k cs))
     start_at = get_or_read starts k start (omega (arith, k_lt, s.char_sums.count)) start_is 0 ∙ s.char_sums.sums_are k k_lt
 
-    pub spine_found : (held : List Line) → held ≡ value x → (local local_start : ℕ) (line : Line) → IsLineAt held local line local_start → IsLineAt (flat_map value cs) (first + local) line (start + local_start)
+    pub spine_found : (held : List Row) → held ≡ value x → (local local_start : ℕ) (line : Row) → IsLineAt held local line local_start → IsLineAt (flat_map value cs) (first + local) line (start + local_start)
     spine_found held held_is local local_start line found =
         line_at_piece value cs k x k_lt item first start local local_start line first_at start_at (subst (λ z. IsLineAt z local line local_start) held_is found)
 
-    pub spine_last : (held : List Line) → held ≡ value x → (local : ℕ) → local < length held → (local + 1 < length held → offset - start < start_of held (local + 1)) → first + local + 1 < length (flat_map value cs) → offset < start_of (flat_map value cs) (first + local + 1)
+    pub spine_last : (held : List Row) → held ≡ value x → (local : ℕ) → local < length held → (local + 1 < length held → offset - start < start_of held (local + 1)) → first + local + 1 < length (flat_map value cs) → offset < start_of (flat_map value cs) (first + local + 1)
     spine_last held held_is local local_lt local_next more = ⊎_elim inner at_end (cases_lt (local + 1) (length held))
       where
         after_start : start ≤ offset
@@ -291,7 +294,7 @@ module _ {X : Type 0} (value : X → List Line) (cs : List X) (firsts starts : L
             past le_k = absurd (omega (arith, ends, more, ap (λ z. length (flat_map value z)) (take_all (k + 1) cs le_k)))
 
 -- ---- a part replaced: p comes before the new chunks, which have the lines l, and b after them
-module _ (p l0 l1 l b new front back : List Line) (front_is : p ++ l0 ≡ front) (l1_is : l1 ≡ l0 ++ new) (back_is : l ++ b ≡ l1 ++ back) where
+module _ (p l0 l1 l b new front back : List Row) (front_is : p ++ l0 ≡ front) (l1_is : l1 ≡ l0 ++ new) (back_is : l ++ b ≡ l1 ++ back) where
   pub replaced_is : (p ++ l) ++ b ≡ front ++ (new ++ back)
   replaced_is =
       append_assoc p l b ∙ ap (λ z. p ++ z) (back_is ∙ ap (λ z. z ++ back) l1_is ∙ append_assoc l0 new back)
@@ -301,12 +304,12 @@ module _ (p l0 l1 l b new front back : List Line) (front_is : p ++ l0 ≡ front)
   replaced_bytes = omega (arith, ap byte_length replaced_is, byte_length-front (p ++ l) b)
 
 -- ---- the text of the lines from one up to another
-pub between_none : (ls : List Line) (from : ℕ) (t : List ℕ) → t ≡ t ++ text_of (take (from - from) (drop from ls))
+pub between_none : (ls : List Row) (from : ℕ) (t : List ℕ) → t ≡ t ++ text_of (take (from - from) (drop from ls))
 between_none ls from t =
     let none : from - from ≡ 0 = omega arith in
     sym (append-nil t) ∙ ap (λ n. t ++ text_of (take n (drop from ls))) (sym none)
 
-pub between_more : (ls : List Line) (from i : ℕ) (l : Line) (start : ℕ) → from ≤ i → IsLineAt ls i l start → (init now next : List ℕ) → next ≡ now ++ (line_text l ++ end_text l.end) → now ≡ init ++ text_of (take (i - from) (drop from ls)) → next ≡ init ++ text_of (take (i + 1 - from) (drop from ls))
+pub between_more : (ls : List Row) (from i : ℕ) (l : Row) (start : ℕ) → from ≤ i → IsLineAt ls i l start → (init now next : List ℕ) → next ≡ now ++ (line_text l ++ end_text l.end) → now ≡ init ++ text_of (take (i - from) (drop from ls)) → next ≡ init ++ text_of (take (i + 1 - from) (drop from ls))
 between_more ls from i l start le at init now next next_is before =
     let place : from + (i - from) ≡ i = omega (arith, le) in
     let one : i + 1 - from ≡ i - from + 1 = omega (arith, le) in

@@ -14,7 +14,7 @@ use Rattle.ls_text.specs.Positions.{position_of}
 use Rattle.ls_text.specs.declared.position.Position.{Position}
 use Rattle.ls_text.specs.declared.line_end.LineEnd.{LineEnd}
 use Rattle.ls_text.specs.declared.line_end.LineEnd.TheVariants.{Eof, Lf, Cr, CrLf}
-use Rattle.ls_text.specs.declared.line.Line.{Line}
+use Rattle.ls_text.specs.Cut.{Row}
 use Rattle.ls_text.proofs.OffsetLaws.{take_past, drop_past, ends_with_cr-append, at_line, is_apart, start_le, text_found}
 
 cond_no : (b : Bool) (x y : ℕ) → b ≡ false → cond b x y ≡ y
@@ -45,11 +45,11 @@ splits_after p e (c ∷ t) (suc x) h =
     (λ i. front i && back i) ∙ h
 
 -- past the end of a line, and before the next
-pub splits_in : (ls : List Line) (m o : ℕ) → suc m < length ls → start_of ls m + length (text_at ls m) < o → o < start_of ls (suc m) → splits_crlf (text_of ls) o ≡ true
+pub splits_in : (ls : List Row) (m o : ℕ) → suc m < length ls → start_of ls m + length (text_at ls m) < o → o < start_of ls (suc m) → splits_crlf (text_of ls) o ≡ true
 splits_in [] m o lt gt below = absurd (omega (arith, lt))
 splits_in (l ∷ ls) zero o lt gt below = splits_front (line_text l) l.end (text_of ls) o (omega (arith, gt)) (omega (arith, below, start_zero ls))
   where
-    start_zero : (ls : List Line) → start_of ls 0 ≡ 0
+    start_zero : (ls : List Row) → start_of ls 0 ≡ 0
     start_zero [] = refl
     start_zero (l ∷ ls) = refl
 splits_in (l ∷ ls) (suc m) o lt gt below =
@@ -64,13 +64,13 @@ end_short Lf = omega arith
 end_short Cr = omega arith
 end_short CrLf = omega arith
 
-start_next : (ls : List Line) (m : ℕ) → m < length ls → start_of ls (suc m) ≡ start_of ls m + (length (text_at ls m) + length (end_text (end_at ls m)))
+start_next : (ls : List Row) (m : ℕ) → m < length ls → start_of ls (suc m) ≡ start_of ls m + (length (text_at ls m) + length (end_text (end_at ls m)))
 start_next [] m lt = absurd (omega (arith, lt))
 start_next (l ∷ []) zero lt = omega arith
 start_next (l ∷ n ∷ ls) zero lt = omega arith
 start_next (l ∷ ls) (suc m) lt = omega (arith, start_next ls m (omega (arith, lt)))
 
-pub last_full : (ls : List Line) → AreLines ls → (m : ℕ) → suc m ≡ length ls → start_of ls m + length (text_at ls m) ≡ length (text_of ls)
+pub last_full : (ls : List Row) → AreLines ls → (m : ℕ) → suc m ≡ length ls → start_of ls m + length (text_at ls m) ≡ length (text_of ls)
 last_full [] h m e = absurd h
 last_full (l ∷ []) h zero e = omega (arith, length-append (line_text l) (end_text l.end ++ []), ap (λ x. length (end_text x ++ [])) h.1)
 last_full (l ∷ []) h (suc m) e = absurd (omega (arith, e))
@@ -78,7 +78,7 @@ last_full (l ∷ n ∷ ls) h zero e = absurd (omega (arith, e))
 last_full (l ∷ n ∷ ls) h (suc m) e = omega (arith, last_full (n ∷ ls) h.2 m (omega (arith, e)), length-append (line_text l) (end_text l.end ++ text_of (n ∷ ls)), length-append (end_text l.end) (text_of (n ∷ ls)))
 
 -- the offset, lowered, stands in its line after so many characters
-module _ (ls : List Line) (h : AreLines ls) (m o : ℕ) (lt : m < length ls) (starts : start_of ls m ≤ o) (last : suc m < length ls → o < start_of ls (suc m)) where
+module _ (ls : List Row) (h : AreLines ls) (m o : ℕ) (lt : m < length ls) (starts : start_of ls m ≤ o) (last : suc m < length ls → o < start_of ls (suc m)) where
   pub lowered_in : lowered (text_of ls) o ≡ start_of ls m + min (o - start_of ls m) (length (text_at ls m))
   unfolding lowered
   lowered_in = ⊎_elim after within (cases_lt (start_of ls m + length (text_at ls m)) o)
@@ -123,7 +123,7 @@ module _ (ls : List Line) (h : AreLines ls) (m o : ℕ) (lt : m < length ls) (st
           omega_past le = omega (arith, le)
 
 -- a text has no fewer characters than lines but one
-pub few_lines : (ls : List Line) → AreLines ls → length ls ≤ length (text_of ls) + 1
+pub few_lines : (ls : List Row) → AreLines ls → length ls ≤ length (text_of ls) + 1
 few_lines [] h = absurd h
 few_lines (l ∷ []) h = omega arith
 few_lines (l ∷ n ∷ ls) h = omega (arith, few_lines (n ∷ ls) h.2, length-append (line_text l) (end_text l.end ++ text_of (n ∷ ls)), length-append (end_text l.end) (text_of (n ∷ ls)), some l.end _ h.1)
@@ -135,7 +135,7 @@ few_lines (l ∷ n ∷ ls) h = omega (arith, few_lines (n ∷ ls) h.2, length-ap
     some CrLf t h = omega arith
 
 -- ---- what `position_of` computes, over the lines and their index
-pub lines_some : (ls : List Line) → AreLines ls → 0 < length ls
+pub lines_some : (ls : List Row) → AreLines ls → 0 < length ls
 lines_some [] h = absurd h
 lines_some (l ∷ ls) h = omega arith
 
@@ -148,7 +148,7 @@ bytes_le x y z =
     let back_length = length-append (encodes y) (encodes z) in
     (omega arith, omega arith)
 
-pub text_bytes_le : (ls : List Line) (m : ℕ) → length (encodes (text_at ls m)) ≤ length (encodes (text_of ls))
+pub text_bytes_le : (ls : List Row) (m : ℕ) → length (encodes (text_at ls m)) ≤ length (encodes (text_of ls))
 text_bytes_le [] m = omega arith
 text_bytes_le (l ∷ ls) zero = (bytes_le (line_text l) (end_text l.end) (text_of ls)).0
 text_bytes_le (l ∷ ls) (suc m) = omega (arith, text_bytes_le ls m, (bytes_le (line_text l) (end_text l.end) (text_of ls)).1)
@@ -156,14 +156,14 @@ text_bytes_le (l ∷ ls) (suc m) = omega (arith, text_bytes_le ls m, (bytes_le (
 pub same_position : (a b c d : ℕ) → a ≡ c → b ≡ d → ◌≡◌ {A = Position} (record { line = a; character = b }) (record { line = c; character = d })
 same_position a b c d e f = λ i. record { line = e i; character = f i }
 
-module _ (ls : List Line) (kept : IsKept ls) where
+module _ (ls : List Row) (kept : IsKept ls) where
   pub line_small : (m : ℕ) → m < length ls → m < 4_294_967_296
   line_small m lt = omega (arith, lt, few_lines ls kept.lines, length-le-encodes (text_of ls), kept.small)
 
-  pub bytes_small : (m : ℕ) (x : Line) (start : ℕ) → IsLineAt ls m x start → IsUtf8 (string_bytes x.text) → length (string_bytes x.text) ≤ 4_194_304
-  bytes_small m x start at u = omega (arith, ap length (encodes-chars (string_bytes x.text) u), ap (λ z. length (encodes z)) (text_found ls m x at.in_range at.line_is), text_bytes_le ls m, kept.small)
+  pub bytes_small : (m : ℕ) (x : Row) (start : ℕ) → IsLineAt ls m x start → length (encodes (line_text x)) ≤ 4_194_304
+  bytes_small m x start at = omega (arith, ap (λ z. length (encodes z)) (text_found ls m x at.in_range at.line_is), text_bytes_le ls m, kept.small)
 
-  pub position_found : (w : ℕ → ℕ) (t : List ℕ) → text_of ls ≡ t → (m o : ℕ) (x : Line) (start : ℕ) → IsLineAt ls m x start → start ≤ o → (m + 1 < length ls → o < start_of ls (m + 1)) → (units : ℕ) → units ≡ sum_by w (take (o - start) (line_text x)) → ◌≡◌ {A = Position} (record { line = m; character = units }) (position_of w t o)
+  pub position_found : (w : ℕ → ℕ) (t : List ℕ) → text_of ls ≡ t → (m o : ℕ) (x : Row) (start : ℕ) → IsLineAt ls m x start → start ≤ o → (m + 1 < length ls → o < start_of ls (m + 1)) → (units : ℕ) → units ≡ sum_by w (take (o - start) (line_text x)) → ◌≡◌ {A = Position} (record { line = m; character = units }) (position_of w t o)
   position_found w t view_is m o x start at at_start before_next units units_is =
       let from_start : start_of ls m ≤ o = omega (arith, at_start, at.start_is) in
       let after : m + 1 ≡ suc m = omega arith in

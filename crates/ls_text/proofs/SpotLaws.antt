@@ -13,16 +13,16 @@ use Rattle.ls_text.proofs.PositionLaws.{last_full}
 use Rattle.ls_text.specs.Chunks.{IsLineAt}
 use Rattle.ls_text.specs.Cut.{line_text, text_of, text_at, end_at, start_of, AreLines}
 use Rattle.ls_text.specs.Spots.{bytes_at}
-use Rattle.ls_text.specs.declared.line.Line.{Line}
+use Rattle.ls_text.specs.Cut.{Row}
 
-pub bytes_found : (ls : List Line) (m : ℕ) (x : Line) → m < length ls → x ≡ get_or ls m x → bytes_at ls m ≡ string_bytes x.text
+pub bytes_found : (ls : List Row) (m : ℕ) (x : Row) → m < length ls → x ≡ get_or ls m x → bytes_at ls m ≡ encodes (line_text x)
 bytes_found [] m x lt e = absurd (omega (arith, lt))
-bytes_found (l ∷ ls) zero x lt e = ap (λ (y : Line). string_bytes y.text) (sym e)
+bytes_found (l ∷ ls) zero x lt e = ap (λ (y : Row). encodes (line_text y)) (sym e)
 bytes_found (l ∷ ls) (suc m) x lt e = bytes_found ls m x (omega (arith, lt)) e
 
-pub end_found : (ls : List Line) (m : ℕ) (x : Line) → m < length ls → x ≡ get_or ls m x → end_at ls m ≡ x.end
+pub end_found : (ls : List Row) (m : ℕ) (x : Row) → m < length ls → x ≡ get_or ls m x → end_at ls m ≡ x.end
 end_found [] m x lt e = absurd (omega (arith, lt))
-end_found (l ∷ ls) zero x lt e = ap (λ (y : Line). y.end) (sym e)
+end_found (l ∷ ls) zero x lt e = ap (λ (y : Row). y.end) (sym e)
 end_found (l ∷ ls) (suc m) x lt e = end_found ls m x (omega (arith, lt)) e
 
 -- the five pieces of the middle
@@ -67,36 +67,36 @@ module _ (bs : List ℕ) (u : IsUtf8 bs) (k : ℕ) where
       ∙ sym (chars_from_encodes (take k (chars bs)) (encodes (take k (chars bs))) (take k (chars bs), (scalars-take k (chars bs) (scalars-chars bs u), refl)) refl)
 
 -- ---- what `spot_of` finds
-module _ (ls : List Line) (w : ℕ → ℕ) (m c : ℕ) (x : Line) (start : ℕ) (at : IsLineAt ls m x start) (offset count bytes : ℕ) (count_is : count ≡ fitting w (line_text x) c) (bytes_is : bytes ≡ length (encodes (take count (line_text x)))) (offset_is : offset ≡ start + count) where
-  bytes_are : bytes_at ls m ≡ string_bytes x.text
-  bytes_are = bytes_found ls m x at.in_range at.line_is
+module _ (ls : List Row) (m : ℕ) (x : Row) (start : ℕ) (at : IsLineAt ls m x start) (bs : List ℕ) (u : IsUtf8 bs) (bs_is : bs ≡ encodes (line_text x)) (chars_are : chars bs ≡ line_text x) where
+  bytes_are : bytes_at ls m ≡ bs
+  bytes_are = bytes_found ls m x at.in_range at.line_is ∙ sym bs_is
 
-  pub spot_some : IsSpot ls (record { line = m; bytes = bytes; offset = offset })
-  spot_some =
-      let u = IsUtf8-string_bytes x.text in
-      let front : length (chars (take bytes (bytes_at ls m))) ≡ count = (λ i. length (chars (take (bytes_is i) (bytes_are i)))) ∙ ap length (chars_before (string_bytes x.text) u count) ∙ length-take-le count (line_text x) (omega (arith, count_is, fitting_le w (line_text x) c)) in
+  text_is : text_at ls m ≡ chars bs
+  text_is = text_found ls m x at.in_range at.line_is ∙ sym chars_are
+
+  pub spot_some : (w : ℕ → ℕ) (c offset count bytes : ℕ) → count ≡ fitting w (chars bs) c → bytes ≡ length (encodes (take count (chars bs))) → offset ≡ start + count → IsSpot ls (record { line = m; bytes = bytes; offset = offset })
+  spot_some w c offset count bytes count_is bytes_is offset_is =
+      let front : length (chars (take bytes (bytes_at ls m))) ≡ count = (λ i. length (chars (take (bytes_is i) (bytes_are i)))) ∙ ap length (chars_before bs u count) ∙ length-take-le count (chars bs) (omega (arith, count_is, fitting_le w (chars bs) c)) in
       record {
         line_in_range = at.in_range;
-        boundary = subst (λ b. IsCharBoundary b bytes) (sym bytes_are) (subst (IsCharBoundary (string_bytes x.text)) (sym bytes_is) (boundary_after (string_bytes x.text) u count));
+        utf8 = subst IsUtf8 (sym bytes_are) u;
+        characters = ap chars bytes_are ∙ sym text_is;
+        boundary = subst (λ b. IsCharBoundary b bytes) (sym bytes_are) (subst (IsCharBoundary bs) (sym bytes_is) (boundary_after bs u count));
         offset_is = offset_is ∙ (λ i. at.start_is i + sym front i);
       }
 
-  pub offset_some : AreLines ls → offset ≡ offset_of w (text_of ls) m c
-  offset_some h = offset_is ∙ offset_found w ls m c (text_of ls) h refl x start count at count_is
+  pub offset_some : (w : ℕ → ℕ) (c offset count : ℕ) → count ≡ fitting w (chars bs) c → offset ≡ start + count → AreLines ls → offset ≡ offset_of w (text_of ls) m c
+  offset_some w c offset count count_is offset_is h = offset_is ∙ offset_found w ls m c (text_of ls) h refl x start count at (count_is ∙ ap (λ t. fitting w t c) chars_are)
 
--- the spot after the last line
-module _ (ls : List Line) (h : AreLines ls) (count : ℕ) (count_is : count ≡ length (text_of ls)) (last : ℕ) (x : Line) (start : ℕ) (at : IsLineAt ls last x start) (last_is : last ≡ length ls - 1) (bytes : ℕ) (bytes_is : bytes ≡ length (string_bytes x.text)) where
-  last_bytes : bytes_at ls last ≡ string_bytes x.text
-  last_bytes = bytes_found ls last x at.in_range at.line_is
-
-  bytes_full : length (bytes_at ls last) ≡ bytes
-  bytes_full = ap length last_bytes ∙ sym bytes_is
-
-  pub spot_none : IsSpot ls (record { line = last; bytes = bytes; offset = count })
-  spot_none =
-      let all : take bytes (bytes_at ls last) ≡ string_bytes x.text = take_all bytes (bytes_at ls last) (omega (arith, bytes_full)) ∙ last_bytes in
+  -- the spot after the last line
+  pub spot_none : AreLines ls → (count : ℕ) → count ≡ length (text_of ls) → m ≡ length ls - 1 → (bytes : ℕ) → bytes ≡ length bs → IsSpot ls (record { line = m; bytes = bytes; offset = count })
+  spot_none h count count_is last_is bytes bytes_is =
+      let full : length (bytes_at ls m) ≡ bytes = ap length bytes_are ∙ sym bytes_is in
+      let all : take bytes (bytes_at ls m) ≡ bs = take_all bytes (bytes_at ls m) (omega (arith, full)) ∙ bytes_are in
       record {
         line_in_range = at.in_range;
-        boundary = subst (IsCharBoundary (bytes_at ls last)) bytes_full (IsCharBoundary-end (bytes_at ls last));
-        offset_is = count_is ∙ sym (last_full ls h last (omega (arith, last_is, at.in_range))) ∙ ap (λ t. start_of ls last + length t) (text_found ls last x at.in_range at.line_is ∙ ap chars (sym all));
+        utf8 = subst IsUtf8 (sym bytes_are) u;
+        characters = ap chars bytes_are ∙ sym text_is;
+        boundary = subst (IsCharBoundary (bytes_at ls m)) full (IsCharBoundary-end (bytes_at ls m));
+        offset_is = count_is ∙ sym (last_full ls h m (omega (arith, last_is, at.in_range))) ∙ ap (λ t. start_of ls m + length t) (text_is ∙ ap chars (sym all));
       }

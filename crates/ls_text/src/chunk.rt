@@ -46,12 +46,12 @@ pub fn chunk_of(alloc: Global, lines: Vec<Arc<Line>>) -> Result<Chunk, TextFault
     let mut bytes = 0;
     for line in &lines {
         push_number(&mut starts, length)?;
-        let ends = line.end.len();
-        let more = line.text.len().saturating_add(ends);
+        let ends = line.end().len();
+        let more = line.text().len().saturating_add(ends);
         if more > MAX_BYTES - bytes {
             return Err(TextFault::TooLarge);
         }
-        length += line.char_count + ends;
+        length += line.char_count() + ends;
         bytes += more;
     }
     Ok(Chunk {

@@ -58,7 +58,7 @@ pub fn spot_of(lines: &Lines, at: Position) -> Spot
     let number = at.line as usize;
     if number < lines.len() {
         let (line, start) = lines.line(number);
-        let fit = fitting(line, Units::Utf16, at.character as usize);
+        let fit = fitting(line.text(), line.char_count(), Units::Utf16, at.character as usize);
         Spot {
             line: number,
             bytes: fit.bytes,
@@ -69,7 +69,7 @@ pub fn spot_of(lines: &Lines, at: Position) -> Spot
         let (line, _) = lines.line(last);
         Spot {
             line: last,
-            bytes: line.text.len(),
+            bytes: line.text().len(),
             offset: lines.char_count(),
         }
     }
@@ -91,8 +91,8 @@ fn push_line_text(text: &mut String, line: &Line) -> Result<(), AllocError>
     ensures { OnOk result (chars (string_bytes text.new)
         ≡ chars (string_bytes text.old) ++ (line_text line.now ++ end_text line.now.end)) }
 {
-    text.push_str(line.text.as_str())?;
-    text.push_str(line.end.as_str())?;
+    text.push_str(line.text())?;
+    text.push_str(line.end().as_str())?;
     Ok(())
 }
 
@@ -132,12 +132,12 @@ fn middle(
     push_text(&mut text, lines, kept, from.line)?;
     let (first, _) = lines.line(from.line);
     let (last, _) = lines.line(to.line);
-    let (front, _) = first.text.as_str().split_at(from.bytes);
-    let (_, back) = last.text.as_str().split_at(to.bytes);
+    let (front, _) = first.text().split_at(from.bytes);
+    let (_, back) = last.text().split_at(to.bytes);
     text.push_str(front)?;
     text.push_str(new)?;
     text.push_str(back)?;
-    text.push_str(last.end.as_str())?;
+    text.push_str(last.end().as_str())?;
     Ok(text)
 }
 
@@ -147,8 +147,10 @@ pub fn whole(alloc: Global, text: &str) -> Result<Lines, TextFault>
     ensures too_large { IfErr result
         (λ e. e ≡ TextFault.TooLarge → MAX_BYTES < length (encode_utf8_all (chars text.now))) }
 {
-    let cut = lines_of(alloc, text)?;
-    Lines::of(alloc, &cut)
+    if text.len() > MAX_BYTES {
+        return Err(TextFault::TooLarge);
+    }
+    Lines::of(alloc, lines_of(alloc, text)?)
 }
 
 // The lines with what stands between two spots replaced. The lines before the one before the first spot, and those after the
@@ -172,10 +174,13 @@ pub fn spliced(
 {
     let kept = from.line.saturating_sub(1);
     let text = middle(alloc, lines, kept, from, to, new)?;
+    if text.len() > MAX_BYTES {
+        return Err(TextFault::TooLarge);
+    }
     let mut cut = Vec::new(alloc);
     let rest = push_lines(alloc, &mut cut, text.as_str())?;
     let (last, _) = lines.line(to.line);
-    if let LineEnd::Eof = last.end {
+    if let LineEnd::Eof = last.end() {
         push_line(alloc, &mut cut, rest, LineEnd::Eof)?;
     }
     lines.replaced(alloc, kept, to.line + 1, &cut)

@@ -62,6 +62,15 @@ fn shared_chunk(alloc: Global, chunk: Chunk) -> Result<Arc<Chunk>, AllocError>
     Ok(Arc::new(alloc, chunk)?)
 }
 
+// Adds a line.
+fn push_line(lines: &mut Vec<Arc<Line>>, line: Arc<Line>) -> Result<(), AllocError>
+    ensures { OnOk result
+        (map arc_value lines.new.items ≡ map arc_value lines.old.items ++ arc_value line ∷ []) }
+{
+    lines.push(line)?;
+    Ok(())
+}
+
 // Adds the lines of these chunks.
 fn push_whole(lines: &mut Vec<Arc<Line>>, chunks: &[Arc<Chunk>]) -> Result<(), AllocError>
     ensures { OnOk result
@@ -132,13 +141,8 @@ fn back_of(few: bool, place: usize, count: usize) -> usize
 }
 
 // How many of so many lines come into the next chunk, so that all chunks have about as many.
-fn part_of(count: usize) -> usize
-    requires { 0 < count }
-    ensures some { 0 < result }
-    ensures within { result ≤ count }
-{
-    let parts = (count - 1) / MOST_LINES + 1;
-    (count / parts).max(1).min(count)
+fn part_of(count: usize) -> usize {
+    count.div_ceil(count.div_ceil(MOST_LINES).max(1))
 }
 
 impl Lines {
@@ -198,43 +202,46 @@ impl Lines {
         Ok(lines)
     }
 
-    // These lines, and some more, cut into chunks.
-    pub fn with_lines(self, alloc: Global, new: &[Arc<Line>]) -> Result<Lines, TextFault>
-        ensures ok { IfOk result (λ lines. lines ≡ self ++ map arc_value new.now) }
+    // These lines, and some more, which come into one chunk.
+    fn with_part(self, alloc: Global, part: Vec<Arc<Line>>) -> Result<Lines, TextFault>
+        ensures ok { IfOk result (λ lines. lines ≡ self ++ map arc_value part.items) }
         ensures too_large { IfErr result (λ e. e ≡ TextFault.TooLarge →
-            MAX_BYTES < length (encode_utf8_all (text_of (self ++ map arc_value new.now)))) }
+            MAX_BYTES < length (encode_utf8_all (text_of (self ++ map arc_value part.items)))) }
     {
-        let mut lines = self;
-        let mut from = 0;
-        'parts: while from < new.len() {
-            let to = from + part_of(new.len() - from);
-            let mut part = Vec::with_capacity(alloc, to - from)?;
-            push_shared(&mut part, &new[from..to])?;
-            let chunk = chunk_of(alloc, part)?;
-            lines = lines.with_chunk(shared_chunk(alloc, chunk)?)?;
-            from = to;
+        if part.is_empty() {
+            return Ok(self);
         }
-        Ok(lines)
+        let chunk = chunk_of(alloc, part)?;
+        self.with_chunk(shared_chunk(alloc, chunk)?)
     }
 
-    // These lines, and some more, which come into one chunk where they fit into it.
-    fn with_held(self, alloc: Global, new: Vec<Arc<Line>>) -> Result<Lines, TextFault>
+    // These lines, and some more, cut into chunks.
+    fn with_lines(self, alloc: Global, new: Vec<Arc<Line>>) -> Result<Lines, TextFault>
         ensures ok { IfOk result (λ lines. lines ≡ self ++ map arc_value new.items) }
         ensures too_large { IfErr result (λ e. e ≡ TextFault.TooLarge →
             MAX_BYTES < length (encode_utf8_all (text_of (self ++ map arc_value new.items)))) }
     {
-        if new.is_empty() || new.len() > MOST_LINES {
-            return self.with_lines(alloc, &new);
+        let mut lines = self;
+        let mut left = new.len();
+        let mut room = part_of(left);
+        let mut part = Vec::with_capacity(alloc, room)?;
+        for line in new {
+            push_line(&mut part, line)?;
+            if part.len() >= room {
+                lines = lines.with_part(alloc, part)?;
+                left = left.saturating_sub(room);
+                room = part_of(left);
+                part = Vec::with_capacity(alloc, room)?;
+            }
         }
-        let chunk = chunk_of(alloc, new)?;
-        self.with_chunk(shared_chunk(alloc, chunk)?)
+        lines.with_part(alloc, part)
     }
 
     // These lines, cut into chunks.
-    pub fn of(alloc: Global, lines: &[Arc<Line>]) -> Result<Lines, TextFault>
-        ensures ok { IfOk result (λ made. made ≡ map arc_value lines.now) }
+    pub fn of(alloc: Global, lines: Vec<Arc<Line>>) -> Result<Lines, TextFault>
+        ensures ok { IfOk result (λ made. made ≡ map arc_value lines.items) }
         ensures too_large { IfErr result (λ e. e ≡ TextFault.TooLarge →
-            MAX_BYTES < length (encode_utf8_all (text_of (map arc_value lines.now)))) }
+            MAX_BYTES < length (encode_utf8_all (text_of (map arc_value lines.items)))) }
     {
         Lines::with_room(alloc, lines.len() / FEW_LINES)?.with_lines(alloc, lines)
     }
@@ -264,7 +271,7 @@ impl Lines {
     {
         let room = front.len().saturating_add(back.len()).saturating_add(2);
         let start = Lines::with_room(alloc, room)?.with_chunks(front)?;
-        start.with_held(alloc, new)?.with_chunks(back)
+        start.with_lines(alloc, new)?.with_chunks(back)
     }
 
     // How many lines there are.

@@ -53,9 +53,9 @@ fn kept(alloc: Global, lines: Lines) -> Snapshot
 
 // Whether two lines have the same text and line end.
 fn same_line(a: &Line, b: &Line) -> bool
-    ensures { IsTrue result ↔ ((string_bytes a.now.text ≡ string_bytes b.now.text) × (a.now.end ≡ b.now.end)) }
+    ensures { IsTrue result ↔ (a.now ≡ b.now) }
 {
-    a.end == b.end && a.text.as_str() == b.text.as_str()
+    a.end() == b.end() && a.text() == b.text()
 }
 
 // Whether the lines of two texts are the same.
@@ -87,9 +87,6 @@ impl Snapshot {
         ensures ok { IfOk result (λ s. (s ≡ chars (string_bytes text)) × (string_len text ≤ MAX_BYTES)) }
         ensures too_large { IfErr result (λ e. e ≡ TextFault.TooLarge → MAX_BYTES < string_len text) }
     {
-        if text.len() > MAX_BYTES {
-            return Err(TextFault::TooLarge);
-        }
         Ok(kept(alloc, whole(alloc, text.as_str())?))
     }
 
@@ -109,7 +106,7 @@ impl Snapshot {
     {
         if at < self.lines.len() {
             let (line, _) = self.lines.line(at);
-            Some(line.text.as_str())
+            Some(line.text())
         } else {
             None
         }
@@ -124,7 +121,7 @@ impl Snapshot {
         let units = at.character as usize;
         if line < self.lines.len() {
             let (held, start) = self.lines.line(line);
-            start + fitting(held, Units::Utf16, units).count
+            start + fitting(held.text(), held.char_count(), Units::Utf16, units).count
         } else {
             self.lines.char_count()
         }
@@ -137,7 +134,7 @@ impl Snapshot {
         let (line, held, start) = self.lines.line_before(offset);
         Position {
             line: line as u32,
-            character: units_before(held, units, offset - start),
+            character: units_before(held.text(), held.char_count(), units, offset - start),
         }
     }
 
@@ -170,10 +167,11 @@ impl Snapshot {
     {
         if line < self.lines.len() {
             let (held, _) = self.lines.line(line);
-            let before = fitting(held, Units::Utf8, bytes).count;
+            let (text, char_count) = (held.text(), held.char_count());
+            let before = fitting(text, char_count, Units::Utf8, bytes).count;
             Position {
                 line: line as u32,
-                character: units_before(held, Units::Utf16, before),
+                character: units_before(text, char_count, Units::Utf16, before),
             }
         } else {
             self.position_of(self.lines.char_count())

@@ -11,7 +11,7 @@ returns-then-len c = (
 pub loop-i-preserved : goal.loop-i-preserved
 loop-i-preserved c =
     let same = c.if-not-same_line.ensures.0 refl in
-    below_more _ _ c.loop-i.invariant (same_held c.args.a.now c.args.b.now c.loop-i.i _ _ _ _ c.line.ensures c.line-in-loop-i.ensures same.0 same.1)
+    below_more _ _ c.loop-i.invariant (same_held c.args.a.now c.args.b.now c.loop-i.i _ _ _ _ c.line.ensures c.line-in-loop-i.ensures same)
 
 pub returns-then-not-same_line : goal.returns-then-not-same_line
 returns-then-not-same_line c = (

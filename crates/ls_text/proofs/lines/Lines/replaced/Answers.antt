@@ -4,7 +4,7 @@ use Rattle.std.specs.List.{flat_map}
 use Rattle.std.proofs.lemmas.List.{take_rest}
 use Rattle.std.proofs.lemmas.Result.{err_from_is_err_and, IfOk-weaker, IfErr-weaker}
 use Rattle.ls_text.specs.Chunks.{lines_behind, byte_length}
-use Rattle.ls_text.specs.declared.line.Line.{Line}
+use Rattle.ls_text.specs.Cut.{Row}
 use Rattle.ls_text.specs.declared.fault.TextFault.TheVariants.{TooLarge}
 use Rattle.ls_text.specs.declared.snapshot.TheConstants.{MAX_BYTES}
 use Rattle.ls_text.proofs.ChunkLaws.{spine_place, replaced_is, replaced_bytes, byte_length-front}
@@ -32,7 +32,7 @@ whole c =
     ∙ replaced_is _ _ _ _ _ _ _ _ (front_is c) c.in_ok-push_shared.ensures (back_is c)
 
 pub returns-clause-ok : goal.returns-clause-ok
-returns-clause-ok c = IfOk-weaker c.joined.result _ (λ (lines : List Line). lines ≡ take c.args.from c.args.self.now ++ (map arc_value c.args.new.now ++ drop c.args.to c.args.self.now)) (λ lines is. is ∙ whole c) c.joined.ensures.ok
+returns-clause-ok c = IfOk-weaker c.joined.result _ (λ (lines : List Row). lines ≡ take c.args.from c.args.self.now ++ (map arc_value c.args.new.now ++ drop c.args.to c.args.self.now)) (λ lines is. is ∙ whole c) c.joined.ensures.ok
 
 pub returns-clause-too_large : goal.returns-clause-too_large
 returns-clause-too_large c =

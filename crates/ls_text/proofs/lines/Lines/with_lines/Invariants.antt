@@ -1,12 +1,7 @@
-use Rattle.std.proofs.Common.{length, ◌-◌, ◌≡◌, ◌≤◌, ◌++◌, map, take}
+use Rattle.std.proofs.Common.{◌≡◌, ◌++◌, map}
 use Rattle.std.specs.Arc.{arc_value}
 use Rattle.ls_text.proofs.lines.Lines.with_lines.Given as goal
 
-abbrev pub invariant-parts : goal.invariant-parts
-invariant-parts l = record {
-  within : l.from ≤ length l.new;
-  lines_are : l.lines ≡ l.initial.lines ++ map arc_value (take l.from l.new);
-}
-
-abbrev pub decreases-parts : goal.decreases-parts
-decreases-parts l = length l.new - l.from
+-- the lines in chunks, those of the next chunk, and those to come
+abbrev pub invariant-loop-line : goal.invariant-loop-line
+invariant-loop-line l = (l.lines ++ map arc_value l.part.items) ++ map arc_value l.line-iterator.rest.items ≡ l.fn.self ++ map arc_value l.fn.new.items

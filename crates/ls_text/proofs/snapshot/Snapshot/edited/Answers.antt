@@ -4,7 +4,7 @@ use Rattle.std.proofs.lemmas.Result.{err_from_is_err_and}
 use Rattle.ls_text.specs.Lines.{utf16_len}
 use Rattle.ls_text.specs.Edits.{edited, replaced, position_offset, is_too_large}
 use Rattle.ls_text.specs.Cut.{IsCut}
-use Rattle.ls_text.specs.declared.line.Line.{Line}
+use Rattle.ls_text.specs.Cut.{Row}
 use Rattle.ls_text.proofs.EditLaws.{edited-none, edited-some, not_larger, larger}
 use Rattle.ls_text.proofs.snapshot.Snapshot.edited.Goals as goal
 use Rattle.ls_text.proofs.snapshot.Snapshot.edited.Goals.{in-None+in_ok-lines-in-None, in-Some+in_ok-lines-in-Some}
@@ -15,13 +15,13 @@ lines_are c =
       | in-None+in_ok-lines-in-None w ↦
           let text_is : chars w.as_str.result.now ≡ edited utf16_len c.args.self.now c.args.edit.now = ap chars w.as_str.ensures ∙ sym (edited-none utf16_len c.args.self.now c.args.edit.now w.in-None.is) in
           let cut : IsCut (chars w.as_str.result.now) w.in_ok-lines-in-None.lines = w.in_ok-lines-in-None.ensures.ok in
-          subst (λ (v : List Line). IsCut (edited utf16_len c.args.self.now c.args.edit.now) v) (sym w.lines-is) (cut.0, cut.1 ∙ text_is)
+          subst (λ (v : List Row). IsCut (edited utf16_len c.args.self.now c.args.edit.now) v) (sym w.lines-is) (cut.0, cut.1 ∙ text_is)
       | in-Some+in_ok-lines-in-Some w ↦
           let r = w.in-Some.range in
           let text_is : replaced c.args.self.now (position_offset utf16_len c.args.self.now r.start) (position_offset utf16_len c.args.self.now r.end) (chars w.as_str-in-Some.result.now) ≡ edited utf16_len c.args.self.now c.args.edit.now =
           ap (λ x. replaced c.args.self.now (position_offset utf16_len c.args.self.now r.start) (position_offset utf16_len c.args.self.now r.end) (chars x)) w.as_str-in-Some.ensures ∙ sym (edited-some utf16_len c.args.self.now c.args.edit.now w.in-Some.range w.in-Some.is) in
           let cut : IsCut (replaced c.args.self.now (position_offset utf16_len c.args.self.now w.in-Some.range.start) (position_offset utf16_len c.args.self.now w.in-Some.range.end) (chars w.as_str-in-Some.result.now)) w.in_ok-lines-in-Some.lines = w.in_ok-lines-in-Some.ensures.ok in
-          subst (λ (v : List Line). IsCut (edited utf16_len c.args.self.now c.args.edit.now) v) (sym w.lines-is) (cut.0, cut.1 ∙ text_is)
+          subst (λ (v : List Row). IsCut (edited utf16_len c.args.self.now c.args.edit.now) v) (sym w.lines-is) (cut.0, cut.1 ∙ text_is)
     ]
 
 pub returns-in_err-lines-in-None-clause-too_large :

@@ -14,3 +14,14 @@ returns-in_err-whole-clause-too_large c =
       ap (λ x. length (encode_utf8_all (chars x))) c.as_str.ensures.value ∙ ap length (encodes-chars (string_bytes c.args.text) (IsUtf8-string_bytes c.args.text)),
       c.args.text.bytes.ok.0,
     ))
+
+pub returns-clause-ok : goal.returns-clause-ok
+returns-clause-ok c =
+    let text_is = c.in_ok-whole.ensures.ok.1 ∙ ap chars c.as_str.ensures.value in
+    (c.kept.ensures.text ∙ text_is, omega (
+      arith,
+      c.kept.ensures.small,
+      ap (λ t. length (encode_utf8_all t)) text_is,
+      ap length (encodes-chars (string_bytes c.args.text) (IsUtf8-string_bytes c.args.text)),
+      c.args.text.bytes.ok.0,
+    ))

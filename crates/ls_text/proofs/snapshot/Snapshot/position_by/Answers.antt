@@ -1,5 +1,5 @@
-use Rattle.std.proofs.Common.{arith}
-use Rattle.std.proofs.lemmas.Str.{IsUtf8-string_bytes}
+use Rattle.std.proofs.Common.{◌-◌, ◌∙◌, ap, arith, length, take}
+use Rattle.std.specs.Prelude.{sum_by}
 use Rattle.ls_text.specs.Cut.{width_of}
 use Rattle.ls_text.proofs.PositionLaws.{line_small, bytes_small, position_found}
 use Rattle.ls_text.proofs.snapshot.Snapshot.position_by.Goals as goal
@@ -7,10 +7,11 @@ use Rattle.ls_text.proofs.snapshot.Snapshot.position_by.Goals as goal
 pub overflow_cast-result : goal.overflow_cast-result
 overflow_cast-result c = omega (arith, line_small c.self.inside.lines c.self.invariant c.line_before-line.result.0 c.line_before-line.ensures.line.in_range)
 
-pub units_before-requires : goal.units_before-requires
-units_before-requires c =
-    omega (arith, bytes_small c.self.inside.lines c.self.invariant _ _ _ c.line_before-line.ensures.line (IsUtf8-string_bytes c.line_before-line.result.1.now.text), c.line_before-line.result.1.now.text.bytes.ok.0)
+pub units_before-requires-clause-small : goal.units_before-requires-clause-small
+units_before-requires-clause-small c =
+    omega (arith, bytes_small c.self.inside.lines c.self.invariant _ _ _ c.line_before-line.ensures.line, ap length c.text.ensures.bytes)
 
 pub returns : goal.returns
 returns c =
-    position_found c.self.inside.lines c.self.invariant (width_of c.args.units) _ c.self.view_is _ _ _ _ c.line_before-line.ensures.line c.line_before-line.ensures.starts c.line_before-line.ensures.last _ c.units_before.ensures
+    position_found c.self.inside.lines c.self.invariant (width_of c.args.units) _ c.self.view_is _ _ _ _ c.line_before-line.ensures.line c.line_before-line.ensures.starts c.line_before-line.ensures.last _
+    (c.units_before.ensures ∙ ap (λ t. sum_by (width_of c.args.units) (take (c.args.offset - c.line_before-line.result.2) t)) c.text.ensures.characters)

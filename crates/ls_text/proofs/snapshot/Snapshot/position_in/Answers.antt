@@ -2,8 +2,8 @@ use Rattle.std.proofs.Common.{◌≡◌, ◌≤◌, ap, refl, sym, subst, ◌∙
 use Rattle.std.specs.Prelude.{sum_by, Option, Some, IfSome}
 use Rattle.std.specs.Char.{len_utf8}
 use Rattle.std.specs.List.{slice_get}
-use Rattle.std.proofs.lemmas.Str.{IsUtf8-string_bytes}
-use Rattle.ls_text.specs.Lines.{utf16_len, lines}
+use Rattle.std.specs.Str.{chars}
+use Rattle.ls_text.specs.Lines.{utf16_len, lines, fitting}
 use Rattle.ls_text.specs.Cut.{line_text, text_at}
 use Rattle.ls_text.specs.Positions.{position_of, position_in}
 use Rattle.ls_text.specs.declared.position.Position.{Position}
@@ -15,14 +15,14 @@ use Rattle.ls_text.proofs.snapshot.Snapshot.position_in.Goals as goal
 
 -- what the result counts
 counted : (c : goal.After-units_before) → ◌≡◌ {A = Position} (record { line = c.args.line; character = c.units_before.result }) (position_in utf16_len c.args.line (line_text c.line.result.0.now) c.args.bytes)
-counted c = same_position _ _ _ _ refl (c.units_before.ensures ∙ ap (λ n. sum_by utf16_len (take n (line_text c.line.result.0.now))) c.fitting-before.ensures.count)
+counted c = same_position _ _ _ _ refl (c.units_before.ensures ∙ ap (λ n. sum_by utf16_len (take n (chars c.text-text.result.now))) c.fitting-before.ensures.count ∙ ap (λ t. sum_by utf16_len (take (fitting len_utf8 t c.args.bytes) t)) c.text-text.ensures.characters)
 
 pub overflow_cast-result : goal.overflow_cast-result
 overflow_cast-result c = omega (arith, line_small c.self.inside.lines c.self.invariant c.args.line c.line.ensures.in_range)
 
-pub units_before-requires : goal.units_before-requires
-units_before-requires c =
-    omega (arith, bytes_small c.self.inside.lines c.self.invariant _ _ _ c.line.ensures (IsUtf8-string_bytes c.line.result.0.now.text), c.line.result.0.now.text.bytes.ok.0)
+pub units_before-requires-clause-small : goal.units_before-requires-clause-small
+units_before-requires-clause-small c =
+    omega (arith, bytes_small c.self.inside.lines c.self.invariant _ _ _ c.line.ensures, ap length c.text-text.ensures.bytes)
 
 pub returns-then-line-len-clause-position : goal.returns-then-line-len-clause-position
 returns-then-line-len-clause-position c =
@@ -31,7 +31,7 @@ returns-then-line-len-clause-position c =
 
 pub returns-then-line-len-clause-in_line : goal.returns-then-line-len-clause-in_line
 returns-then-line-len-clause-in_line c =
-    let found : Some (line_text c.line.result.0.now) ≡ slice_get (lines c.args.self.now) c.args.line = line_some c.self.inside.lines _ _ c.self.invariant.lines c.self.view_is c.line.result.0.now _ c.line.ensures.in_range c.line.ensures.line_is refl in
+    let found : Some (line_text c.line.result.0.now) ≡ slice_get (lines c.args.self.now) c.args.line = ap Some (sym c.text-text.ensures.characters) ∙ line_some c.self.inside.lines _ _ c.self.invariant.lines c.self.view_is c.line.result.0.now c.text-text.result.now c.line.ensures.in_range c.line.ensures.line_is c.text-text.ensures.characters in
     subst (λ (o : Option (List ℕ)). IfSome o (λ text. ◌≡◌ {A = Position} (record { line = c.args.line; character = c.units_before.result }) (position_in utf16_len c.args.line text c.args.bytes))) found (counted c)
 
 pub returns-else-line-len-clause-position : goal.returns-else-line-len-clause-position

@@ -3,7 +3,7 @@ use Rattle.std.specs.Str.{chars}
 use Rattle.std.proofs.lemmas.List.{take_all}
 use Rattle.std.proofs.lemmas.Str.{chars-nil}
 use Rattle.ls_text.specs.Cut.{text_of}
-use Rattle.ls_text.specs.declared.line.Line.{Line}
+use Rattle.ls_text.specs.Cut.{Row}
 use Rattle.ls_text.proofs.snapshot.Snapshot.to_text.Goals as goal
 
 pub returns : goal.returns
