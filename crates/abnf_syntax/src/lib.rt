@@ -13,8 +13,6 @@ mod kinds;
 mod number;
 mod parse;
 mod parser;
-#[cfg(test)]
-mod tests;
 mod tree;
 
 pub use block::{Block, Head, blocks};

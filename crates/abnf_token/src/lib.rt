@@ -19,6 +19,3 @@ pub use mark::{TokenMark, marks_of, token_at};
 pub use number::{base_of, digit_value, number_of};
 pub use scan::{TokenIter, tokens};
 pub use token::{Kind, Token};
-
-#[cfg(test)]
-mod tests;

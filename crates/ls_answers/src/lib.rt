@@ -11,8 +11,6 @@ mod job;
 mod laws;
 mod outline;
 mod places;
-#[cfg(test)]
-mod tests;
 
 pub use answer::{Answer, Symbol};
 pub use ask::Ask;

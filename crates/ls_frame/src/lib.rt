@@ -18,6 +18,3 @@ pub use fault::FrameFault;
 pub use framer::Framer;
 pub use laws::streams_are_unique;
 pub use writer::write_frame;
-
-#[cfg(test)]
-mod tests;

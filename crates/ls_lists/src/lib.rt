@@ -5,8 +5,6 @@
 #![tactic(auto)]
 
 mod list;
-#[cfg(test)]
-mod tests;
 mod text;
 
 pub use list::List;

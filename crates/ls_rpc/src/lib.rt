@@ -7,8 +7,6 @@
 pub mod laws;
 mod message;
 mod reply;
-#[cfg(test)]
-mod tests;
 
 pub use message::{INVALID_REQUEST, Id, Message, PARSE_ERROR, read_id, read_message};
 pub use reply::{error_text, notice_text, result_text};

@@ -13,8 +13,6 @@ mod kind;
 mod params;
 mod refusal;
 mod session;
-#[cfg(test)]
-mod tests;
 
 pub use answer::{DeskFault, Out};
 pub use bodies::{body_of, refusal_body};

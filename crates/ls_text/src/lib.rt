@@ -20,8 +20,6 @@ mod lines;
 mod position;
 mod shared;
 mod snapshot;
-#[cfg(test)]
-mod tests;
 mod units;
 
 pub use edit::Edit;

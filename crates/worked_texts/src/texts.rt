@@ -1,0 +1,365 @@
+ghost use Rattle.std.specs.Prelude.{◌<◌};
+
+use ls_lists::Text;
+use ls_text::{Edit, Place, Position, Range, Snapshot, TextFault};
+use std::alloc::{AllocError, Global};
+use std::test::Fail;
+
+fn snapshot(alloc: Global, text: &str) -> Result<Snapshot, TextFault> {
+    Snapshot::of_text(alloc, String::from_str(alloc, text)?)
+}
+
+#[test]
+fn counts_lines(rt: HostRuntime) -> Result<(), Fail> {
+    let texts = [
+        ("", 1),
+        ("a", 1),
+        ("a\n", 2),
+        ("a\r", 2),
+        ("a\r\n", 2),
+        ("a\n\r", 3),
+        ("a\r\r\n\nb", 4),
+        ("a\u{B}b\u{C}c\u{85}d\u{2028}e\u{2029}f", 1),
+    ];
+    for (text, lines) in texts {
+        let text = snapshot(rt.alloc(), text)?;
+        assert_eq!(rt; text.line_count(), lines);
+    }
+    Ok(())
+}
+
+#[test]
+fn gives_lines(rt: HostRuntime) -> Result<(), Fail> {
+    let text = snapshot(rt.alloc(), "a\r\n\nb\u{1F600}\rc\r\n")?;
+    let lines = [
+        Some("a"),
+        Some(""),
+        Some("b\u{1F600}"),
+        Some("c"),
+        Some(""),
+        None,
+    ];
+    for (at, line) in lines.iter().enumerate() {
+        assert_eq!(rt; text.line(at), *line, "line {at}");
+    }
+    assert_eq!(rt; text.to_text()?.as_str(), "a\r\n\nb\u{1F600}\rc\r\n");
+    Ok(())
+}
+
+// The bytes of `;`, U+1F600 and `z` are 1, 4 and 1; their UTF-16 units are 1, 2 and 1.
+#[test]
+fn finds_ranges(rt: HostRuntime) -> Result<(), Fail> {
+    let text = snapshot(rt.alloc(), "\n;\u{1F600}z\n")?;
+    let ranges = [
+        ((0, 1), (0, 1)),
+        ((1, 5), (1, 3)),
+        ((5, 6), (3, 4)),
+        ((0, 6), (0, 4)),
+        ((6, 6), (4, 4)),
+    ];
+    for ((start, end), (from, to)) in ranges {
+        let range = text.range_of(&Place {
+            line: 1,
+            start,
+            end,
+        });
+        let start = Position {
+            line: 1,
+            character: from,
+        };
+        let end = Position {
+            line: 1,
+            character: to,
+        };
+        assert_eq!(rt; range, Range { start, end });
+    }
+    Ok(())
+}
+
+#[test]
+fn finds_offsets_and_positions(rt: HostRuntime) -> Result<(), Fail> {
+    let text = snapshot(rt.alloc(), "a\r\n;\u{1F600}z\n")?;
+    let offsets = [
+        ((0, 0), 0),
+        ((0, 1), 1),
+        ((0, 999), 1),
+        ((1, 0), 3),
+        ((1, 1), 4),
+        ((1, 2), 4),
+        ((1, 3), 5),
+        ((1, 4), 6),
+        ((1, 5), 6),
+        ((2, 0), 7),
+        ((99, 0), 7),
+    ];
+    for ((line, character), offset) in offsets {
+        assert_eq!(rt;
+            text.offset_of(Position { line, character }),
+            offset,
+            "{line}:{character}"
+        );
+    }
+    let positions = [
+        (0, (0, 0)),
+        (1, (0, 1)),
+        (2, (0, 1)),
+        (3, (1, 0)),
+        (5, (1, 3)),
+        (6, (1, 4)),
+        (7, (2, 0)),
+        (8, (2, 0)),
+    ];
+    for (offset, (line, character)) in positions {
+        assert_eq!(rt;
+            text.position_of(offset),
+            Position { line, character },
+            "{offset}"
+        );
+    }
+    Ok(())
+}
+
+#[test]
+fn finds_places(rt: HostRuntime) -> Result<(), Fail> {
+    let text = snapshot(rt.alloc(), "a\u{E9}\r\n\u{20AC}\u{1F600}z")?;
+    let places = [
+        (0, (0, 0)),
+        (1, (0, 1)),
+        (2, (0, 3)),
+        (3, (0, 3)),
+        (4, (1, 0)),
+        (5, (1, 3)),
+        (6, (1, 7)),
+        (7, (1, 8)),
+        (8, (1, 8)),
+    ];
+    for (offset, (line, bytes)) in places {
+        let want = Place {
+            line,
+            start: bytes,
+            end: bytes,
+        };
+        assert_eq!(rt; text.place_at(offset), want, "{offset}");
+    }
+    Ok(())
+}
+
+#[test]
+fn refuses_large_texts(rt: HostRuntime) -> Result<(), Fail> {
+    let mut text = String::from_str(rt.alloc(), "a")?;
+    for _ in 0..22u32 {
+        let copy = text.clone()?;
+        text.push_str(copy.as_str())?;
+    }
+    assert_eq!(rt; text.len(), 4_194_304);
+    let larger = format!(in rt.alloc(); "{text}b")?;
+    assert!(rt; Snapshot::of_text(rt.alloc(), text).is_ok());
+    match Snapshot::of_text(rt.alloc(), larger) {
+        Ok(_) => assert!(rt; false, "a text of 4,194,305 bytes"),
+        Err(fault) => assert_eq!(rt; fault, TextFault::TooLarge),
+    }
+    Ok(())
+}
+
+fn edit(
+    alloc: Global,
+    range: Option<((u32, u32), (u32, u32))>,
+    text: &str,
+) -> Result<Edit, TextFault> {
+    let range = match range {
+        None => None,
+        Some((start, end)) => Some(Range {
+            start: Position {
+                line: start.0,
+                character: start.1,
+            },
+            end: Position {
+                line: end.0,
+                character: end.1,
+            },
+        }),
+    };
+    Ok(Edit {
+        range,
+        text: Text::from_str(alloc, text)?,
+    })
+}
+
+#[test]
+fn applies_edits(rt: HostRuntime) -> Result<(), Fail> {
+    let alloc = rt.alloc();
+    let changes = [
+        // Inside a surrogate pair is before it.
+        (";\u{1F600}z", ((0, 2), (0, 2)), "a", ";a\u{1F600}z", 1),
+        (";a\u{1F600}z", ((0, 4), (0, 4)), "b", ";a\u{1F600}bz", 1),
+        ("abc", ((0, 1), (0, 1)), "XY", "aXYbc", 1),
+        ("aXYbc", ((0, 2), (0, 4)), "-", "aX-c", 1),
+        // A range whose start is after its end.
+        ("abcd", ((0, 3), (0, 1)), "", "ad", 1),
+        // A line past the last, and a character past the line's end.
+        ("ab\n", ((9, 5), (9, 5)), "!", "ab\n!", 2),
+        ("ab\ncd", ((0, 9), (1, 0)), "", "abcd", 1),
+        // Line ends that an edit joins, makes and splits.
+        ("a\r", ((1, 0), (1, 0)), "\n", "a\r\n", 2),
+        ("a\r\nb", ((0, 1), (1, 0)), "", "ab", 1),
+        ("a\rb\n", ((1, 0), (1, 1)), "", "a\r\n", 2),
+        ("a\n", ((0, 1), (0, 1)), "\r", "a\r\n", 2),
+        ("a\nb", ((0, 0), (0, 1)), "x\r\ny\r", "x\r\ny\r\nb", 3),
+        ("", ((0, 0), (0, 0)), "a\nb", "a\nb", 2),
+    ];
+    for (before, (start, end), new, after, lines) in changes {
+        let mut edits = Vec::new(alloc);
+        edits.push(edit(alloc, Some((start, end)), new)?)?;
+        let text = snapshot(alloc, before)?;
+        let after = String::from_str(alloc, after)?;
+        let changed = text.apply(edits.as_slice())?;
+        assert_eq!(rt; changed.to_text()?, after);
+        assert_eq!(rt; changed.line_count(), lines, "{after}");
+        assert!(rt;
+            changed.same_text(&snapshot(alloc, after.as_str())?),
+            "{after}"
+        );
+        assert!(rt; text.same_text(&snapshot(alloc, before)?));
+    }
+    Ok(())
+}
+
+#[test]
+fn applies_edits_in_turn(rt: HostRuntime) -> Result<(), Fail> {
+    let alloc = rt.alloc();
+    let mut edits = Vec::new(alloc);
+    edits.push(edit(alloc, None, "abc")?)?;
+    edits.push(edit(alloc, Some(((0, 1), (0, 1))), "XY")?)?;
+    edits.push(edit(alloc, Some(((0, 2), (0, 4))), "-")?.copy()?)?;
+    let text = snapshot(alloc, "old\ntext")?;
+    let changed = text.apply(edits.as_slice())?;
+    assert_eq!(rt; changed.to_text()?.as_str(), "aX-c");
+    assert!(rt; !changed.same_text(&text));
+    assert!(rt; text.same_text(&text.apply(&[])?));
+    Ok(())
+}
+
+#[test]
+fn refuses_texts_that_are_large_on_the_way(rt: HostRuntime) -> Result<(), Fail> {
+    let alloc = rt.alloc();
+    let mut large = String::from_str(alloc, "a")?;
+    for _ in 0..22u32 {
+        let copy = large.clone()?;
+        large.push_str(copy.as_str())?;
+    }
+    let text = snapshot(alloc, "b")?;
+    let mut edits = Vec::new(alloc);
+    edits.push(edit(alloc, None, large.as_str())?)?;
+    assert!(rt; text.apply(edits.as_slice()).is_ok());
+    edits.push(edit(alloc, Some(((0, 0), (0, 0))), "b")?)?;
+    edits.push(edit(alloc, None, "c")?)?;
+    match text.apply(edits.as_slice()) {
+        Ok(_) => assert!(rt; false, "4,194,305 bytes on the way"),
+        Err(fault) => assert_eq!(rt; fault, TextFault::TooLarge),
+    }
+    Ok(())
+}
+
+// A number below `below`, by a linear congruential generator.
+fn below(state: &mut u64, below: u64) -> u64
+    requires { 0 < below }
+    ensures { result < below }
+{
+    *state = state
+        .wrapping_mul(6_364_136_223_846_793_005)
+        .wrapping_add(1_442_695_040_888_963_407);
+    (*state >> 33) % below
+}
+
+fn random_text(alloc: Global, state: &mut u64) -> Result<String, AllocError> {
+    let mut text = String::new(alloc);
+    for _ in 0..below(state, 10) {
+        text.push_str(match below(state, 6) {
+            0 | 1 => "\r",
+            2 | 3 => "\n",
+            4 => "\u{1F600}",
+            _ => "a",
+        })?;
+    }
+    Ok(text)
+}
+
+fn random_position(state: &mut u64) -> (u32, u32) {
+    (below(state, 6) as u32, below(state, 5) as u32)
+}
+
+// The text with the characters between two offsets replaced.
+fn replaced(
+    alloc: Global,
+    text: &str,
+    from: usize,
+    to: usize,
+    new: &str,
+) -> Result<String, AllocError> {
+    let mut result = String::new(alloc);
+    for c in text.chars().take(from) {
+        result.push(c)?;
+    }
+    result.push_str(new)?;
+    for c in text.chars().skip(to) {
+        result.push(c)?;
+    }
+    Ok(result)
+}
+
+// A random edit, and what a plain cut makes of the text by it.
+fn random_edit(alloc: Global, state: &mut u64, plain: &str) -> Result<(Edit, String), Fail> {
+    let (start, end) = (random_position(state), random_position(state));
+    let new = random_text(alloc, state)?;
+    let before = snapshot(alloc, plain)?;
+    let from = before.offset_of(Position {
+        line: start.0,
+        character: start.1,
+    });
+    let to = before.offset_of(Position {
+        line: end.0,
+        character: end.1,
+    });
+    let cut = replaced(alloc, plain, from.min(to), from.max(to), new.as_str())?;
+    Ok((edit(alloc, Some((start, end)), new.as_str())?, cut))
+}
+
+// The first line that two texts don't share, or that doesn't begin at the same offset.
+fn first_other_line(one: &Snapshot, other: &Snapshot) -> Option<u32> {
+    for line in 0..64u32 {
+        let start = Position { line, character: 0 };
+        let same_text = one.line(line as usize) == other.line(line as usize);
+        if !same_text || one.offset_of(start) != other.offset_of(start) {
+            return Some(line);
+        }
+    }
+    None
+}
+
+// Random lists of edits give the text, and the lines, of a plain cut of the whole result.
+#[test]
+fn agrees_with_a_plain_cut(rt: HostRuntime) -> Result<(), Fail> {
+    let alloc = rt.alloc();
+    let mut state = 1u64;
+    for round in 0..500u32 {
+        let mut plain = random_text(alloc, &mut state)?;
+        let text = snapshot(alloc, plain.as_str())?;
+        let mut edits = Vec::new(alloc);
+        for _ in 0..below(&mut state, 4) {
+            let (edit, cut) = random_edit(alloc, &mut state, plain.as_str())?;
+            edits.push(edit)?;
+            plain = cut;
+        }
+        let changed = text.apply(edits.as_slice())?;
+        let whole = snapshot(alloc, plain.as_str())?;
+        assert_eq!(rt;
+            changed.to_text()?.as_str(),
+            plain.as_str(),
+            "round {round}"
+        );
+        assert_eq!(rt; changed.line_count(), whole.line_count(), "round {round}");
+        assert_eq!(rt; first_other_line(&changed, &whole), None, "round {round}");
+        assert!(rt; changed.same_text(&whole), "round {round}");
+    }
+    Ok(())
+}

@@ -1,0 +1,98 @@
+#!/usr/bin/env bash
+# Runs a real Emacs (28 with the package eglot, or 29 and later) in batch mode against the language server, by the set-up that
+# editors/emacs-eglot.el gives: opens a grammar, asks for its outline and a definition, edits, asks again, opens a CRLF file, and
+# shuts down. Usage: emacs.sh PROGRAM. EMACS names the editor (emacs if left out). Status 0: all right, 1: a wrong answer, 2: it
+# could not be tried. Of the snippet the program's path is another, and eglot-ensure is left out: it waits for a command, and
+# none comes in batch mode.
+set -euo pipefail
+[ $# -eq 1 ] || { echo "usage: emacs.sh PROGRAM" >&2; exit 2; }
+program=$(realpath -- "$1")
+[ -x "$program" ] || { echo "emacs.sh: no program at $program" >&2; exit 2; }
+snippet=$(dirname -- "$(realpath -- "${BASH_SOURCE[0]}")")/../emacs-eglot.el
+emacs=${EMACS:-emacs}
+command -v "$emacs" >/dev/null || { echo "emacs.sh: no $emacs" >&2; exit 2; }
+folder=$(mktemp -d "${TMPDIR:-/tmp}/try emacs ü.XXXXXX")
+trap 'rm -rf -- "$folder"' EXIT
+export TRY_FOLDER=$folder HOME=$folder LC_ALL=C.UTF-8
+printf '; a gr\303\244mmar \360\237\230\200\n\ngreeting = hello SP name ; \360\237\230\200\nhello    = "hi" / "hello"\nNAME     = 1*ALPHA\nname    =/ "\360\237\230\200"/hello/name\n' > "$folder/a.abnf"
+sed 's/$/\r/' "$folder/a.abnf" > "$folder/dos.abnf"
+
+ln -s -- "$program" "$folder/the program"
+sed -e "s#/path/to/abnf_ls/out/abnf_ls#$folder/the program#" -e '/eglot-ensure/d' "$snippet" > "$folder/set-up.el"
+
+cat > "$folder/try.el" <<'EL'
+;; -*- lexical-binding: t -*-
+(package-initialize)
+(unless (require 'eglot nil t) (message "emacs.sh: no eglot in this Emacs") (kill-emacs 2))
+(require 'cl-lib) (require 'imenu) (require 'xref)
+(load (expand-file-name "set-up.el" (getenv "TRY_FOLDER")) nil t)
+(setq make-backup-files nil create-lockfiles nil auto-save-default nil enable-local-variables nil)
+(defvar failed 0)
+(defun is (what got want)
+  (if (equal got want) (princ (format "ok   %s\n" what))
+    (cl-incf failed)
+    (princ (format "FAIL %s\n     got  %S\n     want %S\n" what got want))))
+(defun told ()
+  "Tells the server of edits now: eglot waits for idleness, and there is none in batch mode."
+  (eglot--signal-textDocument/didChange))
+(defun leaves (index)
+  (cl-loop for item in index
+           append (if (and (consp (cdr item)) (consp (cadr item))) (leaves (cdr item)) (list item))))
+(defun outline ()
+  (told)
+  (sort (cl-loop for (name . place) in (condition-case nil (leaves (funcall imenu-create-index-function)) (imenu-unavailable nil))
+                 unless (string-prefix-p "*" name)
+                 collect (cons (line-number-at-pos (if (consp place) (car place) place)) (substring-no-properties name)))
+        #'car-less-than-car))
+(defun definition (line word)
+  (told)
+  (goto-char (point-min)) (forward-line (1- line)) (search-forward word) (goto-char (match-beginning 0))
+  (sort (mapcar (lambda (item) (line-number-at-pos (xref-location-marker (xref-item-location item))))
+                (xref-backend-definitions 'eglot (xref-backend-identifier-at-point 'eglot)))
+        #'<))
+(defun start (file)
+  (find-file (expand-file-name file (getenv "TRY_FOLDER")))
+  (unless (and (fboundp 'eglot-managed-p) (eglot-managed-p)) (apply #'eglot (eglot--guess-contact)))
+  (is (concat "managed: " file) (and (eglot-managed-p) t) t))
+(condition-case err
+    (progn
+      (start "a.abnf")
+      (is "mode" major-mode 'abnf-mode)
+      (is "outline" (outline) '((3 . "greeting") (4 . "hello") (5 . "NAME") (6 . "name")))
+      (is "definition" (definition 3 "hello") '(4))
+      (is "definition in two places" (definition 3 "name") '(5 6))
+      (is "definition at the end of a name behind an emoji" (definition 6 "/name") '(4))
+      (buffer-enable-undo)
+      (goto-char (point-min)) (insert "first = \"😀\" / hello ; 漢\n\n") (undo-boundary)
+      (is "outline after an insertion" (outline) '((1 . "first") (5 . "greeting") (6 . "hello") (7 . "NAME") (8 . "name")))
+      (is "definition after it" (definition 1 "hello") '(6))
+      (goto-char (point-min)) (forward-line 4) (kill-whole-line) (undo-boundary)
+      (is "outline after a deletion" (outline) '((1 . "first") (5 . "hello") (6 . "NAME") (7 . "name")))
+      (primitive-undo 2 buffer-undo-list)
+      (is "outline after an undo" (mapcar #'cdr (outline)) (if (= (line-number-at-pos (point-max)) 7) '("greeting" "hello" "NAME" "name") '("first" "greeting" "hello" "NAME" "name")))
+      (let ((all (buffer-string)) (count (length (outline)))) (goto-char (point-max)) (insert all)
+        (is "symbols after a paste" (length (outline)) (* 2 count)))
+      (erase-buffer)
+      (is "outline of nothing" (outline) nil)
+      (dotimes (i 100) (goto-char (point-min)) (insert (format "x%d = %%x41\n" i)) (insert "; é😀\n") (told))
+      (is "symbols after 100 quick edits" (length (outline)) 100)
+      (set-buffer-modified-p nil)
+      (start "dos.abnf")
+      (is "outline with CRLF" (outline) '((3 . "greeting") (4 . "hello") (5 . "NAME") (6 . "name")))
+      (goto-char (point-min)) (forward-line 5) (insert "new = hello\n")
+      (is "outline with CRLF after an edit" (outline) '((3 . "greeting") (4 . "hello") (5 . "NAME") (6 . "new") (7 . "name")))
+      (is "definition with CRLF" (definition 6 "hello") '(4))
+      (set-buffer-modified-p nil)
+      (eglot-shutdown (eglot-current-server)))
+  (error (cl-incf failed) (princ (format "FAIL %S\n" err))))
+(kill-emacs (if (zerop failed) 0 1))
+EL
+status=0
+timeout 18 "$emacs" -q --batch -l "$folder/try.el" 2>"$folder/stderr" || status=$?
+[ "$status" != 2 ] || { cat "$folder/stderr" >&2; exit 2; }
+if [ "$status" != 0 ]; then
+  cat "$folder/stderr" >&2
+  echo "emacs.sh: failed with status $status ($("$emacs" --version | head -1))" >&2
+  exit 1
+fi
+echo "emacs.sh: passed ($("$emacs" --version | head -1))"
