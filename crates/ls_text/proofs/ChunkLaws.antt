@@ -2,7 +2,7 @@
 use Rattle.std.proofs.Common.{◌≡◌, ℕ, zero, suc, ◌+◌, ◌-◌, ◌^◌, ◌<◌, ◌≤◌, List, [], ◌∷◌, ◌++◌, length, take, drop, get_or, refl, sym, ap, subst, ◌∙◌, ⊎_elim, arith, append_assoc, length-append, map, take-append-drop, length-drop}
 use Rattle.std.specs.List.{flat_map}
 use Rattle.std.specs.Str.{encode_utf8_all as encodes}
-use Rattle.std.proofs.lemmas.List.{append-nil, take-append-le, take_at, drop-append-le, get_or_append_left, get_or_push, take_all, take_more, get_or_read, get_or-append-add, take-take, drop-take, drop-drop, length-map, get_or-map, map-append, get_or-drop}
+use Rattle.std.proofs.lemmas.List.{append-nil, take-append-le, take_at, drop-append-le, get_or_append_left, get_or_push, take_all, take_more, get_or_read, get_or-append-add, take-take, drop-take, drop-drop, length-map, get_or-map, get_or-drop}
 use Rattle.std.proofs.lemmas.List.Concat.{flat_map-append}
 use Rattle.std.proofs.lemmas.Bool.{cases_lt}
 use Rattle.std.proofs.lemmas.Str.{encodes-append, length-le-encodes}

@@ -5,7 +5,6 @@ use Rattle.std.specs.Option.{option_map}
 use Rattle.std.specs.Prelude.{Option, Some, None}
 use Rattle.std.proofs.lemmas.Option.{slice_get-map, slice_get_past, slice_get-get_or}
 use Rattle.std.specs.Str.{chars, IsUtf8, IsCharBoundary}
-use Rattle.std.specs.String.{string_bytes}
 use Rattle.std.specs.Char.{encode_utf8 as encode}
 use Rattle.std.specs.Str.{encode_utf8_all as encodes}
 use Rattle.std.proofs.lemmas.List.{append-nil, length-map}
@@ -258,8 +257,11 @@ module _ (ls : List Row) (t : List ℕ) (i : ℕ) (h : AreLines ls) (view_is : t
   line_found : slice_get (lines t) i ≡ option_map line_text (slice_get ls i)
   line_found = ap (λ x. slice_get x i) (ap lines (sym view_is) ∙ lines-text_of ls h) ∙ slice_get-map line_text ls i
 
+  pub text_some : (x : Row) → i < length ls → x ≡ get_or ls i x → Some (line_text x) ≡ slice_get (lines t) i
+  text_some x lt e = sym (line_found ∙ ap (option_map line_text) (slice_get-get_or ls i x lt) ∙ ap (λ y. Some (line_text y)) (sym e))
+
   pub line_some : (x : Row) (bytes : List ℕ) → i < length ls → x ≡ get_or ls i x → chars bytes ≡ line_text x → Some (chars bytes) ≡ slice_get (lines t) i
-  line_some x bytes lt e b = ap Some b ∙ sym (line_found ∙ ap (option_map line_text) (slice_get-get_or ls i x lt) ∙ ap (λ y. Some (line_text y)) (sym e))
+  line_some x bytes lt e b = ap Some b ∙ text_some x lt e
 
   pub line_none : length ls ≤ i → None ≡ slice_get (lines t) i
   line_none le = sym (line_found ∙ ap (option_map line_text) (slice_get_past ls i le))

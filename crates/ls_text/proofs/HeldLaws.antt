@@ -2,7 +2,6 @@
 use Rattle.std.proofs.Common.{◌≡◌, ℕ, ◌+◌, ◌<◌, ◌≤◌, List, [], ◌∷◌, ◌++◌, length, take, drop, get_or, refl, sym, ap, subst, ◌∙◌, arith, append_assoc, length-append, map, take-append-drop}
 use Rattle.std.specs.Str.{chars, IsUtf8, encode_utf8_all as encodes}
 use Rattle.std.specs.Char.{encode_utf8 as encode}
-use Rattle.std.specs.String.{string_bytes}
 use Rattle.std.proofs.lemmas.Str.{encodes-append, encodes-chars, chars-append, length-le-encodes}
 use Rattle.std.proofs.lemmas.List.{append-nil, take-map, map_more, map-append}
 use Rattle.ls_text.specs.Cut.{end_text, line_text, text_of, IsIndex}

@@ -2,11 +2,9 @@
 use Rattle.std.proofs.Common.{◌≡◌, ℕ, zero, suc, ◌+◌, ◌-◌, ◌<◌, ◌≤◌, Bool, true, false, not, cond, ◌&&◌, ◌||◌, eqb, leb, List, [], ◌∷◌, ◌++◌, length, take, drop, get_or, refl, sym, ap, subst, ◌∙◌, ◌⊎◌, inl, inr, ⊎_elim, arith, length-append, zero-add}
 use Rattle.std.specs.Prelude.{Option, Some, None, sum_by, unwrap_or}
 use Rattle.std.specs.List.{list_any}
-use Rattle.std.specs.Str.{chars}
-use Rattle.std.specs.String.{string_bytes}
 use Rattle.std.proofs.lemmas.List.Sums.{sum_by-cons}
 use Rattle.std.proofs.Math.Seq.{take-append-add, drop-append-add}
-use Rattle.std.proofs.lemmas.List.{append-nil, take-append-le, get_or_append_left, get_or_push, get_or_read}
+use Rattle.std.proofs.lemmas.List.{append-nil, take-append-le, get_or_append_left, get_or_push}
 use Rattle.std.proofs.lemmas.Bool.{cases_lt}
 use Rattle.std.proofs.lemmas.Bool.Decides.{nat_tests}
 use Rattle.ls_text.specs.Lines.{is_break, starts_with_lf, ends_with_cr, line_ends, last_line, splits_crlf, is_offset, line_at, units_at, greatest, is_within, offset_of, fitting}

@@ -1,15 +1,14 @@
 -- Laws of the position of an offset, over the lines that a snapshot holds.
-use Rattle.std.proofs.Common.{◌≡◌, ℕ, zero, suc, ◌+◌, ◌-◌, ◌<◌, ◌≤◌, min, Bool, true, false, cond, ◌&&◌, List, [], ◌∷◌, ◌++◌, length, take, drop, get_or, refl, sym, ap, subst, ◌∙◌, ⊎_elim, arith, length-append, map}
+use Rattle.std.proofs.Common.{◌≡◌, ℕ, zero, suc, ◌+◌, ◌-◌, ◌<◌, ◌≤◌, min, Bool, true, false, cond, ◌&&◌, List, [], ◌∷◌, ◌++◌, length, take, drop, refl, sym, ap, subst, ◌∙◌, ⊎_elim, arith, length-append}
 use Rattle.std.specs.Prelude.{sum_by}
-use Rattle.std.specs.Str.{chars, IsUtf8, encode_utf8_all as encodes}
-use Rattle.std.proofs.lemmas.Str.{encodes-append, encodes-chars, length-le-encodes}
+use Rattle.std.specs.Str.{encode_utf8_all as encodes}
+use Rattle.std.proofs.lemmas.Str.{encodes-append, length-le-encodes}
 use Rattle.std.proofs.Math.Seq.{take-append-add, drop-append-add}
-use Rattle.std.proofs.lemmas.List.{get_or_read, take_all}
+use Rattle.std.proofs.lemmas.List.{take_all}
 use Rattle.std.proofs.lemmas.Bool.{cases_lt}
 use Rattle.ls_text.specs.Lines.{starts_with_lf, ends_with_cr, splits_crlf, line_at, units_at, lowered}
 use Rattle.ls_text.specs.Cut.{end_text, line_text, text_of, is_end_before, AreLines, start_of, text_at, end_at, IsKept}
 use Rattle.ls_text.specs.Chunks.{IsLineAt}
-use Rattle.std.specs.String.{string_bytes}
 use Rattle.ls_text.specs.Positions.{position_of}
 use Rattle.ls_text.specs.declared.position.Position.{Position}
 use Rattle.ls_text.specs.declared.line_end.LineEnd.{LineEnd}

@@ -1,10 +1,6 @@
 -- Laws of lines that make the same text.
-use Rattle.std.proofs.Common.{◌≡◌, ℕ, zero, suc, ◌+◌, ◌<◌, true, false, not, List, [], ◌∷◌, ◌++◌, length, get_or, refl, sym, ap, ◌∙◌, arith, map}
-use Rattle.std.specs.String.{string_bytes}
-use Rattle.std.specs.Str.{chars}
+use Rattle.std.proofs.Common.{◌≡◌, ℕ, zero, suc, ◌+◌, ◌<◌, true, false, not, List, [], ◌∷◌, ◌++◌, length, refl, sym, ap, ◌∙◌, arith, map}
 use Rattle.std.proofs.lemmas.List.{append_cancel_left}
-use Rattle.std.proofs.lemmas.Str.{encodes-chars, IsUtf8-string_bytes}
-use Rattle.std.specs.Str.{encode_utf8_all as encodes}
 use Rattle.ls_text.specs.Lines.{starts_with_lf, lines, line_ends}
 use Rattle.ls_text.specs.Cut.{end_text, line_text, text_of, row, is_end_before, AreLines, text_at, end_at}
 use Rattle.ls_text.specs.declared.line_end.LineEnd.{LineEnd}

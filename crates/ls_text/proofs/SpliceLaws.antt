@@ -1,6 +1,6 @@
 -- Laws of lines of which a part is replaced.
 use Rattle.std.proofs.Common.{◌≡◌, ℕ, zero, suc, ◌+◌, ◌-◌, ◌<◌, ◌≤◌, Bool, true, false, not, ◌&&◌, ◌||◌, List, [], ◌∷◌, ◌++◌, length, take, drop, refl, sym, ap, subst, ◌∙◌, arith, append_assoc, length-append, zero-add, take-append-drop, length-drop}
-use Rattle.std.specs.Str.{chars, IsUtf8, encode_utf8_all as encodes}
+use Rattle.std.specs.Str.{chars, encode_utf8_all as encodes}
 use Rattle.std.proofs.Math.Seq.{take-append_seam}
 use Rattle.std.proofs.lemmas.List.{append-nil, take-append-le, drop-append-le}
 use Rattle.std.proofs.lemmas.Str.{chars-append, encodes-append, IsUtf8-take}

@@ -3,14 +3,12 @@ use Rattle.std.proofs.Common.{zero, suc, min, ◌≡◌, ℕ, ◌+◌, ◌-◌, 
 use Rattle.std.specs.Prelude.{sum_by}
 use Rattle.std.specs.Char.{len_utf8}
 use Rattle.std.specs.Str.{chars, IsUtf8, encode_utf8_all as encodes}
-use Rattle.std.proofs.lemmas.Str.{encodes-append, encodes-chars, length-encode, len_utf8_bounds, length-le-encodes, IsUtf8-string_bytes}
+use Rattle.std.proofs.lemmas.Str.{encodes-append, encodes-chars, length-encode, len_utf8_bounds, length-le-encodes}
 use Rattle.std.proofs.lemmas.List.{append-nil, take_more, at_drop_more, at_drop_all}
 use Rattle.std.proofs.lemmas.List.Sums.{sum_by-cons, sum_by-append}
 use Rattle.std.proofs.lemmas.Bool.Decides.{nat_tests}
 use Rattle.ls_text.specs.Lines.{fitting, utf16_len}
-use Rattle.ls_text.specs.Cut.{line_text, width_of}
-use Rattle.ls_text.specs.Cut.{Row}
-use Rattle.std.specs.String.{string_bytes}
+use Rattle.ls_text.specs.Cut.{width_of}
 use Rattle.ls_text.specs.declared.units.Units.{Units}
 use Rattle.ls_text.specs.declared.units.Units.TheVariants.{Utf8, Utf16}
 

@@ -4,3 +4,4 @@ pub mod Chunks
 pub mod Positions
 pub mod Spots
 pub mod Edits
+pub mod Marks

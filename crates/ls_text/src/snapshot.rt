@@ -5,6 +5,7 @@ ghost use Rattle.std.specs.String.{string_bytes, string_len};
 ghost use Rattle.std.specs.Option.{option_map};
 ghost use Rattle.std.specs.List.{slice_get};
 ghost use Rattle.ls_text.specs.Lines.{line_ends, lines, utf16_len, offset_of};
+ghost use Rattle.ls_text.specs.Marks.{AreMarksOf};
 ghost use Rattle.ls_text.specs.Positions.{position_of, position_in, place_at, place_range};
 ghost use Rattle.ls_text.specs.Edits.{position_offset, replaced, edited, edited_all, is_too_large};
 ghost use Rattle.ls_text.specs.Cut.{AreLines, IsCut, text_of, width_of};
@@ -15,6 +16,7 @@ use crate::line::Line;
 use crate::lines::Lines;
 use crate::position::{Place, Position, Range};
 use crate::units::{Units, fitting, units_before};
+use abnf_token::TokenMark;
 use std::alloc::{AllocError, Global};
 use std::marker::Model;
 
@@ -107,6 +109,20 @@ impl Snapshot {
         if at < self.lines.len() {
             let (line, _) = self.lines.line(at);
             Some(line.text())
+        } else {
+            None
+        }
+    }
+
+    /// Where the tokens of the line `at`, from 0, stand. There is none from [`line_count`](Snapshot::line_count) on.
+    ///
+    /// They were made when the line was cut, so the call takes no memory.
+    pub fn marks(&self, at: usize) -> Option<&[TokenMark]>
+        ensures { AreMarksOf (slice_get (lines self.now) at) (option_map (λ marks. marks.now) result) }
+    {
+        if at < self.lines.len() {
+            let (line, _) = self.lines.line(at);
+            Some(line.marks())
         } else {
             None
         }

@@ -5,7 +5,7 @@ use Rattle.std.specs.Str.{chars, encode_utf8_all}
 use Rattle.std.specs.String.{string_bytes}
 use Rattle.std.proofs.lemmas.Str.{encodes-chars, IsUtf8-string_bytes}
 use Rattle.std.proofs.lemmas.Result.{IfOk-weaker, IfErr-weaker}
-use Rattle.ls_text.specs.Cut.{text_of, end_at, IsCut, IsCutOnto}
+use Rattle.ls_text.specs.Cut.{end_at, IsCut, IsCutOnto}
 use Rattle.ls_text.specs.Cut.{Row}
 use Rattle.ls_text.specs.declared.fault.TextFault.TheVariants.{TooLarge}
 use Rattle.ls_text.specs.declared.snapshot.TheConstants.{MAX_BYTES}

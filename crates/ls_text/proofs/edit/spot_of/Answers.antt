@@ -1,4 +1,4 @@
-use Rattle.std.proofs.Common.{◌≡◌, refl, ◌∙◌, ap, arith, length}
+use Rattle.std.proofs.Common.{refl, ◌∙◌, ap, arith}
 use Rattle.std.proofs.lemmas.Str.{length-le-encodes}
 use Rattle.ls_text.specs.Lines.{utf16_len, fitting}
 use Rattle.ls_text.specs.Cut.{text_of}

@@ -1,6 +1,5 @@
-use Rattle.std.proofs.Common.{◌≡◌, ap, ◌∙◌, ◌++◌, ◌-◌, map, take, drop, sym}
+use Rattle.std.proofs.Common.{ap, ◌∙◌, ◌++◌, map, take, sym}
 use Rattle.std.specs.Arc.{arc_value}
-use Rattle.std.specs.List.{flat_map}
 use Rattle.std.proofs.lemmas.List.{take-map}
 use Rattle.ls_text.specs.Chunks.{lines_behind}
 use Rattle.ls_text.specs.declared.chunk.Chunk.{Chunk}

@@ -1,6 +1,5 @@
-use Rattle.std.proofs.Common.{arith, ◌<◌, ◌≡◌, ap, ◌∙◌, ◌++◌, ◌-◌, map, take, drop, sym, length}
+use Rattle.std.proofs.Common.{arith, ◌<◌, ap, ◌∙◌, ◌++◌, map, drop, sym, length}
 use Rattle.std.specs.Arc.{arc_value}
-use Rattle.std.specs.List.{flat_map}
 use Rattle.std.proofs.lemmas.List.{drop-map, take_rest}
 use Rattle.std.proofs.lemmas.Result.{on_ok_weaker}
 use Rattle.ls_text.specs.Chunks.{lines_behind}

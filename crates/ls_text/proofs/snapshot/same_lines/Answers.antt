@@ -1,4 +1,4 @@
-use Rattle.std.proofs.Common.{◌<◌, ◌∙◌, ap, refl, sym, arith, length, below_more}
+use Rattle.std.proofs.Common.{◌∙◌, refl, sym, arith, below_more}
 use Rattle.ls_text.proofs.SameLaws.{length_same, same_at, text_same, same_held, held_same}
 use Rattle.ls_text.proofs.snapshot.same_lines.Goals as goal
 

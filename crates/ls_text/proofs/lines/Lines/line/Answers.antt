@@ -1,8 +1,8 @@
-use Rattle.std.proofs.Common.{◌≡◌, ◌+◌, ◌-◌, ◌<◌, ◌≤◌, ap, ◌∙◌, sym, subst, arith, length, map, get_or, refl, List}
+use Rattle.std.proofs.Common.{◌+◌, ◌-◌, ◌<◌, ap, subst, arith, length, map}
 use Rattle.std.specs.Arc.{arc_value}
 use Rattle.std.specs.List.{flat_map}
 use Rattle.std.proofs.lemmas.List.{length-map}
-use Rattle.ls_text.specs.Chunks.{lines_behind, IsLineAt, byte_length}
+use Rattle.ls_text.specs.Chunks.{lines_behind, IsLineAt}
 use Rattle.ls_text.specs.declared.chunk.Chunk.{Chunk}
 use Rattle.ls_text.specs.Cut.{Row}
 use Rattle.ls_text.proofs.ChunkLaws.{spine_line, line_held, line_start_le}

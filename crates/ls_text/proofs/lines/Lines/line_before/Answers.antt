@@ -1,12 +1,12 @@
-use Rattle.std.proofs.Common.{◌≡◌, ◌+◌, ◌-◌, ◌<◌, ◌≤◌, ap, ◌∙◌, sym, subst, arith, length, map, get_or, refl, List}
+use Rattle.std.proofs.Common.{◌≡◌, ◌+◌, ◌-◌, ◌<◌, ap, ◌∙◌, subst, arith, length, map, get_or}
 use Rattle.std.specs.Arc.{arc_value}
 use Rattle.std.specs.List.{flat_map}
 use Rattle.std.proofs.lemmas.List.{length-map, get_or_default}
-use Rattle.ls_text.specs.Chunks.{lines_behind, IsLineAt, byte_length}
+use Rattle.ls_text.specs.Chunks.{lines_behind, IsLineAt}
 use Rattle.ls_text.specs.Cut.{start_of}
 use Rattle.ls_text.specs.declared.chunk.Chunk.{Chunk}
 use Rattle.ls_text.specs.Cut.{Row}
-use Rattle.ls_text.proofs.ChunkLaws.{spine_found, spine_last, line_held, line_start_le, start_none}
+use Rattle.ls_text.proofs.ChunkLaws.{spine_found, spine_last, line_held, start_none}
 use Rattle.ls_text.proofs.lines.Lines.line_before.Goals as goal
 
 pub start_before-local-requires-clause-first : goal.start_before-local-requires-clause-first

@@ -1,13 +1,13 @@
-use Rattle.std.proofs.Common.{◌≡◌, ◌+◌, ◌-◌, ◌++◌, ◌∙◌, ◌≤◌, ◌<◌, [], ap, sym, arith, map, take, drop, length, List, refl}
+use Rattle.std.proofs.Common.{◌≡◌, ◌+◌, ◌-◌, ◌++◌, ◌∙◌, ◌<◌, ap, sym, arith, map, take, drop, length, List}
 use Rattle.std.specs.Arc.{arc_value}
 use Rattle.std.specs.List.{flat_map}
 use Rattle.std.proofs.lemmas.List.{take_rest}
-use Rattle.std.proofs.lemmas.Result.{err_from_is_err_and, IfOk-weaker, IfErr-weaker}
+use Rattle.std.proofs.lemmas.Result.{IfOk-weaker, IfErr-weaker}
 use Rattle.ls_text.specs.Chunks.{lines_behind, byte_length}
 use Rattle.ls_text.specs.Cut.{Row}
 use Rattle.ls_text.specs.declared.fault.TextFault.TheVariants.{TooLarge}
 use Rattle.ls_text.specs.declared.snapshot.TheConstants.{MAX_BYTES}
-use Rattle.ls_text.proofs.ChunkLaws.{spine_place, replaced_is, replaced_bytes, byte_length-front}
+use Rattle.ls_text.proofs.ChunkLaws.{spine_place, replaced_is}
 use Rattle.ls_text.proofs.lines.Lines.replaced.Goals as goal
 
 -- the lines before the place

@@ -1,8 +1,7 @@
-use Rattle.std.proofs.Common.{◌≡◌, ◌++◌, ◌∙◌, ◌≤◌, ap, sym, arith, map, List}
+use Rattle.std.proofs.Common.{◌++◌, ◌∙◌, ap, sym, arith, map}
 use Rattle.std.specs.Arc.{arc_value}
-use Rattle.std.specs.List.{flat_map}
 use Rattle.std.proofs.lemmas.Result.{err_from_is_err_and}
-use Rattle.ls_text.specs.Chunks.{lines_behind, byte_length}
+use Rattle.ls_text.specs.Chunks.{lines_behind}
 use Rattle.ls_text.specs.declared.chunk.Chunk.{Chunk}
 use Rattle.ls_text.proofs.ChunkLaws.{pieces_more, pieces_bytes}
 use Rattle.ls_text.proofs.lines.Lines.with_chunks.Goals as goal

@@ -1,9 +1,8 @@
-use Rattle.std.proofs.Common.{◌≡◌, ◌-◌, ◌≤◌, ap, ◌∙◌, ◌++◌, arith, length, take, List}
+use Rattle.std.proofs.Common.{◌≡◌, ◌-◌, ap, ◌∙◌, ◌++◌, arith, take}
 use Rattle.std.specs.Str.{chars}
 use Rattle.std.proofs.lemmas.List.{take_all}
 use Rattle.std.proofs.lemmas.Str.{chars-nil}
 use Rattle.ls_text.specs.Cut.{text_of}
-use Rattle.ls_text.specs.Cut.{Row}
 use Rattle.ls_text.proofs.snapshot.Snapshot.to_text.Goals as goal
 
 pub returns : goal.returns
