@@ -172,7 +172,7 @@ impl<'t> Gathered<'t> {
 
     /// The tokens of a line come, which have these marks, and its end.
     fn add_line(&mut self, line: &'t str, at: usize, marks: &[TokenMark]) -> Result<(), AllocError>
-        requires { AreMarks line.entry.now marks.now }
+        requires { AreMarks line.now marks.now }
         ensures { OnOk result (spec.AddsLine at line.entry.now (spec.state_of self.old) (spec.state_of self.new)) }
     {
         for mark in marks {

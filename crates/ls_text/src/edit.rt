@@ -173,12 +173,12 @@ pub fn spliced(
         IfErr result (λ e. e ≡ TextFault.TooLarge → MAX_BYTES < length (encode_utf8_all text)) }
 {
     let kept = from.line.saturating_sub(1);
-    let text = middle(alloc, lines, kept, from, to, new)?;
-    if text.len() > MAX_BYTES {
+    let part = middle(alloc, lines, kept, from, to, new)?;
+    if part.len() > MAX_BYTES {
         return Err(TextFault::TooLarge);
     }
     let mut cut = Vec::new(alloc);
-    let rest = push_lines(alloc, &mut cut, text.as_str())?;
+    let rest = push_lines(alloc, &mut cut, part.as_str())?;
     let (last, _) = lines.line(to.line);
     if let LineEnd::Eof = last.end() {
         push_line(alloc, &mut cut, rest, LineEnd::Eof)?;

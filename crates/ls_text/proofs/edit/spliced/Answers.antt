@@ -20,22 +20,21 @@ overflow_add-to c = omega (arith, line_small c.args.lines.now c.requires.lines c
 
 pub returns-then-len-gt-MAX_BYTES-clause-too_large : goal.returns-then-len-gt-MAX_BYTES-clause-too_large
 returns-then-len-gt-MAX_BYTES-clause-too_large c = λ e.
-    let kept_is : c.saturating_sub-kept.result ≡ c.args.from.line - 1 = omega (arith, c.saturating_sub-kept.ensures) in
     omega (
       arith,
       c.if-len-gt-MAX_BYTES.true,
       c.len.ensures,
-      c.in_ok-text.text.bytes.ok.0,
-      ap length (encodes-chars (string_bytes c.in_ok-text.text) (IsUtf8-string_bytes c.in_ok-text.text)),
-      ap (λ z. length (encode_utf8_all z)) c.in_ok-text.ensures,
-      middle_bytes c.args.lines.now c.requires.lines.lines c.args.from c.args.to c.requires.from c.requires.to c.saturating_sub-kept.result kept_is (chars c.args.new.now),
+      c.in_ok-part.part.bytes.ok.0,
+      ap length (encodes-chars (string_bytes c.in_ok-part.part) (IsUtf8-string_bytes c.in_ok-part.part)),
+      ap (λ z. length (encode_utf8_all z)) c.in_ok-part.ensures,
+      middle_bytes c.args.lines.now c.requires.lines.lines c.args.from c.args.to c.requires.from c.requires.to c.saturating_sub-kept.result (omega (arith, c.saturating_sub-kept.ensures)) (chars c.args.new.now),
     )
 
-cut_is : (c : goal.After-drop-text-2) → IsCut (wanted_text c.args.lines.now c.args.from c.args.to (chars c.args.new.now)) (take c.saturating_sub-kept.result c.args.lines.now ++ (map arc_value c.match-end.cut.items ++ drop (c.args.to.line + 1) c.args.lines.now))
+cut_is : (c : goal.After-drop-part-2) → IsCut (wanted_text c.args.lines.now c.args.from c.args.to (chars c.args.new.now)) (take c.saturating_sub-kept.result c.args.lines.now ++ (map arc_value c.match-end.cut.items ++ drop (c.args.to.line + 1) c.args.lines.now))
 cut_is c =
     let end_is : end_at c.args.lines.now c.args.to.line ≡ c.line.result.0.now.end = end_found c.args.lines.now c.args.to.line c.line.result.0.now c.line.ensures.in_range c.line.ensures.line_is in
     let kept_is : c.saturating_sub-kept.result ≡ c.args.from.line - 1 = omega (arith, c.saturating_sub-kept.ensures) in
-    let text_is = ap chars c.as_str.ensures.value ∙ c.in_ok-text.ensures in
+    let text_is = ap chars c.as_str.ensures.value ∙ c.in_ok-part.ensures in
     let onto : IsCutOnto [] c.as_str.result.now c.in_ok-rest.rest.now (map arc_value c.push_lines.new.lines.items) = subst (λ z. IsCutOnto z c.as_str.result.now c.in_ok-rest.rest.now (map arc_value c.push_lines.new.lines.items)) (ap (map arc_value) c.new-cut.ensures.items) c.in_ok-rest.ensures.cut in
     elim c.match-end.branch [
       | in-Eof+in_ok-push_line w ↦
@@ -46,7 +45,7 @@ cut_is c =
           (spliced_rest c.args.lines.now c.requires.lines.lines c.args.from c.args.to c.requires.from c.requires.to c.saturating_sub-kept.result kept_is (chars c.args.new.now) onto c.in_ok-rest.ensures.plain text_is (λ e. w.in_default.not-Eof (c.end.ensures ∙ sym end_is ∙ e)))
     ]
 
-passed : (c : goal.After-drop-text-2) → IsCut (wanted_text c.args.lines.now c.args.from c.args.to (chars c.args.new.now)) (take c.saturating_sub-kept.result c.args.lines.now ++ (map arc_value c.deref.result.now ++ drop (c.args.to.line + 1) c.args.lines.now))
+passed : (c : goal.After-drop-part-2) → IsCut (wanted_text c.args.lines.now c.args.from c.args.to (chars c.args.new.now)) (take c.saturating_sub-kept.result c.args.lines.now ++ (map arc_value c.deref.result.now ++ drop (c.args.to.line + 1) c.args.lines.now))
 passed c = subst (λ z. IsCut (wanted_text c.args.lines.now c.args.from c.args.to (chars c.args.new.now)) (take c.saturating_sub-kept.result c.args.lines.now ++ (map arc_value z ++ drop (c.args.to.line + 1) c.args.lines.now))) (sym c.deref.ensures.value) (cut_is c)
 
 pub returns-clause-ok : goal.returns-clause-ok
