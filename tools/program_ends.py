@@ -36,14 +36,6 @@ def ended(program, given, arguments=(), stdin=subprocess.PIPE, stdout=subprocess
     return ran.returncode, said, wrote or b""
 
 
-def with_device(program, given, path, flags, **at):
-    device = os.open(path, flags)
-    try:
-        return ended(program, given, **{name: device for name in at})
-    finally:
-        os.close(device)
-
-
 def cases(program):
     """What each case is, how the program ended in it, and how it must end."""
     for argument in ("--stdio", b"\xff"):
@@ -54,10 +46,16 @@ def cases(program):
     yield "a cut frame", ended(program, NO_REQUEST[:-1]), (2, b"framing fault 7 Truncated\n", b"")
     bad = b"Content-Length: -1\r\n\r\n"
     yield "a bad length behind a frame", ended(program, NO_REQUEST + bad), (2, b"framing fault 5 BadLength\n", IS_NO_REQUEST)
-    full = with_device(program, NO_REQUEST, "/dev/full", os.O_WRONLY, stdout=True)
-    yield "an output that is full", full, (2, b"write failed\n", b"")
-    folder = with_device(program, None, "/", os.O_RDONLY, stdin=True)
-    yield "an input that can't be read", folder, (2, b"read failed\n", b"")
+    full = os.open("/dev/full", os.O_WRONLY)
+    yield "an output that is full", ended(program, NO_REQUEST, stdout=full), (2, b"write failed\n", b"")
+    os.close(full)
+    read_end, write_end = os.pipe()
+    os.close(read_end)
+    yield "an output that nobody reads", ended(program, NO_REQUEST, stdout=write_end), (2, b"write failed\n", b"")
+    os.close(write_end)
+    folder = os.open("/", os.O_RDONLY)
+    yield "an input that can't be read", ended(program, None, stdin=folder), (2, b"read failed\n", b"")
+    os.close(folder)
     status, said, wrote = ended(program, INITIALIZE + SHUTDOWN + EXIT)
     yield "shutdown and exit", (status, said, wrote[-len(IS_SHUT_DOWN):]), (0, b"", IS_SHUT_DOWN)
 

@@ -11,3 +11,4 @@ pub mod Closed
 pub mod Kept
 pub mod Within
 pub mod OneGrammar
+pub mod Exist

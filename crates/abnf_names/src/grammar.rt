@@ -67,7 +67,8 @@ impl<'t> Grammar<'t> {
     ///
     /// Where an allocation is refused.
     pub fn of(alloc: Global, snapshot: &'t Snapshot) -> Result<Grammar<'t>, AllocError>
-        ensures { IfOk result (λ g. g.text ≡ snapshot.entry.now) }
+        ensures text { IfOk result (λ g. g.text ≡ snapshot.entry.now) }
+        ensures grammar { IfOk result IsGrammar }
     {
         let parsed = parsed_blocks(alloc, snapshot)?;
         let spots = places_of(alloc, parsed.as_slice())?;

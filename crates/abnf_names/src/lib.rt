@@ -16,5 +16,5 @@ mod rules;
 
 pub use abnf_parts::{Node, NodeNo, RuleNo};
 pub use grammar::Grammar;
-pub use laws::grammars_are_unique;
+pub use laws::{grammars_are_unique, grammars_exist};
 pub use place::NamePlace;

@@ -9,7 +9,7 @@ use Rattle.abnf_syntax.specs.declared.tree.Repetition.{Repetition}
 use Rattle.abnf_syntax.specs.declared.tree.Repetition.{Repetition-F}
 use Rattle.abnf_syntax.specs.declared.tree.Repetition.{out-roll-Repetition}
 use Rattle.abnf_syntax.specs.declared.tree.Rule.{Rule}
-use Rattle.abnf_syntax.specs.Grammar.{repetition, Concatenation, Alternation, IsAlternation, IsConcatenation, IsRepetition, IsElement, Derives}
+use Rattle.abnf_syntax.specs.Grammar.{max_nesting, repetition, Concatenation, Alternation, IsAlternation, IsConcatenation, IsRepetition, IsElement, Derives}
 use Rattle.abnf_syntax.specs.Grammar.IsAlternation.{only, or}
 use Rattle.abnf_syntax.specs.Grammar.IsConcatenation.{one, and}
 use Rattle.abnf_syntax.specs.Grammar.IsRepetition.{once, times}
@@ -125,4 +125,4 @@ same_alternatives xs ys r s e p q number =
     let a = derives_again xs r p in
     let b = derives_again ys s q in
     let same : a.0 ≡ b.0 = one_rule (map bare xs) a.0 b.0 a.1 (subst (λ l. Derives l b.0) (sym e) b.1) in
-    a.2 number 64 ∙ (ap (λ (rule : Rule). alternatives number rule.body) same ∙ sym (b.2 number 64))
+    a.2 number max_nesting ∙ (ap (λ (rule : Rule). alternatives number rule.body) same ∙ sym (b.2 number max_nesting))

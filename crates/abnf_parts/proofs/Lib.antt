@@ -8,3 +8,5 @@ pub mod Closed
 pub mod Alike
 pub mod Tied
 pub mod Worked
+pub mod Unknown
+pub mod Nesting

@@ -45,6 +45,11 @@ abbrev pub tree_inside : (List ℕ → Option ℕ) → ℕ → Alternation → P
 tree_inside number zero a = opaque
 tree_inside number (suc room) a = alternation_part number (tree_inside number room) a
 
+-- the same, with another tree where the nesting ends
+abbrev pub tree_ending : Part → (List ℕ → Option ℕ) → ℕ → Alternation → Part
+tree_ending last number zero a = last
+tree_ending last number (suc room) a = alternation_part number (tree_ending last number room) a
+
 -- the alternatives of a rule's body
 abbrev pub alternatives : (List ℕ → Option ℕ) → Alternation → List Part
 alternatives number body = map (concatenation_part number (tree_inside number max_nesting)) body

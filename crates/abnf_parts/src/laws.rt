@@ -1,8 +1,12 @@
 //! Worked rules: what they generate, computed by the check. The functions do nothing.
 
-ghost use Rattle.std.specs.Prelude.{List, ℕ, [], ◌∷◌, codes, true, false};
-ghost use Rattle.abnf_parts.specs.Part.{quoted};
-ghost use Rattle.abnf_parts.specs.Generates.{Generates, IsValue};
+ghost use Rattle.std.specs.Prelude.{◌≡◌, ◌↔◌, List, ℕ, Option, None, [], ◌∷◌, map, codes, true, false};
+ghost use Rattle.abnf_syntax.specs.declared.item.Item.{Item};
+ghost use Rattle.abnf_syntax.specs.declared.tree.Rule.{Rule};
+ghost use Rattle.abnf_syntax.specs.Grammar.{Derives, max_nesting};
+ghost use Rattle.abnf_parts.specs.Part.{Part, quoted, rep, ref, opaque};
+ghost use Rattle.abnf_parts.specs.Tree.{alternatives, concatenation_part, tree_ending};
+ghost use Rattle.abnf_parts.specs.Generates.{Generates, IsLeastLength, IsValue};
 ghost use Rattle.abnf_parts.specs.Rows as row;
 
 /// Quoted texts match in either case, and exact ones as they are written (RFC 7405 section 2.1).
@@ -26,4 +30,23 @@ pub fn no_strings()
     ensures endless { (s : List ℕ) → Generates (row.other_and_text ∷ row.first_rule ∷ []) row.other_and_text s → ⊥ }
     ensures by_endless { (s : List ℕ) → Generates (row.other_and_text ∷ row.first_rule ∷ []) row.first_rule s → ⊥ }
     ensures turned { (s : List ℕ) → Generates (row.turned_bounds ∷ []) row.turned_bounds s → ⊥ }
+{}
+
+/// A name that stands for no rule generates nothing, and so does what is opaque. Repeated zero times or more, such a name generates
+/// the empty string alone.
+pub fn unknown_parts()
+    ensures undefined { (roots : List Part) (name s : List ℕ) → Generates roots (ref name None) s → ⊥ }
+    ensures opaque { (roots : List Part) (s : List ℕ) → Generates roots opaque s → ⊥ }
+    ensures repeated { (roots : List Part) (name s : List ℕ) → Generates roots (rep 0 None (ref name None)) s ↔ (s ≡ []) }
+{}
+
+/// The length of a least value is the least length.
+pub fn least_lengths()
+    ensures { (roots : List Part) (p : Part) (n k : ℕ) → IsValue roots p n k → IsLeastLength roots p n }
+{}
+
+/// In a rule that items derive no bracket is reached at which the tree ends, whatever stands there.
+pub fn nesting_suffices()
+    ensures { (items : List Item) (rule : Rule) (number : List ℕ → Option ℕ) (last : Part) → Derives items rule
+        → map (concatenation_part number (tree_ending last number max_nesting)) rule.body ≡ alternatives number rule.body }
 {}

@@ -23,6 +23,7 @@ use Rattle.abnf_syntax.specs.Items.{with_line_end, items_behind, items_of, AreTo
 use Rattle.abnf_syntax.specs.Grammar.{kind_of, Derives}
 use Rattle.abnf_syntax.specs.Heads.{head_of}
 use Rattle.abnf_syntax.specs.Faults.{last_of, without_first, open_after, open_from, rows_of, least, shown, Faults}
+use Rattle.abnf_syntax.proofs.Cons.{cons_same}
 use Rattle.abnf_syntax.proofs.Exact.{one_fault, parse_none, some_not_none}
 use Rattle.abnf_syntax.proofs.Whole.{parse_complete}
 
@@ -69,9 +70,6 @@ one_list ls from (b ∷ bs) (c ∷ cs) p q =
     (λ i. (first i, end i) ∷ one_list ls b.1 bs cs p.3 (subst (λ n. AreBlocks ls n cs) (sym end) q.3) i)
 
 -- ---- items
-
-pub cons_same : {A : Type 0} {x y : A} {xs ys : List A} → x ∷ xs ≡ y ∷ ys → (x ≡ y) × (xs ≡ ys)
-cons_same h = (cc, cc)
 
 abbrev View : Type 0
 View = Kind × Text × ℕ × ℕ

@@ -39,19 +39,19 @@ no_marks [] at h = λ line. ([], refl, refl)
 no_marks (l ∷ ls) zero h = absurd h
 no_marks (l ∷ ls) (suc at) h = no_marks ls at h
 
-none_at : (ls : List Text) (from : ℕ) → NoneBegins ls from from
+pub none_at : (ls : List Text) (from : ℕ) → NoneBegins ls from from
 none_at ls from at reached before = absurd (omega arith)
 
-none_both : (ls : List Text) (from mid to : ℕ) → NoneBegins ls from mid → NoneBegins ls mid to → NoneBegins ls from to
+pub none_both : (ls : List Text) (from mid to : ℕ) → NoneBegins ls from mid → NoneBegins ls mid to → NoneBegins ls from to
 none_both ls from mid to first second at reached before = elim (cases_lt at mid) [ inl less ↦ first at reached less | inr more ↦ second at more before ]
 
 -- The blocks from the next line that begins one are those from here.
-from_next : (ls : List Text) (from next : ℕ) → from ≤ next → NoneBegins ls from next → (bs : List (ℕ × ℕ)) → AreBlocks ls next bs → AreBlocks ls from bs
+pub from_next : (ls : List Text) (from next : ℕ) → from ≤ next → NoneBegins ls from next → (bs : List (ℕ × ℕ)) → AreBlocks ls next bs → AreBlocks ls from bs
 from_next ls from next reached none [] are = none_both ls from next (length ls) none are
 from_next ls from next reached none (b ∷ bs) are = (omega (arith, reached, are.0), none_both ls from next b.0 none are.1, are.2, are.3)
 
 -- a block, and those behind it
-block_first : (ls : List Text) (first end : ℕ) → first < length ls → begins_at ls first ≡ true → IsNextBlock ls (first + 1) end → (bs : List (ℕ × ℕ)) → AreBlocks ls end bs → AreBlocks ls first ((first, end) ∷ bs)
+pub block_first : (ls : List Text) (first end : ℕ) → first < length ls → begins_at ls first ≡ true → IsNextBlock ls (first + 1) end → (bs : List (ℕ × ℕ)) → AreBlocks ls end bs → AreBlocks ls first ((first, end) ∷ bs)
 block_first ls first end within begins next bs are =
     (omega arith, none_at ls first, record { some = omega (arith, next.reached); within = next.within; begins = begins; rest = λ at reached before. next.none at (omega arith) before; ends = next.begins }, are)
 

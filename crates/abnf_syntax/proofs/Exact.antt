@@ -11,6 +11,7 @@ use Rattle.abnf_syntax.specs.Faults.{shown, Faults}
 use Rattle.abnf_syntax.specs.Machine.{State, start, shift, fault_at, run, parse, GivesRule}
 use Rattle.abnf_syntax.proofs.Sound.{unless_ok}
 use Rattle.abnf_syntax.proofs.FaultSide.{Tracks, tracks_more, same_fault, earlier, head_earlier}
+use Rattle.abnf_syntax.proofs.Cons.{cons_same}
 use Rattle.abnf_syntax.proofs.Whole.{chosen_ok, rule_ok, neither, parse_complete, parse_faulty}
 
 append-nil : (xs : List Item) → xs ++ [] ≡ xs
@@ -48,16 +49,13 @@ parse_none (head ∷ defined ∷ body) rule h before after e =
 pub some_not_none : {A : Type 0} (o : Option SyntaxFault) (fault : SyntaxFault) → o ≡ Some fault → o ≡ None → A
 some_not_none o fault h e = absurd (cc)
 
-cons_same : (x y : Item) (xs ys : List Item) → x ∷ xs ≡ y ∷ ys → (x ≡ y) × (xs ≡ ys)
-cons_same x y xs ys h = (cc, cc)
-
 -- Fronts of one length are the same.
 same_front : (xs ys us vs : List Item) → xs ++ ys ≡ us ++ vs → length xs ≡ length us → (xs ≡ us) × (ys ≡ vs)
 same_front [] ys [] vs h e = (refl, h)
 same_front [] ys (u ∷ us) vs h e = absurd (omega arith)
 same_front (x ∷ xs) ys [] vs h e = absurd (omega arith)
 same_front (x ∷ xs) ys (u ∷ us) vs h e =
-    let same = cons_same x u (xs ++ ys) (us ++ vs) h in
+    let same = cons_same h in
     let more = same_front xs ys us vs same.1 (omega arith) in
     (λ i. same.0 i ∷ more.0 i, more.1)
 

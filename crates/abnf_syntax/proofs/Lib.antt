@@ -12,3 +12,6 @@ pub mod GatherLaws
 pub mod ContentLaws
 pub mod Exact
 pub mod Bare
+pub mod Exist
+pub mod Early
+pub mod Cons

@@ -144,3 +144,11 @@ only_of_gives items (Err fault) h rule d = elim h [ inl m ↦ inr (ap Err m) | i
 pub fault_of_gives : (items : List Item) (r : Result Rule SyntaxFault) → 0 < length items → GivesRule r (parse items) → IfErr r (λ fault. (fault ≡ f.Memory) ⊎ Faults items fault)
 fault_of_gives items (Ok found) some h = tt
 fault_of_gives items (Err fault) some h = elim h [ inl m ↦ inl m | inr e ↦ inr (parse_faulty items fault some e) ]
+
+answer_by : (items : List Item) → 0 < length items → (r : Result Rule SyntaxFault) → parse items ≡ r → ((rule : Rule) × Derives items rule) ⊎ ((fault : SyntaxFault) × Faults items fault)
+answer_by items some (Ok rule) h = inl (rule, parse_sound items rule h)
+answer_by items some (Err fault) h = inr (fault, parse_faulty items fault some h)
+
+-- Items say a rule, or show a fault.
+pub some_answer : (items : List Item) → 0 < length items → ((rule : Rule) × Derives items rule) ⊎ ((fault : SyntaxFault) × Faults items fault)
+some_answer items some = answer_by items some (parse items) refl

@@ -32,6 +32,10 @@ begins_block base l = is_content l && nat_le (indent l) base
 abbrev pub begins_at : List Text → ℕ → Bool
 begins_at ls at = begins_block (base_indent ls) (slice_index_or ls at [])
 
+-- Some line begins a block.
+abbrev pub HasBlock : List Text → Type 0
+HasBlock ls = (at : ℕ) × (begins_at ls at ≡ true)
+
 -- No line from the first place up to the second begins a block.
 abbrev pub NoneBegins : List Text → ℕ → ℕ → Type 0
 NoneBegins ls from to = (at : ℕ) → from ≤ at → at < to → begins_at ls at ≡ false

@@ -107,3 +107,12 @@ parse_body head (defined ∷ body) = if is_defined_as (kind_of defined) then rul
 abbrev pub parse : List Item → Result Rule SyntaxFault
 parse [] = Err Memory
 parse (head ∷ rest) = if is_name (kind_of head) then parse_body head rest else Err (NoName (place_of head.token))
+
+-- The fault that one of the first three items shows, or the end where there are fewer: none of these items has been taken yet.
+abbrev pub early_behind : Item → List Item → Option SyntaxFault
+early_behind head [] = Some (NoDefinedAs (place_after head.token))
+early_behind head (defined ∷ body) = if is_defined_as (kind_of defined) then fault_at (start defined) body else Some (NoDefinedAs (place_of defined.token))
+
+abbrev pub early : List Item → Option SyntaxFault
+early [] = None
+early (head ∷ rest) = if is_name (kind_of head) then early_behind head rest else Some (NoName (place_of head.token))

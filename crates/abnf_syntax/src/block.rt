@@ -1,8 +1,8 @@
 //! The blocks of a text.
 
-ghost use Rattle.std.specs.Prelude.{◌≡◌, ◌<◌, ◌≤◌, [], All, IfOk, OnOk, Some, None, true, if◌then◌else◌, length, map, slice_index_or};
+ghost use Rattle.std.specs.Prelude.{◌≡◌, ◌<◌, ◌≤◌, [], All, IfOk, OnOk, OnErr, Some, None, true, if◌then◌else◌, length, map, slice_index_or};
 ghost use Rattle.abnf_token.specs.Marks.{AreMarks};
-ghost use Rattle.abnf_syntax.specs.Blocks.{line_texts, indent, is_content, base_indent, begins_at, AreBlocks};
+ghost use Rattle.abnf_syntax.specs.Blocks.{line_texts, indent, is_content, base_indent, begins_at, AreBlocks, HasBlock};
 ghost use Rattle.abnf_syntax.specs.Items.{AreItems};
 ghost use Rattle.abnf_syntax.specs.Bounds.{bounds};
 ghost use Rattle.abnf_syntax.specs.Gather as spec;
@@ -216,6 +216,9 @@ pub fn blocks<'t>(alloc: Global, snapshot: &'t Snapshot) -> Result<Vec<Block<'t>
     ensures items { IfOk result (λ found.
         All (λ b. AreItems (line_texts snapshot.entry.now) b.first b.end b.items) found.items) }
     ensures some { IfOk result (λ found. All (λ b. 0 < length b.items) found.items) }
+
+    // A text without blocks needs no memory.
+    ensures memory { OnErr result (HasBlock (line_texts snapshot.entry.now)) }
 {
     let base = first_indent(snapshot);
     let count = line_count(snapshot);

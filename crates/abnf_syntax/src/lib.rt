@@ -7,6 +7,7 @@
 #![tactic(auto)]
 
 mod block;
+mod existence;
 mod fault;
 mod item;
 mod kinds;
@@ -16,6 +17,7 @@ mod parser;
 mod tree;
 
 pub use block::{Block, Head, blocks};
+pub use existence::{items_say_something, texts_have_blocks};
 pub use fault::SyntaxFault;
 pub use item::Item;
 pub use parse::parse_block;

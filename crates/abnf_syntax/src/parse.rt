@@ -1,6 +1,6 @@
 //! The parse of a block.
 
-ghost use Rattle.std.specs.Prelude.{◌≡◌, ◌⊎◌, ◌<◌, length, IfOk, IfErr, Ok, Err};
+ghost use Rattle.std.specs.Prelude.{◌≡◌, ◌⊎◌, ◌<◌, length, IfOk, IfErr, Some, Ok, Err};
 ghost use Rattle.abnf_syntax.specs.Grammar.{Derives, HasOneRule};
 ghost use Rattle.abnf_syntax.specs.Faults.{Faults};
 ghost use Rattle.abnf_syntax.specs.Machine as spec;
@@ -17,7 +17,8 @@ use std::alloc::Global;
 /// The rule that these items say.
 fn parsed<'t>(alloc: Global, items: &[Item<'t>]) -> Result<Rule<'t>, SyntaxFault>
     requires { 0 < length items.now }
-    ensures { spec.GivesRule result (spec.parse items.now) }
+    ensures gives { spec.GivesRule result (spec.parse items.now) }
+    ensures early { (fault : SyntaxFault) → spec.early items.now ≡ Some fault → result ≡ Err fault }
 {
     let Some((head, rest)) = items.split_first() else {
         unreachable!()
@@ -46,7 +47,7 @@ fn parsed<'t>(alloc: Global, items: &[Item<'t>]) -> Result<Rule<'t>, SyntaxFault
 /// # Errors
 ///
 /// The fault that the first faulty item shows, or the end of the block; of several that it shows, the one that stands first
-/// in [`SyntaxFault`]. `Memory` where an allocation is refused.
+/// in [`SyntaxFault`]. `Memory` where an allocation is refused, which none needs for a fault of the first three items.
 pub fn parse_block<'t>(alloc: Global, block: &Block<'t>) -> Result<Rule<'t>, SyntaxFault>
     requires { 0 < length block.now.items }
 
@@ -61,6 +62,9 @@ pub fn parse_block<'t>(alloc: Global, block: &Block<'t>) -> Result<Rule<'t>, Syn
     ensures shows { IfErr result (λ fault. (fault ≡ SyntaxFault.Memory) ⊎ Faults block.now.items fault) }
     ensures shown { (fault : SyntaxFault) → Faults block.now.items fault
         → (result ≡ Err fault) ⊎ (result ≡ Err SyntaxFault.Memory) }
+
+    // A fault before which fewer than three items stand needs no memory.
+    ensures early { (fault : SyntaxFault) (shows : Faults block.now.items fault) → length shows.front < 3 → result ≡ Err fault }
 {
     parsed(alloc, block.items.as_slice())
 }

@@ -1,6 +1,6 @@
 //! The parser: a stack of the brackets that are open, which takes one item after another.
 
-ghost use Rattle.std.specs.Prelude.{◌≡◌, ◌⊎◌, ◌∷◌, [], reverse, length, IfOk, IfErr, Err};
+ghost use Rattle.std.specs.Prelude.{◌≡◌, ◌⊎◌, ◌∷◌, [], reverse, length, Some, IfOk, IfErr, Err};
 ghost use Rattle.abnf_syntax.specs.Faults.{place_of, place_after, first_of, is_followed};
 ghost use Rattle.abnf_syntax.specs.Machine as spec;
 
@@ -382,6 +382,8 @@ impl<'t> Parser<'t> {
             spec.run (spec.state_of self.entry) (item.entry ∷ rest.now) ≡ spec.run (spec.state_of p) rest.now) }
         ensures err { IfErr result (λ fault. (fault ≡ SyntaxFault.Memory)
             ⊎ (spec.run (spec.state_of self.entry) (item.entry ∷ rest.now) ≡ Err fault)) }
+        ensures shown { (fault : SyntaxFault) → spec.fault_at (spec.state_of self.entry) (item.entry ∷ rest.now) ≡ Some fault
+            → result ≡ Err fault }
     {
         match self.item_fault(item, rest) {
             Some(fault) => Err(fault),
@@ -391,7 +393,9 @@ impl<'t> Parser<'t> {
 
     /// The alternation of the whole body.
     fn finish(self) -> Result<Alternation<'t>, SyntaxFault>
-        ensures { spec.Gives result (spec.run (spec.state_of self.entry) []) }
+        ensures gives { spec.Gives result (spec.run (spec.state_of self.entry) []) }
+        ensures shown { (fault : SyntaxFault) → spec.fault_at (spec.state_of self.entry) [] ≡ Some fault
+            → result ≡ Err fault }
     {
         match self.end_fault() {
             Some(fault) => Err(fault),
@@ -406,7 +410,8 @@ pub(crate) fn body_of<'t>(
     defined: Item<'t>,
     items: &[Item<'t>],
 ) -> Result<Alternation<'t>, SyntaxFault>
-    ensures { spec.Gives result (spec.run (spec.start defined.entry) items.now) }
+    ensures gives { spec.Gives result (spec.run (spec.start defined.entry) items.now) }
+    ensures shown { (fault : SyntaxFault) → spec.fault_at (spec.start defined.entry) items.now ≡ Some fault → result ≡ Err fault }
 {
     let mut parser = Parser::new(alloc, defined);
     for i in 0..items.len() {

@@ -84,13 +84,13 @@ wide (s.Done j) kind b w n = refl
 wide s.Dead kind b w n = refl
 
 -- The last byte of a text in a class is ASCII, but for comments.
-last_ascii : (st : State) (kind : Kind) (t : Text) (m : ℕ) → same k.Comment kind ≡ false → m < length t → accepts kind (run st (take (suc m) t)) ≡ true → get_or t m 0 < 128
+pub last_ascii : (st : State) (kind : Kind) (t : Text) (m : ℕ) → same k.Comment kind ≡ false → m < length t → accepts kind (run st (take (suc m) t)) ≡ true → get_or t m 0 < 128
 last_ascii st kind [] m n lt is = absurd (omega arith)
 last_ascii st kind (b ∷ bs) zero n lt is = ⊎_elim (λ small. small) (λ w. never (sym (wide st kind b w n) ∙ is)) (cases_lt b 128)
 last_ascii st kind (b ∷ bs) (suc m) n lt is = last_ascii (step st b) kind bs m n (omega arith) is
 
 -- A comment goes on to the end.
-comment_end : (left : Text) (n : ℕ) → 0 < n → n < length left → is_in k.Comment (take n left) ≡ true → NoLonger n left → ⊥
+pub comment_end : (left : Text) (n : ℕ) → 0 < n → n < length left → is_in k.Comment (take n left) ≡ true → NoLonger n left → ⊥
 comment_end [] n some lt is longest = omega arith
 comment_end (b ∷ bs) zero some lt is longest = omega arith
 comment_end (b ∷ bs) (suc n) some lt is longest = never (sym (longest k.Comment (suc (length bs)) (omega arith) (omega arith)) ∙ is)
@@ -171,7 +171,7 @@ wide_lead c rest a =
     (cases_lt c 65536))
     (cases_lt c 2048)
 
-lead : (c : ℕ) (rest : Text) → continuation_len (get_or (encode c ++ rest) 0 0) + 1 ≡ len_utf8 c
+pub lead : (c : ℕ) (rest : Text) → continuation_len (get_or (encode c ++ rest) 0 0) + 1 ≡ len_utf8 c
 lead c rest =
     ⊎_elim (λ small. ap (λ bs. continuation_len (get_or (bs ++ rest) 0 0) + 1) (encode_ascii c small) ∙ lead_1 c small ∙ sym (len_utf8_ascii c small))
     (wide_lead c rest) (cases_lt c 128)
@@ -198,19 +198,22 @@ first_of left (c ∷ cs) utf8 e some =
 pub first_char : (left : Text) → IsUtf8 left → 0 < length left → FirstChar left
 first_char left utf8 some = first_of left utf8.0 utf8 utf8.1.1 some
 
-one_char : (left : Text) → char_len left ≤ length left → is_character (take (char_len left) left) ≡ true
+pub one_char : (left : Text) → char_len left ≤ length left → is_character (take (char_len left) left) ≡ true
 one_char [] within = absurd (omega arith)
 one_char (b ∷ bs) within =
     let long : length (take (continuation_len b) bs) ≡ continuation_len b = length-take-le (continuation_len b) bs (omega arith) in
     let more : continuation_len b + 1 ≡ suc (continuation_len b) = omega arith in
     subst (λ m. is_character (take m (b ∷ bs)) ≡ true) (sym more) (eq-eqb _ _ long)
 
-pub bad_next : (left : Text) → FirstChar left → NoLonger 0 left → IsNext k.Bad (take (char_len left) left) left
-bad_next left first none =
-    let long : length (take (char_len left) left) ≡ char_len left = length-take-le (char_len left) left first.within in
+pub bad_next_by : (left : Text) → char_len left ≤ length left → NoLonger 0 left → IsNext k.Bad (take (char_len left) left) left
+bad_next_by left within none =
+    let long : length (take (char_len left) left) ≡ char_len left = length-take-le (char_len left) left within in
     record {
       front = ap (λ m. take m left) (sym long);
-      within = omega (arith, first.within);
+      within = omega (arith, within);
       some = omega arith;
-      fits = (one_char left first.within, none);
+      fits = (one_char left within, none);
     }
+
+pub bad_next : (left : Text) → FirstChar left → NoLonger 0 left → IsNext k.Bad (take (char_len left) left) left
+bad_next left first none = bad_next_by left first.within none

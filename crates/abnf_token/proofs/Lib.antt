@@ -5,3 +5,4 @@ pub mod Closing
 pub mod Laws
 pub mod Values
 pub mod MarkLaws
+pub mod Exist

@@ -7,6 +7,7 @@
 //! [`marks_of`] allocates.
 #![tactic(auto)]
 
+mod existence;
 mod folded;
 mod machine;
 mod mark;
@@ -14,6 +15,7 @@ mod number;
 mod scan;
 mod token;
 
+pub use existence::lines_have_tokens;
 pub use folded::Folded;
 pub use mark::{TokenMark, marks_of, token_at};
 pub use number::{base_of, digit_value, number_of};

@@ -72,11 +72,14 @@ pub struct FailingSink {
     flushes: u64,
     /// Whether it has answered `Failed`.
     pub failed: bool,
+    /// Whether it has taken bytes since its last flush.
+    pub unflushed: bool,
 }
 
 impl FailingSink {
     pub fn new(alloc: Global, step: usize, fails_at: u64) -> FailingSink
-        ensures { result.failed ≡ false }
+        ensures failed { result.failed ≡ false }
+        ensures unflushed { result.unflushed ≡ false }
     {
         FailingSink {
             bytes: Vec::new(alloc),
@@ -85,6 +88,7 @@ impl FailingSink {
             fails_at,
             flushes: 0,
             failed: false,
+            unflushed: false,
         }
     }
 
@@ -110,6 +114,8 @@ impl Sink for FailingSink {
 
     ghost failed = { λ sink. sink.failed };
 
+    ghost unflushed = { λ sink. sink.unflushed };
+
     fn write(&mut self, buf: &[u8]) -> Result<usize, DeviceFault> {
         let count = self.step.max(1).min(buf.len());
         if is_call(&mut self.calls, self.fails_at)
@@ -118,6 +124,7 @@ impl Sink for FailingSink {
             self.failed = true;
             return Err(DeviceFault::Failed);
         }
+        self.unflushed |= count > 0;
         Ok(count)
     }
 
@@ -127,6 +134,7 @@ impl Sink for FailingSink {
             return Err(DeviceFault::Failed);
         }
         self.flushes = self.flushes.saturating_add(1);
+        self.unflushed = false;
         Ok(())
     }
 }

@@ -1,3 +1,4 @@
 pub mod Outlines
 pub mod Definitions
 pub mod OneAnswer
+pub mod Exist

@@ -17,7 +17,8 @@ use Rattle.abnf_syntax.specs.Blocks.{line_texts}
 use Rattle.abnf_syntax.specs.Bounds.{bounds}
 use Rattle.abnf_syntax.specs.Heads.{head_of}
 use Rattle.abnf_syntax.specs.Items.{AreItems}
-use Rattle.abnf_syntax.proofs.Bare.{bare, bare_head, cons_same, head_bare, one_list, same_items}
+use Rattle.abnf_syntax.proofs.Bare.{bare, bare_head, head_bare, one_list, same_items}
+use Rattle.abnf_syntax.proofs.Cons.{cons_same}
 use Rattle.abnf_names.specs.Places.{Named}
 use Rattle.abnf_names.specs.Rules.{Grammar}
 use Rattle.abnf_names.proofs.OneGrammar.{one_grammar}

@@ -1,4 +1,4 @@
-ghost use Rattle.std.specs.Prelude.{◌≡◌, IfOk};
+ghost use Rattle.std.specs.Prelude.{◌≡◌, Ok};
 
 use ls_text::Position;
 use std::alloc::AllocError as Memory;
@@ -13,11 +13,9 @@ pub enum Ask {
 }
 
 impl Ask {
-    /// A question of its own that is the same.
-    ///
-    /// `Memory` says that an allocation was refused.
+    /// A question of its own that is the same. It needs no memory.
     pub fn copy(&self) -> Result<Ask, Memory>
-        ensures { IfOk result (λ ask. ask ≡ self.now) }
+        ensures { result ≡ Ok self.now }
     {
         match self {
             Ask::Symbols => Ok(Ask::Symbols),

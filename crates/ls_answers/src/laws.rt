@@ -1,5 +1,5 @@
-//! A law of answers.
-ghost use Rattle.std.specs.Prelude.{◌≡◌, List, ℕ};
+//! Laws of answers.
+ghost use Rattle.std.specs.Prelude.{◌≡◌, ◌<◌, ◌^◌, List, ℕ, length};
 ghost use Rattle.ls_answers.specs.Answers.{IsAnswer};
 ghost use Rattle.ls_answers.specs.declared.answer.Answer.{Answer};
 ghost use Rattle.ls_answers.specs.declared.ask.Ask.{Ask};
@@ -7,4 +7,9 @@ ghost use Rattle.ls_answers.specs.declared.ask.Ask.{Ask};
 /// A question about a text has at most one answer.
 pub fn answers_are_unique()
     ensures { (text : List ℕ) (question : Ask) (a b : Answer) → IsAnswer text question a → IsAnswer text question b → a ≡ b }
+{}
+
+/// Each question about a text of fewer than 2^62 characters has an answer.
+pub fn answers_exist()
+    ensures { (text : List ℕ) (question : Ask) → length text < 2 ^ 62 → (a : Answer) × IsAnswer text question a }
 {}

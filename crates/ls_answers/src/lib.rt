@@ -15,4 +15,4 @@ mod places;
 pub use answer::{Answer, Symbol};
 pub use ask::Ask;
 pub use job::{Done, Job, run};
-pub use laws::answers_are_unique;
+pub use laws::{answers_are_unique, answers_exist};

@@ -78,7 +78,7 @@ feed-stuck old piece before TwoLengths e = inl (e, refl, refl)
 feed-stuck old piece before BadLength e = inl (e, refl, refl)
 feed-stuck old piece before TooLarge e = inl (e, refl, refl)
 feed-stuck old piece before Truncated e = inl (e, refl, refl)
-feed-stuck old piece before Memory e = (refl, refl)
+feed-stuck old piece before Memory e = absurd (never-memory old e)
 
 -- A framer that shows no fault has a piece behind its rest.
 pub record Longer (old piece bytes : List ℕ) (wanted : ℕ) : Type 0 where
@@ -196,4 +196,4 @@ feed-stream seen old piece new given before after (Err TwoLengths) s f = fault-g
 feed-stream seen old piece new given before after (Err BadLength) s f = fault-goes seen old piece new given before after BadLength s f
 feed-stream seen old piece new given before after (Err TooLarge) s f = fault-goes seen old piece new given before after TooLarge s f
 feed-stream seen old piece new given before after (Err Truncated) s f = fault-goes seen old piece new given before after Truncated s f
-feed-stream seen old piece new given before after (Err Memory) s (same, out) = let P : List ℕ → Type 0 = λ l. SoFar seen given l in (subst P (sym same) s, out)
+feed-stream seen old piece new given before after (Err Memory) s (none, same, out) = let P : List ℕ → Type 0 = λ l. SoFar seen given l in (subst P (sym same) s, out)

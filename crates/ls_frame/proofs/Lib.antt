@@ -12,3 +12,4 @@ pub mod Windows
 pub mod Fills
 pub mod Feeding
 pub mod Unique
+pub mod Exist

@@ -5,7 +5,7 @@ use Rattle.ls_frame.specs.Frames.{crlf, field_lines, header_part, is_field, is_l
 use Rattle.ls_frame.proofs.Fronts.{and_left, not_true, or_left, or_right}
 
 -- no CR
-abbrev HasNoCr : List ℕ → Type 0
+abbrev pub HasNoCr : List ℕ → Type 0
 HasNoCr [] = Unit {0}
 HasNoCr (b ∷ bytes) = ((b == 13) ≡ false) × HasNoCr bytes
 
@@ -13,7 +13,7 @@ no_cr : (line : List ℕ) → list_any is_line_end line ≡ false → HasNoCr li
 no_cr [] e = tt
 no_cr (b ∷ line) e = (or_left (b == 13) (b == 10) (or_left (is_line_end b) (list_any is_line_end line) e), no_cr line (or_right (is_line_end b) (list_any is_line_end line) e))
 
-field-no_cr : (line : List ℕ) → is_field line ≡ true → HasNoCr line
+pub field-no_cr : (line : List ℕ) → is_field line ≡ true → HasNoCr line
 unfolding is_field
 field-no_cr line e = no_cr line (not_true (list_any is_line_end line) (and_left (not (list_any is_line_end line)) _ e))
 
@@ -25,14 +25,14 @@ field-not_empty (b ∷ line) e n = cc
 not-cr : (b : ℕ) → (b == 13) ≡ false → 13 ≡ b → ⊥
 not-cr b e n = let P : ℕ → Type 0 = λ x. (x == 13) ≡ false in let e' : true ≡ false = subst P (sym n) e in cc
 
-head-same : (x y : ℕ) (xs ys : List ℕ) → x ∷ xs ≡ y ∷ ys → x ≡ y
+pub head-same : (x y : ℕ) (xs ys : List ℕ) → x ∷ xs ≡ y ∷ ys → x ≡ y
 head-same x y xs ys e = cc
 
-tail-same : (x y : ℕ) (xs ys : List ℕ) → x ∷ xs ≡ y ∷ ys → xs ≡ ys
+pub tail-same : (x y : ℕ) (xs ys : List ℕ) → x ∷ xs ≡ y ∷ ys → xs ≡ ys
 tail-same x y xs ys e = cc
 
 -- what stands before the first CR, and behind it
-first-cr : (a b u v : List ℕ) → HasNoCr a → HasNoCr b → a ++ 13 ∷ u ≡ b ++ 13 ∷ v → (a ≡ b) × (u ≡ v)
+pub first-cr : (a b u v : List ℕ) → HasNoCr a → HasNoCr b → a ++ 13 ∷ u ≡ b ++ 13 ∷ v → (a ≡ b) × (u ≡ v)
 first-cr [] [] u v p q e = (refl, tail-same 13 13 u v e)
 first-cr [] (y ∷ b) u v p q e = absurd (not-cr y q.0 (head-same 13 y u (b ++ 13 ∷ v) e))
 first-cr (x ∷ a) [] u v p q e = absurd (not-cr x p.0 (sym (head-same x 13 (a ++ 13 ∷ u) v e)))
@@ -41,7 +41,7 @@ first-cr (x ∷ a) (y ∷ b) u v p q e =
     let first : x ≡ y = head-same x y (a ++ 13 ∷ u) (b ++ 13 ∷ v) e in
     (cc, rest.1)
 
-regroup : (w f u : List ℕ) → (((w ++ crlf) ++ f) ++ crlf) ++ u ≡ w ++ (13 ∷ 10 ∷ ((f ++ crlf) ++ u))
+pub regroup : (w f u : List ℕ) → (((w ++ crlf) ++ f) ++ crlf) ++ u ≡ w ++ (13 ∷ 10 ∷ ((f ++ crlf) ++ u))
 regroup w f u = simp append_assoc
 
 -- the field lines of a header part, and what comes behind it

@@ -11,11 +11,11 @@ abbrev pub contents_of : List (Vec ℕ Global) → List (List ℕ)
 contents_of out = map (λ content. content.items) out
 
 -- The framer takes a piece at this rest: before and after are the contents that have been given.
--- A fault that has been shown stays; after Memory all is as before.
+-- A fault that has been shown stays. Memory is answered only where none has been shown, and then all is as before.
 abbrev pub FeedIs : List ℕ → List ℕ → List (List ℕ) → Result ℕ FrameFault → List ℕ → List (List ℕ) → Type 0
 FeedIs old piece before (Ok n) new after = (fault_of old ≡ None) × (fault_of new ≡ None)
     × ((contents : List (List ℕ)) × (length contents ≡ n) × (after ≡ before ++ contents) × Stream (old ++ piece) contents new)
-FeedIs old piece before (Err Memory) new after = (new ≡ old) × (after ≡ before)
+FeedIs old piece before (Err Memory) new after = (fault_of old ≡ None) × (new ≡ old) × (after ≡ before)
 FeedIs old piece before (Err fault) new after =
     ((fault_of old ≡ Some fault) × (new ≡ old) × (after ≡ before))
     ⊎ ((fault_of old ≡ None) × (fault_of new ≡ Some fault)

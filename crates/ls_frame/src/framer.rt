@@ -65,8 +65,8 @@ impl Framer {
     /// answers how many those are.
     ///
     /// A fault of the stream is answered by the call whose piece shows it, once the contents of the frames before it
-    /// have been appended, and by each later call. After `Memory` the piece hasn't been taken: the framer and `out`
-    /// are as before. `Truncated` is `end`'s alone.
+    /// have been appended, and by each later call. `Memory` comes only where no fault has been shown. After it the piece
+    /// hasn't been taken: the framer and `out` are as before. `Truncated` is `end`'s alone.
     #[tactic(none)]
     pub fn feed(&mut self, piece: &[u8], out: &mut Vec<Vec<u8>>) -> Result<usize, FrameFault>
         ensures taken { FeedIs self.old piece.now (contents_of out.old.items) result self.new (contents_of out.new.items) }

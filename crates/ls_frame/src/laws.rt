@@ -14,3 +14,8 @@ pub fn streams_are_unique()
     ensures faulty { (bytes : List ℕ) (fault : FrameFault) → fault_of bytes ≡ Some fault → HasNoFrame bytes }
     ensures start { SoFar [] [] [] }
 {}
+
+/// Each list of bytes is a stream: frames with some contents, and a rest.
+pub fn streams_exist()
+    ensures { (bytes : List ℕ) → (contents : List (List ℕ)) × (rest : List ℕ) × Stream bytes contents rest }
+{}

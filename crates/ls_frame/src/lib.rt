@@ -16,5 +16,5 @@ mod writer;
 
 pub use fault::FrameFault;
 pub use framer::Framer;
-pub use laws::streams_are_unique;
+pub use laws::{streams_are_unique, streams_exist};
 pub use writer::write_frame;

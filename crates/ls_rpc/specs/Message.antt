@@ -40,6 +40,12 @@ id_of (string s) = Some (Text s)
 id_of (array ds) = None
 id_of (object ms) = None
 
+-- There is an id, and it is a text.
+abbrev pub IsText : Option Id → Type 0
+IsText None = ⊥
+IsText (Some (Number n)) = ⊥
+IsText (Some (Text s)) = Unit {0}
+
 -- whether a member stands in an object
 abbrev pub has : List ℕ → Data → Bool
 has key d = is_some (get key d)

@@ -1,8 +1,8 @@
-ghost use Rattle.std.specs.Prelude.{◌≡◌, ℕ, List, IfOk, option_map, option_and_then, is_some, false, bytes_eq};
+ghost use Rattle.std.specs.Prelude.{◌≡◌, ◌<◌, ℕ, List, Some, IfOk, OnErr, length, option_map, option_and_then, is_some, false, bytes_eq};
 ghost use Rattle.serde_json.specs.Data.{object};
 ghost use Rattle.serde_json.specs.Find.{get_member};
 ghost use Rattle.serde_json.specs.View.{view, members_view};
-ghost use Rattle.ls_rpc.specs.Message.{message_view, message_of, message_of_value, id_of, with_method, bad, invalid_request};
+ghost use Rattle.ls_rpc.specs.Message.{message_view, message_of, message_of_value, id_of, IsText, with_method, bad, invalid_request};
 
 use ls_lists::Text;
 use serde_json::{Map, Value};
@@ -39,9 +39,10 @@ pub enum Message {
 /// The message that a body is. `jsonrpc` isn't looked at. Bytes that aren't UTF-8, aren't JSON or nest deeper than
 /// 127 are a parse error; of members with the same key the last counts.
 ///
-/// `Memory` says that an allocation was refused.
+/// `Memory` says that an allocation was refused. A body of no bytes needs none.
 pub fn read_message(alloc: Global, body: &[u8]) -> Result<Message, Memory>
-    ensures { IfOk result (λ message. message_view message ≡ message_of body.now) }
+    ensures ok { IfOk result (λ message. message_view message ≡ message_of body.now) }
+    ensures memory { OnErr result (0 < length body.now) }
 {
     match Value::from_slice(alloc, body) {
         Ok(value) => Ok(message_of(value)),
@@ -60,9 +61,10 @@ pub fn read_message(alloc: Global, body: &[u8]) -> Result<Message, Memory>
 
 /// The id that a value is: an integer of `i64` or a text. None for any other value.
 ///
-/// `Memory` says that an allocation was refused.
+/// `Memory` says that an allocation was refused. Only a text needs one.
 pub fn read_id(alloc: Global, value: &Value) -> Result<Option<Id>, Memory>
-    ensures { IfOk result (λ id. id ≡ id_of (view value.now)) }
+    ensures ok { IfOk result (λ id. id ≡ id_of (view value.now)) }
+    ensures memory { OnErr result (IsText (id_of (view value.now))) }
 {
     if let Some(text) = value.as_str() {
         return Ok(Some(Id::Text(Text::from_str(alloc, text)?)));
@@ -76,9 +78,10 @@ pub fn read_id(alloc: Global, value: &Value) -> Result<Option<Id>, Memory>
 impl Id {
     /// An id of its own that is the same.
     ///
-    /// `Memory` says that an allocation was refused.
+    /// `Memory` says that an allocation was refused. Only a text needs one.
     pub fn copy(&self) -> Result<Id, Memory>
-        ensures { IfOk result (λ id. id ≡ self.now) }
+        ensures ok { IfOk result (λ id. id ≡ self.now) }
+        ensures memory { OnErr result (IsText (Some self.now)) }
     {
         match self {
             Id::Number(number) => Ok(Id::Number(*number)),

@@ -1,5 +1,5 @@
--- On a list of messages one thing is said.
-use Rattle.std.proofs.Common.{◌≡◌, ℕ, List, [], ◌∷◌, ◌++◌, Option, Some, None, inl, inr, sym, ap, ◌∙◌}
+-- On a list of messages one thing is said, and what is said on more of them begins with it.
+use Rattle.std.proofs.Common.{◌≡◌, ℕ, List, [], ◌∷◌, ◌++◌, Option, Some, None, inl, inr, sym, ap, ◌∙◌, append_assoc}
 use Rattle.ls_rpc.specs.declared.message.Id.{Id}
 use Rattle.ls_answers.specs.declared.ask.Ask.{Ask}
 use Rattle.ls_answers.proofs.OneAnswer.{one_answer}
@@ -14,6 +14,7 @@ use Rattle.ls_server.specs.Kept as kept
 use Rattle.ls_server.specs.Kept.{Kept, IsReplied, IsRepliedOn, document_at}
 use Rattle.ls_server.specs.Talk.{Talk, IsAnswered, IsAnsweredOn, IsReply, turn_on, exit_of, after}
 use Rattle.ls_server.specs.Runs.{Says, frames_for}
+use Rattle.ls_server.proofs.Known.{append-nil}
 
 one_body : (id : Id) (uri text : List ℕ) (ask : Ask) (a b : List ℕ) → kept.IsReply id uri text ask a → kept.IsReply id uri text ask b → a ≡ b
 unfolding kept.IsReply
@@ -57,3 +58,18 @@ one_saying state (body ∷ bodies) a b (inr p) (inr q) =
     p.2.3
     ∙ ((λ i. frames_for (one_reply state body p.0 q.0 p.2.1 q.2.1 i) ++ one_saying (after state body) bodies p.1 q.1 p.2.2 q.2.2 i)
     ∙ sym q.2.3)
+
+pub says_more : (state : Talk) (xs ys : List (List ℕ)) (a b : List ℕ) → Says state xs a → Says state (xs ++ ys) b → (more : List ℕ) × (b ≡ a ++ more)
+says_more state [] ys a b p q = (b, ap (λ l. l ++ b) (sym p))
+says_more state (x ∷ xs) ys a b (inl p) (inl q) = ([], q.2 ∙ (sym p.2 ∙ sym (append-nil a)))
+says_more state (x ∷ xs) ys a b (inl p) (inr q) = not_both (exit_of state x) p.0 p.1 q.2.0
+says_more state (x ∷ xs) ys a b (inr p) (inl q) = not_both (exit_of state x) q.0 q.1 p.2.0
+says_more state (x ∷ xs) ys a b (inr p) (inr q) =
+    let later = says_more (after state x) xs ys p.1 q.1 p.2.2 q.2.2 in (
+      later.0,
+      q.2.3
+          ∙ (ap (λ r. frames_for r ++ q.1) (sym (one_reply state x p.0 q.0 p.2.1 q.2.1))
+          ∙ (ap (λ l. frames_for p.0 ++ l) later.1
+          ∙ (sym (append_assoc (frames_for p.0) p.1 later.0)
+          ∙ ap (λ l. l ++ later.0) (sym p.2.3)))),
+    )

@@ -40,7 +40,7 @@ fed-is old piece new after (Err TwoLengths) e h = fed-err old piece new after Tw
 fed-is old piece new after (Err BadLength) e h = fed-err old piece new after BadLength e h
 fed-is old piece new after (Err TooLarge) e h = fed-err old piece new after TooLarge e h
 fed-is old piece new after (Err Truncated) e h = fed-err old piece new after Truncated e h
-fed-is old piece new after (Err NoMemory) e h = h.1
+fed-is old piece new after (Err NoMemory) e h = h.2
 
 -- a rest without frames is a stream without contents
 pub no-stream : (rest : List ℕ) → HasNoFrame rest → Stream rest [] rest

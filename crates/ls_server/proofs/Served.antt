@@ -169,3 +169,8 @@ pub write-failed : (fault : ServeFault) (a b : Bool) → a ≡ (b || is_write {A
 write-failed Read a b e f = absurd (cc)
 write-failed Write a b e f = or-true a b e
 write-failed Memory a b e f = absurd (cc)
+
+pub not-write : (fault : ServeFault) → is_write {A = Status} (Err fault) ≡ false → is_write {A = Option Status} (Err fault) ≡ false
+not-write Read e = refl
+not-write Write e = e
+not-write Memory e = refl

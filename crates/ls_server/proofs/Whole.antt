@@ -9,13 +9,21 @@ use Rattle.ls_frame.proofs.Wholes.{fault-no_frame}
 use Rattle.ls_frame.specs.declared.fault.FrameFault.{FrameFault}
 use Rattle.ls_server.specs.Talk.{start}
 use Rattle.ls_server.specs.Runs.{exited, end_status}
-use Rattle.ls_server.specs.Runs.{Written, WrittenFront, GoesOn, Ends, Stops, Finishes, ServedIs, RunIs, or_else, last_status}
+use Rattle.ls_server.specs.Runs.{Written, WrittenFront, GoesOn, Ends, Stops, Finishes, ServedIs, or_else, last_status}
 use Rattle.ls_server.specs.declared.serve.ServeFault.{ServeFault}
 use Rattle.ls_server.specs.declared.serve.ServeFault.TheVariants.{Read, Write, Memory}
 use Rattle.ls_session.specs.declared.event.Status.{Status}
 use Rattle.ls_session.specs.declared.event.Status.TheVariants.{BadFrame}
 use Rattle.ls_server.proofs.Known.{append-nil}
 use Rattle.ls_server.proofs.Writing.{lists-nil, exited-stays, written-stays, front-longer}
+
+-- A run on a whole input that is a stream with these contents and this rest: what is left of it, and what is written.
+abbrev pub RunsOn : List ℕ → List (List ℕ) → List ℕ → Option (List ℕ) → Option (List ℕ) → Result Status ServeFault → Option (List ℕ) → Type 0
+RunsOn input contents rest left old (Ok status) new = (status ≡ last_status contents rest) × Written start contents old new
+RunsOn input contents rest left old (Err Read) new = (read : List ℕ) × (unread : List ℕ) × (answered : List (List ℕ)) × (last : List ℕ) × (more : List (List ℕ))
+    × ((left ≡ Some unread) × (input ≡ read ++ unread) × Stream read answered last × (contents ≡ answered ++ more) × Written start answered old new)
+RunsOn input contents rest left old (Err Write) new = WrittenFront start contents old new
+RunsOn input contents rest left old (Err Memory) new = WrittenFront start contents old new
 
 consumed : (input read : List ℕ) (left : Option (List ℕ)) → Consumes (Some input) left read → (unread : List ℕ) × (left ≡ Some unread) × (input ≡ read ++ unread)
 consumed input read None c = absurd c
@@ -98,7 +106,7 @@ by-status input rest contents read unread left status old new s l e (inr h) =
 
 -- what was served of an input is what the run on the whole of it is
 pub whole : (input rest : List ℕ) (contents : List (List ℕ)) (left : Option (List ℕ)) (spent failed : Type 0) (old : Option (List ℕ)) (r : Result Status ServeFault) (new : Option (List ℕ))
-    → Stream input contents rest → ServedIs (Some input) left spent failed old r new → RunIs input contents rest left old r new
+    → Stream input contents rest → ServedIs (Some input) left spent failed old r new → RunsOn input contents rest left old r new
 whole input rest contents left spent failed old (Ok status) new s h =
     let c : (unread : List ℕ) × (left ≡ Some unread) × (input ≡ h.0 ++ unread) = consumed input h.0 left h.1 in
     by-status input rest contents h.0 c.0 left status old new s c.1 c.2 h.2
@@ -116,7 +124,7 @@ whole input rest contents left spent failed old (Err Memory) new s h =
 
 -- the same, of an input that is told
 pub whole-told : (told : Option (List ℕ)) (left : Option (List ℕ)) (spent failed : Type 0) (old : Option (List ℕ)) (r : Result Status ServeFault) (new : Option (List ℕ)) → ServedIs told left spent failed old r new
-    → (input rest : List ℕ) (contents : List (List ℕ)) → told ≡ Some input → Stream input contents rest → RunIs input contents rest left old r new
+    → (input rest : List ℕ) (contents : List (List ℕ)) → told ≡ Some input → Stream input contents rest → RunsOn input contents rest left old r new
 whole-told told left spent failed old r new h input rest contents e s =
     let P : Option (List ℕ) → Type 0 = λ o. ServedIs o left spent failed old r new in
     whole input rest contents left spent failed old r new s (subst P e h)

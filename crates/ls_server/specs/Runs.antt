@@ -143,10 +143,16 @@ ServedIs input left spent failed old (Err Memory) new = (read : List ℕ) × Con
 abbrev pub last_status : List (List ℕ) → List ℕ → Status
 last_status contents rest = unwrap_or (exited start contents) (end_status (fault_of rest) rest)
 
--- A run on a whole input that is a stream with these contents and this rest: what is left of it, and what is written.
-abbrev pub RunIs : List ℕ → List (List ℕ) → List ℕ → Option (List ℕ) → Option (List ℕ) → Result Status ServeFault → Option (List ℕ) → Type 0
-RunIs input contents rest left old (Ok status) new = (status ≡ last_status contents rest) × Written start contents old new
-RunIs input contents rest left old (Err Read) new = (read : List ℕ) × (unread : List ℕ) × (answered : List (List ℕ)) × (last : List ℕ) × (more : List (List ℕ))
-    × ((left ≡ Some unread) × (input ≡ read ++ unread) × Stream read answered last × (contents ≡ answered ++ more) × Written start answered old new)
-RunIs input contents rest left old (Err Write) new = WrittenFront start contents old new
-RunIs input contents rest left old (Err Memory) new = WrittenFront start contents old new
+-- What a run on a whole input ends with and writes, where no device fails and no memory is refused.
+abbrev pub IsOutput : List ℕ → Status → List ℕ → Type 0
+IsOutput input status bytes = (contents : List (List ℕ)) × (rest : List ℕ)
+    × (Stream input contents rest × Says start contents bytes × (status ≡ last_status contents rest))
+
+-- A run on a whole input with this status and these bytes as its output: what is left of the input, and what is written. After a
+-- fault that is a front of the output; where a read failed, it is what is said on the messages that had been read.
+abbrev pub RunIs : List ℕ → Status → List ℕ → Option (List ℕ) → Option (List ℕ) → Result Status ServeFault → Option (List ℕ) → Type 0
+RunIs input status bytes left old (Ok answer) new = (answer ≡ status) × Appends old new bytes
+RunIs input status bytes left old (Err Read) new = (read : List ℕ) × (unread : List ℕ) × (contents : List (List ℕ)) × (rest : List ℕ)
+    × ((left ≡ Some unread) × (input ≡ read ++ unread) × Stream read contents rest × Written start contents old new × AppendsFront old new bytes)
+RunIs input status bytes left old (Err Write) new = AppendsFront old new bytes
+RunIs input status bytes left old (Err Memory) new = AppendsFront old new bytes

@@ -1,7 +1,7 @@
 //! Where bytes come from and go to.
-ghost use Rattle.std.specs.Prelude.{◌≡◌, ◌≢◌, ℕ, ◌+◌, ◌≤◌, ◌<◌, ◌||◌, ◌^◌, Bool, true, false, List, length, take, Option, None, Some, Result, IfOk, IfErr, OnOk, OnErr};
+ghost use Rattle.std.specs.Prelude.{◌≡◌, ◌≢◌, ℕ, ◌+◌, ◌≤◌, ◌<◌, ◌||◌, ◌&&◌, ◌^◌, Bool, true, false, List, length, take, Option, None, Some, Result, IfOk, IfErr, OnOk, OnErr};
 ghost use Rattle.std.specs.Io.KnownBytes.{Keeps, ReadConsumes, WriteAppends};
-ghost use Rattle.ls_server.specs.Devices.{is_failed};
+ghost use Rattle.ls_server.specs.Devices.{is_failed, took_bytes};
 
 use std::io::{ErrorKind, Read, Write};
 
@@ -41,6 +41,9 @@ pub trait Sink {
     // Whether it has answered Failed.
     ghost failed: { Self → Bool };
 
+    // Whether it has taken bytes since it last handed on all of them.
+    ghost unflushed: { Self → Bool };
+
     /// Takes bytes from the front of `buf`, at least one where there is one, and answers how many. Its one fault is
     /// `Failed`.
     fn write(&mut self, buf: &[u8]) -> Result<usize, DeviceFault>
@@ -48,13 +51,15 @@ pub trait Sink {
         ensures some { IfOk result (λ n. 0 < length buf.now → 0 < n) }
         ensures fault { IfErr result (λ e. e ≡ DeviceFault.Failed) }
         ensures bytes { WriteAppends (contents self.old) (contents self.new) result buf.now }
-        ensures failed { failed self.new ≡ (failed self.old || is_failed result) };
+        ensures failed { failed self.new ≡ (failed self.old || is_failed result) }
+        ensures unflushed { unflushed self.new ≡ (unflushed self.old || took_bytes result) };
 
     /// Hands on all bytes taken so far. Its one fault is `Failed`.
     fn flush(&mut self) -> Result<(), DeviceFault>
         ensures fault { IfErr result (λ e. e ≡ DeviceFault.Failed) }
         ensures bytes { Keeps (contents self.old) (contents self.new) }
-        ensures failed { failed self.new ≡ (failed self.old || is_failed result) };
+        ensures failed { failed self.new ≡ (failed self.old || is_failed result) }
+        ensures unflushed { unflushed self.new ≡ (is_failed result && unflushed self.old) };
 }
 
 /// A source over a reader of std.
@@ -111,17 +116,21 @@ pub struct WriteTo<W> {
     pub writer: W,
     /// Whether it has answered `Failed`.
     pub failed: bool,
+    /// Whether it has taken bytes since its writer was last flushed.
+    pub unflushed: bool,
 }
 
 impl<W: Write> WriteTo<W> {
-    /// A sink that hasn't failed.
+    /// A sink that hasn't failed and has taken no bytes.
     pub fn new(writer: W) -> Self
         ensures failed { result.failed ≡ false }
+        ensures unflushed { result.unflushed ≡ false }
         ensures writer { result.writer ≡ writer }
     {
         WriteTo {
             writer,
             failed: false,
+            unflushed: false,
         }
     }
 }
@@ -131,9 +140,14 @@ impl<W: Write> Sink for WriteTo<W> {
 
     ghost failed = { λ s. s.failed };
 
+    ghost unflushed = { λ s. s.unflushed };
+
     fn write(&mut self, buf: &[u8]) -> Result<usize, DeviceFault> {
         match self.writer.write(buf) {
-            Ok(count) if count > 0 || buf.is_empty() => Ok(count),
+            Ok(count) if count > 0 || buf.is_empty() => {
+                self.unflushed |= count > 0;
+                Ok(count)
+            }
             _ => {
                 self.failed = true;
                 Err(DeviceFault::Failed)
@@ -143,7 +157,10 @@ impl<W: Write> Sink for WriteTo<W> {
 
     fn flush(&mut self) -> Result<(), DeviceFault> {
         match self.writer.flush() {
-            Ok(()) => Ok(()),
+            Ok(()) => {
+                self.unflushed = false;
+                Ok(())
+            }
             Err(_) => {
                 self.failed = true;
                 Err(DeviceFault::Failed)

@@ -11,6 +11,6 @@ mod serve;
 
 pub use device::{DeviceFault, ReadFrom, Sink, Source, WriteTo};
 pub use ending::Ending;
-pub use laws::sessions_are_unique;
-pub use ls_session::{Session, Status, Turn};
+pub use laws::{inputs_have_one_output, sessions_are_unique, sessions_exist};
+pub use ls_session::{ClientEvent, DeskFault, Out, Session, Status, Turn, body_of, refusal_body};
 pub use serve::{ServeFault, serve_limited, serve_plain};

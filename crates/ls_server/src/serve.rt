@@ -1,12 +1,13 @@
 //! The run on one thread: frames in, frames out.
 ghost use Rattle.std.specs.Prelude.{◌≡◌, ◌+◌, ◌<◌, ◌⊎◌, ◌||◌, true, false, List, [], ◌∷◌, ℕ, length, Some, OnOk, IfErr, None, IfOk};
 ghost use Rattle.std.specs.Io.KnownBytes.{Appends};
-ghost use Rattle.ls_frame.specs.Frames.{HasNoFrame, Stream, frame_of};
+ghost use Rattle.ls_frame.specs.Frames.{HasNoFrame, frame_of};
 ghost use Rattle.ls_frame.specs.Faults.{fault_of};
 ghost use Rattle.ls_frame.specs.Feeds.{contents_of};
 ghost use Rattle.ls_server.specs.Devices.{is_failed};
-ghost use Rattle.ls_server.specs.Runs.{AnswersIs, AppendsFront, PieceIs, RunIs, ServedIs, is_write, outcome};
+ghost use Rattle.ls_server.specs.Runs.{AnswersIs, AppendsFront, IsOutput, PieceIs, RunIs, ServedIs, is_write, outcome};
 ghost use Rattle.ls_server.specs.Talk.{start};
+ghost use Rattle.ls_session.specs.declared.event.Status.{Status};
 
 use crate::conversation::{Conversation, Reply};
 use crate::device::{DeviceFault, Sink, Source};
@@ -67,6 +68,7 @@ fn answer<W: Sink>(
     ensures answers { AnswersIs talk.old (body.now ∷ []) (W.contents writer.old) result talk.new
         (W.contents writer.new) }
     ensures failed { W.failed writer.new ≡ (W.failed writer.old || is_write result) }
+    ensures flushed { is_write result ≡ false → W.unflushed writer.old ≡ false → W.unflushed writer.new ≡ false }
 {
     let Ok(reply) = talk.turn(body) else {
         return Err(ServeFault::Memory);
@@ -99,6 +101,7 @@ fn answer_all<W: Sink>(
     ensures answers { AnswersIs talk.old (contents_of bodies.now) (W.contents writer.old) result talk.new
         (W.contents writer.new) }
     ensures failed { W.failed writer.new ≡ (W.failed writer.old || is_write result) }
+    ensures flushed { is_write result ≡ false → W.unflushed writer.old ≡ false → W.unflushed writer.new ≡ false }
 {
     for body in bodies {
         match answer(alloc, talk, body, writer) {
@@ -134,6 +137,7 @@ fn serve_piece<W: Sink>(
     ensures piece { PieceIs framer.old piece.now talk.old (W.contents writer.old) result framer.new talk.new
         (W.contents writer.new) }
     ensures failed { W.failed writer.new ≡ (W.failed writer.old || is_write result) }
+    ensures flushed { is_write result ≡ false → W.unflushed writer.old ≡ false → W.unflushed writer.new ≡ false }
 {
     let mut bodies = Vec::new(alloc);
     let fed = framer.feed(piece, &mut bodies);
@@ -162,9 +166,10 @@ fn serve_from<R: Source, W: Sink>(
     requires sink { W.failed writer.old ≡ false }
     requires room { 0 < length buffer.old }
     requires some { 0 < reads }
-    ensures { ServedIs (R.remaining reader.old) (R.remaining reader.new)
+    ensures served { ServedIs (R.remaining reader.old) (R.remaining reader.new)
         ((R.failed reader.new ≡ true) ⊎ (R.reads reader.new + 1 ≡ reads)) (W.failed writer.new ≡ true)
         (W.contents writer.old) result (W.contents writer.new) }
+    ensures flushed { is_write result ≡ false → W.unflushed writer.old ≡ false → W.unflushed writer.new ≡ false }
 {
     for i in 1..reads {
         let _ = i;
@@ -203,10 +208,10 @@ pub fn serve_limited<R: Source, W: Sink>(
     ensures served { ServedIs (R.remaining reader.old) (R.remaining reader.new)
         ((R.failed reader.new ≡ true) ⊎ (R.reads reader.new + 1 ≡ reads)) (W.failed writer.new ≡ true)
         (W.contents writer.old) result (W.contents writer.new) }
-    ensures whole { (input rest : List ℕ) (contents : List (List ℕ)) → R.remaining reader.old ≡ Some input
-        → Stream input contents rest
-        → RunIs input contents rest (R.remaining reader.new) (W.contents writer.old) result
-        (W.contents writer.new) }
+    ensures whole { (input : List ℕ) → R.remaining reader.old ≡ Some input → (status : Status) × (bytes : List ℕ)
+        × IsOutput input status bytes
+        × RunIs input status bytes (R.remaining reader.new) (W.contents writer.old) result (W.contents writer.new) }
+    ensures flushed { is_write result ≡ false → W.unflushed writer.old ≡ false → W.unflushed writer.new ≡ false }
 {
     let Ok(mut buffer) = vec![in alloc; 0u8; READ_MOST] else {
         return Err(ServeFault::Memory);
@@ -237,10 +242,10 @@ pub fn serve_plain<R: Source, W: Sink>(
     ensures served { ServedIs (R.remaining reader.old) (R.remaining reader.new)
         ((R.failed reader.new ≡ true) ⊎ (R.reads reader.new + 1 ≡ READS_END)) (W.failed writer.new ≡ true)
         (W.contents writer.old) result (W.contents writer.new) }
-    ensures whole { (input rest : List ℕ) (contents : List (List ℕ)) → R.remaining reader.old ≡ Some input
-        → Stream input contents rest
-        → RunIs input contents rest (R.remaining reader.new) (W.contents writer.old) result
-        (W.contents writer.new) }
+    ensures whole { (input : List ℕ) → R.remaining reader.old ≡ Some input → (status : Status) × (bytes : List ℕ)
+        × IsOutput input status bytes
+        × RunIs input status bytes (R.remaining reader.new) (W.contents writer.old) result (W.contents writer.new) }
+    ensures flushed { is_write result ≡ false → W.unflushed writer.old ≡ false → W.unflushed writer.new ≡ false }
 {
     serve_limited(alloc, reader, writer, READS_END)
 }

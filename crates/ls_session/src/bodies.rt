@@ -1,4 +1,4 @@
-ghost use Rattle.std.specs.Prelude.{◌≡◌, IfOk, Some, option_map, false};
+ghost use Rattle.std.specs.Prelude.{◌≡◌, IfOk, Some, None, Ok, option_map, false};
 ghost use Rattle.serde_json.specs.View.{view};
 ghost use Rattle.serde_json.specs.Written.{has_float};
 ghost use Rattle.ls_session.specs.Bodies.{position_json, range_json, symbol_json, symbols_json, answer_json, body_of, location_json, locations_json, refusal_of, reply_body};
@@ -38,10 +38,11 @@ fn reply_body(alloc: Global, id: &Id, uri: &str, answer: &Answer) -> Result<Vec<
 /// The body that answers a request which the keeper of the documents refused. None where there is nothing to
 /// answer: the fault isn't a request's, or is the server's own.
 ///
-/// `Memory` says that an allocation was refused.
+/// `Memory` says that an allocation was refused. Where there is nothing to answer none is needed.
 #[tactic(auto, unfolding(crate::specs::Bodies::refusal_of))]
 pub fn refusal_body(alloc: Global, id: &Id, fault: DeskFault) -> Result<Option<Vec<u8>>, Memory>
-    ensures { IfOk result (λ body. option_map (λ b. b.items) body ≡ refusal_of id.now fault) }
+    ensures body { IfOk result (λ body. option_map (λ b. b.items) body ≡ refusal_of id.now fault) }
+    ensures none { refusal_of id.now fault ≡ None → result ≡ Ok None }
 {
     match fault {
         DeskFault::NotOpen => Ok(Some(Refusal::DocumentNotOpen.body(alloc, Some(id))?)),

@@ -10,3 +10,4 @@ pub mod SameLaws
 pub mod EditLaws
 pub mod PlaceLaws
 pub mod ChunkLaws
+pub mod ScalarLaws

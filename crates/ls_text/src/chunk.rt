@@ -1,5 +1,6 @@
-ghost use Rattle.std.specs.Prelude.{◌≡◌, ◌+◌, ◌<◌, ◌≤◌, ◌++◌, ◌∷◌, [], length, map, OnOk, IfOk, IfErr, slice_index};
+ghost use Rattle.std.specs.Prelude.{◌≡◌, ◌+◌, ◌<◌, ◌≤◌, ◌++◌, ◌∷◌, [], length, map, All, OnOk, IfOk, IfErr, slice_index};
 ghost use Rattle.std.specs.Arc.{arc_value};
+ghost use Rattle.std.specs.Char.{IsScalar};
 ghost use Rattle.std.specs.List.{flat_map};
 ghost use Rattle.std.specs.Str.{encode_utf8_all};
 ghost use Rattle.ls_text.specs.Cut.{text_of, IsIndex};
@@ -9,6 +10,9 @@ use crate::line::Line;
 use crate::snapshot::MAX_BYTES;
 use std::alloc::{AllocError, Global};
 use std::sync::Arc;
+
+// How many lines a chunk has at most.
+pub const MOST_LINES: usize = 512;
 
 // Some lines that follow one another, which texts share.
 #[derive(Drop)]
@@ -21,9 +25,11 @@ pub struct Chunk {
     // Their bytes.
     pub byte_count: usize,
     ghost some: { 0 < length lines.items },
+    ghost few: { length lines.items ≤ 512 },
     ghost index: { IsIndex starts.items char_count (map arc_value lines.items) },
     ghost bytes_are: { byte_count ≡ length (encode_utf8_all (text_of (map arc_value lines.items))) },
     ghost small: { byte_count ≤ 4_194_304 },
+    ghost scalars: { All IsScalar (text_of (map arc_value lines.items)) },
 }
 
 // Adds a number.
@@ -36,7 +42,8 @@ pub fn push_number(numbers: &mut Vec<usize>, number: usize) -> Result<(), AllocE
 
 // The chunk of these lines.
 pub fn chunk_of(alloc: Global, lines: Vec<Arc<Line>>) -> Result<Chunk, TextFault>
-    requires { 0 < length lines.items }
+    requires some { 0 < length lines.items }
+    requires few { length lines.items ≤ MOST_LINES }
     ensures ok { IfOk result (λ c. map arc_value c.lines.items ≡ map arc_value lines.items) }
     ensures too_large { let text = text_of (map arc_value lines.items) in
         IfErr result (λ e. e ≡ TextFault.TooLarge → MAX_BYTES < length (encode_utf8_all text)) }

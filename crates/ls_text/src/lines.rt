@@ -1,11 +1,12 @@
-ghost use Rattle.std.specs.Prelude.{◌≡◌, ◌+◌, ◌<◌, ◌≤◌, ◌++◌, ◌∷◌, [], length, map, take, drop, OnOk, IfOk, IfErr};
+ghost use Rattle.std.specs.Prelude.{◌≡◌, ◌+◌, ◌<◌, ◌≤◌, ◌++◌, ◌∷◌, [], length, map, take, drop, All, OnOk, IfOk, IfErr};
 ghost use Rattle.std.specs.Arc.{arc_value};
+ghost use Rattle.std.specs.Char.{IsScalar};
 ghost use Rattle.std.specs.List.{flat_map};
 ghost use Rattle.std.specs.Str.{encode_utf8_all};
 ghost use Rattle.ls_text.specs.Cut.{text_of, start_of};
 ghost use Rattle.ls_text.specs.Chunks.{lines_behind, IsLineAt};
 
-use crate::chunk::{Chunk, chunk_of, push_number, start_before};
+use crate::chunk::{Chunk, MOST_LINES, chunk_of, push_number, start_before};
 use crate::edit::push_shared;
 use crate::fault::TextFault;
 use crate::line::Line;
@@ -13,9 +14,6 @@ use crate::snapshot::MAX_BYTES;
 use std::alloc::{AllocError, Global};
 use std::marker::Model;
 use std::sync::Arc;
-
-// How many lines a new chunk has at most.
-const MOST_LINES: usize = 512;
 
 // A piece of fewer lines is joined with a chunk beside it.
 const FEW_LINES: usize = 128;
@@ -64,8 +62,9 @@ fn shared_chunk(alloc: Global, chunk: Chunk) -> Result<Arc<Chunk>, AllocError>
 
 // Adds a line.
 fn push_line(lines: &mut Vec<Arc<Line>>, line: Arc<Line>) -> Result<(), AllocError>
-    ensures { OnOk result
+    ensures lines { OnOk result
         (map arc_value lines.new.items ≡ map arc_value lines.old.items ++ arc_value line ∷ []) }
+    ensures count { OnOk result (length lines.new.items ≡ length lines.old.items + 1) }
 {
     lines.push(line)?;
     Ok(())
@@ -141,8 +140,11 @@ fn back_of(few: bool, place: usize, count: usize) -> usize
 }
 
 // How many of so many lines come into the next chunk, so that all chunks have about as many.
-fn part_of(count: usize) -> usize {
-    count.div_ceil(count.div_ceil(MOST_LINES).max(1))
+fn part_of(count: usize) -> usize
+    ensures { result ≤ MOST_LINES }
+{
+    let parts = count.div_ceil(MOST_LINES).max(1);
+    count.div_ceil(parts).min(MOST_LINES)
 }
 
 impl Lines {
@@ -204,6 +206,7 @@ impl Lines {
 
     // These lines, and some more, which come into one chunk.
     fn with_part(self, alloc: Global, part: Vec<Arc<Line>>) -> Result<Lines, TextFault>
+        requires { length part.items ≤ MOST_LINES }
         ensures ok { IfOk result (λ lines. lines ≡ self ++ map arc_value part.items) }
         ensures too_large { IfErr result (λ e. e ≡ TextFault.TooLarge →
             MAX_BYTES < length (encode_utf8_all (text_of (self ++ map arc_value part.items)))) }
@@ -284,6 +287,7 @@ impl Lines {
     // The characters of the lines with their line ends.
     pub fn char_count(&self) -> usize
         ensures count { result ≡ length (text_of self.now) }
+        ensures scalars { All IsScalar (text_of self.now) }
         ensures small { length (encode_utf8_all (text_of self.now)) ≤ MAX_BYTES }
     {
         self.char_count

@@ -1,5 +1,5 @@
-ghost use Rattle.std.specs.Prelude.{◌≡◌, ◌+◌, ◌<◌, ◌≤◌, ◌++◌, ◌↔◌, ◌∷◌, [], length, map, Option, true, false, Some, None, IsTrue, OnOk, IfOk, IfErr, IfSome, slice_index};
-ghost use Rattle.std.specs.Char.{len_utf8};
+ghost use Rattle.std.specs.Prelude.{◌≡◌, ◌+◌, ◌<◌, ◌≤◌, ◌++◌, ◌↔◌, ◌∷◌, [], length, map, Option, true, false, Some, None, Err, All, IsTrue, OnOk, IfOk, IfErr, IfSome, slice_index};
+ghost use Rattle.std.specs.Char.{len_utf8, IsScalar};
 ghost use Rattle.std.specs.Str.{chars, encode_utf8_all, IsUtf8};
 ghost use Rattle.std.specs.String.{string_bytes, string_len};
 ghost use Rattle.std.specs.Option.{option_map};
@@ -87,9 +87,21 @@ impl Snapshot {
     /// `TooLarge` exactly where the text has more than [`MAX_BYTES`] bytes, and `Memory` where an allocation is refused.
     pub fn of_text(alloc: Global, text: String) -> Result<Snapshot, TextFault>
         ensures ok { IfOk result (λ s. (s ≡ chars (string_bytes text)) × (string_len text ≤ MAX_BYTES)) }
-        ensures too_large { IfErr result (λ e. e ≡ TextFault.TooLarge → MAX_BYTES < string_len text) }
+        ensures too_large { (result ≡ Err TextFault.TooLarge) ↔ (MAX_BYTES < string_len text) }
     {
+        if text.len() > MAX_BYTES {
+            return Err(TextFault::TooLarge);
+        }
         Ok(kept(alloc, whole(alloc, text.as_str())?))
+    }
+
+    /// The number of characters. All are Unicode scalar values, and they have at most [`MAX_BYTES`] bytes of UTF-8.
+    pub fn char_count(&self) -> usize
+        ensures count { result ≡ length self.now }
+        ensures scalars { All IsScalar self.now }
+        ensures small { length (encode_utf8_all self.now) ≤ MAX_BYTES }
+    {
+        self.lines.char_count()
     }
 
     /// The number of lines, one more than the text has line ends.

@@ -7,13 +7,8 @@ use std::alloc::{AllocError as Memory, Global};
 use std::test::Fail;
 
 fn nested_arrays(alloc: Global, depth: usize) -> Result<Vec<u8>, Memory> {
-    let mut bytes = Vec::new(alloc);
-    for _ in 0..depth {
-        bytes.push(b'[')?;
-    }
-    for _ in 0..depth {
-        bytes.push(b']')?;
-    }
+    let mut bytes = vec![in alloc; b'['; depth]?;
+    bytes.extend_from_slice(&vec![in alloc; b']'; depth]?)?;
     Ok(bytes)
 }
 

@@ -3,6 +3,7 @@ ghost use Rattle.std.specs.Prelude.{◌<◌};
 use ls_lists::Text;
 use ls_text::{Edit, Place, Position, Range, Snapshot, TextFault};
 use std::alloc::{AllocError, Global};
+use std::process::Abort;
 use std::test::Fail;
 
 fn snapshot(alloc: Global, text: &str) -> Result<Snapshot, TextFault> {
@@ -185,42 +186,77 @@ fn edit(
     })
 }
 
+/// Checks what one edit makes of a text, and into how many lines.
+fn becomes(
+    rt: &impl Abort,
+    alloc: Global,
+    before: &str,
+    range: ((u32, u32), (u32, u32)),
+    new: &str,
+    after: &str,
+    lines: usize,
+) -> Result<(), TextFault> {
+    let mut edits = Vec::new(alloc);
+    edits.push(edit(alloc, Some(range), new)?)?;
+    let text = snapshot(alloc, before)?;
+    let changed = text.apply(edits.as_slice())?;
+    assert_eq!(rt; changed.to_text()?.as_str(), after);
+    assert_eq!(rt; changed.line_count(), lines, "{after}");
+    assert!(rt; changed.same_text(&snapshot(alloc, after)?), "{after}");
+    assert!(rt; text.same_text(&snapshot(alloc, before)?));
+    Ok(())
+}
+
 #[test]
 fn applies_edits(rt: HostRuntime) -> Result<(), Fail> {
-    let alloc = rt.alloc();
-    let changes = [
-        // Inside a surrogate pair is before it.
-        (";\u{1F600}z", ((0, 2), (0, 2)), "a", ";a\u{1F600}z", 1),
-        (";a\u{1F600}z", ((0, 4), (0, 4)), "b", ";a\u{1F600}bz", 1),
-        ("abc", ((0, 1), (0, 1)), "XY", "aXYbc", 1),
-        ("aXYbc", ((0, 2), (0, 4)), "-", "aX-c", 1),
-        // A range whose start is after its end.
-        ("abcd", ((0, 3), (0, 1)), "", "ad", 1),
-        // A line past the last, and a character past the line's end.
-        ("ab\n", ((9, 5), (9, 5)), "!", "ab\n!", 2),
-        ("ab\ncd", ((0, 9), (1, 0)), "", "abcd", 1),
-        // Line ends that an edit joins, makes and splits.
-        ("a\r", ((1, 0), (1, 0)), "\n", "a\r\n", 2),
-        ("a\r\nb", ((0, 1), (1, 0)), "", "ab", 1),
-        ("a\rb\n", ((1, 0), (1, 1)), "", "a\r\n", 2),
-        ("a\n", ((0, 1), (0, 1)), "\r", "a\r\n", 2),
-        ("a\nb", ((0, 0), (0, 1)), "x\r\ny\r", "x\r\ny\r\nb", 3),
-        ("", ((0, 0), (0, 0)), "a\nb", "a\nb", 2),
-    ];
-    for (before, (start, end), new, after, lines) in changes {
-        let mut edits = Vec::new(alloc);
-        edits.push(edit(alloc, Some((start, end)), new)?)?;
-        let text = snapshot(alloc, before)?;
-        let after = String::from_str(alloc, after)?;
-        let changed = text.apply(edits.as_slice())?;
-        assert_eq!(rt; changed.to_text()?, after);
-        assert_eq!(rt; changed.line_count(), lines, "{after}");
-        assert!(rt;
-            changed.same_text(&snapshot(alloc, after.as_str())?),
-            "{after}"
-        );
-        assert!(rt; text.same_text(&snapshot(alloc, before)?));
-    }
+    let a = rt.alloc();
+    // Inside a surrogate pair is before it.
+    becomes(
+        &rt,
+        a,
+        ";\u{1F600}z",
+        ((0, 2), (0, 2)),
+        "a",
+        ";a\u{1F600}z",
+        1,
+    )?;
+    becomes(
+        &rt,
+        a,
+        ";a\u{1F600}z",
+        ((0, 4), (0, 4)),
+        "b",
+        ";a\u{1F600}bz",
+        1,
+    )?;
+    becomes(&rt, a, "abc", ((0, 1), (0, 1)), "XY", "aXYbc", 1)?;
+    becomes(&rt, a, "aXYbc", ((0, 2), (0, 4)), "-", "aX-c", 1)?;
+    // A range whose start is after its end.
+    becomes(&rt, a, "abcd", ((0, 3), (0, 1)), "", "ad", 1)?;
+    // A line past the last, and a character past the line's end.
+    becomes(&rt, a, "ab\n", ((9, 5), (9, 5)), "!", "ab\n!", 2)?;
+    becomes(&rt, a, "ab\ncd", ((0, 9), (1, 0)), "", "abcd", 1)?;
+    becomes(&rt, a, "", ((0, 0), (0, 0)), "a\nb", "a\nb", 2)?;
+    Ok(())
+}
+
+/// Line ends that an edit joins, makes and splits.
+#[test]
+fn edits_cut_lines_anew(rt: HostRuntime) -> Result<(), Fail> {
+    let a = rt.alloc();
+    becomes(&rt, a, "a\r", ((1, 0), (1, 0)), "\n", "a\r\n", 2)?;
+    becomes(&rt, a, "a\r\nb", ((0, 1), (1, 0)), "", "ab", 1)?;
+    becomes(&rt, a, "a\rb\n", ((1, 0), (1, 1)), "", "a\r\n", 2)?;
+    becomes(&rt, a, "a\n", ((0, 1), (0, 1)), "\r", "a\r\n", 2)?;
+    becomes(
+        &rt,
+        a,
+        "a\nb",
+        ((0, 0), (0, 1)),
+        "x\r\ny\r",
+        "x\r\ny\r\nb",
+        3,
+    )?;
     Ok(())
 }
 

@@ -1,4 +1,5 @@
-use Rattle.std.proofs.Common.{◌<◌, length, arith}
+use Rattle.std.proofs.Common.{◌<◌, length, arith, Result, Ok, Err}
+use Rattle.std.specs.Prelude.{OnErr}
 use Rattle.abnf_syntax.specs.declared.block.Block.{Block}
 use Rattle.abnf_syntax.specs.Blocks.{line_texts}
 use Rattle.abnf_syntax.specs.Items.{AreItems}
@@ -25,3 +26,13 @@ blocks-2-preserved c = record {
 
 pub returns-clause-all : goal.returns-clause-all
 returns-clause-all c = all_found (line_texts c.args.snapshot.now) c.blocks-2.first c.blocks-2.found.items (omega (arith, c.line_count-count.ensures, c.blocks-2-test.false)) c.blocks-2.invariant.all
+
+on_err : {A E P : Type 0} (result : Result A E) → P → OnErr result P
+on_err (Ok a) p = tt
+on_err (Err e) p = p
+
+pub returns-in_err-items-clause-memory : goal.returns-in_err-items-clause-memory
+returns-in_err-items-clause-memory c = on_err c.from_residual.result (c.blocks-2.first, c.blocks-2.invariant.begins c.blocks-2-test.true)
+
+pub returns-in_err-push-clause-memory : goal.returns-in_err-push-clause-memory
+returns-in_err-push-clause-memory c = on_err c.from_residual-in_err-push.result (c.blocks-2.first, c.blocks-2.invariant.begins c.blocks-2-test.true)

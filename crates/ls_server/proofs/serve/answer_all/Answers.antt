@@ -1,4 +1,4 @@
-use Rattle.std.proofs.Common.{rules, Ok, Err, Some, None}
+use Rattle.std.proofs.Common.{rules, refl, Ok, Err, Some, None}
 use Rattle.ls_server.proofs.Writing.{answers-next, answers-stop}
 use Rattle.ls_server.proofs.serve.answer_all.Goals as goal
 
@@ -18,4 +18,5 @@ loop-body-preserved g c = record {
   answered = answers-next _ c.loop-body.talk _ c.args.bodies.now c.loop-body.body-index c.body-item.result c.deref.result.now (Ok None) _ _ _
       c.loop-body-test.true c.body-item.is c.deref.ensures.value c.loop-body.invariant.answered (rw c.in-Ok-None.field-0-is at c.in-Ok-None.ensures.answers);
   failed = search rules;
+  flushed = λ p. c.in-Ok-None.ensures.flushed refl (c.loop-body.invariant.flushed p);
 }

@@ -1,5 +1,5 @@
 use Rattle.std.proofs.Common.{rules, arith, Ok, None, [], inl, inr, take, refl, length-take}
-use Rattle.ls_server.proofs.Served.{begins, consumes-none, consumes-keeps, consumes-consumes, finished, end-ok, end-err, served-status, served-fault, piece-more, or-true, or-false, write-failed}
+use Rattle.ls_server.proofs.Served.{begins, consumes-none, consumes-keeps, consumes-consumes, finished, end-ok, end-err, served-status, served-fault, piece-more, or-true, or-false, write-failed, not-write}
 use Rattle.ls_server.proofs.serve.serve_from.Goals as goal
 
 pub loop-i-init : goal.loop-i-init
@@ -8,6 +8,7 @@ loop-i-init g c = record {
   reads = omega (arith, c.requires.none);
   source = c.requires.source;
   sink = c.requires.sink;
+  flushed = λ p. p;
 }
 
 pub read-requires : goal.read-requires
@@ -21,21 +22,22 @@ loop-i-preserved-in-Err-Interrupted g c =
       reads = omega (arith, c.loop-i.invariant.reads, c.read.ensures.counted);
       source = search rules;
       sink = c.loop-i.invariant.sink;
+      flushed = c.loop-i.invariant.flushed;
     }
 
-pub returns-in-Err-Failed : goal.returns-in-Err-Failed
-returns-in-Err-Failed g c =
+pub returns-in-Err-Failed-clause-served : goal.returns-in-Err-Failed-clause-served
+returns-in-Err-Failed-clause-served g c =
     let before = c.loop-i.invariant.read in
     (inl (or-true _ (g.R.Source.failed c.loop-i.reader) (rw c.in-Err-Failed.field-0-is at c.in-Err-Failed.ensures.failed)), (before.0, _, _, consumes-keeps _ _ _ before.0 before.1 c.in-Err-Failed.ensures.bytes, before.2))
 
-pub returns-in-Ok-end : goal.returns-in-Ok-end
-returns-in-Ok-end g c =
+pub returns-in-Ok-end-clause-served : goal.returns-in-Ok-end-clause-served
+returns-in-Ok-end-clause-served g c =
     let before = c.loop-i.invariant.read in
     finished _ _ _ (Unit {0}) (Unit {0}) before.0 (take c.in-Ok.count c.read.new.buf) c.loop-i.framer c.loop-i.talk _ _ _
     (rw c.if-count-eq0.true refl) before.1 before.2 c.in-Ok.ensures.bytes.0 (c.in-Ok.ensures.bytes.1 c.if-count-eq0.true (omega (arith, c.requires.room, c.loop-i.auto.buffer, c.read.auto.buf))) (end-ok c.loop-i.framer before.2.fault c.in-Ok-end.ensures)
 
-pub returns-in-Err : goal.returns-in-Err
-returns-in-Err g c =
+pub returns-in-Err-clause-served : goal.returns-in-Err-clause-served
+returns-in-Err-clause-served g c =
     let before = c.loop-i.invariant.read in
     finished _ _ _ (Unit {0}) (Unit {0}) before.0 (take c.in-Ok.count c.read.new.buf) c.loop-i.framer c.loop-i.talk _ _ _
     (rw c.if-count-eq0.true refl) before.1 before.2 c.in-Ok.ensures.bytes.0 (c.in-Ok.ensures.bytes.1 c.if-count-eq0.true (omega (arith, c.requires.room, c.loop-i.auto.buffer, c.read.auto.buf))) (end-err c.loop-i.framer c.in-Err.fault before.2.fault c.in-Err.ensures)
@@ -49,14 +51,14 @@ serve_piece-requires-clause-partial g c = c.loop-i.invariant.read.2.stream.parti
 pub serve_piece-requires-clause-fault : goal.serve_piece-requires-clause-fault
 serve_piece-requires-clause-fault g c = c.loop-i.invariant.read.2.fault
 
-pub returns-in-Ok-Some : goal.returns-in-Ok-Some
-returns-in-Ok-Some g c =
+pub returns-in-Ok-Some-clause-served : goal.returns-in-Ok-Some-clause-served
+returns-in-Ok-Some-clause-served g c =
     let before = c.loop-i.invariant.read in
     served-status _ _ _ (Unit {0}) (Unit {0}) before.0 (take c.in-Ok.count c.read.new.buf) c.loop-i.framer c.serve_piece.new.framer c.loop-i.talk c.serve_piece.new.talk c.in-Ok-Some.status _ _ _
     before.1 before.2 c.in-Ok.ensures.bytes.0 (rw c.in-Ok-Some.field-0-is at c.in-Ok-Some.ensures.piece)
 
-pub returns-in-Err-serve_piece : goal.returns-in-Err-serve_piece
-returns-in-Err-serve_piece g c =
+pub returns-in-Err-serve_piece-clause-served : goal.returns-in-Err-serve_piece-clause-served
+returns-in-Err-serve_piece-clause-served g c =
     let before = c.loop-i.invariant.read in
     served-fault _ _ _ _ _ before.0 (take c.in-Ok.count c.read.new.buf) c.loop-i.framer c.serve_piece.new.framer c.loop-i.talk c.serve_piece.new.talk c.in-Err-serve_piece.fault _ _ _
     before.1 before.2 c.in-Ok.ensures.bytes.0 c.in-Err-serve_piece.ensures.piece
@@ -75,12 +77,31 @@ loop-i-preserved g c =
       reads = omega (arith, c.loop-i.invariant.reads, c.read.ensures.counted);
       source = search rules;
       sink = or-false _ (g.W.Sink.failed c.loop-i.writer) c.loop-i.invariant.sink c.in-Ok-None.ensures.failed;
+      flushed = λ p. c.in-Ok-None.ensures.flushed refl (c.loop-i.invariant.flushed p);
     }
 
-pub returns : goal.returns
-returns g c =
+pub returns-clause-served : goal.returns-clause-served
+returns-clause-served g c =
     let before = c.loop-i.invariant.read in
     (inr (omega (arith, c.loop-i.invariant.reads, c.loop-i-test.false, c.loop-i.auto.i-end, c.requires.some)), (before.0, _, _, before.1, before.2))
 
 pub slice_bounds-serve_piece-end-in-loop-i : goal.slice_bounds-serve_piece-end-in-loop-i
 slice_bounds-serve_piece-end-in-loop-i g c = omega (arith, c.in-Ok.ensures.bound, length-take c.in-Ok.count c.read.new.buf)
+
+pub returns-in-Err-Failed-clause-flushed : goal.returns-in-Err-Failed-clause-flushed
+returns-in-Err-Failed-clause-flushed g c = λ w. c.loop-i.invariant.flushed
+
+pub returns-in-Ok-end-clause-flushed : goal.returns-in-Ok-end-clause-flushed
+returns-in-Ok-end-clause-flushed g c = λ w. c.loop-i.invariant.flushed
+
+pub returns-in-Err-clause-flushed : goal.returns-in-Err-clause-flushed
+returns-in-Err-clause-flushed g c = λ w. c.loop-i.invariant.flushed
+
+pub returns-clause-flushed : goal.returns-clause-flushed
+returns-clause-flushed g c = λ w. c.loop-i.invariant.flushed
+
+pub returns-in-Ok-Some-clause-flushed : goal.returns-in-Ok-Some-clause-flushed
+returns-in-Ok-Some-clause-flushed g c = λ w p. c.in-Ok-Some.ensures.flushed refl (c.loop-i.invariant.flushed p)
+
+pub returns-in-Err-serve_piece-clause-flushed : goal.returns-in-Err-serve_piece-clause-flushed
+returns-in-Err-serve_piece-clause-flushed g c = λ w p. c.in-Err-serve_piece.ensures.flushed (not-write c.in-Err-serve_piece.fault w) (c.loop-i.invariant.flushed p)

@@ -11,4 +11,5 @@ invariant-loop-i g l = record {
   reads : g.R.Source.reads l.reader + 1 ≡ l.i;
   source : g.R.Source.failed l.reader ≡ false;
   sink : g.W.Sink.failed l.writer ≡ false;
+  flushed : g.W.Sink.unflushed l.initial.writer ≡ false → g.W.Sink.unflushed l.writer ≡ false;
 }

@@ -1,8 +1,11 @@
-use Rattle.std.proofs.Common.{◌≡◌, ◌+◌, arith, ap, ◌∙◌, length, map}
+use Rattle.std.proofs.Common.{◌≡◌, ◌+◌, arith, refl, ap, subst, ◌∙◌, length, map}
 use Rattle.std.specs.Arc.{arc_value}
 use Rattle.std.specs.Str.{encode_utf8_all}
 use Rattle.std.proofs.lemmas.Str.{length-le-encodes}
 use Rattle.ls_text.specs.Cut.{Row, end_text, line_text, text_of}
+use Rattle.std.specs.Prelude.{All}
+use Rattle.std.specs.Char.{IsScalar}
+use Rattle.ls_text.proofs.ScalarLaws.{scalars_more, chars_scalars, no_scalars}
 use Rattle.ls_text.proofs.HeldLaws.{held_bytes, held_bytes_le, indexed_more}
 use Rattle.ls_text.proofs.chunk.chunk_of.Goals as goal
 
@@ -58,4 +61,5 @@ loop-line-preserved c =
       bytes_is = omega (arith, more_is, bytes_are, ends_are, c.loop-line.invariant.bytes_is, held_bytes arc_value c.deref-line-items.result.now c.loop-line.line-index c.line-item.result c.loop-line-test.true c.line-item.is);
       small = omega (arith, c.if-more-bytes.false, c.loop-line.invariant.small);
       within = omega (arith, more_is, bytes_are, count_is, length-le-encodes (line_text (arc_value c.line-item.result)), c.loop-line.invariant.within);
+      scalars = scalars_more arc_value c.deref-line-items.result.now c.loop-line.line-index c.line-item.result c.loop-line-test.true c.line-item.is (subst (All IsScalar) (c.text.ensures.characters ∙ ap (λ (l : Row). l.text) c.deref-in-loop-line.ensures) (chars_scalars c.text.result.now c.text.utf8)) c.loop-line.invariant.scalars;
     }

@@ -46,3 +46,26 @@ invariant_of-result c =
     (subst (λ (ss : List Spot). ArePlaced (map named_at ss) c.in_ok-by_name.by_name) c.as_slice-3.ensures c.in_ok-by_name.ensures)
     (subst (λ (ns : List Node). AreReaching (trees_at ns c.in_ok-nodes.roots.items) c.in_ok-opaque.opaque.items) c.as_slice-7.ensures.value
     (subst (λ (rs : List ℕ). AreReaching (trees_at c.as_slice-7.result.now rs) c.in_ok-opaque.opaque.items) c.as_slice-8.ensures.value c.in_ok-opaque.ensures))
+
+pub returns-clause-grammar : goal.returns-clause-grammar
+returns-clause-grammar c =
+    let blocks = map block_of c.in_ok-parsed.parsed.items in
+    let places : map named_at c.in_ok-spots.spots ≡ places_of blocks =
+    c.in_ok-spots.ensures ∙ ap (λ (ps : List Parsed). places_of (map block_of ps)) c.as_slice.ensures.value in
+    let inside =
+    kept (record {
+      source = c.args.snapshot;
+      nodes = c.in_ok-nodes.nodes;
+      roots = c.in_ok-nodes.roots;
+      names = c.in_ok-names.names;
+      spots = c.in_ok-spots.spots;
+      by_name = c.in_ok-by_name.by_name;
+      faults = c.in_ok-faults.faults;
+      opaque = c.in_ok-opaque.opaque;
+    })
+    blocks c.in_ok-parsed.ensures (subst (λ (ps : List Parsed). AreNames (map block_of ps) c.in_ok-names.names) c.as_slice-4.ensures.value c.in_ok-names.ensures.names) c.in_ok-nodes.ensures places
+    (c.in_ok-faults.ensures ∙ ap (λ (ps : List Parsed). faults_of (map block_of ps)) c.as_slice-2.ensures.value)
+    (subst (λ (ss : List Spot). ArePlaced (map named_at ss) c.in_ok-by_name.by_name) c.as_slice-3.ensures c.in_ok-by_name.ensures)
+    (subst (λ (ns : List Node). AreReaching (trees_at ns c.in_ok-nodes.roots.items) c.in_ok-opaque.opaque.items) c.as_slice-7.ensures.value
+    (subst (λ (rs : List ℕ). AreReaching (trees_at c.as_slice-7.result.now rs) c.in_ok-opaque.opaque.items) c.as_slice-8.ensures.value c.in_ok-opaque.ensures))
+    in inside.is_grammar

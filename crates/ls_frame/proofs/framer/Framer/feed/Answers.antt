@@ -2,7 +2,7 @@ use Rattle.std.proofs.Common.{rules, ◌≡◌, length, refl, sym, ◌∙◌, ap
 use Rattle.ls_frame.specs.Feeds.{contents_of}
 use Rattle.ls_frame.specs.Rests.{RestIs}
 use Rattle.ls_frame.specs.declared.fault.FrameFault.TheVariants.{Memory}
-use Rattle.ls_frame.specs.declared.front.Rest.TheVariants.{Faulty}
+use Rattle.ls_frame.specs.declared.front.Rest.TheVariants.{Open, Faulty}
 use Rattle.ls_frame.proofs.Feeding.{refused, cut-back, kept, Longer, longer, feed-stuck, feed-waits, rest-waits, rest-behind, feed-open, feed-faulty, feed-stream}
 use Rattle.ls_frame.proofs.framer.Framer.feed.Goals as goal
 
@@ -26,7 +26,12 @@ invariant_of-self c =
     kept c.self.inside.pending.items c.extend_from_slice.new.self.items c.self.inside.rest c.self.inside.rest c.self.invariant refl (sym same)
 
 pub returns-then-is_err-clause-taken : goal.returns-then-is_err-clause-taken
-returns-then-is_err-clause-taken c = search rules
+returns-then-is_err-clause-taken c =
+    let seen = c.self.view_is in
+    let view : c.self.inside.pending.items ≡ c.args.self.now = cc in
+    let open_rest : RestIs c.args.self.now (Open c.in-Open.wanted) = kept c.self.inside.pending.items c.args.self.now c.self.inside.rest (Open c.in-Open.wanted) c.self.invariant c.in-Open.is view in
+    let same : c.extend_from_slice.new.self.items ≡ c.self.inside.pending.items = refused c.self.inside.pending.items c.args.piece.now c.extend_from_slice.new.self.items _ c.extend_from_slice.ensures.items (search rules) in
+    (open_rest.0.0, same ∙ view, refl)
 
 pub returns-then-is_err-clause-stream : goal.returns-then-is_err-clause-stream
 returns-then-is_err-clause-stream c seen given s =
@@ -62,7 +67,8 @@ returns-in_default-clause-taken c =
     let view : c.self.inside.pending.items ≡ c.args.self.now = cc in
     let same : c.truncate.new.self.items ≡ c.self.inside.pending.items =
     cut-back c.self.inside.pending.items c.args.piece.now c.extend_from_slice.new.self.items c.truncate.new.self.items c.len-had.result _ c.extend_from_slice.ensures.items (search rules) (search rules) c.truncate.ensures.items in
-    (same ∙ view, c.in_default.ensures)
+    let open_rest : RestIs c.args.self.now (Open c.in-Open.wanted) = kept c.self.inside.pending.items c.args.self.now c.self.inside.rest (Open c.in-Open.wanted) c.self.invariant c.in-Open.is view in
+    (open_rest.0.0, same ∙ view, c.in_default.ensures)
 
 pub returns-in_default-clause-stream : goal.returns-in_default-clause-stream
 returns-in_default-clause-stream c seen given s =

@@ -10,5 +10,5 @@ returns-in_err-lines-clause-too_large c =
     rw p.1 (λ e. omega (
       arith,
       c.in_err-lines.ensures.too_large (sym p.2 ∙ e),
-      part_bytes c.loop-line.lines (map arc_value c.loop-line.part.items) (map arc_value c.push_line.new.lines.items) (map arc_value c.loop-line.line-iterator.rest.items) (map arc_value c.next.new.self.rest.items) _ (arc_value c.in-Some.line) c.in_ok-push_line.ensures (ap (map arc_value) c.in-Some.ensures.steps.0) c.loop-line.invariant,
+      part_bytes c.loop-line.lines (map arc_value c.loop-line.part.items) (map arc_value c.push_line.new.lines.items) (map arc_value c.loop-line.line-iterator.rest.items) (map arc_value c.next.new.self.rest.items) _ (arc_value c.in-Some.line) c.in_ok-push_line.ensures.lines (ap (map arc_value) c.in-Some.ensures.steps.0) c.loop-line.invariant.lines_are,
     ))

@@ -1,6 +1,6 @@
-use Rattle.std.proofs.Common.{sym, ap, ◌∙◌, arith, length}
+use Rattle.std.proofs.Common.{◌≡◌, ◌<◌, Result, Err, sym, ap, ◌∙◌, arith, length}
 use Rattle.std.specs.Str.{chars, encode_utf8_all}
-use Rattle.std.specs.String.{string_bytes}
+use Rattle.std.specs.String.{string_bytes, string_len}
 use Rattle.std.proofs.lemmas.Str.{encodes-chars, IsUtf8-string_bytes}
 use Rattle.std.proofs.lemmas.Result.{err_from_is_err_and}
 use Rattle.ls_text.proofs.snapshot.Snapshot.of_text.Goals as goal
@@ -8,20 +8,17 @@ use Rattle.ls_text.proofs.snapshot.Snapshot.of_text.Goals as goal
 pub returns-in_err-whole-clause-too_large : goal.returns-in_err-whole-clause-too_large
 returns-in_err-whole-clause-too_large c =
     let p = err_from_is_err_and c.from_residual.result c.from_residual.ensures.1 in
-    rw p.1 (λ e. omega (
+    (λ is. omega (
       arith,
-      c.in_err-whole.ensures.too_large (sym p.2 ∙ e),
+      c.in_err-whole.ensures.too_large (sym p.2 ∙ (cc p.1)),
       ap (λ x. length (encode_utf8_all (chars x))) c.as_str.ensures.value ∙ ap length (encodes-chars (string_bytes c.args.text) (IsUtf8-string_bytes c.args.text)),
       c.args.text.bytes.ok.0,
-    ))
+    ), λ larger. absurd (omega (arith, larger)))
 
 pub returns-clause-ok : goal.returns-clause-ok
 returns-clause-ok c =
     let text_is = c.in_ok-whole.ensures.ok.1 ∙ ap chars c.as_str.ensures.value in
-    (c.kept.ensures.text ∙ text_is, omega (
-      arith,
-      c.kept.ensures.small,
-      ap (λ t. length (encode_utf8_all t)) text_is,
-      ap length (encodes-chars (string_bytes c.args.text) (IsUtf8-string_bytes c.args.text)),
-      c.args.text.bytes.ok.0,
-    ))
+    (c.kept.ensures.text ∙ text_is, omega (arith))
+
+pub returns-clause-too_large : goal.returns-clause-too_large
+returns-clause-too_large c = (λ is. absurd (cc), λ larger. absurd (omega (arith, larger)))
