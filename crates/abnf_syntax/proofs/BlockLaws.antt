@@ -1,5 +1,5 @@
 -- Lines, and the blocks that they make.
-use Rattle.std.proofs.Common.{◌≡◌, ℕ, zero, suc, ◌+◌, ◌≤◌, ◌<◌, true, List, [], ◌∷◌, ◌++◌, length, map, None, sym, refl, ap, subst, ◌∙◌, append_assoc, arith, inl, inr}
+use Rattle.std.proofs.Common.{◌≡◌, ℕ, zero, suc, ◌+◌, ◌≤◌, ◌<◌, true, List, [], ◌∷◌, ◌++◌, length, map, Some, None, sym, refl, ap, subst, ◌∙◌, append_assoc, arith, inl, inr}
 use Rattle.std.specs.Prelude.{All, slice_get, slice_index_or}
 use Rattle.std.proofs.lemmas.List.Elements.{All-append}
 use Rattle.std.specs.Option.{option_map}
@@ -8,6 +8,9 @@ use Rattle.std.proofs.lemmas.List.{length-map, map-append, append-nil}
 use Rattle.std.proofs.lemmas.Bool.{cases_lt}
 use Rattle.ls_text.specs.Lines.{lines, line_ends}
 use Rattle.ls_text.proofs.LineLaws.{length-lines}
+use Rattle.ls_text.specs.Marks.{AreMarksOf}
+use Rattle.abnf_token.specs.declared.mark.TokenMark.{TokenMark}
+use Rattle.abnf_token.specs.Marks.{AreMarks}
 use Rattle.abnf_token.specs.Classes.{Text}
 use Rattle.abnf_syntax.specs.Blocks.{line_texts, begins_at, NoneBegins, AreBlocks}
 use Rattle.abnf_syntax.specs.Gather.{IsNextBlock}
@@ -24,6 +27,17 @@ none_map (l ∷ ls) (suc at) h = none_map ls at h
 
 pub no_line : (text : List ℕ) (at : ℕ) → None ≡ option_map encode_utf8_all (slice_get (lines text) at) → [] ≡ slice_index_or (line_texts text) at []
 no_line text at h = sym (none_map (lines text) at h)
+
+-- the marks of a line that there is, and behind the last line
+pub marks_found : (ls : List (List ℕ)) (at : ℕ) (marks : List TokenMark) → AreMarksOf (slice_get ls at) (Some marks) → AreMarks (slice_index_or (map encode_utf8_all ls) at []) marks
+marks_found [] at marks h = absurd h
+marks_found (l ∷ ls) zero marks h = h
+marks_found (l ∷ ls) (suc at) marks h = marks_found ls at marks h
+
+pub no_marks : (ls : List (List ℕ)) (at : ℕ) → AreMarksOf (slice_get ls at) None → AreMarks (slice_index_or (map encode_utf8_all ls) at []) []
+no_marks [] at h = λ line. ([], refl, refl)
+no_marks (l ∷ ls) zero h = absurd h
+no_marks (l ∷ ls) (suc at) h = no_marks ls at h
 
 pub none_at : (ls : List Text) (from : ℕ) → NoneBegins ls from from
 none_at ls from at reached before = absurd (omega arith)

@@ -1,13 +1,15 @@
 -- The items that are gathered are those of the tokens.
-use Rattle.std.proofs.Common.{◌≡◌, ℕ, suc, ◌+◌, Bool, true, false, not, List, [], ◌∷◌, ◌++◌, length, map, Option, Some, None, sym, refl, ap, subst, ◌∙◌, append_assoc, arith, if◌then◌else◌}
+use Rattle.std.proofs.Common.{◌≡◌, ℕ, suc, ◌+◌, ◌-◌, ◌<◌, ◌≤◌, Bool, true, false, not, List, [], ◌∷◌, ◌++◌, length, map, take, drop, get_or, Option, Some, None, sym, refl, ap, subst, ◌∙◌, append_assoc, arith, length-drop, if◌then◌else◌}
 use Rattle.std.specs.Prelude.{slice_index_or, IsTrue, ◌↔◌}
 use Rattle.std.specs.List.{flat_map}
-use Rattle.std.proofs.lemmas.List.{append-nil, length-append}
+use Rattle.std.proofs.lemmas.List.{append-nil, length-append, length-map, drop_more}
 use Rattle.std.proofs.lemmas.Grind.{flat_map-append}
 use Rattle.abnf_token.specs.declared.token.Token.{Token}
 use Rattle.abnf_token.specs.Classes.{Text}
-use Rattle.abnf_token.specs.Rest.{Rest}
-use Rattle.abnf_token.specs.Tokens.{TokensOf, GivesToken}
+use Rattle.abnf_token.specs.Marks.{mark_of, AreMarks}
+use Rattle.abnf_token.specs.Tokens.{TokensOf}
+use Rattle.abnf_token.specs.declared.mark.TokenMark.{TokenMark}
+use Rattle.abnf_token.proofs.MarkLaws.{put}
 use Rattle.abnf_syntax.specs.declared.item.Item.{Item}
 use Rattle.abnf_syntax.specs.Kinds.{is_item}
 use Rattle.abnf_syntax.specs.Items.{with_line_end, items_behind, items_of, AreTokens, AreItems, view}
@@ -24,10 +26,12 @@ after_all-append : (s : State) (xs ys : List (Option Token)) → after_all s (xs
 after_all-append s [] ys = refl
 after_all-append s (x ∷ xs) ys = after_all-append (after s x) xs ys
 
--- the tokens of a front of a line have come
-pub record HasTokens (at : ℕ) (line : Text) (old now : State) (rest : Rest) : Type 0 where
+-- the tokens with the first k of a line's marks have come, and those with the others are still to come
+pub record HasMarked (at : ℕ) (line : Text) (marks : List TokenMark) (k : ℕ) (old now : State) : Type 0 where
   pub tokens : List Token
-  pub whole : (ts : List Token) → TokensOf rest.line rest.start rest.text ts → TokensOf at 0 line (tokens ++ ts)
+  pub behind : List Token
+  pub whole : TokensOf at 0 line (tokens ++ behind)
+  pub marks_are : map mark_of behind ≡ drop k marks
   pub state : now ≡ after_all old (map Some tokens)
 
 after_all-snoc : (s : State) (ts : List Token) (t : Token) → after_all s (map Some (ts ++ t ∷ [])) ≡ after (after_all s (map Some ts)) (Some t)
@@ -38,19 +42,36 @@ after_all-line_end : (s : State) (ts : List Token) → after_all s (with_line_en
 after_all-line_end s [] = refl
 after_all-line_end s (t ∷ ts) = after_all-line_end (after s (Some t)) ts
 
-pub token_more : {at : ℕ} {line : Text} {old now next : State} {rest behind : Rest} (t : Token) → HasTokens at line old now rest → GivesToken rest (Some t) behind → next ≡ after now (Some t) → HasTokens at line old next behind
-token_more {at = at} {line = line} {old = old} t h gives e = record {
-  tokens = h.tokens ++ t ∷ [];
-  whole = λ ts are. subst (TokensOf at 0 line) (sym (append_assoc h.tokens (t ∷ []) ts)) (h.whole (t ∷ ts) (gives.0, subst (λ (r : Rest). TokensOf r.line r.start r.text ts) gives.1 are));
-  state = e ∙ ap (λ s. after s (Some t)) h.state ∙ sym (after_all-snoc old h.tokens t);
-}
+pub none_marked : (at : ℕ) (line : Text) (marks : List TokenMark) (old : State) → AreMarks line marks → HasMarked at line marks 0 old old
+none_marked at line marks old are = record { tokens = []; behind = (are at).0; whole = (are at).1; marks_are = (are at).2; state = refl }
 
-pub line_done : {at : ℕ} {line : Text} {old now next : State} {rest behind : Rest} → HasTokens at line old now rest → GivesToken rest None behind → next ≡ with_gap now → AddsLine at line old next
-line_done {at = at} {line = line} {old = old} h gives e = record {
+-- one more token, which has the next mark and the text that stands there
+pub token_more : {at : ℕ} {line : Text} {marks : List TokenMark} {k : ℕ} {old now next : State} (mark : TokenMark) (u : Token) → k < length marks → mark ≡ get_or marks k mark → mark_of u ≡ mark → u.line ≡ at → u.text.now ≡ take (mark.end - mark.start) (drop mark.start line) → next ≡ after now (Some u) → HasMarked at line marks k old now → HasMarked at line marks (k + 1) old next
+token_more {at = at} {line = line} {marks = marks} {k = k} {old = old} {now = now} {next = next} mark u lt item u_is line_is text_is e h = by_behind h.behind h.whole (h.marks_are ∙ drop_more marks k mark lt)
+  where
+    by_behind : (behind : List Token) → TokensOf at 0 line (h.tokens ++ behind) → map mark_of behind ≡ get_or marks k mark ∷ drop (k + 1) marks → HasMarked at line marks (k + 1) old next
+    by_behind [] whole are = absurd (omega (arith, ap length are))
+    by_behind (t ∷ ts) whole are =
+        let head : mark_of t ≡ get_or marks k mark = cc in
+        let rest : map mark_of ts ≡ drop (k + 1) marks = cc in
+        record {
+          tokens = h.tokens ++ u ∷ [];
+          behind = ts;
+          whole = subst (TokensOf at 0 line) (sym (append_assoc h.tokens (u ∷ []) ts)) (put at line h.tokens t u ts mark (head ∙ sym item) u_is line_is text_is whole);
+          marks_are = rest;
+          state = e ∙ ap (λ s. after s (Some u)) h.state ∙ sym (after_all-snoc old h.tokens u);
+        }
+
+pub line_done : {at : ℕ} {line : Text} {marks : List TokenMark} {k : ℕ} {old now next : State} → length marks ≤ k → HasMarked at line marks k old now → next ≡ with_gap now → AddsLine at line old next
+line_done {at = at} {line = line} {marks = marks} {k = k} {old = old} le h e = record {
   tokens = h.tokens;
-  tokens_are = rw append-nil at (h.whole [] gives.0);
+  tokens_are = subst (TokensOf at 0 line) (ap (λ ts. h.tokens ++ ts) (none h.behind (omega (arith, ap length h.marks_are, length-map h.behind mark_of, length-drop k marks))) ∙ append-nil h.tokens) h.whole;
   state = e ∙ ap with_gap h.state ∙ sym (after_all-line_end old h.tokens);
 }
+  where
+    none : (ts : List Token) → length ts ≡ 0 → ts ≡ []
+    none [] e = refl
+    none (t ∷ ts) e = absurd (omega (arith, e))
 
 tokens_more : (ls : List Text) (at : ℕ) (tss : List (List Token)) (ts : List Token) → AreTokens ls at tss → TokensOf (at + length tss) 0 (slice_index_or ls (at + length tss) []) ts → AreTokens ls at (tss ++ ts ∷ [])
 tokens_more ls at [] ts are last = (subst (λ n. TokensOf n 0 (slice_index_or ls n []) ts) (let e : at + 0 ≡ at = omega arith in e) last, tt)

@@ -1,6 +1,7 @@
 //! The blocks of a text.
 
 ghost use Rattle.std.specs.Prelude.{◌≡◌, ◌<◌, ◌≤◌, [], All, IfOk, OnOk, OnErr, Some, None, true, if◌then◌else◌, length, map, slice_index_or};
+ghost use Rattle.abnf_token.specs.Marks.{AreMarks};
 ghost use Rattle.abnf_syntax.specs.Blocks.{line_texts, indent, is_content, base_indent, begins_at, AreBlocks, HasBlock};
 ghost use Rattle.abnf_syntax.specs.Items.{AreItems};
 ghost use Rattle.abnf_syntax.specs.Bounds.{bounds};
@@ -8,7 +9,7 @@ ghost use Rattle.abnf_syntax.specs.Gather as spec;
 
 use crate::item::Item;
 use crate::kinds::{is_adds, is_defined_as, is_item, is_name};
-use abnf_token::{Token, tokens};
+use abnf_token::{Token, TokenMark, token_at};
 use ls_lists::List;
 use ls_text::Snapshot;
 use std::alloc::{AllocError, Global};
@@ -95,6 +96,16 @@ fn line_at<'t>(snapshot: &'t Snapshot, at: usize) -> &'t str
     }
 }
 
+/// The marks of a line's tokens, none behind the last line.
+fn marks_at<'t>(snapshot: &'t Snapshot, at: usize) -> &'t [TokenMark]
+    ensures { AreMarks (slice_index_or (line_texts snapshot.now) at []) result.now }
+{
+    match snapshot.marks(at) {
+        Some(marks) => marks,
+        None => &[],
+    }
+}
+
 /// The indent of the first line with content.
 fn first_indent(snapshot: &Snapshot) -> usize
     ensures { result ≡ base_indent (line_texts snapshot.now) }
@@ -159,12 +170,13 @@ impl<'t> Gathered<'t> {
         Ok(())
     }
 
-    /// The tokens of a line come, and its end.
-    fn add_line(&mut self, line: &'t str, at: usize) -> Result<(), AllocError>
+    /// The tokens of a line come, which have these marks, and its end.
+    fn add_line(&mut self, line: &'t str, at: usize, marks: &[TokenMark]) -> Result<(), AllocError>
+        requires { AreMarks line.now marks.now }
         ensures { OnOk result (spec.AddsLine at line.entry.now (spec.state_of self.old) (spec.state_of self.new)) }
     {
-        for token in tokens(line, at) {
-            self.add_token(token)?;
+        for mark in marks {
+            self.add_token(token_at(line, at, mark))?;
         }
         self.add_gap();
         Ok(())
@@ -188,7 +200,7 @@ fn items_of<'t>(
         apart: false,
     };
     for at in first..end {
-        gathered.add_line(line_at(snapshot, at), at)?;
+        gathered.add_line(line_at(snapshot, at), at, marks_at(snapshot, at))?;
     }
     Ok(gathered.items)
 }

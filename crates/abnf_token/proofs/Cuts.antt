@@ -107,7 +107,7 @@ cut_at kind left (suc m) isnt utf8 some within is =
     let last : m + 1 ≡ suc m = omega arith in
     subst (IsCharBoundary left) last (IsCharBoundary-after_ascii left m utf8 (omega arith) ends)
 
-cut : (kind : Kind) (left : Text) (n : ℕ) → IsUtf8 left → 0 < n → n ≤ length left → is_in kind (take n left) ≡ true → NoLonger n left → IsCharBoundary left n
+pub cut : (kind : Kind) (left : Text) (n : ℕ) → IsUtf8 left → 0 < n → n ≤ length left → is_in kind (take n left) ≡ true → NoLonger n left → IsCharBoundary left n
 cut k.Comment left n utf8 some within is longest = cut_comment left n some within is longest
 cut kind left n utf8 some within is longest = cut_at kind left n refl utf8 some within is
 

@@ -37,17 +37,17 @@ both_kinds (Some i) j kind x y = sym (same_kind i j x) ∙ same_kind i kind y
 pub apart : AreApart
 apart j kind text x y = both_kinds (accepted (run s.Start text)) j kind (sym (class_is j text) ∙ x) (sym (class_is kind text) ∙ y)
 
-data Fitting : Kind → Text → Text → Type 0 where
+pub data Fitting : Kind → Text → Text → Type 0 where
   in_class : {kind : Kind} {text left : Text} → is_in kind text ≡ true → NoLonger (length text) left → Fitting kind text left
   is_bad : {kind : Kind} {text left : Text} → kind ≡ k.Bad → is_character text ≡ true → NoLonger 0 left → Fitting kind text left
 
-fitting : (kind : Kind) (text left : Text) → Fits kind text left → Fitting kind text left
+pub fitting : (kind : Kind) (text left : Text) → Fits kind text left → Fitting kind text left
 fitting k.Bad text left f = is_bad refl f.0 f.1
 fitting k.Name text left f = in_class f.0 f.1
 fitting kind text left f = in_class f.0 f.1
 
 -- the length of a character that is a front of the text
-front_len : (text left : Text) → 0 < length text → text ≡ take (length text) left → is_character text ≡ true → length text ≡ char_len left
+pub front_len : (text left : Text) → 0 < length text → text ≡ take (length text) left → is_character text ≡ true → length text ≡ char_len left
 front_len [] left some front is = never is
 front_len (b ∷ bs) [] some front is = absurd (omega (arith, ap length front))
 front_len (b ∷ bs) (c ∷ cs) some front is =

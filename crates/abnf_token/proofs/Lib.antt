@@ -4,4 +4,5 @@ pub mod Cuts
 pub mod Closing
 pub mod Laws
 pub mod Values
+pub mod MarkLaws
 pub mod Exist

@@ -4,3 +4,4 @@ pub mod Machine
 pub mod Tokens
 pub mod Numbers
 pub mod Folded
+pub mod Marks

@@ -5,7 +5,6 @@ use Rattle.std.specs.Option.{option_map}
 use Rattle.std.specs.Prelude.{Option, Some, None}
 use Rattle.std.proofs.lemmas.Option.{slice_get-map, slice_get_past, slice_get-get_or}
 use Rattle.std.specs.Str.{chars, IsUtf8, IsCharBoundary}
-use Rattle.std.specs.String.{string_bytes}
 use Rattle.std.specs.Char.{encode_utf8 as encode}
 use Rattle.std.specs.Str.{encode_utf8_all as encodes}
 use Rattle.std.proofs.lemmas.List.{append-nil, length-map}
@@ -17,7 +16,7 @@ use Rattle.ls_text.specs.Lines.{is_break, starts_with_lf, line_ends, lines}
 use Rattle.ls_text.specs.Cut.{end_text, line_text, text_of, IsPlain, is_end_before, AreLines, AreLinesBefore, IsCutSoFar, IsCutOnto, IsCut, first_end, IsCutFrom, IsPushed}
 use Rattle.ls_text.specs.declared.line_end.LineEnd.{LineEnd}
 use Rattle.ls_text.specs.declared.line_end.LineEnd.TheVariants.{Eof, Lf, Cr, CrLf}
-use Rattle.ls_text.specs.declared.line.Line.{Line}
+use Rattle.ls_text.specs.Cut.{Row}
 use Rattle.ls_text.proofs.LineLaws.{lines-plain, lines-plain_append, length-lines}
 
 -- the lines of a plain line, its line end and a rest
@@ -36,12 +35,12 @@ pub lines-cut : (p : List ℕ) (e : LineEnd) (t : List ℕ) → IsPlain p → is
 lines-cut p e t h k = lines-plain_append p (end_text e ++ t) [] (lines t) h (lines-end e t k) ∙ ap (λ q. q ∷ lines t) (append-nil p)
 
 -- the lines of the text are the lines held
-pub lines-text_of : (ls : List Line) → AreLines ls → lines (text_of ls) ≡ map line_text ls
+pub lines-text_of : (ls : List Row) → AreLines ls → lines (text_of ls) ≡ map line_text ls
 lines-text_of [] h = absurd h
 lines-text_of (l ∷ []) h = ap (λ e. lines (line_text l ++ (end_text e ++ []))) h.1 ∙ ap lines (append-nil (line_text l)) ∙ lines-plain (line_text l) h.0
 lines-text_of (l ∷ m ∷ ls) h = lines-cut (line_text l) l.end (text_of (m ∷ ls)) h.0 h.1 ∙ ap (λ r. line_text l ∷ r) (lines-text_of (m ∷ ls) h.2)
 
-pub line_ends-text_of : (ls : List Line) → AreLines ls → line_ends (text_of ls) + 1 ≡ length ls
+pub line_ends-text_of : (ls : List Row) → AreLines ls → line_ends (text_of ls) + 1 ≡ length ls
 line_ends-text_of ls h = sym (length-lines (text_of ls)) ∙ ap length (lines-text_of ls h) ∙ length-map ls line_text
 
 -- the first of these bytes that is LF or CR shows the text's line
@@ -184,36 +183,36 @@ pub chars-cut : (bs : List ℕ) (e : LineEnd) (rest : List ℕ) → IsUtf8 bs �
 chars-cut bs e rest u = chars-append bs (end_text e ++ rest) u ∙ ap (λ r. chars bs ++ r) (chars-append (end_text e) rest (end_utf8 e) ∙ ap (λ x. x ++ chars rest) (chars_end e))
 
 -- ---- the loop: these lines come before the rest t of the text
-pub text_of-push : (ls : List Line) (l : Line) (t : List ℕ) → text_of (ls ++ l ∷ []) ++ t ≡ text_of ls ++ (line_text l ++ (end_text l.end ++ t))
+pub text_of-push : (ls : List Row) (l : Row) (t : List ℕ) → text_of (ls ++ l ∷ []) ++ t ≡ text_of ls ++ (line_text l ++ (end_text l.end ++ t))
 text_of-push [] l t = append_assoc (line_text l) (end_text l.end ++ []) t ∙ ap (λ x. line_text l ++ x) (append_assoc (end_text l.end) [] t)
 text_of-push (m ∷ ls) l t =
     append_assoc (line_text m) (end_text m.end ++ text_of (ls ++ l ∷ [])) t
     ∙ ap (λ x. line_text m ++ x) (append_assoc (end_text m.end) (text_of (ls ++ l ∷ [])) t ∙ ap (λ x. end_text m.end ++ x) (text_of-push ls l t) ∙ sym (append_assoc (end_text m.end) (text_of ls) (line_text l ++ (end_text l.end ++ t))))
     ∙ sym (append_assoc (line_text m) (end_text m.end ++ text_of ls) (line_text l ++ (end_text l.end ++ t)))
 
-pub lines_before_push : (ls : List Line) (l : Line) (t : List ℕ) → AreLinesBefore ls (line_text l ++ (end_text l.end ++ t)) → IsPlain (line_text l) → is_end_before l.end t ≡ true → AreLinesBefore (ls ++ l ∷ []) t
+pub lines_before_push : (ls : List Row) (l : Row) (t : List ℕ) → AreLinesBefore ls (line_text l ++ (end_text l.end ++ t)) → IsPlain (line_text l) → is_end_before l.end t ≡ true → AreLinesBefore (ls ++ l ∷ []) t
 lines_before_push [] l t h p e = (p, e, tt)
 lines_before_push (m ∷ ls) l t h p e = (h.0, ap (is_end_before m.end) (text_of-push ls l t) ∙ h.1, lines_before_push ls l t h.2 p e)
 
-pub lines_end : (ls : List Line) (l : Line) → AreLinesBefore ls (line_text l) → IsPlain (line_text l) → l.end ≡ Eof → AreLines (ls ++ l ∷ [])
+pub lines_end : (ls : List Row) (l : Row) → AreLinesBefore ls (line_text l) → IsPlain (line_text l) → l.end ≡ Eof → AreLines (ls ++ l ∷ [])
 lines_end [] l h p e = (p, e)
 lines_end (m ∷ []) l h p e =
     (h.0, ap (is_end_before m.end) (ap (λ x. line_text l ++ (end_text x ++ [])) e ∙ append-nil (line_text l)) ∙ h.1, (p, e))
 lines_end (m ∷ n ∷ ls) l h p e =
     (h.0, ap (is_end_before m.end) (whole (n ∷ ls)) ∙ h.1, lines_end (n ∷ ls) l h.2 p e)
   where
-    whole : (ks : List Line) → text_of (ks ++ l ∷ []) ≡ text_of ks ++ line_text l
+    whole : (ks : List Row) → text_of (ks ++ l ∷ []) ≡ text_of ks ++ line_text l
     whole ks = sym (append-nil (text_of (ks ++ l ∷ []))) ∙ text_of-push ks l [] ∙ ap (λ x. text_of ks ++ (line_text l ++ (end_text x ++ []))) e ∙ ap (λ x. text_of ks ++ x) (append-nil (line_text l))
 
 pub cut_start : (text : List ℕ) → IsUtf8 text → IsCutSoFar text [] text
 cut_start text u = record { joins = refl; before = tt; utf8 = u }
 
-module _ {text rest : List ℕ} {ls : List Line} {line after : List ℕ} {end : LineEnd} (l : Line) (so_far : IsCutSoFar text ls rest) (cut : IsCutFrom line end after rest) (text_is : string_bytes l.text ≡ line) (end_is : l.end ≡ end) where
+module _ {text rest : List ℕ} {ls : List Row} {line after : List ℕ} {end : LineEnd} (l : Row) (so_far : IsCutSoFar text ls rest) (cut : IsCutFrom line end after rest) (text_is : line_text l ≡ chars line) (end_is : l.end ≡ end) where
   rest_is : chars rest ≡ line_text l ++ (end_text l.end ++ chars after)
-  rest_is = ap chars cut.joins ∙ chars-cut line end after cut.line_utf8 ∙ (λ i. chars (sym text_is i) ++ (end_text (sym end_is i) ++ chars after))
+  rest_is = ap chars cut.joins ∙ chars-cut line end after cut.line_utf8 ∙ (λ i. sym text_is i ++ (end_text (sym end_is i) ++ chars after))
 
   line_plain : IsPlain (line_text l)
-  line_plain = subst (λ b. IsPlain (chars b)) (sym text_is) (plain_chars line cut.line_utf8 cut.plain)
+  line_plain = subst IsPlain (sym text_is) (plain_chars line cut.line_utf8 cut.plain)
 
   pub cut_more : is_end_before end after ≡ true → IsCutSoFar text (ls ++ l ∷ []) after
   cut_more e = record {
@@ -254,26 +253,29 @@ module _ (bytes bs : List ℕ) (n : ℕ) (value : bytes ≡ bs) (u : IsUtf8 bs) 
         }
 
 -- ---- what `line` finds
-module _ {X : Type 0} (value : X → Line) (held items : List X) (t : List ℕ) (i : ℕ) (items_are : items ≡ held) (h : AreLines (map value held)) (view_is : text_of (map value held) ≡ t) where
-  line_found : slice_get (lines t) i ≡ option_map line_text (option_map value (slice_get items i))
-  line_found = ap (λ x. slice_get x i) (ap lines (sym view_is) ∙ lines-text_of (map value held) h ∙ ap (λ x. map line_text (map value x)) (sym items_are)) ∙ slice_get-map line_text (map value items) i ∙ ap (option_map line_text) (slice_get-map value items i)
+module _ (ls : List Row) (t : List ℕ) (i : ℕ) (h : AreLines ls) (view_is : text_of ls ≡ t) where
+  line_found : slice_get (lines t) i ≡ option_map line_text (slice_get ls i)
+  line_found = ap (λ x. slice_get x i) (ap lines (sym view_is) ∙ lines-text_of ls h) ∙ slice_get-map line_text ls i
 
-  pub line_some : (x : X) (bytes : List ℕ) → i < length items → x ≡ get_or items i x → bytes ≡ string_bytes (value x).text → Some (chars bytes) ≡ slice_get (lines t) i
-  line_some x bytes lt e b = ap (λ y. Some (chars y)) b ∙ sym (line_found ∙ ap (λ y. option_map line_text (option_map value y)) (slice_get-get_or items i x lt) ∙ ap (λ y. Some (line_text (value y))) (sym e))
+  pub text_some : (x : Row) → i < length ls → x ≡ get_or ls i x → Some (line_text x) ≡ slice_get (lines t) i
+  text_some x lt e = sym (line_found ∙ ap (option_map line_text) (slice_get-get_or ls i x lt) ∙ ap (λ y. Some (line_text y)) (sym e))
 
-  pub line_none : length items ≤ i → None ≡ slice_get (lines t) i
-  line_none le = sym (line_found ∙ ap (λ y. option_map line_text (option_map value y)) (slice_get_past items i le))
+  pub line_some : (x : Row) (bytes : List ℕ) → i < length ls → x ≡ get_or ls i x → chars bytes ≡ line_text x → Some (chars bytes) ≡ slice_get (lines t) i
+  line_some x bytes lt e b = ap Some b ∙ text_some x lt e
+
+  pub line_none : length ls ≤ i → None ≡ slice_get (lines t) i
+  line_none le = sym (line_found ∙ ap (option_map line_text) (slice_get_past ls i le))
 
 -- the bytes of a line are the UTF-8 of its characters
 pub bytes_some : {found : Option (List ℕ)} (bytes : List ℕ) → IsUtf8 bytes → Some (chars bytes) ≡ found → Some bytes ≡ option_map encodes found
 bytes_some bytes u e = ap Some (sym (encodes-chars bytes u)) ∙ ap (option_map encodes) e
 
 -- ---- the whole lines of a text, onto other lines
-pub onto_start : (old : List Line) (text : List ℕ) → IsUtf8 text → IsCutOnto old text text old
+pub onto_start : (old : List Row) (text : List ℕ) → IsUtf8 text → IsCutOnto old text text old
 onto_start old text u = record { cut = []; joins = sym (append-nil old); so_far = cut_start text u }
 
-module _ {old now : List Line} {text rest line after : List ℕ} {end : LineEnd} (onto : IsCutOnto old text rest now) (cut : IsCutFrom line end after rest) where
-  pub onto_more : {next : List Line} → IsPushed now line end next → (end ≡ Eof → ⊥) → IsCutOnto old text after next
+module _ {old now : List Row} {text rest line after : List ℕ} {end : LineEnd} (onto : IsCutOnto old text rest now) (cut : IsCutFrom line end after rest) where
+  pub onto_more : {next : List Row} → IsPushed now line end next → (end ≡ Eof → ⊥) → IsCutOnto old text after next
   onto_more pushed ne = record {
     cut = onto.cut ++ pushed.line ∷ [];
     joins = pushed.joins ∙ ap (λ x. x ++ pushed.line ∷ []) onto.joins ∙ append_assoc old onto.cut (pushed.line ∷ []);
@@ -295,9 +297,9 @@ pub onto_plain : {line end_rest : List ℕ} {end : LineEnd} {rest : List ℕ} �
 onto_plain {line} cut = plain_chars line cut.line_utf8 cut.plain
 
 -- all of a text, cut
-pub lines_of_cut : {old next : List Line} {text rest : List ℕ} {now : List Line} → IsCutOnto old text rest now → IsPlain (chars rest) → IsPushed now rest Eof next → old ≡ [] → IsCut (chars text) next
+pub lines_of_cut : {old next : List Row} {text rest : List ℕ} {now : List Row} → IsCutOnto old text rest now → IsPlain (chars rest) → IsPushed now rest Eof next → old ≡ [] → IsCut (chars text) next
 lines_of_cut onto plain pushed none =
-    let text_is : line_text pushed.line ≡ chars _ = ap chars pushed.text_is in
+    let text_is : line_text pushed.line ≡ chars _ = pushed.text_is in
     let joins = pushed.joins ∙ ap (λ x. x ++ pushed.line ∷ []) (onto.joins ∙ ap (λ x. x ++ onto.cut) none) in (
       subst AreLines (sym joins) (lines_end onto.cut pushed.line (subst (AreLinesBefore onto.cut) (sym text_is) onto.so_far.before) (subst IsPlain (sym text_is) plain) pushed.end_is),
       ap text_of joins ∙ sym (append-nil (text_of (onto.cut ++ pushed.line ∷ []))) ∙ text_of-push onto.cut pushed.line [] ∙ ap (λ x. text_of onto.cut ++ (line_text pushed.line ++ (end_text x ++ []))) pushed.end_is ∙ ap (λ x. text_of onto.cut ++ x) (append-nil (line_text pushed.line) ∙ text_is) ∙ onto.so_far.joins,

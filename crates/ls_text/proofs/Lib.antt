@@ -9,4 +9,5 @@ pub mod SpotLaws
 pub mod SameLaws
 pub mod EditLaws
 pub mod PlaceLaws
+pub mod ChunkLaws
 pub mod ScalarLaws

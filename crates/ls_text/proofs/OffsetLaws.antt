@@ -2,18 +2,17 @@
 use Rattle.std.proofs.Common.{◌≡◌, ℕ, zero, suc, ◌+◌, ◌-◌, ◌<◌, ◌≤◌, Bool, true, false, not, cond, ◌&&◌, ◌||◌, eqb, leb, List, [], ◌∷◌, ◌++◌, length, take, drop, get_or, refl, sym, ap, subst, ◌∙◌, ◌⊎◌, inl, inr, ⊎_elim, arith, length-append, zero-add}
 use Rattle.std.specs.Prelude.{Option, Some, None, sum_by, unwrap_or}
 use Rattle.std.specs.List.{list_any}
-use Rattle.std.specs.Str.{chars}
-use Rattle.std.specs.String.{string_bytes}
 use Rattle.std.proofs.lemmas.List.Sums.{sum_by-cons}
 use Rattle.std.proofs.Math.Seq.{take-append-add, drop-append-add}
-use Rattle.std.proofs.lemmas.List.{append-nil, take-append-le, get_or_append_left, get_or_push, get_or_read}
+use Rattle.std.proofs.lemmas.List.{append-nil, take-append-le, get_or_append_left, get_or_push}
 use Rattle.std.proofs.lemmas.Bool.{cases_lt}
 use Rattle.std.proofs.lemmas.Bool.Decides.{nat_tests}
 use Rattle.ls_text.specs.Lines.{is_break, starts_with_lf, ends_with_cr, line_ends, last_line, splits_crlf, is_offset, line_at, units_at, greatest, is_within, offset_of, fitting}
 use Rattle.ls_text.specs.Cut.{end_text, line_text, text_of, IsPlain, is_end_before, AreLines, start_of, text_at, IsIndex}
 use Rattle.ls_text.specs.declared.line_end.LineEnd.{LineEnd}
 use Rattle.ls_text.specs.declared.line_end.LineEnd.TheVariants.{Eof, Lf, Cr, CrLf}
-use Rattle.ls_text.specs.declared.line.Line.{Line}
+use Rattle.ls_text.specs.Chunks.{IsLineAt}
+use Rattle.ls_text.specs.Cut.{Row}
 use Rattle.ls_text.proofs.LineLaws.{plain_parts, line_ends-plain}
 
 -- ---- the greatest number that passes
@@ -122,7 +121,7 @@ pub record IsAt (t : List ℕ) (o m : ℕ) (before : List ℕ) : Type 0 where
   pub line_is : line_at t o ≡ m
   pub before_is : last_line (take o t) ≡ before
 
-at_front : (l : Line) (r : List ℕ) (k : ℕ) → IsPlain (line_text l) → k ≤ length (line_text l) → IsAt (line_text l ++ (end_text l.end ++ r)) (0 + k) 0 (take k (line_text l))
+at_front : (l : Row) (r : List ℕ) (k : ℕ) → IsPlain (line_text l) → k ≤ length (line_text l) → IsAt (line_text l ++ (end_text l.end ++ r)) (0 + k) 0 (take k (line_text l))
 at_front l r k p le =
     let front : take (0 + k) (line_text l ++ (end_text l.end ++ r)) ≡ take k (line_text l) = ap (λ x. take x (line_text l ++ (end_text l.end ++ r))) (zero-add k) ∙ take-append-le k (line_text l) (end_text l.end ++ r) le in
     record {
@@ -130,7 +129,7 @@ at_front l r k p le =
       before_is = ap last_line front ∙ last_line-plain (take k (line_text l)) (plain_take (line_text l) k p);
     }
 
-pub at_line : (ls : List Line) → AreLines ls → (m k : ℕ) → m < length ls → k ≤ length (text_at ls m) → IsAt (text_of ls) (start_of ls m + k) m (take k (text_at ls m))
+pub at_line : (ls : List Row) → AreLines ls → (m k : ℕ) → m < length ls → k ≤ length (text_at ls m) → IsAt (text_of ls) (start_of ls m + k) m (take k (text_at ls m))
 at_line [] h m k lt le = absurd h
 at_line (l ∷ []) h zero k lt le = at_front l [] k h.0 le
 at_line (l ∷ []) h (suc m) k lt le = absurd (omega (arith, lt))
@@ -147,7 +146,7 @@ at_line (l ∷ n ∷ ls) h (suc m) k lt le =
     }
 
 -- ---- each offset stands in a line, before its line end
-pub record IsLocated (ls : List Line) (o : ℕ) : Type 0 where
+pub record IsLocated (ls : List Row) (o : ℕ) : Type 0 where
   pub line : ℕ
   pub at : ℕ
   pub line_in_range : line < length ls
@@ -186,10 +185,10 @@ inside_end p CrLf t o gt lt h =
     let both : splits_crlf (p ++ (13 ∷ 10 ∷ t)) o ≡ true = ap (splits_crlf (p ++ (13 ∷ 10 ∷ t))) at ∙ (λ i. front i && back i) in
     cc
 
-deeper : (l : Line) (ls : List Line) (o x : ℕ) → o ≡ length (line_text l) + (length (end_text l.end) + x) → IsLocated ls x → IsLocated (l ∷ ls) o
+deeper : (l : Row) (ls : List Row) (o x : ℕ) → o ≡ length (line_text l) + (length (end_text l.end) + x) → IsLocated ls x → IsLocated (l ∷ ls) o
 deeper l ls o x e at = record { line = suc at.line; at = at.at; line_in_range = omega (arith, at.line_in_range); at_in_range = at.at_in_range; sum = omega (arith, e, at.sum) }
 
-locate_step : (l : Line) (ls : List Line) → ((x : ℕ) → x ≤ length (text_of ls) → splits_crlf (text_of ls) x ≡ false → IsLocated ls x) → (o : ℕ) → o ≤ length (text_of (l ∷ ls)) → splits_crlf (text_of (l ∷ ls)) o ≡ false → IsLocated (l ∷ ls) o
+locate_step : (l : Row) (ls : List Row) → ((x : ℕ) → x ≤ length (text_of ls) → splits_crlf (text_of ls) x ≡ false → IsLocated ls x) → (o : ℕ) → o ≤ length (text_of (l ∷ ls)) → splits_crlf (text_of (l ∷ ls)) o ≡ false → IsLocated (l ∷ ls) o
 locate_step l ls rest o le off =
     ⊎_elim (λ past. ⊎_elim (λ inside. absurd (inside_end (line_text l) l.end (text_of ls) o past inside off)) later (cases_lt o (length (line_text l) + length (end_text l.end))))
     (λ within. record { line = 0; at = o; line_in_range = omega arith; at_in_range = within; sum = sym (zero-add o) })
@@ -202,7 +201,7 @@ locate_step l ls rest o le off =
         let x_le : o - (length (line_text l) + length (end_text l.end)) ≤ length (text_of ls) = omega (arith, le, length-append (line_text l) (end_text l.end ++ text_of ls), length-append (end_text l.end) (text_of ls)) in
         deeper l ls o (o - (length (line_text l) + length (end_text l.end))) e (rest (o - (length (line_text l) + length (end_text l.end))) x_le (offset_after (line_text l) (end_text l.end) (text_of ls) (o - (length (line_text l) + length (end_text l.end))) x_le (ap (splits_crlf (text_of (l ∷ ls))) (sym e) ∙ off)))
 
-pub located : (ls : List Line) → AreLines ls → (o : ℕ) → o ≤ length (text_of ls) → splits_crlf (text_of ls) o ≡ false → IsLocated ls o
+pub located : (ls : List Row) → AreLines ls → (o : ℕ) → o ≤ length (text_of ls) → splits_crlf (text_of ls) o ≡ false → IsLocated ls o
 located [] h o le off = absurd h
 located (l ∷ []) h o le off =
     let short : length (line_text l ++ (end_text l.end ++ [])) ≡ length (line_text l) = ap (λ e. length (line_text l ++ (end_text e ++ []))) h.1 ∙ ap length (append-nil (line_text l)) in
@@ -297,7 +296,7 @@ front_off p r k h le =
     let front : ends_with_cr (take (0 + k) (p ++ r)) ≡ false = ap ends_with_cr (ap (λ x. take x (p ++ r)) (zero-add k) ∙ take-append-le k p r le) ∙ plain_no_cr (take k p) (plain_take p k h) in
     (λ i. front i && starts_with_lf (drop (0 + k) (p ++ r)))
 
-pub is_apart : (ls : List Line) → AreLines ls → (m k : ℕ) → m < length ls → k ≤ length (text_at ls m) → splits_crlf (text_of ls) (start_of ls m + k) ≡ false
+pub is_apart : (ls : List Row) → AreLines ls → (m k : ℕ) → m < length ls → k ≤ length (text_at ls m) → splits_crlf (text_of ls) (start_of ls m + k) ≡ false
 is_apart [] h m k lt le = absurd h
 is_apart (l ∷ []) h zero k lt le = front_off (line_text l) (end_text l.end ++ []) k h.0 le
 is_apart (l ∷ []) h (suc m) k lt le = absurd (omega (arith, lt))
@@ -306,7 +305,7 @@ is_apart (l ∷ n ∷ ls) h (suc m) k lt le =
     let sum : start_of (l ∷ n ∷ ls) (suc m) + k ≡ length (line_text l) + (length (end_text l.end) + (start_of (n ∷ ls) m + k)) = omega arith in
     ap (splits_crlf (text_of (l ∷ n ∷ ls))) sum ∙ after_whole (line_text l) l.end (text_of (n ∷ ls)) (start_of (n ∷ ls) m + k) h.0 h.1 (is_apart (n ∷ ls) h.2 m k (omega (arith, lt)) le)
 
-pub start_le : (ls : List Line) (m : ℕ) → m < length ls → start_of ls m + length (text_at ls m) ≤ length (text_of ls)
+pub start_le : (ls : List Row) (m : ℕ) → m < length ls → start_of ls m + length (text_at ls m) ≤ length (text_of ls)
 start_le [] m lt = absurd (omega (arith, lt))
 start_le (l ∷ ls) zero lt = omega (arith, length-append (line_text l) (end_text l.end ++ text_of ls))
 start_le (l ∷ ls) (suc m) lt = omega (arith, start_le ls m (omega (arith, lt)), length-append (line_text l) (end_text l.end ++ text_of ls), length-append (end_text l.end) (text_of ls))
@@ -323,7 +322,7 @@ refuted : (b : Bool) → (b ≡ true → ⊥) → b ≡ false
 refuted false f = refl
 refuted true f = absurd (f refl)
 
-module _ (w : ℕ → ℕ) (ls : List Line) (h : AreLines ls) (m c : ℕ) where
+module _ (w : ℕ → ℕ) (ls : List Row) (h : AreLines ls) (m c : ℕ) where
   -- an offset of the line m with at most c units, by its place in the line
   within_place : (j : ℕ) → is_within w (text_of ls) m c j ≡ true → (k : ℕ) × (m < length ls) × (k ≤ length (text_at ls m)) × (j ≡ start_of ls m + k) × (sum_by w (take k (text_at ls m)) ≤ c)
   within_place j e =
@@ -359,20 +358,20 @@ module _ (w : ℕ → ℕ) (ls : List Line) (h : AreLines ls) (m c : ℕ) where
       ap (λ o. unwrap_or o (length (text_of ls))) (greatest-none (is_within w (text_of ls) m c) (length (text_of ls)) (λ j j_le. refuted (is_within w (text_of ls) m c j) (λ e. let at = within_place j e in omega (arith, at.1, le))))
 
 -- ---- the index
-start_of-push : (ls : List Line) (l : Line) (m : ℕ) → m < length ls → start_of (ls ++ l ∷ []) m ≡ start_of ls m
+start_of-push : (ls : List Row) (l : Row) (m : ℕ) → m < length ls → start_of (ls ++ l ∷ []) m ≡ start_of ls m
 start_of-push [] l m lt = absurd (omega (arith, lt))
 start_of-push (n ∷ ls) l zero lt = refl
 start_of-push (n ∷ ls) l (suc m) lt = ap (λ x. length (line_text n) + (length (end_text n.end) + x)) (start_of-push ls l m (omega (arith, lt)))
 
-start_of-last : (ls : List Line) (l : Line) → start_of (ls ++ l ∷ []) (length ls) ≡ length (text_of ls)
+start_of-last : (ls : List Row) (l : Row) → start_of (ls ++ l ∷ []) (length ls) ≡ length (text_of ls)
 start_of-last [] l = refl
 start_of-last (n ∷ ls) l = omega (arith, start_of-last ls l, length-append (line_text n) (end_text n.end ++ text_of ls), length-append (end_text n.end) (text_of ls))
 
-length-text_of-push : (ls : List Line) (l : Line) → length (text_of (ls ++ l ∷ [])) ≡ length (text_of ls) + (length (line_text l) + length (end_text l.end))
+length-text_of-push : (ls : List Row) (l : Row) → length (text_of (ls ++ l ∷ [])) ≡ length (text_of ls) + (length (line_text l) + length (end_text l.end))
 length-text_of-push [] l = omega (arith, length-append (line_text l) (end_text l.end ++ []), length-append (end_text l.end) [])
 length-text_of-push (n ∷ ls) l = omega (arith, length-text_of-push ls l, length-append (line_text n) (end_text n.end ++ text_of ls), length-append (end_text n.end) (text_of ls), length-append (line_text n) (end_text n.end ++ text_of (ls ++ l ∷ [])), length-append (end_text n.end) (text_of (ls ++ l ∷ [])))
 
-pub index_push : (starts : List ℕ) (len : ℕ) (ls : List Line) (l : Line) (more : ℕ) → IsIndex starts len ls → more ≡ length (line_text l) + length (end_text l.end) → IsIndex (starts ++ len ∷ []) (len + more) (ls ++ l ∷ [])
+pub index_push : (starts : List ℕ) (len : ℕ) (ls : List Row) (l : Row) (more : ℕ) → IsIndex starts len ls → more ≡ length (line_text l) + length (end_text l.end) → IsIndex (starts ++ len ∷ []) (len + more) (ls ++ l ∷ [])
 index_push starts len ls l more index more_is = record {
   count = omega (arith, length-append starts (len ∷ []), length-append ls (l ∷ []), index.count);
   starts_are = λ m lt. ⊎_elim (λ below. get_or_append_left starts (len ∷ []) 0 m (omega (arith, below, index.count)) ∙ index.starts_are m below ∙ sym (start_of-push ls l m below))
@@ -380,24 +379,20 @@ index_push starts len ls l more index more_is = record {
   len_is = omega (arith, length-text_of-push ls l, index.len_is, more_is);
 }
 
-pub text_found : (ls : List Line) (m : ℕ) (x : Line) → m < length ls → x ≡ get_or ls m x → text_at ls m ≡ line_text x
+pub text_found : (ls : List Row) (m : ℕ) (x : Row) → m < length ls → x ≡ get_or ls m x → text_at ls m ≡ line_text x
 text_found [] m x lt e = absurd (omega (arith, lt))
 text_found (l ∷ ls) zero x lt e = ap line_text (sym e)
 text_found (l ∷ ls) (suc m) x lt e = text_found ls m x (omega (arith, lt)) e
 
 -- what `offset_of` computes
-module _ (w : ℕ → ℕ) (ls items : List Line) (starts : List ℕ) (len m c : ℕ) (t : List ℕ) (h : AreLines ls) (index : IsIndex starts len ls) (view_is : text_of ls ≡ t) (items_are : items ≡ ls) where
-  pub offset_found : (x : Line) (bytes : List ℕ) (start fit : ℕ) → m < length items → x ≡ get_or items m x → bytes ≡ string_bytes x.text → start ≡ get_or starts m start → fit ≡ fitting w (chars bytes) c → start + fit ≡ offset_of w t m c
-  offset_found x bytes start fit lt item bytes_are start_is fit_is =
-      let lt' : m < length ls = subst (λ y. m < length y) items_are lt in
-      let text_is : chars bytes ≡ text_at ls m = ap chars bytes_are ∙ sym (text_found ls m x lt' (subst (λ y. x ≡ get_or y m x) items_are item)) in
-      (λ i. (get_or_read starts m start (omega (arith, lt', index.count)) start_is 0 ∙ index.starts_are m lt') i + (fit_is ∙ ap (λ y. fitting w y c) text_is) i) ∙ sym (offset_of-line w ls h m c lt') ∙ ap (λ y. offset_of w y m c) view_is
+module _ (w : ℕ → ℕ) (ls : List Row) (m c : ℕ) (t : List ℕ) (h : AreLines ls) (view_is : text_of ls ≡ t) where
+  pub offset_found : (x : Row) (start fit : ℕ) → IsLineAt ls m x start → fit ≡ fitting w (line_text x) c → start + fit ≡ offset_of w t m c
+  offset_found x start fit at fit_is =
+      (λ i. at.start_is i + (fit_is ∙ ap (λ y. fitting w y c) (sym (text_found ls m x at.in_range at.line_is))) i) ∙ sym (offset_of-line w ls h m c at.in_range) ∙ ap (λ y. offset_of w y m c) view_is
 
-  pub offset_past : length items ≤ m → len ≡ offset_of w t m c
-  offset_past le = index.len_is ∙ sym (offset_of-past w ls h m c (subst (λ y. length y ≤ m) items_are le)) ∙ ap (λ y. offset_of w y m c) view_is
+  pub offset_past : (len : ℕ) → len ≡ length (text_of ls) → length ls ≤ m → len ≡ offset_of w t m c
+  offset_past len len_is le = len_is ∙ sym (offset_of-past w ls h m c le) ∙ ap (λ y. offset_of w y m c) view_is
 
-  pub offset_bound : (x : Line) (bytes : List ℕ) (start fit : ℕ) → m < length items → x ≡ get_or items m x → bytes ≡ string_bytes x.text → start ≡ get_or starts m start → fit ≡ fitting w (chars bytes) c → start + fit ≤ len
-  offset_bound x bytes start fit lt item bytes_are start_is fit_is =
-      let lt' : m < length ls = subst (λ y. m < length y) items_are lt in
-      let text_is : chars bytes ≡ text_at ls m = ap chars bytes_are ∙ sym (text_found ls m x lt' (subst (λ y. x ≡ get_or y m x) items_are item)) in
-      omega (arith, get_or_read starts m start (omega (arith, lt', index.count)) start_is 0, index.starts_are m lt', fit_is ∙ ap (λ y. fitting w y c) text_is, fitting_le w (text_at ls m) c, start_le ls m lt', index.len_is)
+pub offset_bound : (w : ℕ → ℕ) (ls : List Row) (m c : ℕ) (x : Row) (start fit : ℕ) → IsLineAt ls m x start → fit ≡ fitting w (line_text x) c → start + fit ≤ length (text_of ls)
+offset_bound w ls m c x start fit at fit_is =
+    omega (arith, at.start_is, fit_is ∙ ap (λ y. fitting w y c) (sym (text_found ls m x at.in_range at.line_is)), fitting_le w (text_at ls m) c, start_le ls m at.in_range)

@@ -11,7 +11,7 @@ use Rattle.ls_text.specs.Lines.{splits_crlf, line_at, units_at, lowered, offset_
 use Rattle.ls_text.specs.Cut.{text_of, AreLines, start_of, text_at}
 use Rattle.ls_text.specs.Positions.{position_of, position_in}
 use Rattle.ls_text.specs.declared.position.Position.{Position}
-use Rattle.ls_text.specs.declared.line.Line.{Line}
+use Rattle.ls_text.specs.Cut.{Row}
 use Rattle.ls_text.proofs.OffsetLaws.{at_line, is_apart, start_le, fitting_le, offset_of-line}
 use Rattle.ls_text.proofs.PositionLaws.{same_position}
 
@@ -26,7 +26,7 @@ lowered_at t o le apart =
     cond_no true x y e = cc
 
 -- the offset of so many bytes in a line of the text stands in that line, after the characters that fit
-module _ (ls : List Line) (h : AreLines ls) (w : ℕ → ℕ) (l bytes : ℕ) (lt : l < length ls) where
+module _ (ls : List Row) (h : AreLines ls) (w : ℕ → ℕ) (l bytes : ℕ) (lt : l < length ls) where
   inside : fitting len_utf8 (text_at ls l) bytes ≤ length (text_at ls l)
   inside = fitting_le len_utf8 (text_at ls l) bytes
 

@@ -1,19 +1,20 @@
 -- Laws of the position of an offset, over the lines that a snapshot holds.
-use Rattle.std.proofs.Common.{◌≡◌, ℕ, zero, suc, ◌+◌, ◌-◌, ◌<◌, ◌≤◌, min, Bool, true, false, cond, ◌&&◌, List, [], ◌∷◌, ◌++◌, length, take, drop, get_or, refl, sym, ap, subst, ◌∙◌, ⊎_elim, arith, length-append, map}
+use Rattle.std.proofs.Common.{◌≡◌, ℕ, zero, suc, ◌+◌, ◌-◌, ◌<◌, ◌≤◌, min, Bool, true, false, cond, ◌&&◌, List, [], ◌∷◌, ◌++◌, length, take, drop, refl, sym, ap, subst, ◌∙◌, ⊎_elim, arith, length-append}
 use Rattle.std.specs.Prelude.{sum_by}
-use Rattle.std.specs.Str.{chars, IsUtf8, encode_utf8_all as encodes}
-use Rattle.std.proofs.lemmas.Str.{encodes-append, encodes-chars, length-le-encodes}
+use Rattle.std.specs.Str.{encode_utf8_all as encodes}
+use Rattle.std.proofs.lemmas.Str.{encodes-append, length-le-encodes}
 use Rattle.std.proofs.Math.Seq.{take-append-add, drop-append-add}
-use Rattle.std.proofs.lemmas.List.{get_or_read, take_all}
+use Rattle.std.proofs.lemmas.List.{take_all}
 use Rattle.std.proofs.lemmas.Bool.{cases_lt}
 use Rattle.ls_text.specs.Lines.{starts_with_lf, ends_with_cr, splits_crlf, line_at, units_at, lowered}
 use Rattle.ls_text.specs.Cut.{end_text, line_text, text_of, is_end_before, AreLines, start_of, text_at, end_at, IsKept}
+use Rattle.ls_text.specs.Chunks.{IsLineAt}
 use Rattle.ls_text.specs.Positions.{position_of}
 use Rattle.ls_text.specs.declared.position.Position.{Position}
 use Rattle.ls_text.specs.declared.line_end.LineEnd.{LineEnd}
 use Rattle.ls_text.specs.declared.line_end.LineEnd.TheVariants.{Eof, Lf, Cr, CrLf}
-use Rattle.ls_text.specs.declared.line.Line.{Line}
-use Rattle.ls_text.proofs.OffsetLaws.{take_past, drop_past, ends_with_cr-append, at_line, is_apart, start_le}
+use Rattle.ls_text.specs.Cut.{Row}
+use Rattle.ls_text.proofs.OffsetLaws.{take_past, drop_past, ends_with_cr-append, at_line, is_apart, start_le, text_found}
 
 cond_no : (b : Bool) (x y : ℕ) → b ≡ false → cond b x y ≡ y
 cond_no false x y e = refl
@@ -43,11 +44,11 @@ splits_after p e (c ∷ t) (suc x) h =
     (λ i. front i && back i) ∙ h
 
 -- past the end of a line, and before the next
-pub splits_in : (ls : List Line) (m o : ℕ) → suc m < length ls → start_of ls m + length (text_at ls m) < o → o < start_of ls (suc m) → splits_crlf (text_of ls) o ≡ true
+pub splits_in : (ls : List Row) (m o : ℕ) → suc m < length ls → start_of ls m + length (text_at ls m) < o → o < start_of ls (suc m) → splits_crlf (text_of ls) o ≡ true
 splits_in [] m o lt gt below = absurd (omega (arith, lt))
 splits_in (l ∷ ls) zero o lt gt below = splits_front (line_text l) l.end (text_of ls) o (omega (arith, gt)) (omega (arith, below, start_zero ls))
   where
-    start_zero : (ls : List Line) → start_of ls 0 ≡ 0
+    start_zero : (ls : List Row) → start_of ls 0 ≡ 0
     start_zero [] = refl
     start_zero (l ∷ ls) = refl
 splits_in (l ∷ ls) (suc m) o lt gt below =
@@ -62,13 +63,13 @@ end_short Lf = omega arith
 end_short Cr = omega arith
 end_short CrLf = omega arith
 
-start_next : (ls : List Line) (m : ℕ) → m < length ls → start_of ls (suc m) ≡ start_of ls m + (length (text_at ls m) + length (end_text (end_at ls m)))
+start_next : (ls : List Row) (m : ℕ) → m < length ls → start_of ls (suc m) ≡ start_of ls m + (length (text_at ls m) + length (end_text (end_at ls m)))
 start_next [] m lt = absurd (omega (arith, lt))
 start_next (l ∷ []) zero lt = omega arith
 start_next (l ∷ n ∷ ls) zero lt = omega arith
 start_next (l ∷ ls) (suc m) lt = omega (arith, start_next ls m (omega (arith, lt)))
 
-pub last_full : (ls : List Line) → AreLines ls → (m : ℕ) → suc m ≡ length ls → start_of ls m + length (text_at ls m) ≡ length (text_of ls)
+pub last_full : (ls : List Row) → AreLines ls → (m : ℕ) → suc m ≡ length ls → start_of ls m + length (text_at ls m) ≡ length (text_of ls)
 last_full [] h m e = absurd h
 last_full (l ∷ []) h zero e = omega (arith, length-append (line_text l) (end_text l.end ++ []), ap (λ x. length (end_text x ++ [])) h.1)
 last_full (l ∷ []) h (suc m) e = absurd (omega (arith, e))
@@ -76,7 +77,7 @@ last_full (l ∷ n ∷ ls) h zero e = absurd (omega (arith, e))
 last_full (l ∷ n ∷ ls) h (suc m) e = omega (arith, last_full (n ∷ ls) h.2 m (omega (arith, e)), length-append (line_text l) (end_text l.end ++ text_of (n ∷ ls)), length-append (end_text l.end) (text_of (n ∷ ls)))
 
 -- the offset, lowered, stands in its line after so many characters
-module _ (ls : List Line) (h : AreLines ls) (m o : ℕ) (lt : m < length ls) (starts : start_of ls m ≤ o) (last : suc m < length ls → o < start_of ls (suc m)) where
+module _ (ls : List Row) (h : AreLines ls) (m o : ℕ) (lt : m < length ls) (starts : start_of ls m ≤ o) (last : suc m < length ls → o < start_of ls (suc m)) where
   pub lowered_in : lowered (text_of ls) o ≡ start_of ls m + min (o - start_of ls m) (length (text_at ls m))
   unfolding lowered
   lowered_in = ⊎_elim after within (cases_lt (start_of ls m + length (text_at ls m)) o)
@@ -121,7 +122,7 @@ module _ (ls : List Line) (h : AreLines ls) (m o : ℕ) (lt : m < length ls) (st
           omega_past le = omega (arith, le)
 
 -- a text has no fewer characters than lines but one
-pub few_lines : (ls : List Line) → AreLines ls → length ls ≤ length (text_of ls) + 1
+pub few_lines : (ls : List Row) → AreLines ls → length ls ≤ length (text_of ls) + 1
 few_lines [] h = absurd h
 few_lines (l ∷ []) h = omega arith
 few_lines (l ∷ n ∷ ls) h = omega (arith, few_lines (n ∷ ls) h.2, length-append (line_text l) (end_text l.end ++ text_of (n ∷ ls)), length-append (end_text l.end) (text_of (n ∷ ls)), some l.end _ h.1)
@@ -133,13 +134,9 @@ few_lines (l ∷ n ∷ ls) h = omega (arith, few_lines (n ∷ ls) h.2, length-ap
     some CrLf t h = omega arith
 
 -- ---- what `position_of` computes, over the lines and their index
-pub lines_some : (ls : List Line) → AreLines ls → 0 < length ls
+pub lines_some : (ls : List Row) → AreLines ls → 0 < length ls
 lines_some [] h = absurd h
 lines_some (l ∷ ls) h = omega arith
-
-start_first : (ls : List Line) → start_of ls 0 ≡ 0
-start_first [] = refl
-start_first (l ∷ ls) = refl
 
 -- the bytes of a line are no more than those of the text
 bytes_le : (x y z : List ℕ) → (length (encodes x) ≤ length (encodes (x ++ (y ++ z)))) × (length (encodes z) ≤ length (encodes (x ++ (y ++ z))))
@@ -150,37 +147,25 @@ bytes_le x y z =
     let back_length = length-append (encodes y) (encodes z) in
     (omega arith, omega arith)
 
-pub text_bytes_le : (ls : List Line) (m : ℕ) → length (encodes (text_at ls m)) ≤ length (encodes (text_of ls))
+pub text_bytes_le : (ls : List Row) (m : ℕ) → length (encodes (text_at ls m)) ≤ length (encodes (text_of ls))
 text_bytes_le [] m = omega arith
 text_bytes_le (l ∷ ls) zero = (bytes_le (line_text l) (end_text l.end) (text_of ls)).0
 text_bytes_le (l ∷ ls) (suc m) = omega (arith, text_bytes_le ls m, (bytes_le (line_text l) (end_text l.end) (text_of ls)).1)
 
--- the characters of a line held behind a pointer
-pub text_held : {X : Type 0} (value : X → Line) (held : List X) (m : ℕ) (x : X) → m < length held → x ≡ get_or held m x → text_at (map value held) m ≡ line_text (value x)
-text_held value [] m x lt e = absurd (omega (arith, lt))
-text_held value (l ∷ ls) zero x lt e = ap (λ y. line_text (value y)) (sym e)
-text_held value (l ∷ ls) (suc m) x lt e = text_held value ls m x (omega (arith, lt)) e
-
 pub same_position : (a b c d : ℕ) → a ≡ c → b ≡ d → ◌≡◌ {A = Position} (record { line = a; character = b }) (record { line = c; character = d })
 same_position a b c d e f = λ i. record { line = e i; character = f i }
 
-module _ (ls : List Line) (starts : List ℕ) (len : ℕ) (kept : IsKept ls starts len) (got : List ℕ) (got_is : got ≡ starts) where
-  pub first_start : get_or got 0 0 ≡ 0
-  first_start = ap (λ x. get_or x 0 0) got_is ∙ kept.index.starts_are 0 (lines_some ls kept.lines) ∙ start_first ls
+module _ (ls : List Row) (kept : IsKept ls) where
+  pub line_small : (m : ℕ) → m < length ls → m < 4_294_967_296
+  line_small m lt = omega (arith, lt, few_lines ls kept.lines, length-le-encodes (text_of ls), kept.small)
 
-  pub line_small : (m : ℕ) → m < length got → m < 4_294_967_296
-  line_small m lt = omega (arith, lt, ap length got_is, kept.index.count, few_lines ls kept.lines, length-le-encodes (text_of ls), kept.small)
+  pub bytes_small : (m : ℕ) (x : Row) (start : ℕ) → IsLineAt ls m x start → length (encodes (line_text x)) ≤ 4_194_304
+  bytes_small m x start at = omega (arith, ap (λ z. length (encodes z)) (text_found ls m x at.in_range at.line_is), text_bytes_le ls m, kept.small)
 
-  pub bytes_small : (m : ℕ) (bytes : List ℕ) → IsUtf8 bytes → text_at ls m ≡ chars bytes → length bytes ≤ 4_194_304
-  bytes_small m bytes u text_is = omega (arith, ap length (encodes-chars bytes u), ap (λ x. length (encodes x)) text_is, text_bytes_le ls m, kept.small)
-
-  pub position_found : (w : ℕ → ℕ) (t : List ℕ) → text_of ls ≡ t → (m o : ℕ) → m < length got → get_or got m 0 ≤ o → (m + 1 < length got → o < get_or got (m + 1) 0) → (bytes : List ℕ) → text_at ls m ≡ chars bytes → (start : ℕ) → start ≡ get_or starts m start → (units : ℕ) → units ≡ sum_by w (take (o - start) (chars bytes)) → ◌≡◌ {A = Position} (record { line = m; character = units }) (position_of w t o)
-  position_found w t view_is m o lt at_start before_next bytes text_is start start_is units units_is =
-      let count = ap length got_is in
-      let lt' : m < length ls = omega (arith, lt, kept.index.count) in
-      let start_at : start ≡ start_of ls m = get_or_read starts m start (omega (arith, lt', kept.index.count)) start_is 0 ∙ kept.index.starts_are m lt' in
-      let from_start : start_of ls m ≤ o = omega (arith, at_start, ap (λ x. get_or x m 0) got_is, kept.index.starts_are m lt') in
+  pub position_found : (w : ℕ → ℕ) (t : List ℕ) → text_of ls ≡ t → (m o : ℕ) (x : Row) (start : ℕ) → IsLineAt ls m x start → start ≤ o → (m + 1 < length ls → o < start_of ls (m + 1)) → (units : ℕ) → units ≡ sum_by w (take (o - start) (line_text x)) → ◌≡◌ {A = Position} (record { line = m; character = units }) (position_of w t o)
+  position_found w t view_is m o x start at at_start before_next units units_is =
+      let from_start : start_of ls m ≤ o = omega (arith, at_start, at.start_is) in
       let after : m + 1 ≡ suc m = omega arith in
-      let next : suc m < length ls → o < start_of ls (suc m) = λ more. subst (λ x. o < x) (ap (λ x. get_or x (suc m) 0) got_is ∙ kept.index.starts_are (suc m) more) (subst (λ k. o < get_or got k 0) after (before_next (omega (arith, more, kept.index.count)))) in
-      let at = position_in ls kept.lines m o lt' from_start next w units (units_is ∙ (λ i. sum_by w (take (o - start_at i) (sym text_is i)))) in
-      same_position m units _ _ (sym at.0) (sym at.1) ∙ ap (λ x. position_of w x o) view_is
+      let next : suc m < length ls → o < start_of ls (suc m) = subst (λ k. k < length ls → o < start_of ls k) after before_next in
+      let found = position_in ls kept.lines m o at.in_range from_start next w units (units_is ∙ (λ i. sum_by w (take (o - at.start_is i) (sym (text_found ls m x at.in_range at.line_is) i)))) in
+      same_position m units _ _ (sym found.0) (sym found.1) ∙ ap (λ y. position_of w y o) view_is

@@ -1,17 +1,14 @@
 -- Laws of lines that make the same text.
-use Rattle.std.proofs.Common.{◌≡◌, ℕ, zero, suc, ◌+◌, ◌<◌, true, false, not, List, [], ◌∷◌, ◌++◌, length, get_or, refl, sym, ap, ◌∙◌, arith, map}
-use Rattle.std.specs.String.{string_bytes}
-use Rattle.std.specs.Str.{chars}
+use Rattle.std.proofs.Common.{◌≡◌, ℕ, zero, suc, ◌+◌, ◌<◌, true, false, not, List, [], ◌∷◌, ◌++◌, length, refl, sym, ap, ◌∙◌, arith, map}
 use Rattle.std.proofs.lemmas.List.{append_cancel_left}
-use Rattle.std.proofs.lemmas.Str.{encodes-chars, IsUtf8-string_bytes}
-use Rattle.std.specs.Str.{encode_utf8_all as encodes}
 use Rattle.ls_text.specs.Lines.{starts_with_lf, lines, line_ends}
-use Rattle.ls_text.specs.Cut.{end_text, line_text, text_of, is_end_before, AreLines, text_at, end_at}
+use Rattle.ls_text.specs.Cut.{end_text, line_text, text_of, row, is_end_before, AreLines, text_at, end_at}
 use Rattle.ls_text.specs.declared.line_end.LineEnd.{LineEnd}
 use Rattle.ls_text.specs.declared.line_end.LineEnd.TheVariants.{Eof, Lf, Cr, CrLf}
-use Rattle.ls_text.specs.declared.line.Line.{Line}
+use Rattle.ls_text.specs.Cut.{Row}
 use Rattle.ls_text.proofs.CutLaws.{lines-text_of, line_ends-text_of}
-use Rattle.ls_text.proofs.PositionLaws.{text_held}
+use Rattle.ls_text.proofs.OffsetLaws.{text_found}
+use Rattle.ls_text.specs.Chunks.{IsLineAt}
 use Rattle.ls_text.proofs.SpotLaws.{end_found}
 
 -- two line ends, each before what follows it
@@ -46,18 +43,18 @@ ends_same CrLf Cr s t h k e = absurd (cr_not_crlf t s k (sym e))
 ends_same CrLf CrLf s t h k e = record { ends = refl; rests = cc }
 
 -- ---- the same text has the same lines
-pub length_same : (ls ms : List Line) → AreLines ls → AreLines ms → text_of ls ≡ text_of ms → length ls ≡ length ms
+pub length_same : (ls ms : List Row) → AreLines ls → AreLines ms → text_of ls ≡ text_of ms → length ls ≡ length ms
 length_same ls ms h k e = sym (line_ends-text_of ls h) ∙ ap (λ t. line_ends t + 1) e ∙ line_ends-text_of ms k
 
-texts_same : (ls ms : List Line) → AreLines ls → AreLines ms → text_of ls ≡ text_of ms → map line_text ls ≡ map line_text ms
+texts_same : (ls ms : List Row) → AreLines ls → AreLines ms → text_of ls ≡ text_of ms → map line_text ls ≡ map line_text ms
 texts_same ls ms h k e = sym (lines-text_of ls h) ∙ ap lines e ∙ lines-text_of ms k
 
 -- line i is the same in both
-pub record IsSameAt (ls ms : List Line) (i : ℕ) : Type 0 where
+pub record IsSameAt (ls ms : List Row) (i : ℕ) : Type 0 where
   pub text : text_at ls i ≡ text_at ms i
   pub end : end_at ls i ≡ end_at ms i
 
-pub same_at : (ls ms : List Line) → AreLines ls → AreLines ms → text_of ls ≡ text_of ms → (i : ℕ) → i < length ls → IsSameAt ls ms i
+pub same_at : (ls ms : List Row) → AreLines ls → AreLines ms → text_of ls ≡ text_of ms → (i : ℕ) → i < length ls → IsSameAt ls ms i
 same_at [] ms h k e i lt = absurd h
 same_at (l ∷ []) [] h k e i lt = absurd k
 same_at (l ∷ n ∷ ls) [] h k e i lt = absurd k
@@ -82,7 +79,7 @@ same_at (l ∷ n ∷ ls) (m ∷ o ∷ ms) h k e i lt =
         record { text = there.text; end = there.end }
 
 -- ---- the same lines make the same text
-pub text_same : (ls ms : List Line) → length ls ≡ length ms → ((i : ℕ) → i < length ls → IsSameAt ls ms i) → text_of ls ≡ text_of ms
+pub text_same : (ls ms : List Row) → length ls ≡ length ms → ((i : ℕ) → i < length ls → IsSameAt ls ms i) → text_of ls ≡ text_of ms
 text_same [] [] e same = refl
 text_same [] (m ∷ ms) e same = absurd (omega (arith, e))
 text_same (l ∷ ls) [] e same = absurd (omega (arith, e))
@@ -91,17 +88,16 @@ text_same (l ∷ ls) (m ∷ ms) e same =
     let rest = text_same ls ms (omega (arith, e)) (λ i lt. let there = same (suc i) (omega (arith, lt)) in record { text = there.text; end = there.end }) in
     λ i. first.text i ++ (end_text (first.end i) ++ rest i)
 
--- ---- lines held behind pointers
-module _ {X : Type 0} (value : X → Line) (xs ys : List X) (i : ℕ) (x y : X) (x_lt : i < length xs) (x_is : x ≡ get_or xs i x) (y_lt : i < length ys) (y_is : y ≡ get_or ys i y) where
-  pub same_held : string_bytes (value x).text ≡ string_bytes (value y).text → (value x).end ≡ (value y).end → IsSameAt (map value xs) (map value ys) i
-  same_held bytes end_is = record {
-    text = text_held value xs i x x_lt x_is ∙ ap chars bytes ∙ sym (text_held value ys i y y_lt y_is);
-    end = end_found value xs i x x_lt x_is ∙ end_is ∙ sym (end_found value ys i y y_lt y_is);
+-- ---- lines found
+module _ (xs ys : List Row) (i : ℕ) (x y : Row) (x_start y_start : ℕ) (x_at : IsLineAt xs i x x_start) (y_at : IsLineAt ys i y y_start) where
+  pub same_held : x ≡ y → IsSameAt xs ys i
+  same_held same = record {
+    text = text_found xs i x x_at.in_range x_at.line_is ∙ ap line_text same ∙ sym (text_found ys i y y_at.in_range y_at.line_is);
+    end = end_found xs i x x_at.in_range x_at.line_is ∙ ap (λ (r : Row). r.end) same ∙ sym (end_found ys i y y_at.in_range y_at.line_is);
   }
 
-  pub held_same : IsSameAt (map value xs) (map value ys) i → (string_bytes (value x).text ≡ string_bytes (value y).text) × ((value x).end ≡ (value y).end)
+  pub held_same : IsSameAt xs ys i → x ≡ y
   held_same same =
-      let chars_are : chars (string_bytes (value x).text) ≡ chars (string_bytes (value y).text) = sym (text_held value xs i x x_lt x_is) ∙ same.text ∙ text_held value ys i y y_lt y_is in (
-        sym (encodes-chars (string_bytes (value x).text) (IsUtf8-string_bytes (value x).text)) ∙ ap encodes chars_are ∙ encodes-chars (string_bytes (value y).text) (IsUtf8-string_bytes (value y).text),
-        sym (end_found value xs i x x_lt x_is) ∙ same.end ∙ end_found value ys i y y_lt y_is,
-      )
+      let texts : line_text x ≡ line_text y = sym (text_found xs i x x_at.in_range x_at.line_is) ∙ same.text ∙ text_found ys i y y_at.in_range y_at.line_is in
+      let ends : x.end ≡ y.end = sym (end_found xs i x x_at.in_range x_at.line_is) ∙ same.end ∙ end_found ys i y y_at.in_range y_at.line_is in
+      λ j. row (texts j) (ends j)

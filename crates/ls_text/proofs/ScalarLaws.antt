@@ -1,24 +1,25 @@
--- The characters of a snapshot's lines are Unicode scalar values.
-use Rattle.std.proofs.Common.{◌≡◌, ℕ, true, List, [], ◌∷◌, ◌++◌, refl, ap, ◌∙◌}
+-- The characters of lines are Unicode scalar values.
+use Rattle.std.proofs.Common.{◌≡◌, ℕ, ◌+◌, ◌<◌, true, List, [], ◌∷◌, ◌++◌, length, map, take, get_or, refl, sym, ap, subst, ◌∙◌}
 use Rattle.std.specs.Prelude.{All, ◌&&◌}
+use Rattle.std.specs.Arc.{arc_value}
+use Rattle.std.specs.declared.sync.Arc.{Arc}
 use Rattle.std.specs.Char.{IsScalar}
-use Rattle.std.specs.List.{list_all}
-use Rattle.std.specs.String.{string_bytes}
+use Rattle.std.specs.List.{list_all, flat_map}
+use Rattle.std.specs.Str.{chars, IsUtf8}
 use Rattle.std.proofs.Math.Utf8.{scalar, scalars}
-use Rattle.std.proofs.lemmas.List.Folds.{list_all-append}
+use Rattle.std.proofs.lemmas.List.Elements.{All-append}
 use Rattle.std.proofs.lemmas.List.Sums.{AllPass-from_list_all}
-use Rattle.std.proofs.lemmas.Str.{scalars-chars, IsUtf8-string_bytes}
-use Rattle.ls_text.specs.Cut.{end_text, line_text, text_of}
-use Rattle.ls_text.specs.declared.line.Line.{Line}
+use Rattle.std.proofs.lemmas.Str.{scalars-chars}
+use Rattle.ls_text.specs.Cut.{Row, end_text, line_text, text_of}
+use Rattle.ls_text.specs.Chunks.{lines_behind}
+use Rattle.ls_text.specs.declared.chunk.Chunk.{Chunk}
 use Rattle.ls_text.specs.declared.line_end.LineEnd.{LineEnd}
 use Rattle.ls_text.specs.declared.line_end.LineEnd.TheVariants.{Eof, Lf, Cr, CrLf}
+use Rattle.ls_text.proofs.HeldLaws.{text_of-append, text_of-one, held_more}
 
 list_all-scalar : (cs : List ℕ) → list_all scalar cs ≡ scalars cs
 list_all-scalar [] = refl
 list_all-scalar (c ∷ cs) = ap (λ b. scalar c && b) (list_all-scalar cs)
-
-line_scalars : (l : Line) → list_all scalar (line_text l) ≡ true
-line_scalars l = list_all-scalar (line_text l) ∙ scalars-chars (string_bytes l.text) (IsUtf8-string_bytes l.text)
 
 end_scalars : (e : LineEnd) → list_all scalar (end_text e) ≡ true
 end_scalars Eof = refl
@@ -26,12 +27,24 @@ end_scalars Lf = refl
 end_scalars Cr = refl
 end_scalars CrLf = refl
 
-both_scalars : (cs ds : List ℕ) → list_all scalar cs ≡ true → list_all scalar ds ≡ true → list_all scalar (cs ++ ds) ≡ true
-both_scalars cs ds p q = list_all-append scalar cs ds ∙ (λ i. p i && q i)
+pub chars_scalars : (bs : List ℕ) → IsUtf8 bs → All IsScalar (chars bs)
+chars_scalars bs u = AllPass-from_list_all scalar (chars bs) (list_all-scalar (chars bs) ∙ scalars-chars bs u)
 
-lines_scalars : (ls : List Line) → list_all scalar (text_of ls) ≡ true
-lines_scalars [] = refl
-lines_scalars (l ∷ ls) = both_scalars (line_text l) (end_text l.end ++ text_of ls) (line_scalars l) (both_scalars (end_text l.end) (text_of ls) (end_scalars l.end) (lines_scalars ls))
+pub no_scalars : All IsScalar []
+no_scalars = AllPass-from_list_all scalar [] refl
 
-pub text_scalars : (ls : List Line) → All IsScalar (text_of ls)
-text_scalars ls = AllPass-from_list_all scalar (text_of ls) (lines_scalars ls)
+line_scalars : (l : Row) → All IsScalar (line_text l) → All IsScalar (line_text l ++ end_text l.end)
+line_scalars l h = All-append IsScalar (line_text l) (end_text l.end) h (AllPass-from_list_all scalar (end_text l.end) (end_scalars l.end))
+
+-- one more of the lines behind pointers
+pub scalars_more : {X : Type 0} (value : X → Row) (held : List X) (i : ℕ) (x : X) → i < length held → x ≡ get_or held i x → All IsScalar (line_text (value x)) → All IsScalar (text_of (take i (map value held))) → All IsScalar (text_of (take (i + 1) (map value held)))
+scalars_more value held i x lt item line before =
+    subst (λ z. All IsScalar (text_of z)) (sym (held_more value held i x lt item))
+    (subst (All IsScalar) (sym (text_of-one (take i (map value held)) (value x)))
+    (All-append IsScalar (text_of (take i (map value held))) (line_text (value x) ++ end_text (value x).end) before (line_scalars (value x) line)))
+
+pub chunk_scalars : {Z : Type 0} (cs : List (Arc Chunk Z)) → All IsScalar (text_of (flat_map lines_behind cs))
+chunk_scalars [] = no_scalars
+chunk_scalars (c ∷ cs) =
+    subst (All IsScalar) (sym (text_of-append (lines_behind c) (flat_map lines_behind cs)))
+    (All-append IsScalar (text_of (lines_behind c)) (text_of (flat_map lines_behind cs)) (arc_value c).scalars (chunk_scalars cs))

@@ -1,15 +1,15 @@
 -- Laws of lines of which a part is replaced.
 use Rattle.std.proofs.Common.{◌≡◌, ℕ, zero, suc, ◌+◌, ◌-◌, ◌<◌, ◌≤◌, Bool, true, false, not, ◌&&◌, ◌||◌, List, [], ◌∷◌, ◌++◌, length, take, drop, refl, sym, ap, subst, ◌∙◌, arith, append_assoc, length-append, zero-add, take-append-drop, length-drop}
-use Rattle.std.specs.Str.{chars, IsUtf8}
+use Rattle.std.specs.Str.{chars, encode_utf8_all as encodes}
 use Rattle.std.proofs.Math.Seq.{take-append_seam}
 use Rattle.std.proofs.lemmas.List.{append-nil, take-append-le, drop-append-le}
-use Rattle.std.proofs.lemmas.Str.{chars-append, IsUtf8-take, IsUtf8-string_bytes}
+use Rattle.std.proofs.lemmas.Str.{chars-append, encodes-append, IsUtf8-take}
 use Rattle.ls_text.specs.Lines.{is_break, starts_with_lf, ends_with_cr}
 use Rattle.ls_text.specs.Cut.{end_text, line_text, text_of, IsPlain, is_end_before, AreLines, AreLinesBefore, IsCut, IsCutOnto, IsPushed, start_of, text_at, end_at}
 use Rattle.ls_text.specs.Spots.{bytes_at, IsSpot, front_of, back_of}
 use Rattle.ls_text.specs.declared.line_end.LineEnd.{LineEnd}
 use Rattle.ls_text.specs.declared.line_end.LineEnd.TheVariants.{Eof, Lf, Cr, CrLf}
-use Rattle.ls_text.specs.declared.line.Line.{Line}
+use Rattle.ls_text.specs.Cut.{Row}
 use Rattle.ls_text.specs.declared.edit.Spot.{Spot}
 use Rattle.ls_text.proofs.LineLaws.{plain_parts}
 use Rattle.ls_text.proofs.CutLaws.{lines_end}
@@ -17,7 +17,7 @@ use Rattle.ls_text.proofs.OffsetLaws.{take_past, drop_past, ends_with_cr-append}
 use Rattle.ls_text.proofs.HeldLaws.{text_of-append, text_of-one}
 
 -- ---- lines before a text
-pub lines_split : (xs ys : List Line) → 0 < length ys → AreLines (xs ++ ys) → AreLinesBefore xs (text_of ys) × AreLines ys
+pub lines_split : (xs ys : List Row) → 0 < length ys → AreLines (xs ++ ys) → AreLinesBefore xs (text_of ys) × AreLines ys
 lines_split xs [] lt h = absurd (omega (arith, lt))
 lines_split [] (y ∷ ys) lt h = (tt, h)
 lines_split (x ∷ []) (y ∷ ys) lt h = ((h.0, h.1, tt), h.2)
@@ -25,7 +25,7 @@ lines_split (x ∷ z ∷ xs) (y ∷ ys) lt h =
     let rest = lines_split (z ∷ xs) (y ∷ ys) lt h.2 in
     ((h.0, ap (is_end_before x.end) (sym (text_of-append (z ∷ xs) (y ∷ ys))) ∙ h.1, rest.0), rest.1)
 
-pub lines_join : (xs ys : List Line) → AreLinesBefore xs (text_of ys) → AreLines ys → AreLines (xs ++ ys)
+pub lines_join : (xs ys : List Row) → AreLinesBefore xs (text_of ys) → AreLines ys → AreLines (xs ++ ys)
 lines_join xs [] h k = absurd k
 lines_join [] (y ∷ ys) h k = k
 lines_join (x ∷ []) (y ∷ ys) h k = (h.0, h.1, k)
@@ -42,7 +42,7 @@ lf_after : (p s t : List ℕ) → starts_with_lf s ≡ starts_with_lf t → star
 lf_after [] s t same = same
 lf_after (c ∷ p) s t same = refl
 
-pub before_same : (xs : List Line) (s t : List ℕ) → starts_with_lf s ≡ starts_with_lf t → AreLinesBefore xs s → AreLinesBefore xs t
+pub before_same : (xs : List Row) (s t : List ℕ) → starts_with_lf s ≡ starts_with_lf t → AreLinesBefore xs s → AreLinesBefore xs t
 before_same [] s t same h = tt
 before_same (x ∷ xs) s t same h = (h.0, end_same x.end _ _ (lf_after (text_of xs) s t same) h.1, before_same xs s t same h.2)
 
@@ -56,7 +56,7 @@ lf_front : (p s t : List ℕ) → 0 < length p → starts_with_lf (p ++ s) ≡ s
 lf_front [] s t lt = absurd (omega (arith, lt))
 lf_front (c ∷ p) s t lt = refl
 
-line_some_text : (l : Line) (ls : List Line) (t : List ℕ) → is_end_before l.end t ≡ true → 0 < length (text_of (l ∷ ls))
+line_some_text : (l : Row) (ls : List Row) (t : List ℕ) → is_end_before l.end t ≡ true → 0 < length (text_of (l ∷ ls))
 line_some_text l ls t h = omega (arith, end_some l.end t h, length-append (line_text l) (end_text l.end ++ text_of ls), length-append (end_text l.end) (text_of ls))
 
 -- whole lines, before a text that the last of their line ends may stand before
@@ -70,7 +70,7 @@ last_end p Cr t h seam = to_not (starts_with_lf t) (ap (λ b. b && starts_with_l
     to_not false e = refl
     to_not true e = cc
 
-pub before_more : (ls : List Line) (t : List ℕ) → AreLinesBefore ls [] → (ends_with_cr (text_of ls) && starts_with_lf t) ≡ false → AreLinesBefore ls t
+pub before_more : (ls : List Row) (t : List ℕ) → AreLinesBefore ls [] → (ends_with_cr (text_of ls) && starts_with_lf t) ≡ false → AreLinesBefore ls t
 before_more [] t h seam = tt
 before_more (l ∷ []) t h seam = (h.0, last_end (line_text l) l.end t h.1 seam, tt)
 before_more (l ∷ n ∷ ls) t h seam =
@@ -84,12 +84,12 @@ front_lf [] [] s t lt = absurd (omega (arith, lt))
 front_lf [] (c ∷ e) s t lt = refl
 front_lf (c ∷ p) e s t lt = refl
 
-one_line_lf : (ds : List Line) → AreLines ds → 1 < length ds → (t : List ℕ) → starts_with_lf (text_of ds) ≡ starts_with_lf (text_of (take 1 ds) ++ t)
+one_line_lf : (ds : List Row) → AreLines ds → 1 < length ds → (t : List ℕ) → starts_with_lf (text_of ds) ≡ starts_with_lf (text_of (take 1 ds) ++ t)
 one_line_lf [] h lt t = absurd h
 one_line_lf (l ∷ []) h lt t = absurd (omega (arith, lt))
 one_line_lf (l ∷ n ∷ ls) h lt t = front_lf (line_text l) (end_text l.end) (text_of (n ∷ ls)) t (end_some l.end _ h.1)
 
-pub kept_before : (ls : List Line) → AreLines ls → (m kept : ℕ) → m < length ls → kept ≡ m - 1 → (t : List ℕ) → AreLinesBefore (take kept ls) (text_of (take (m - kept) (drop kept ls)) ++ t)
+pub kept_before : (ls : List Row) → AreLines ls → (m kept : ℕ) → m < length ls → kept ≡ m - 1 → (t : List ℕ) → AreLinesBefore (take kept ls) (text_of (take (m - kept) (drop kept ls)) ++ t)
 kept_before ls h zero kept lt e t = subst (λ k. AreLinesBefore (take k ls) (text_of (take (0 - k) (drop k ls)) ++ t)) (sym (is_zero e)) tt
   where
     is_zero : kept ≡ 0 - 1 → kept ≡ 0
@@ -137,7 +137,7 @@ rest_empty x p (c ∷ r) e some same h =
     not_both b n y = cc
 
 -- ---- the text before and after a place in a line
-pub take_at : (ls : List Line) (m k : ℕ) → m < length ls → k ≤ length (text_at ls m) → take (start_of ls m + k) (text_of ls) ≡ text_of (take m ls) ++ take k (text_at ls m)
+pub take_at : (ls : List Row) (m k : ℕ) → m < length ls → k ≤ length (text_at ls m) → take (start_of ls m + k) (text_of ls) ≡ text_of (take m ls) ++ take k (text_at ls m)
 take_at [] m k lt le = absurd (omega (arith, lt))
 take_at (l ∷ ls) zero k lt le = ap (λ x. take x (text_of (l ∷ ls))) (zero-add k) ∙ take-append-le k (line_text l) (end_text l.end ++ text_of ls) le
 take_at (l ∷ ls) (suc m) k lt le =
@@ -147,28 +147,18 @@ take_at (l ∷ ls) (suc m) k lt le =
     ∙ ap (λ x. line_text l ++ x) (sym (append_assoc (end_text l.end) (text_of (take m ls)) (take k (text_at ls m))))
     ∙ sym (append_assoc (line_text l) (end_text l.end ++ text_of (take m ls)) (take k (text_at ls m)))
 
-pub drop_at : (ls : List Line) (m k : ℕ) → m < length ls → k ≤ length (text_at ls m) → drop (start_of ls m + k) (text_of ls) ≡ drop k (text_at ls m) ++ (end_text (end_at ls m) ++ text_of (drop (suc m) ls))
+pub drop_at : (ls : List Row) (m k : ℕ) → m < length ls → k ≤ length (text_at ls m) → drop (start_of ls m + k) (text_of ls) ≡ drop k (text_at ls m) ++ (end_text (end_at ls m) ++ text_of (drop (suc m) ls))
 drop_at [] m k lt le = absurd (omega (arith, lt))
 drop_at (l ∷ ls) zero k lt le = ap (λ x. drop x (text_of (l ∷ ls))) (zero-add k) ∙ drop-append-le k (line_text l) (end_text l.end ++ text_of ls) le
 drop_at (l ∷ ls) (suc m) k lt le =
     let sum : start_of (l ∷ ls) (suc m) + k ≡ length (line_text l) + (length (end_text l.end) + (start_of ls m + k)) = omega arith in
     ap (λ x. drop x (text_of (l ∷ ls))) sum ∙ drop_past (line_text l) (end_text l.end) (text_of ls) (start_of ls m + k) ∙ drop_at ls m k (omega (arith, lt)) le
 
-bytes_at-utf8 : (ls : List Line) (m : ℕ) → m < length ls → IsUtf8 (bytes_at ls m)
-bytes_at-utf8 [] m lt = absurd (omega (arith, lt))
-bytes_at-utf8 (l ∷ ls) zero lt = IsUtf8-string_bytes l.text
-bytes_at-utf8 (l ∷ ls) (suc m) lt = bytes_at-utf8 ls m (omega (arith, lt))
-
-pub text_at-bytes : (ls : List Line) (m : ℕ) → m < length ls → text_at ls m ≡ chars (bytes_at ls m)
-text_at-bytes [] m lt = absurd (omega (arith, lt))
-text_at-bytes (l ∷ ls) zero lt = refl
-text_at-bytes (l ∷ ls) (suc m) lt = text_at-bytes ls m (omega (arith, lt))
-
-module _ (ls : List Line) (s : Spot) (spot : IsSpot ls s) where
+module _ (ls : List Row) (s : Spot) (spot : IsSpot ls s) where
   pub spot_text : text_at ls s.line ≡ front_of ls s ++ back_of ls s
   spot_text =
-      text_at-bytes ls s.line spot.line_in_range ∙ ap chars (sym (take-append-drop s.bytes (bytes_at ls s.line)))
-      ∙ chars-append (take s.bytes (bytes_at ls s.line)) (drop s.bytes (bytes_at ls s.line)) (IsUtf8-take (bytes_at ls s.line) s.bytes (bytes_at-utf8 ls s.line spot.line_in_range) spot.boundary)
+      sym spot.characters ∙ ap chars (sym (take-append-drop s.bytes (bytes_at ls s.line)))
+      ∙ chars-append (take s.bytes (bytes_at ls s.line)) (drop s.bytes (bytes_at ls s.line)) (IsUtf8-take (bytes_at ls s.line) s.bytes spot.utf8 spot.boundary)
 
   front_le : length (front_of ls s) ≤ length (text_at ls s.line)
   front_le = omega (arith, ap length spot_text, length-append (front_of ls s) (back_of ls s))
@@ -184,7 +174,7 @@ module _ (ls : List Line) (s : Spot) (spot : IsSpot ls s) where
       drop_seam (c ∷ x) y = drop_seam x y
 
 -- ---- the end of a line, and what follows it
-pub end_last : (ls : List Line) → AreLines ls → (m : ℕ) → m < length ls → end_at ls m ≡ Eof → drop (suc m) ls ≡ []
+pub end_last : (ls : List Row) → AreLines ls → (m : ℕ) → m < length ls → end_at ls m ≡ Eof → drop (suc m) ls ≡ []
 end_last [] h m lt e = absurd h
 end_last (l ∷ []) h zero lt e = refl
 end_last (l ∷ []) h (suc m) lt e = absurd (omega (arith, lt))
@@ -197,7 +187,7 @@ end_last (l ∷ n ∷ ls) h zero lt e = absurd (no_eof l.end _ e h.1)
         cc_eof k = cc
 end_last (l ∷ n ∷ ls) h (suc m) lt e = end_last (n ∷ ls) h.2 m (omega (arith, lt)) e
 
-pub end_inner : (ls : List Line) → AreLines ls → (m : ℕ) → m < length ls → (end_at ls m ≡ Eof → ⊥) → (is_end_before (end_at ls m) (text_of (drop (suc m) ls)) ≡ true) × AreLines (drop (suc m) ls)
+pub end_inner : (ls : List Row) → AreLines ls → (m : ℕ) → m < length ls → (end_at ls m ≡ Eof → ⊥) → (is_end_before (end_at ls m) (text_of (drop (suc m) ls)) ≡ true) × AreLines (drop (suc m) ls)
 end_inner [] h m lt ne = absurd h
 end_inner (l ∷ []) h zero lt ne = absurd (ne h.1)
 end_inner (l ∷ []) h (suc m) lt ne = absurd (omega (arith, lt))
@@ -215,17 +205,17 @@ seam_of p Cr t k = rw (ends_with_cr-append p (13 ∷ []) (omega arith)) (not_fal
     not_false true e = cc
 seam_of p CrLf t k = rw (ends_with_cr-append p (13 ∷ 10 ∷ []) (omega arith)) refl
 
-front_join : (ls : List Line) (m kept : ℕ) → kept ≤ m → text_of (take kept ls) ++ text_of (take (m - kept) (drop kept ls)) ≡ text_of (take m ls)
+front_join : (ls : List Row) (m kept : ℕ) → kept ≤ m → text_of (take kept ls) ++ text_of (take (m - kept) (drop kept ls)) ≡ text_of (take m ls)
 front_join ls m kept le = sym (text_of-append (take kept ls) (take (m - kept) (drop kept ls))) ∙ ap text_of (take_join ls m kept le)
   where
-    take_join : (xs : List Line) (m k : ℕ) → k ≤ m → take k xs ++ take (m - k) (drop k xs) ≡ take m xs
+    take_join : (xs : List Row) (m k : ℕ) → k ≤ m → take k xs ++ take (m - k) (drop k xs) ≡ take m xs
     take_join xs m zero le = ap (λ n. take n xs) (none m)
       where
         none : (m : ℕ) → m - 0 ≡ m
         none m = omega arith
     take_join [] m (suc k) le = nil (m - suc k) ∙ sym (nil m)
       where
-        nil : (n : ℕ) → ◌≡◌ {A = List Line} (take n []) []
+        nil : (n : ℕ) → ◌≡◌ {A = List Row} (take n []) []
         nil zero = refl
         nil (suc n) = refl
     take_join (x ∷ xs) zero (suc k) le = absurd (omega (arith, le))
@@ -235,10 +225,10 @@ front_join ls m kept le = sym (text_of-append (take kept ls) (take (m - kept) (d
         less m k = omega arith
 
 -- the text that is cut anew, and the one that is wanted
-abbrev pub middle_text : List Line → ℕ → Spot → Spot → List ℕ → List ℕ
+abbrev pub middle_text : List Row → ℕ → Spot → Spot → List ℕ → List ℕ
 middle_text ls kept from to new = text_of (take (from.line - kept) (drop kept ls)) ++ (front_of ls from ++ (new ++ (back_of ls to ++ end_text (end_at ls to.line))))
 
-abbrev pub wanted_text : List Line → Spot → Spot → List ℕ → List ℕ
+abbrev pub wanted_text : List Row → Spot → Spot → List ℕ → List ℕ
 wanted_text ls from to new = take from.offset (text_of ls) ++ (new ++ drop to.offset (text_of ls))
 
 regroup : (a b f n k e c : List ℕ) → a ++ ((b ++ (f ++ (n ++ (k ++ e)))) ++ c) ≡ ((a ++ b) ++ f) ++ (n ++ (k ++ (e ++ c)))
@@ -247,7 +237,7 @@ regroup a b f n k e c = simp append_assoc refl
 regroup_end : (b f n k e : List ℕ) → b ++ (f ++ (n ++ (k ++ e))) ≡ (b ++ (f ++ (n ++ k))) ++ e
 regroup_end b f n k e = simp append_assoc refl
 
-module _ (ls : List Line) (h : AreLines ls) (from to : Spot) (at_from : IsSpot ls from) (at_to : IsSpot ls to) (kept : ℕ) (kept_is : kept ≡ from.line - 1) (new : List ℕ) where
+module _ (ls : List Row) (h : AreLines ls) (from to : Spot) (at_from : IsSpot ls from) (at_to : IsSpot ls to) (kept : ℕ) (kept_is : kept ≡ from.line - 1) (new : List ℕ) where
   whole_text : text_of (take kept ls) ++ (middle_text ls kept from to new ++ text_of (drop (suc to.line) ls)) ≡ wanted_text ls from to new
   whole_text =
       regroup (text_of (take kept ls)) (text_of (take (from.line - kept) (drop kept ls))) (front_of ls from) new (back_of ls to) (end_text (end_at ls to.line)) (text_of (drop (suc to.line) ls))
@@ -257,18 +247,18 @@ module _ (ls : List Line) (h : AreLines ls) (from to : Spot) (at_from : IsSpot l
   before_all : (t : List ℕ) → AreLinesBefore (take kept ls) (middle_text ls kept from to new ++ t)
   before_all t = subst (AreLinesBefore (take kept ls)) (sym (append_assoc (text_of (take (from.line - kept) (drop kept ls))) (front_of ls from ++ (new ++ (back_of ls to ++ end_text (end_at ls to.line)))) t)) (kept_before ls h from.line kept at_from.line_in_range kept_is ((front_of ls from ++ (new ++ (back_of ls to ++ end_text (end_at ls to.line)))) ++ t))
 
-  spliced_any : (ms : List Line) → AreLines ms → text_of ms ≡ middle_text ls kept from to new ++ text_of (drop (suc to.line) ls) → IsCut (wanted_text ls from to new) (take kept ls ++ ms)
+  spliced_any : (ms : List Row) → AreLines ms → text_of ms ≡ middle_text ls kept from to new ++ text_of (drop (suc to.line) ls) → IsCut (wanted_text ls from to new) (take kept ls ++ ms)
   spliced_any ms lines text = (
     lines_join (take kept ls) ms (subst (AreLinesBefore (take kept ls)) (sym text) (before_all (text_of (drop (suc to.line) ls)))) lines,
     text_of-append (take kept ls) ms ∙ ap (λ x. text_of (take kept ls) ++ x) text ∙ whole_text,
   )
 
-  pub spliced_last : (ms : List Line) (l : Line) → text_of ms ++ line_text l ≡ middle_text ls kept from to new → AreLinesBefore ms (line_text l) → IsPlain (line_text l) → l.end ≡ Eof → end_at ls to.line ≡ Eof → IsCut (wanted_text ls from to new) (take kept ls ++ (ms ++ l ∷ []))
+  pub spliced_last : (ms : List Row) (l : Row) → text_of ms ++ line_text l ≡ middle_text ls kept from to new → AreLinesBefore ms (line_text l) → IsPlain (line_text l) → l.end ≡ Eof → end_at ls to.line ≡ Eof → IsCut (wanted_text ls from to new) (take kept ls ++ (ms ++ l ∷ []))
   spliced_last ms l joins before plain eof last =
       spliced_any (ms ++ l ∷ []) (lines_end ms l before plain eof)
       (text_of-one ms l ∙ ap (λ x. text_of ms ++ (line_text l ++ end_text x)) eof ∙ ap (λ x. text_of ms ++ x) (append-nil (line_text l)) ∙ joins ∙ sym (append-nil (middle_text ls kept from to new)) ∙ ap (λ x. middle_text ls kept from to new ++ text_of x) (sym (end_last ls h to.line at_to.line_in_range last)))
 
-  pub spliced_inner : (ms : List Line) (r : List ℕ) → text_of ms ++ r ≡ middle_text ls kept from to new → AreLinesBefore ms r → IsPlain r → (end_at ls to.line ≡ Eof → ⊥) → IsCut (wanted_text ls from to new) (take kept ls ++ (ms ++ drop (suc to.line) ls))
+  pub spliced_inner : (ms : List Row) (r : List ℕ) → text_of ms ++ r ≡ middle_text ls kept from to new → AreLinesBefore ms r → IsPlain r → (end_at ls to.line ≡ Eof → ⊥) → IsCut (wanted_text ls from to new) (take kept ls ++ (ms ++ drop (suc to.line) ls))
   spliced_inner ms r joins before plain inner =
       let next = end_inner ls h to.line at_to.line_in_range inner in
       let front = text_of (take (from.line - kept) (drop kept ls)) ++ (front_of ls from ++ (new ++ back_of ls to)) in
@@ -280,18 +270,22 @@ module _ (ls : List Line) (h : AreLines ls) (from to : Spot) (at_from : IsSpot l
       (lines_join ms (drop (suc to.line) ls) (before_more ms (text_of (drop (suc to.line) ls)) (subst (AreLinesBefore ms) none before) seam) next.1)
       (text_of-append ms (drop (suc to.line) ls) ∙ ap (λ x. x ++ text_of (drop (suc to.line) ls)) (all ∙ joins))
 
+  -- the text that is cut anew is a part of the one that is wanted
+  pub middle_bytes : length (encodes (middle_text ls kept from to new)) ≤ length (encodes (wanted_text ls from to new))
+  middle_bytes =
+      omega (arith, ap (λ z. length (encodes z)) whole_text, ap length (encodes-append (text_of (take kept ls)) (middle_text ls kept from to new ++ text_of (drop (suc to.line) ls))), length-append (encodes (text_of (take kept ls))) (encodes (middle_text ls kept from to new ++ text_of (drop (suc to.line) ls))), ap length (encodes-append (middle_text ls kept from to new) (text_of (drop (suc to.line) ls))), length-append (encodes (middle_text ls kept from to new)) (encodes (text_of (drop (suc to.line) ls))))
+
   -- ---- what `spliced` makes of what it pushes
-  module _ {text rest : List ℕ} {old now : List Line} (old_is : old ≡ take kept ls) (cut : IsCutOnto old text rest now) (plain : IsPlain (chars rest)) (text_is : chars text ≡ middle_text ls kept from to new) where
-    now_is : now ≡ take kept ls ++ cut.cut
-    now_is = cut.joins ∙ ap (λ x. x ++ cut.cut) old_is
-
-    pub spliced_eof : {next : List Line} → IsPushed now rest Eof next → end_at ls to.line ≡ Eof → IsCut (wanted_text ls from to new) next
+  module _ {text rest : List ℕ} {now : List Row} (cut : IsCutOnto [] text rest now) (plain : IsPlain (chars rest)) (text_is : chars text ≡ middle_text ls kept from to new) where
+    pub spliced_eof : {next : List Row} → IsPushed now rest Eof next → end_at ls to.line ≡ Eof → IsCut (wanted_text ls from to new) (take kept ls ++ (next ++ drop (to.line + 1) ls))
     spliced_eof {next} pushed last =
-        let rest_is : line_text pushed.line ≡ chars rest = ap chars pushed.text_is in
-        let next_is : next ≡ take kept ls ++ (cut.cut ++ pushed.line ∷ []) = pushed.joins ∙ ap (λ x. x ++ pushed.line ∷ []) now_is ∙ append_assoc (take kept ls) cut.cut (pushed.line ∷ []) in
-        subst (IsCut (wanted_text ls from to new)) (sym next_is) (spliced_last cut.cut pushed.line (ap (λ x. text_of cut.cut ++ x) rest_is ∙ cut.so_far.joins ∙ text_is) (subst (AreLinesBefore cut.cut) (sym rest_is) cut.so_far.before) (subst IsPlain (sym rest_is) plain) pushed.end_is last)
+        let rest_is : line_text pushed.line ≡ chars rest = pushed.text_is in
+        let after : to.line + 1 ≡ suc to.line = omega arith in
+        let next_is : next ++ drop (to.line + 1) ls ≡ cut.cut ++ pushed.line ∷ [] = (λ i. (pushed.joins ∙ ap (λ x. x ++ pushed.line ∷ []) cut.joins) i ++ (ap (λ k. drop k ls) after ∙ end_last ls h to.line at_to.line_in_range last) i) ∙ append-nil (cut.cut ++ pushed.line ∷ []) in
+        subst (λ z. IsCut (wanted_text ls from to new) (take kept ls ++ z)) (sym next_is) (spliced_last cut.cut pushed.line (ap (λ x. text_of cut.cut ++ x) rest_is ∙ cut.so_far.joins ∙ text_is) (subst (AreLinesBefore cut.cut) (sym rest_is) cut.so_far.before) (subst IsPlain (sym rest_is) plain) pushed.end_is last)
 
-    pub spliced_rest : {next : List Line} → next ≡ now ++ drop (suc to.line) ls → (end_at ls to.line ≡ Eof → ⊥) → IsCut (wanted_text ls from to new) next
-    spliced_rest {next} next_is inner =
-        let all : next ≡ take kept ls ++ (cut.cut ++ drop (suc to.line) ls) = next_is ∙ ap (λ x. x ++ drop (suc to.line) ls) now_is ∙ append_assoc (take kept ls) cut.cut (drop (suc to.line) ls) in
-        subst (IsCut (wanted_text ls from to new)) (sym all) (spliced_inner cut.cut (chars rest) (cut.so_far.joins ∙ text_is) cut.so_far.before plain inner)
+    pub spliced_rest : (end_at ls to.line ≡ Eof → ⊥) → IsCut (wanted_text ls from to new) (take kept ls ++ (now ++ drop (to.line + 1) ls))
+    spliced_rest inner =
+        let after : to.line + 1 ≡ suc to.line = omega arith in
+        let now_is : now ++ drop (to.line + 1) ls ≡ cut.cut ++ drop (suc to.line) ls = λ i. cut.joins i ++ drop (after i) ls in
+        subst (λ z. IsCut (wanted_text ls from to new) (take kept ls ++ z)) (sym now_is) (spliced_inner cut.cut (chars rest) (cut.so_far.joins ∙ text_is) cut.so_far.before plain inner)

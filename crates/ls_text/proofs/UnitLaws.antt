@@ -3,14 +3,12 @@ use Rattle.std.proofs.Common.{zero, suc, min, ◌≡◌, ℕ, ◌+◌, ◌-◌, 
 use Rattle.std.specs.Prelude.{sum_by}
 use Rattle.std.specs.Char.{len_utf8}
 use Rattle.std.specs.Str.{chars, IsUtf8, encode_utf8_all as encodes}
-use Rattle.std.proofs.lemmas.Str.{encodes-append, encodes-chars, length-encode, len_utf8_bounds, length-le-encodes, IsUtf8-string_bytes}
+use Rattle.std.proofs.lemmas.Str.{encodes-append, encodes-chars, length-encode, len_utf8_bounds, length-le-encodes}
 use Rattle.std.proofs.lemmas.List.{append-nil, take_more, at_drop_more, at_drop_all}
 use Rattle.std.proofs.lemmas.List.Sums.{sum_by-cons, sum_by-append}
 use Rattle.std.proofs.lemmas.Bool.Decides.{nat_tests}
 use Rattle.ls_text.specs.Lines.{fitting, utf16_len}
-use Rattle.ls_text.specs.Cut.{line_text, width_of}
-use Rattle.ls_text.specs.declared.line.Line.{Line}
-use Rattle.std.specs.String.{string_bytes}
+use Rattle.ls_text.specs.Cut.{width_of}
 use Rattle.ls_text.specs.declared.units.Units.{Units}
 use Rattle.ls_text.specs.declared.units.Units.TheVariants.{Utf8, Utf16}
 
@@ -122,5 +120,5 @@ bytes-ascii (c ∷ cs) (suc k) e =
     let first : length (encodes (c ∷ [])) ≡ len_utf8 c = ap length (append-nil _) ∙ length-encode c in
     omega (arith, parts.0, first, ap length (encodes-append (c ∷ []) (take k cs)), length-append (encodes (c ∷ [])) (encodes (take k cs)), bytes-ascii cs k parts.1)
 
-pub line-ascii : (l : Line) (bytes : List ℕ) → bytes ≡ string_bytes l.text → length bytes ≡ l.char_count → length (encodes (line_text l)) ≡ length (line_text l)
-line-ascii l bytes bytes_are same = ap length (encodes-chars (string_bytes l.text) (IsUtf8-string_bytes l.text)) ∙ sym (ap length bytes_are) ∙ same ∙ l.counted
+pub text-ascii : (bytes : List ℕ) (count : ℕ) → IsUtf8 bytes → count ≡ length (chars bytes) → length bytes ≡ count → length (encodes (chars bytes)) ≡ length (chars bytes)
+text-ascii bytes count u count_is same = ap length (encodes-chars bytes u) ∙ same ∙ count_is

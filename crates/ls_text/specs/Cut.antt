@@ -3,11 +3,9 @@ use Rattle.std.specs.Prelude.{zero, suc, ◌+◌, ◌<◌, ◌≤◌, length, sl
 use Rattle.std.specs.List.{list_any}
 use Rattle.std.specs.Char.{len_utf8}
 use Rattle.std.specs.Str.{chars, IsUtf8, encode_utf8_all}
-use Rattle.std.specs.String.{string_bytes}
 use Rattle.ls_text.specs.Lines.{is_break, starts_with_lf, utf16_len}
 use Rattle.ls_text.specs.declared.line_end.LineEnd.{LineEnd}
 use Rattle.ls_text.specs.declared.line_end.LineEnd.TheVariants.{Eof, Lf, Cr, CrLf}
-use Rattle.ls_text.specs.declared.line.Line.{Line}
 use Rattle.ls_text.specs.declared.units.Units.{Units}
 use Rattle.ls_text.specs.declared.units.Units.TheVariants.{Utf8, Utf16}
 
@@ -17,11 +15,19 @@ end_text Lf = 10 ∷ []
 end_text Cr = 13 ∷ []
 end_text CrLf = 13 ∷ 10 ∷ []
 
-abbrev pub line_text : Line → List ℕ
-line_text l = chars (string_bytes l.text)
+-- a line of a text: its characters without its line end, and that line end
+pub record Row : Type 0 where
+  pub text : List ℕ
+  pub end : LineEnd
+
+abbrev pub row : List ℕ → LineEnd → Row
+row text end = record { text = text; end = end }
+
+abbrev pub line_text : Row → List ℕ
+line_text l = l.text
 
 -- the text: each line, with its line end
-abbrev pub text_of : List Line → List ℕ
+abbrev pub text_of : List Row → List ℕ
 text_of [] = []
 text_of (l ∷ ls) = line_text l ++ (end_text l.end ++ text_of ls)
 
@@ -37,7 +43,7 @@ is_end_before Cr t = not (starts_with_lf t)
 is_end_before CrLf t = true
 
 -- these are the lines of a text: each plain, and each but the last with a line end
-abbrev pub AreLines : List Line → Type 0
+abbrev pub AreLines : List Row → Type 0
 AreLines [] = ⊥
 AreLines (l ∷ []) = IsPlain (line_text l) × (l.end ≡ Eof)
 AreLines (l ∷ m ∷ ls) = IsPlain (line_text l) × (is_end_before l.end (text_of (m ∷ ls)) ≡ true) × AreLines (m ∷ ls)
@@ -56,58 +62,57 @@ pub record IsCutFrom (line : List ℕ) (end : LineEnd) (rest : List ℕ) (text :
   pub ends : (end ≡ Eof × rest ≡ []) ⊎ (is_end_before end rest ≡ true)
 
 -- a line with these bytes and this end has come to the end of the lines
-pub record IsPushed (ls : List Line) (text : List ℕ) (end : LineEnd) (ms : List Line) : Type 0 where
-  pub line : Line
-  pub text_is : string_bytes line.text ≡ text
+pub record IsPushed (ls : List Row) (text : List ℕ) (end : LineEnd) (ms : List Row) : Type 0 where
+  pub line : Row
+  pub text_is : line_text line ≡ chars text
   pub end_is : line.end ≡ end
   pub joins : ms ≡ ls ++ line ∷ []
 
 -- how many characters come before line m
-abbrev pub start_of : List Line → ℕ → ℕ
+abbrev pub start_of : List Row → ℕ → ℕ
 start_of [] m = 0
 start_of (l ∷ ls) zero = 0
 start_of (l ∷ ls) (suc m) = length (line_text l) + (length (end_text l.end) + start_of ls m)
 
 -- these are the starts of the lines, and the length of their text
-pub record IsIndex (starts : List ℕ) (len : ℕ) (ls : List Line) : Type 0 where
+pub record IsIndex (starts : List ℕ) (len : ℕ) (ls : List Row) : Type 0 where
   pub count : length starts ≡ length ls
   pub starts_are : (m : ℕ) → m < length ls → slice_index starts m ≡ start_of ls m
   pub len_is : len ≡ length (text_of ls)
 
--- what a snapshot keeps: the lines of a text of at most 4,194,304 bytes of UTF-8, and their index
-pub record IsKept (ls : List Line) (starts : List ℕ) (len : ℕ) : Type 0 where
+-- what a snapshot keeps: the lines of a text of at most 4,194,304 bytes of UTF-8
+pub record IsKept (ls : List Row) : Type 0 where
   pub lines : AreLines ls
-  pub index : IsIndex starts len ls
   pub small : length (encode_utf8_all (text_of ls)) ≤ 4_194_304
 
 -- these are the lines of the text t
-abbrev pub IsCut : List ℕ → List Line → Type 0
+abbrev pub IsCut : List ℕ → List Row → Type 0
 IsCut t ls = AreLines ls × (text_of ls ≡ t)
 
 -- these whole lines come before the text t
-abbrev pub AreLinesBefore : List Line → List ℕ → Type 0
+abbrev pub AreLinesBefore : List Row → List ℕ → Type 0
 AreLinesBefore [] t = Unit {0}
 AreLinesBefore (l ∷ ls) t = IsPlain (line_text l) × (is_end_before l.end (text_of ls ++ t) ≡ true) × AreLinesBefore ls t
 
 -- the bytes of a text are these whole lines, and a rest
-pub record IsCutSoFar (text : List ℕ) (ls : List Line) (rest : List ℕ) : Type 0 where
+pub record IsCutSoFar (text : List ℕ) (ls : List Row) (rest : List ℕ) : Type 0 where
   pub joins : text_of ls ++ chars rest ≡ chars text
   pub before : AreLinesBefore ls (chars rest)
   pub utf8 : IsUtf8 rest
 
 -- the whole lines of a text have come to the end of the lines, up to a rest
-pub record IsCutOnto (old : List Line) (text rest : List ℕ) (now : List Line) : Type 0 where
-  pub cut : List Line
+pub record IsCutOnto (old : List Row) (text rest : List ℕ) (now : List Row) : Type 0 where
+  pub cut : List Row
   pub joins : now ≡ old ++ cut
   pub so_far : IsCutSoFar text cut rest
 
 -- the characters and the end of line m
-abbrev pub text_at : List Line → ℕ → List ℕ
+abbrev pub text_at : List Row → ℕ → List ℕ
 text_at [] m = []
 text_at (l ∷ ls) zero = line_text l
 text_at (l ∷ ls) (suc m) = text_at ls m
 
-abbrev pub end_at : List Line → ℕ → LineEnd
+abbrev pub end_at : List Row → ℕ → LineEnd
 end_at [] m = Eof
 end_at (l ∷ ls) zero = l.end
 end_at (l ∷ ls) (suc m) = end_at ls m

@@ -1,5 +1,7 @@
 pub mod Lines
 pub mod Cut
+pub mod Chunks
 pub mod Positions
 pub mod Spots
 pub mod Edits
+pub mod Marks

@@ -1,4 +1,4 @@
-ghost use Rattle.std.specs.Prelude.{◌≡◌, ℕ, ◌<◌, ◌≤◌, ◌++◌, ◌∷◌, [], length, map, true, false, OnOk, IfOk, slice_index};
+ghost use Rattle.std.specs.Prelude.{◌≡◌, ℕ, ◌<◌, ◌≤◌, ◌^◌, ◌++◌, ◌∷◌, [], length, map, true, false, OnOk, IfOk, slice_index};
 ghost use Rattle.std.specs.Arc.{arc_value};
 ghost use Rattle.std.specs.Str.{chars};
 ghost use Rattle.ls_text.specs.Lines.{is_break};
@@ -6,7 +6,6 @@ ghost use Rattle.ls_text.specs.Cut.{IsCutFrom, IsPushed, IsPlain, IsCut, IsCutOn
 
 use crate::line::Line;
 use crate::line_end::{LineEnd, first_end};
-use crate::units::char_count;
 use memchr::memchr2;
 use std::alloc::{AllocError, Global};
 use std::sync::Arc;
@@ -42,19 +41,12 @@ pub fn push_line(
     text: &str,
     end: LineEnd,
 ) -> Result<(), AllocError>
+    requires { length text.now < 2 ^ 32 }
     ensures { OnOk result
         (IsPushed (map arc_value lines.old.items) text.now end (map arc_value lines.new.items)) }
 {
-    let char_count = char_count(text);
-    let text = String::from_str(alloc, text)?;
-    lines.push(Arc::new(
-        alloc,
-        Line {
-            text,
-            end,
-            char_count,
-        },
-    )?)?;
+    let line = Line::new(alloc, text, end)?;
+    lines.push(Arc::new(alloc, line)?)?;
     Ok(())
 }
 
@@ -64,9 +56,11 @@ pub fn push_lines<'a>(
     lines: &mut Vec<Arc<Line>>,
     text: &'a str,
 ) -> Result<&'a str, AllocError>
+    requires { length text.now < 2 ^ 32 }
     ensures cut { IfOk result (λ rest.
         IsCutOnto (map arc_value lines.old.items) text.now rest.now (map arc_value lines.new.items)) }
     ensures plain { IfOk result (λ rest. IsPlain (chars rest.now)) }
+    ensures small { IfOk result (λ rest. length rest.now ≤ length text.now) }
 {
     let mut rest = text;
     'lines: loop {
@@ -81,6 +75,7 @@ pub fn push_lines<'a>(
 
 // The lines of a text.
 pub fn lines_of(alloc: Global, text: &str) -> Result<Vec<Arc<Line>>, AllocError>
+    requires { length text.now < 2 ^ 32 }
     ensures { IfOk result (λ v. IsCut (chars text.now) (map arc_value v.items)) }
 {
     let mut lines = Vec::new(alloc);

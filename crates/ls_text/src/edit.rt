@@ -1,15 +1,18 @@
-ghost use Rattle.std.specs.Prelude.{◌≡◌, ◌-◌, ◌≤◌, ◌++◌, map, take, drop, OnOk, IfOk};
+ghost use Rattle.std.specs.Prelude.{◌≡◌, ◌-◌, ◌<◌, ◌≤◌, ◌++◌, length, map, take, drop, OnOk, IfOk, IfErr};
 ghost use Rattle.std.specs.Arc.{arc_value};
-ghost use Rattle.std.specs.Str.{chars};
+ghost use Rattle.std.specs.Str.{chars, encode_utf8_all};
 ghost use Rattle.std.specs.String.{string_bytes};
 ghost use Rattle.ls_text.specs.Lines.{utf16_len, offset_of};
-ghost use Rattle.ls_text.specs.Cut.{end_text, end_at, AreLines, text_of, IsCut, IsKept};
+ghost use Rattle.ls_text.specs.Cut.{end_text, line_text, end_at, text_of, IsCut, IsKept};
 ghost use Rattle.ls_text.specs.Spots.{IsSpot, front_of, back_of};
 
-use crate::cut::{push_line, push_lines};
+use crate::cut::{lines_of, push_line, push_lines};
+use crate::fault::TextFault;
 use crate::line::Line;
 use crate::line_end::LineEnd;
+use crate::lines::Lines;
 use crate::position::{Position, Range};
+use crate::snapshot::MAX_BYTES;
 use crate::units::{Units, fitting};
 use ls_lists::Text;
 use std::alloc::{AllocError, Global};
@@ -46,29 +49,28 @@ pub struct Spot {
     pub offset: usize,
 }
 
-// Where a position stands in these lines, which start at these offsets and have so many characters with their line ends.
-pub fn spot_of(lines: &[Arc<Line>], starts: &[usize], count: usize, at: Position) -> Spot
-    requires { IsKept (map arc_value lines.now) starts.now count }
-    ensures spot { IsSpot (map arc_value lines.now) result }
-    ensures position { result.offset
-        ≡ offset_of utf16_len (text_of (map arc_value lines.now)) at.line at.character }
+// Where a position stands in these lines.
+pub fn spot_of(lines: &Lines, at: Position) -> Spot
+    requires { IsKept lines.now }
+    ensures spot { IsSpot lines.now result }
+    ensures position { result.offset ≡ offset_of utf16_len (text_of lines.now) at.line at.character }
 {
-    match lines.get(at.line as usize) {
-        Some(line) => {
-            let fit = fitting(line, Units::Utf16, at.character as usize);
-            Spot {
-                line: at.line as usize,
-                bytes: fit.bytes,
-                offset: starts[at.line as usize] + fit.count,
-            }
+    let number = at.line as usize;
+    if number < lines.len() {
+        let (line, start) = lines.line(number);
+        let fit = fitting(line.text(), line.char_count(), Units::Utf16, at.character as usize);
+        Spot {
+            line: number,
+            bytes: fit.bytes,
+            offset: start + fit.count,
         }
-        None => {
-            let last = lines.len() - 1;
-            Spot {
-                line: last,
-                bytes: lines[last].text.len(),
-                offset: count,
-            }
+    } else {
+        let last = lines.len() - 1;
+        let (line, _) = lines.line(last);
+        Spot {
+            line: last,
+            bytes: line.text().len(),
+            offset: lines.char_count(),
         }
     }
 }
@@ -84,14 +86,26 @@ pub fn push_shared(shared: &mut Vec<Arc<Line>>, lines: &[Arc<Line>]) -> Result<(
     Ok(())
 }
 
-// Adds the text of these lines.
-pub fn push_text(text: &mut String, lines: &[Arc<Line>]) -> Result<(), AllocError>
-    ensures { OnOk result
-        (chars (string_bytes text.new) ≡ chars (string_bytes text.old) ++ text_of (map arc_value lines.now)) }
+// Adds the text of a line with its line end.
+fn push_line_text(text: &mut String, line: &Line) -> Result<(), AllocError>
+    ensures { OnOk result (chars (string_bytes text.new)
+        ≡ chars (string_bytes text.old) ++ (line_text line.now ++ end_text line.now.end)) }
 {
-    for line in lines {
-        text.push_str(line.text.as_str())?;
-        text.push_str(line.end.as_str())?;
+    text.push_str(line.text())?;
+    text.push_str(line.end().as_str())?;
+    Ok(())
+}
+
+// Adds the text of the lines from one up to another.
+pub fn push_text(text: &mut String, lines: &Lines, from: usize, to: usize) -> Result<(), AllocError>
+    requires order { from ≤ to }
+    requires within { to ≤ length lines.now }
+    ensures { OnOk result (chars (string_bytes text.new)
+        ≡ chars (string_bytes text.old) ++ text_of (take (to - from) (drop from lines.now))) }
+{
+    for i in from..to {
+        let (line, _) = lines.line(i);
+        push_line_text(text, line)?;
     }
     Ok(())
 }
@@ -100,57 +114,74 @@ pub fn push_text(text: &mut String, lines: &[Arc<Line>]) -> Result<(), AllocErro
 // second spot's line with its line end.
 fn middle(
     alloc: Global,
-    lines: &[Arc<Line>],
+    lines: &Lines,
     kept: usize,
     from: Spot,
     to: Spot,
     new: &str,
 ) -> Result<String, AllocError>
     requires kept { kept ≤ from.line }
-    requires from { IsSpot (map arc_value lines.now) from }
-    requires to { IsSpot (map arc_value lines.now) to }
-    ensures { let held = map arc_value lines.now in
-        IfOk result (λ text. chars (string_bytes text)
-        ≡ text_of (take (from.line - kept) (drop kept held))
-        ++ (front_of held from ++ (chars new.now ++ (back_of held to ++ end_text (end_at held to.line))))) }
+    requires from { IsSpot lines.now from }
+    requires to { IsSpot lines.now to }
+    ensures { IfOk result (λ text. chars (string_bytes text)
+        ≡ text_of (take (from.line - kept) (drop kept lines.now))
+        ++ (front_of lines.now from
+        ++ (chars new.now ++ (back_of lines.now to ++ end_text (end_at lines.now to.line))))) }
 {
     let mut text = String::new(alloc);
-    push_text(&mut text, &lines[kept..from.line])?;
-    let (front, _) = lines[from.line].text.as_str().split_at(from.bytes);
-    let (_, back) = lines[to.line].text.as_str().split_at(to.bytes);
+    push_text(&mut text, lines, kept, from.line)?;
+    let (first, _) = lines.line(from.line);
+    let (last, _) = lines.line(to.line);
+    let (front, _) = first.text().split_at(from.bytes);
+    let (_, back) = last.text().split_at(to.bytes);
     text.push_str(front)?;
     text.push_str(new)?;
     text.push_str(back)?;
-    text.push_str(lines[to.line].end.as_str())?;
+    text.push_str(last.end().as_str())?;
     Ok(text)
+}
+
+// The lines of a text.
+pub fn whole(alloc: Global, text: &str) -> Result<Lines, TextFault>
+    ensures ok { IfOk result (λ lines. IsCut (chars text.now) lines) }
+    ensures too_large { IfErr result
+        (λ e. e ≡ TextFault.TooLarge → MAX_BYTES < length (encode_utf8_all (chars text.now))) }
+{
+    if text.len() > MAX_BYTES {
+        return Err(TextFault::TooLarge);
+    }
+    Lines::of(alloc, lines_of(alloc, text)?)
 }
 
 // The lines with what stands between two spots replaced. The lines before the one before the first spot, and those after the
 // second spot's, are shared. The line before is cut anew, since its CR and a new LF are one line end.
 pub fn spliced(
     alloc: Global,
-    lines: &[Arc<Line>],
+    lines: &Lines,
     from: Spot,
     to: Spot,
     new: &str,
-) -> Result<Vec<Arc<Line>>, AllocError>
-    requires lines { AreLines (map arc_value lines.now) }
-    requires from { IsSpot (map arc_value lines.now) from }
-    requires to { IsSpot (map arc_value lines.now) to }
-    ensures { let held = map arc_value lines.now in
-        IfOk result (λ v. IsCut
-        (take from.offset (text_of held) ++ (chars new.now ++ drop to.offset (text_of held)))
-        (map arc_value v.items)) }
+) -> Result<Lines, TextFault>
+    requires lines { IsKept lines.now }
+    requires from { IsSpot lines.now from }
+    requires to { IsSpot lines.now to }
+    ensures ok { let text = take from.offset (text_of lines.now)
+            ++ (chars new.now ++ drop to.offset (text_of lines.now)) in
+        IfOk result (λ cut. IsCut text cut) }
+    ensures too_large { let text = take from.offset (text_of lines.now)
+            ++ (chars new.now ++ drop to.offset (text_of lines.now)) in
+        IfErr result (λ e. e ≡ TextFault.TooLarge → MAX_BYTES < length (encode_utf8_all text)) }
 {
     let kept = from.line.saturating_sub(1);
-    let mut result = Vec::with_capacity(alloc, lines.len())?;
-    push_shared(&mut result, &lines[..kept])?;
-    let text = middle(alloc, lines, kept, from, to, new)?;
-    let rest = push_lines(alloc, &mut result, text.as_str())?;
-    if let LineEnd::Eof = lines[to.line].end {
-        push_line(alloc, &mut result, rest, LineEnd::Eof)?;
-    } else {
-        push_shared(&mut result, &lines[to.line + 1..])?;
+    let part = middle(alloc, lines, kept, from, to, new)?;
+    if part.len() > MAX_BYTES {
+        return Err(TextFault::TooLarge);
     }
-    Ok(result)
+    let mut cut = Vec::new(alloc);
+    let rest = push_lines(alloc, &mut cut, part.as_str())?;
+    let (last, _) = lines.line(to.line);
+    if let LineEnd::Eof = last.end() {
+        push_line(alloc, &mut cut, rest, LineEnd::Eof)?;
+    }
+    lines.replaced(alloc, kept, to.line + 1, &cut)
 }

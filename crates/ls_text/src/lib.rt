@@ -10,11 +10,13 @@
 //! - An offset is a number of characters (Unicode scalar values) from the start of the text.
 #![tactic(auto)]
 
+mod chunk;
 mod cut;
 mod edit;
 mod fault;
 mod line;
 mod line_end;
+mod lines;
 mod position;
 mod shared;
 mod snapshot;

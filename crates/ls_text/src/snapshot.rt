@@ -1,24 +1,24 @@
 ghost use Rattle.std.specs.Prelude.{◌≡◌, ◌+◌, ◌<◌, ◌≤◌, ◌++◌, ◌↔◌, ◌∷◌, [], length, map, Option, true, false, Some, None, Err, All, IsTrue, OnOk, IfOk, IfErr, IfSome, slice_index};
-ghost use Rattle.std.specs.Arc.{arc_value};
 ghost use Rattle.std.specs.Char.{len_utf8, IsScalar};
 ghost use Rattle.std.specs.Str.{chars, encode_utf8_all, IsUtf8};
 ghost use Rattle.std.specs.String.{string_bytes, string_len};
 ghost use Rattle.std.specs.Option.{option_map};
 ghost use Rattle.std.specs.List.{slice_get};
 ghost use Rattle.ls_text.specs.Lines.{line_ends, lines, utf16_len, offset_of};
+ghost use Rattle.ls_text.specs.Marks.{AreMarksOf};
 ghost use Rattle.ls_text.specs.Positions.{position_of, position_in, place_at, place_range};
 ghost use Rattle.ls_text.specs.Edits.{position_offset, replaced, edited, edited_all, is_too_large};
 ghost use Rattle.ls_text.specs.Cut.{AreLines, IsCut, text_of, width_of};
 
-use crate::cut::lines_of;
-use crate::edit::{Edit, push_shared, push_text, spliced, spot_of};
+use crate::edit::{Edit, push_text, spliced, spot_of, whole};
 use crate::fault::TextFault;
 use crate::line::Line;
+use crate::lines::Lines;
 use crate::position::{Place, Position, Range};
 use crate::units::{Units, fitting, units_before};
+use abnf_token::TokenMark;
 use std::alloc::{AllocError, Global};
 use std::marker::Model;
-use std::sync::Arc;
 
 /// The longest text of a document, in bytes of UTF-8.
 pub const MAX_BYTES: usize = 4_194_304;
@@ -29,100 +29,50 @@ pub const MAX_BYTES: usize = 4_194_304;
 #[derive(Drop)]
 pub struct Snapshot {
     alloc: Global,
-    lines: Vec<Arc<Line>>,
-    // Where each line starts, and where the text ends, in characters.
-    starts: Vec<usize>,
-    length: usize,
+    lines: Lines,
 }
 
 impl Model for Snapshot {
-    ghost use Rattle.std.specs.Prelude.{List, ℕ, map};
-    ghost use Rattle.std.specs.Arc.{arc_value};
+    ghost use Rattle.std.specs.Prelude.{List, ℕ};
     ghost use Rattle.ls_text.specs.Cut.{text_of, IsKept};
 
     ghost Value = { List ℕ };
 
-    ghost view = { λ s. text_of (map arc_value s.lines.items) };
+    ghost view = { λ s. text_of s.lines };
 
-    ghost invariant = { λ s. IsKept (map arc_value s.lines.items) s.starts.items s.length };
-}
-
-// Adds the start of a line.
-fn push_start(starts: &mut Vec<usize>, start: usize) -> Result<(), AllocError>
-    ensures { OnOk result (starts.new.items ≡ starts.old.items ++ start ∷ []) }
-{
-    starts.push(start)?;
-    Ok(())
+    ghost invariant = { λ s. IsKept s.lines };
 }
 
 // The snapshot of these lines.
-fn indexed(alloc: Global, lines: Vec<Arc<Line>>) -> Result<Snapshot, TextFault>
-    requires { AreLines (map arc_value lines.items) }
-    ensures ok { let text = text_of (map arc_value lines.items) in
-        IfOk result (λ s. (s ≡ text) × (length (encode_utf8_all s) ≤ MAX_BYTES)) }
-    ensures too_large { let text = text_of (map arc_value lines.items) in
-        IfErr result (λ e. e ≡ TextFault.TooLarge → MAX_BYTES < length (encode_utf8_all text)) }
+fn kept(alloc: Global, lines: Lines) -> Snapshot
+    requires { AreLines lines }
+    ensures text { result ≡ text_of lines }
+    ensures small { length (encode_utf8_all (text_of lines)) ≤ MAX_BYTES }
 {
-    let mut starts = Vec::with_capacity(alloc, lines.len())?;
-    let mut length = 0;
-    let mut bytes = 0;
-    for line in &lines {
-        push_start(&mut starts, length)?;
-        let ends = line.end.len();
-        let more = line.text.len().saturating_add(ends);
-        if more > MAX_BYTES - bytes {
-            return Err(TextFault::TooLarge);
-        }
-        length += line.char_count + ends;
-        bytes += more;
-    }
-    Ok(Snapshot {
-        alloc,
-        lines,
-        starts,
-        length,
-    })
-}
-
-// The last line that starts at the offset or before it.
-fn line_of(starts: &[usize], offset: usize) -> usize
-    requires first { slice_index starts.now 0 ≡ 0 }
-    requires some { 0 < length starts.now }
-    ensures in_range { result < length starts.now }
-    ensures starts { slice_index starts.now result ≤ offset }
-    ensures last { result + 1 < length starts.now → offset < slice_index starts.now (result + 1) }
-{
-    let mut low = 0;
-    let mut high = starts.len();
-    'halves: while low + 1 < high {
-        let middle = low + (high - low) / 2;
-        if starts[middle] <= offset {
-            low = middle;
-        } else {
-            high = middle;
-        }
-    }
-    low
+    let _count = lines.char_count();
+    Snapshot { alloc, lines }
 }
 
 // Whether two lines have the same text and line end.
 fn same_line(a: &Line, b: &Line) -> bool
-    ensures { IsTrue result ↔ ((string_bytes a.now.text ≡ string_bytes b.now.text) × (a.now.end ≡ b.now.end)) }
+    ensures { IsTrue result ↔ (a.now ≡ b.now) }
 {
-    a.end == b.end && a.text.as_str() == b.text.as_str()
+    a.end() == b.end() && a.text() == b.text()
 }
 
 // Whether the lines of two texts are the same.
-fn same_lines(a: &[Arc<Line>], b: &[Arc<Line>]) -> bool
-    requires a { AreLines (map arc_value a.now) }
-    requires b { AreLines (map arc_value b.now) }
-    ensures { IsTrue result ↔ (text_of (map arc_value a.now) ≡ text_of (map arc_value b.now)) }
+fn same_lines(a: &Lines, b: &Lines) -> bool
+    requires a { AreLines a.now }
+    requires b { AreLines b.now }
+    ensures { IsTrue result ↔ (text_of a.now ≡ text_of b.now) }
 {
     if a.len() != b.len() {
         return false;
     }
-    for (i, line) in a.iter().enumerate() {
-        if !same_line(line, &b[i]) {
+    for i in 0..a.len() {
+        let (ours, _) = a.line(i);
+        let (theirs, _) = b.line(i);
+        if !same_line(ours, theirs) {
             return false;
         }
     }
@@ -142,8 +92,7 @@ impl Snapshot {
         if text.len() > MAX_BYTES {
             return Err(TextFault::TooLarge);
         }
-        let lines = lines_of(alloc, text.as_str())?;
-        indexed(alloc, lines)
+        Ok(kept(alloc, whole(alloc, text.as_str())?))
     }
 
     /// The number of characters. All are Unicode scalar values, and they have at most [`MAX_BYTES`] bytes of UTF-8.
@@ -152,7 +101,7 @@ impl Snapshot {
         ensures scalars { All IsScalar self.now }
         ensures small { length (encode_utf8_all self.now) ≤ MAX_BYTES }
     {
-        self.length
+        self.lines.char_count()
     }
 
     /// The number of lines, one more than the text has line ends.
@@ -169,9 +118,25 @@ impl Snapshot {
             ≡ option_map encode_utf8_all (slice_get (lines self.now) at) }
         ensures utf8 { IfSome result (λ line. IsUtf8 line.now) }
     {
-        match self.lines.get(at) {
-            Some(line) => Some(line.text.as_str()),
-            None => None,
+        if at < self.lines.len() {
+            let (line, _) = self.lines.line(at);
+            Some(line.text())
+        } else {
+            None
+        }
+    }
+
+    /// Where the tokens of the line `at`, from 0, stand. There is none from [`line_count`](Snapshot::line_count) on.
+    ///
+    /// They were made when the line was cut, so the call takes no memory.
+    pub fn marks(&self, at: usize) -> Option<&[TokenMark]>
+        ensures { AreMarksOf (slice_get (lines self.now) at) (option_map (λ marks. marks.now) result) }
+    {
+        if at < self.lines.len() {
+            let (line, _) = self.lines.line(at);
+            Some(line.marks())
+        } else {
+            None
         }
     }
 
@@ -182,9 +147,11 @@ impl Snapshot {
     {
         let line = at.line as usize;
         let units = at.character as usize;
-        match self.lines.get(line) {
-            Some(held) => self.starts[line] + fitting(held, Units::Utf16, units).count,
-            None => self.length,
+        if line < self.lines.len() {
+            let (held, start) = self.lines.line(line);
+            start + fitting(held.text(), held.char_count(), Units::Utf16, units).count
+        } else {
+            self.lines.char_count()
         }
     }
 
@@ -192,11 +159,10 @@ impl Snapshot {
     fn position_by(&self, units: Units, offset: usize) -> Position
         ensures { result ≡ position_of (width_of units) self.now offset }
     {
-        let line = line_of(&self.starts, offset);
-        let before = offset - self.starts[line];
+        let (line, held, start) = self.lines.line_before(offset);
         Position {
             line: line as u32,
-            character: units_before(&self.lines[line], units, before),
+            character: units_before(held.text(), held.char_count(), units, offset - start),
         }
     }
 
@@ -227,15 +193,16 @@ impl Snapshot {
         ensures in_line { IfSome (slice_get (lines self.now) line)
             (λ text. result ≡ position_in utf16_len line text bytes) }
     {
-        match self.lines.get(line) {
-            Some(held) => {
-                let before = fitting(held, Units::Utf8, bytes).count;
-                Position {
-                    line: line as u32,
-                    character: units_before(held, Units::Utf16, before),
-                }
+        if line < self.lines.len() {
+            let (held, _) = self.lines.line(line);
+            let (text, char_count) = (held.text(), held.char_count());
+            let before = fitting(text, char_count, Units::Utf8, bytes).count;
+            Position {
+                line: line as u32,
+                character: units_before(text, char_count, Units::Utf16, before),
             }
-            None => self.position_of(self.length),
+        } else {
+            self.position_of(self.lines.char_count())
         }
     }
 
@@ -262,7 +229,7 @@ impl Snapshot {
         ensures { IfOk result (λ text. chars (string_bytes text) ≡ self.now) }
     {
         let mut text = String::new(self.alloc);
-        push_text(&mut text, &self.lines)?;
+        push_text(&mut text, &self.lines, 0, self.lines.len())?;
         Ok(text)
     }
 
@@ -274,16 +241,22 @@ impl Snapshot {
     }
 
     // The lines with a range replaced.
-    fn replaced(&self, range: Range, new: &str) -> Result<Vec<Arc<Line>>, AllocError>
-        ensures { IfOk result (λ v. IsCut
+    fn replaced(&self, range: Range, new: &str) -> Result<Lines, TextFault>
+        ensures ok { IfOk result (λ lines. IsCut
             (replaced self.now
             (position_offset utf16_len self.now range.start)
             (position_offset utf16_len self.now range.end)
             (chars new.now))
-            (map arc_value v.items)) }
+            lines) }
+        ensures too_large {
+            let text = replaced self.now
+                (position_offset utf16_len self.now range.start)
+                (position_offset utf16_len self.now range.end)
+                (chars new.now) in
+            IfErr result (λ e. e ≡ TextFault.TooLarge → MAX_BYTES < length (encode_utf8_all text)) }
     {
-        let start = spot_of(&self.lines, &self.starts, self.length, range.start);
-        let end = spot_of(&self.lines, &self.starts, self.length, range.end);
+        let start = spot_of(&self.lines, range.start);
+        let end = spot_of(&self.lines, range.end);
         if start.offset <= end.offset {
             spliced(self.alloc, &self.lines, start, end, new)
         } else {
@@ -298,23 +271,19 @@ impl Snapshot {
             (λ e. e ≡ TextFault.TooLarge → is_too_large (edited utf16_len self.now edit.now) ≡ true) }
     {
         let lines = match edit.range {
-            None => lines_of(self.alloc, edit.text.as_str())?,
+            None => whole(self.alloc, edit.text.as_str())?,
             Some(range) => self.replaced(range, edit.text.as_str())?,
         };
-        indexed(self.alloc, lines)
+        Ok(kept(self.alloc, lines))
     }
 
     // This text, without a copy of its lines.
     fn share(&self) -> Result<Snapshot, AllocError>
         ensures { IfOk result (λ s. s ≡ self.now) }
     {
-        let mut lines = Vec::with_capacity(self.alloc, self.lines.len())?;
-        push_shared(&mut lines, &self.lines)?;
         Ok(Snapshot {
             alloc: self.alloc,
-            lines,
-            starts: self.starts.clone()?,
-            length: self.length,
+            lines: self.lines.share(self.alloc)?,
         })
     }
 

@@ -1,10 +1,8 @@
 ghost use Rattle.std.specs.Prelude.{◌≡◌, ◌≤◌, length, take, sum_by};
 ghost use Rattle.std.specs.Str.{chars, encode_utf8_all};
 ghost use Rattle.ls_text.specs.Lines.{fitting};
-ghost use Rattle.std.specs.String.{string_len};
-ghost use Rattle.ls_text.specs.Cut.{line_text, width_of};
+ghost use Rattle.ls_text.specs.Cut.{width_of};
 
-use crate::line::Line;
 use crate::snapshot::MAX_BYTES;
 
 // What a place or a position counts within its line.
@@ -60,14 +58,14 @@ fn chars_fitting(text: &str, units: Units, limit: usize) -> Fit
     Fit { count, bytes }
 }
 
-// The characters at the front of the line that fit into these units. In ASCII they are counted at once.
-pub fn fitting(line: &Line, units: Units, limit: usize) -> Fit
-    ensures count { result.count ≡ fitting (width_of units) (line_text line.now) limit }
-    ensures bytes { result.bytes ≡ length (encode_utf8_all (take result.count (line_text line.now))) }
+// The characters at the front of a text of so many that fit into these units. In ASCII they are counted at once.
+pub fn fitting(text: &str, char_count: usize, units: Units, limit: usize) -> Fit
+    requires { char_count ≡ length (chars text.now) }
+    ensures count { result.count ≡ fitting (width_of units) (chars text.now) limit }
+    ensures bytes { result.bytes ≡ length (encode_utf8_all (take result.count (chars text.now))) }
 {
-    let text = line.text.as_str();
-    if text.len() == line.char_count {
-        let count = limit.min(line.char_count);
+    if text.len() == char_count {
+        let count = limit.min(char_count);
         return Fit {
             count,
             bytes: count,
@@ -93,14 +91,14 @@ fn units_of_chars(text: &str, units: Units, count: usize) -> u32
     total
 }
 
-// The units of so many characters at the front of the line, or of all where it has fewer. In ASCII they are counted at once.
-pub fn units_before(line: &Line, units: Units, count: usize) -> u32
-    requires { string_len line.now.text ≤ MAX_BYTES }
-    ensures { result ≡ sum_by (width_of units) (take count (line_text line.now)) }
+// The units of `count` characters at the front of a text, or of all where it has fewer. In ASCII they are counted at once.
+pub fn units_before(text: &str, char_count: usize, units: Units, count: usize) -> u32
+    requires characters { char_count ≡ length (chars text.now) }
+    requires small { length text.now ≤ MAX_BYTES }
+    ensures { result ≡ sum_by (width_of units) (take count (chars text.now)) }
 {
-    let text = line.text.as_str();
-    if text.len() == line.char_count {
-        return count.min(line.char_count) as u32;
+    if text.len() == char_count {
+        return count.min(char_count) as u32;
     }
     units_of_chars(text, units, count)
 }

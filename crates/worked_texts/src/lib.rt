@@ -6,6 +6,8 @@
 #[cfg(test)]
 mod blocks;
 #[cfg(test)]
+mod chunks;
+#[cfg(test)]
 mod frames;
 #[cfg(test)]
 mod lists;

@@ -1,34 +1,56 @@
-use Rattle.std.proofs.Common.{length-drop, ◌≡◌, ◌<◌, ◌-◌, ◌∙◌, ◌++◌, ap, sym, arith, subst, length, map, take, drop, suc, ◌+◌, Vec, Global}
+use Rattle.std.proofs.Common.{◌≡◌, ◌<◌, ◌+◌, ◌-◌, ◌∙◌, ◌++◌, ap, sym, arith, subst, length, map, take, drop, List, [], Vec, Global}
 use Rattle.std.specs.declared.sync.Arc.{Arc}
 use Rattle.std.specs.Arc.{arc_value}
-use Rattle.std.specs.Str.{chars}
-use Rattle.ls_text.specs.Cut.{end_at, IsCut}
-use Rattle.ls_text.specs.declared.line.Line.{Line}
-use Rattle.std.proofs.lemmas.List.{length-map, take-map, drop-map, take_all}
-use Rattle.ls_text.proofs.SpliceLaws.{spliced_eof, spliced_rest, wanted_text}
+use Rattle.std.specs.Str.{chars, encode_utf8_all}
+use Rattle.std.specs.String.{string_bytes}
+use Rattle.std.proofs.lemmas.Str.{encodes-chars, IsUtf8-string_bytes}
+use Rattle.std.proofs.lemmas.Result.{IfOk-weaker, IfErr-weaker}
+use Rattle.ls_text.specs.Cut.{end_at, IsCut, IsCutOnto}
+use Rattle.ls_text.specs.Cut.{Row}
+use Rattle.ls_text.specs.declared.fault.TextFault.TheVariants.{TooLarge}
+use Rattle.ls_text.specs.declared.snapshot.TheConstants.{MAX_BYTES}
+use Rattle.ls_text.proofs.PositionLaws.{line_small}
+use Rattle.ls_text.proofs.SpliceLaws.{spliced_eof, spliced_rest, wanted_text, middle_bytes}
 use Rattle.ls_text.proofs.SpotLaws.{end_found}
 use Rattle.ls_text.proofs.edit.spliced.Goals as goal
-use Rattle.ls_text.proofs.edit.spliced.Goals.{in-Eof+in_ok-push_line, in_default+in_ok-push_shared-2}
+use Rattle.ls_text.proofs.edit.spliced.Goals.{in-Eof+in_ok-push_line, in_default}
 
-pub returns : goal.returns
-returns c =
-    let held = map arc_value c.args.lines.now in
-    let lt : c.args.to.line < length c.args.lines.now = omega (arith, c.requires.to.line_in_range, length-map c.args.lines.now arc_value) in
-    let end_is : end_at (map arc_value c.args.lines.now) c.args.to.line ≡ c.deref.result.now.end = end_found arc_value c.args.lines.now c.args.to.line c.index-lines-to.result lt c.index-lines-to.is ∙ ap (λ (l : Line). l.end) (sym c.deref.ensures) in
+pub overflow_add-to : goal.overflow_add-to
+overflow_add-to c = omega (arith, line_small c.args.lines.now c.requires.lines c.args.to.line c.requires.to.line_in_range)
+
+pub returns-then-len-gt-MAX_BYTES-clause-too_large : goal.returns-then-len-gt-MAX_BYTES-clause-too_large
+returns-then-len-gt-MAX_BYTES-clause-too_large c = λ e.
+    omega (
+      arith,
+      c.if-len-gt-MAX_BYTES.true,
+      c.len.ensures,
+      c.in_ok-part.part.bytes.ok.0,
+      ap length (encodes-chars (string_bytes c.in_ok-part.part) (IsUtf8-string_bytes c.in_ok-part.part)),
+      ap (λ z. length (encode_utf8_all z)) c.in_ok-part.ensures,
+      middle_bytes c.args.lines.now c.requires.lines.lines c.args.from c.args.to c.requires.from c.requires.to c.saturating_sub-kept.result (omega (arith, c.saturating_sub-kept.ensures)) (chars c.args.new.now),
+    )
+
+cut_is : (c : goal.After-drop-part-2) → IsCut (wanted_text c.args.lines.now c.args.from c.args.to (chars c.args.new.now)) (take c.saturating_sub-kept.result c.args.lines.now ++ (map arc_value c.match-end.cut.items ++ drop (c.args.to.line + 1) c.args.lines.now))
+cut_is c =
+    let end_is : end_at c.args.lines.now c.args.to.line ≡ c.line.result.0.now.end = end_found c.args.lines.now c.args.to.line c.line.result.0.now c.line.ensures.in_range c.line.ensures.line_is in
     let kept_is : c.saturating_sub-kept.result ≡ c.args.from.line - 1 = omega (arith, c.saturating_sub-kept.ensures) in
-    let old_is : map arc_value c.push_shared.new.shared.items ≡ take c.saturating_sub-kept.result (map arc_value c.args.lines.now) =
-    c.in_ok-push_shared.ensures ∙ ap (λ v. map arc_value v ++ map arc_value (take c.saturating_sub-kept.result c.args.lines.now)) c.in_ok-result.ensures.items ∙ sym (take-map arc_value c.saturating_sub-kept.result c.args.lines.now) in
-    let after : c.args.to.line + 1 ≡ suc c.args.to.line = omega arith in
-    let text_is = ap chars c.as_str.ensures.value ∙ c.in_ok-text.ensures in
-    elim c.match-deref.branch [
+    let text_is = ap chars c.as_str.ensures.value ∙ c.in_ok-part.ensures in
+    let onto : IsCutOnto [] c.as_str.result.now c.in_ok-rest.rest.now (map arc_value c.push_lines.new.lines.items) = subst (λ z. IsCutOnto z c.as_str.result.now c.in_ok-rest.rest.now (map arc_value c.push_lines.new.lines.items)) (ap (map arc_value) c.new-cut.ensures.items) c.in_ok-rest.ensures.cut in
+    elim c.match-end.branch [
       | in-Eof+in_ok-push_line w ↦
-          subst (λ (v : Vec (Arc Line Global) Global). IsCut (wanted_text (map arc_value c.args.lines.now) c.args.from c.args.to (chars c.args.new.now)) (map arc_value v.items)) (sym w.result-is)
-          (spliced_eof (map arc_value c.args.lines.now) c.requires.lines c.args.from c.args.to c.requires.from c.requires.to c.saturating_sub-kept.result kept_is (chars c.args.new.now) old_is c.in_ok-rest.ensures.cut c.in_ok-rest.ensures.plain text_is w.in_ok-push_line.ensures (end_is ∙ w.in-Eof.is))
-      | in_default+in_ok-push_shared-2 w ↦
-          let shared : map arc_value w.push_shared-in_default.new.shared.items ≡ map arc_value c.push_lines.new.lines.items ++ map arc_value (take (length c.args.lines.now - (c.args.to.line + 1)) (drop (c.args.to.line + 1) c.args.lines.now)) = w.in_ok-push_shared-2.ensures in
-          let all = take_all (length c.args.lines.now - (c.args.to.line + 1)) (drop (c.args.to.line + 1) c.args.lines.now) (omega (arith, length-drop (c.args.to.line + 1) c.args.lines.now)) in
-          subst (λ (v : Vec (Arc Line Global) Global). IsCut (wanted_text (map arc_value c.args.lines.now) c.args.from c.args.to (chars c.args.new.now)) (map arc_value v.items)) (sym w.result-is)
-          (spliced_rest (map arc_value c.args.lines.now) c.requires.lines c.args.from c.args.to c.requires.from c.requires.to c.saturating_sub-kept.result kept_is (chars c.args.new.now) old_is c.in_ok-rest.ensures.cut c.in_ok-rest.ensures.plain text_is
-          (shared ∙ ap (λ x. map arc_value c.push_lines.new.lines.items ++ x) (ap (map arc_value) all ∙ sym (drop-map arc_value (c.args.to.line + 1) c.args.lines.now) ∙ ap (λ k. drop k (map arc_value c.args.lines.now)) after))
-          (λ e. w.in_default.not-Eof (sym end_is ∙ e)))
+          subst (λ (v : Vec (Arc Row Global) Global). IsCut (wanted_text c.args.lines.now c.args.from c.args.to (chars c.args.new.now)) (take c.saturating_sub-kept.result c.args.lines.now ++ (map arc_value v.items ++ drop (c.args.to.line + 1) c.args.lines.now))) (sym w.cut-is)
+          (spliced_eof c.args.lines.now c.requires.lines.lines c.args.from c.args.to c.requires.from c.requires.to c.saturating_sub-kept.result kept_is (chars c.args.new.now) onto c.in_ok-rest.ensures.plain text_is w.in_ok-push_line.ensures (end_is ∙ sym c.end.ensures ∙ w.in-Eof.is))
+      | in_default w ↦
+          subst (λ (v : Vec (Arc Row Global) Global). IsCut (wanted_text c.args.lines.now c.args.from c.args.to (chars c.args.new.now)) (take c.saturating_sub-kept.result c.args.lines.now ++ (map arc_value v.items ++ drop (c.args.to.line + 1) c.args.lines.now))) (sym w.cut-is)
+          (spliced_rest c.args.lines.now c.requires.lines.lines c.args.from c.args.to c.requires.from c.requires.to c.saturating_sub-kept.result kept_is (chars c.args.new.now) onto c.in_ok-rest.ensures.plain text_is (λ e. w.in_default.not-Eof (c.end.ensures ∙ sym end_is ∙ e)))
     ]
+
+passed : (c : goal.After-drop-part-2) → IsCut (wanted_text c.args.lines.now c.args.from c.args.to (chars c.args.new.now)) (take c.saturating_sub-kept.result c.args.lines.now ++ (map arc_value c.deref.result.now ++ drop (c.args.to.line + 1) c.args.lines.now))
+passed c = subst (λ z. IsCut (wanted_text c.args.lines.now c.args.from c.args.to (chars c.args.new.now)) (take c.saturating_sub-kept.result c.args.lines.now ++ (map arc_value z ++ drop (c.args.to.line + 1) c.args.lines.now))) (sym c.deref.ensures.value) (cut_is c)
+
+pub returns-clause-ok : goal.returns-clause-ok
+returns-clause-ok c = IfOk-weaker c.replaced.result _ (λ (cut : List Row). IsCut (wanted_text c.args.lines.now c.args.from c.args.to (chars c.args.new.now)) cut) (λ cut is. subst (IsCut (wanted_text c.args.lines.now c.args.from c.args.to (chars c.args.new.now))) (sym is) (passed c)) c.replaced.ensures.ok
+
+pub returns-clause-too_large : goal.returns-clause-too_large
+returns-clause-too_large c =
+    IfErr-weaker c.replaced.result _ (λ e. e ≡ TooLarge → MAX_BYTES < length (encode_utf8_all (wanted_text c.args.lines.now c.args.from c.args.to (chars c.args.new.now)))) (λ e before is. omega (arith, before is, ap (λ z. length (encode_utf8_all z)) (passed c).1)) c.replaced.ensures.too_large

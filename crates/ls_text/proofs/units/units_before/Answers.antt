@@ -1,9 +1,9 @@
 use Rattle.std.proofs.Common.{arith}
-use Rattle.ls_text.specs.Cut.{line_text}
-use Rattle.ls_text.proofs.UnitLaws.{units-ascii, line-ascii}
+use Rattle.std.specs.Str.{chars}
+use Rattle.ls_text.proofs.UnitLaws.{units-ascii, text-ascii}
 use Rattle.ls_text.proofs.units.units_before.Goals as goal
 
-pub returns-then-text-line : goal.returns-then-text-line
-returns-then-text-line c =
-    let ascii = line-ascii c.args.line.now c.as_str-text.result.now c.as_str-text.ensures.value c.if-text-line.true in
-    omega (arith, units-ascii c.args.units (line_text c.args.line.now) c.args.count ascii, c.min.ensures, c.args.line.now.counted)
+pub returns-then-text-char_count : goal.returns-then-text-char_count
+returns-then-text-char_count c =
+    let ascii = text-ascii c.args.text.now c.args.char_count c.utf8.text c.requires.characters c.if-text-char_count.true in
+    omega (arith, units-ascii c.args.units (chars c.args.text.now) c.args.count ascii, c.min.ensures, c.requires.characters)

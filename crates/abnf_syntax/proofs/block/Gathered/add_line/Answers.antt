@@ -1,8 +1,16 @@
-use Rattle.abnf_syntax.proofs.GatherLaws.{token_more, line_done}
+use Rattle.std.proofs.Common.{sym}
+use Rattle.abnf_syntax.proofs.GatherLaws.{none_marked, token_more, line_done}
 use Rattle.abnf_syntax.proofs.block.Gathered.add_line.Goals as goal
 
-pub loop-token-preserved : goal.loop-token-preserved
-loop-token-preserved c = token_more c.in-Some.token c.loop-token.invariant c.in-Some.ensures.steps c.in_ok-add_token.ensures
+pub loop-mark-init : goal.loop-mark-init
+loop-mark-init c = none_marked _ _ _ _ c.requires
+
+pub token_at-requires : goal.token_at-requires
+token_at-requires c = (c.args.marks.now, c.requires, (c.loop-mark.mark-index, c.loop-mark-test.true, sym c.mark-item.is))
+
+pub loop-mark-preserved : goal.loop-mark-preserved
+loop-mark-preserved c =
+    token_more c.mark-item.result c.token_at.result c.loop-mark-test.true c.mark-item.is c.token_at.ensures.mark c.token_at.ensures.line c.token_at.ensures.text c.in_ok-add_token.ensures c.loop-mark.invariant
 
 pub returns : goal.returns
-returns c = line_done c.loop-token.invariant c.in-None.ensures.steps c.add_gap.ensures
+returns c = line_done c.loop-mark-test.false c.loop-mark.invariant c.add_gap.ensures

@@ -1,25 +1,24 @@
-use Rattle.std.proofs.Common.{◌≡◌, ◌<◌, ℕ, List, Result, Ok, Err, ap, ◌∙◌, arith, length, map}
-use Rattle.std.specs.Prelude.{IfErr}
-use Rattle.std.specs.Arc.{arc_value}
+use Rattle.std.proofs.Common.{◌≡◌, ◌<◌, Result, Err, sym, ap, ◌∙◌, arith, length}
 use Rattle.std.specs.Str.{chars, encode_utf8_all}
 use Rattle.std.specs.String.{string_bytes, string_len}
 use Rattle.std.proofs.lemmas.Str.{encodes-chars, IsUtf8-string_bytes}
-use Rattle.std.proofs.lemmas.Result.{IfErr-weaker}
-use Rattle.ls_text.specs.Cut.{text_of}
-use Rattle.ls_text.specs.declared.snapshot.TheConstants.{MAX_BYTES}
-use Rattle.ls_text.specs.declared.fault.TextFault.{TextFault}
-use Rattle.ls_text.specs.declared.fault.TextFault.TheVariants.{TooLarge}
+use Rattle.std.proofs.lemmas.Result.{err_from_is_err_and}
 use Rattle.ls_text.proofs.snapshot.Snapshot.of_text.Goals as goal
 
-too_large_is : (result : Result (List ℕ) TextFault) (P : Type 0) → IfErr result (λ e. e ≡ TooLarge → P) → result ≡ Err TooLarge → P
-too_large_is (Ok s) P h is = absurd (cc)
-too_large_is (Err e) P h is = h (cc)
+pub returns-in_err-whole-clause-too_large : goal.returns-in_err-whole-clause-too_large
+returns-in_err-whole-clause-too_large c =
+    let p = err_from_is_err_and c.from_residual.result c.from_residual.ensures.1 in
+    (λ is. omega (
+      arith,
+      c.in_err-whole.ensures.too_large (sym p.2 ∙ (cc p.1)),
+      ap (λ x. length (encode_utf8_all (chars x))) c.as_str.ensures.value ∙ ap length (encodes-chars (string_bytes c.args.text) (IsUtf8-string_bytes c.args.text)),
+      c.args.text.bytes.ok.0,
+    ), λ larger. absurd (omega (arith, larger)))
+
+pub returns-clause-ok : goal.returns-clause-ok
+returns-clause-ok c =
+    let text_is = c.in_ok-whole.ensures.ok.1 ∙ ap chars c.as_str.ensures.value in
+    (c.kept.ensures.text ∙ text_is, omega (arith))
 
 pub returns-clause-too_large : goal.returns-clause-too_large
-returns-clause-too_large c =
-    let text_is : length (encode_utf8_all (text_of (map arc_value c.in_ok-lines.lines.items))) ≡ length (string_bytes c.args.text) =
-    ap (λ x. length (encode_utf8_all x)) (c.in_ok-lines.ensures.1 ∙ ap chars c.as_str.ensures.value) ∙ ap length (encodes-chars (string_bytes c.args.text) (IsUtf8-string_bytes c.args.text)) in (
-      λ is. too_large_is c.indexed.result (MAX_BYTES < string_len c.args.text)
-          (IfErr-weaker c.indexed.result _ (λ e. e ≡ TooLarge → MAX_BYTES < string_len c.args.text) (λ e before is. omega (arith, before is, text_is, c.args.text.bytes.ok.0)) c.indexed.ensures.too_large) is,
-      λ larger. absurd (omega (arith, larger)),
-    )
+returns-clause-too_large c = (λ is. absurd (cc), λ larger. absurd (omega (arith, larger)))

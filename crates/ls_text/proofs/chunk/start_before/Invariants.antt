@@ -1,5 +1,5 @@
 use Rattle.std.proofs.Common.{◌-◌, ◌<◌, ◌≤◌, length, get_or}
-use Rattle.ls_text.proofs.snapshot.line_of.Given as goal
+use Rattle.ls_text.proofs.chunk.start_before.Given as goal
 
 abbrev pub invariant-halves : goal.invariant-halves
 invariant-halves l = record {

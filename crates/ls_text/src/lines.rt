@@ -1,0 +1,351 @@
+ghost use Rattle.std.specs.Prelude.{◌≡◌, ◌+◌, ◌<◌, ◌≤◌, ◌++◌, ◌∷◌, [], length, map, take, drop, All, OnOk, IfOk, IfErr};
+ghost use Rattle.std.specs.Arc.{arc_value};
+ghost use Rattle.std.specs.Char.{IsScalar};
+ghost use Rattle.std.specs.List.{flat_map};
+ghost use Rattle.std.specs.Str.{encode_utf8_all};
+ghost use Rattle.ls_text.specs.Cut.{text_of, start_of};
+ghost use Rattle.ls_text.specs.Chunks.{lines_behind, IsLineAt};
+
+use crate::chunk::{Chunk, MOST_LINES, chunk_of, push_number, start_before};
+use crate::edit::push_shared;
+use crate::fault::TextFault;
+use crate::line::Line;
+use crate::snapshot::MAX_BYTES;
+use std::alloc::{AllocError, Global};
+use std::marker::Model;
+use std::sync::Arc;
+
+// A piece of fewer lines is joined with a chunk beside it.
+const FEW_LINES: usize = 128;
+
+// Lines in chunks. A list that is made of another shares the chunks that it has in common with it.
+#[derive(Drop)]
+pub struct Lines {
+    chunks: Vec<Arc<Chunk>>,
+    // How many lines come before each chunk.
+    first_lines: Vec<usize>,
+    // How many characters come before each chunk.
+    starts: Vec<usize>,
+    count: usize,
+    char_count: usize,
+    byte_count: usize,
+}
+
+impl Model for Lines {
+    ghost use Rattle.std.specs.Prelude.{List};
+    ghost use Rattle.std.specs.List.{flat_map};
+    ghost use Rattle.ls_text.specs.declared.line.Line.{Line};
+    ghost use Rattle.ls_text.specs.Chunks.{lines_behind, IsSpine};
+
+    ghost Value = { List Line };
+
+    ghost view = { λ s. flat_map lines_behind s.chunks.items };
+
+    ghost invariant = { λ s.
+        IsSpine lines_behind s.chunks.items s.first_lines.items s.starts.items s.count s.char_count s.byte_count };
+}
+
+// Adds a chunk.
+fn push_chunk(chunks: &mut Vec<Arc<Chunk>>, chunk: Arc<Chunk>) -> Result<(), AllocError>
+    ensures { OnOk result (chunks.new.items ≡ chunks.old.items ++ chunk ∷ []) }
+{
+    chunks.push(chunk)?;
+    Ok(())
+}
+
+// A chunk to share.
+fn shared_chunk(alloc: Global, chunk: Chunk) -> Result<Arc<Chunk>, AllocError>
+    ensures { IfOk result (λ shared. arc_value shared ≡ chunk) }
+{
+    Ok(Arc::new(alloc, chunk)?)
+}
+
+// Adds a line.
+fn push_line(lines: &mut Vec<Arc<Line>>, line: Arc<Line>) -> Result<(), AllocError>
+    ensures lines { OnOk result
+        (map arc_value lines.new.items ≡ map arc_value lines.old.items ++ arc_value line ∷ []) }
+    ensures count { OnOk result (length lines.new.items ≡ length lines.old.items + 1) }
+{
+    lines.push(line)?;
+    Ok(())
+}
+
+// Adds the lines of these chunks.
+fn push_whole(lines: &mut Vec<Arc<Line>>, chunks: &[Arc<Chunk>]) -> Result<(), AllocError>
+    ensures { OnOk result
+        (map arc_value lines.new.items ≡ map arc_value lines.old.items ++ flat_map lines_behind chunks.now) }
+{
+    for chunk in chunks {
+        push_shared(lines, &chunk.lines)?;
+    }
+    Ok(())
+}
+
+// The lines from a chunk at the front up to a line in another, of which so many lines come before its first.
+fn lines_before(
+    alloc: Global,
+    chunks: &[Arc<Chunk>],
+    front: usize,
+    place: usize,
+    local: usize,
+) -> Result<Vec<Arc<Line>>, AllocError>
+    requires place { place < length chunks.now }
+    requires front { front ≤ place }
+    requires local { length (flat_map lines_behind (take place chunks.now)) + local
+        ≤ length (flat_map lines_behind (take (place + 1) chunks.now)) }
+    ensures { let from = length (flat_map lines_behind (take place chunks.now)) + local in
+        IfOk result (λ v. flat_map lines_behind (take front chunks.now) ++ map arc_value v.items
+        ≡ take from (flat_map lines_behind chunks.now)) }
+{
+    let mut lines = Vec::with_capacity(alloc, MOST_LINES)?;
+    push_whole(&mut lines, &chunks[front..place])?;
+    push_shared(&mut lines, &chunks[place].lines[..local])?;
+    Ok(lines)
+}
+
+// Adds the lines from one in a chunk, which comes after so many of that chunk, up to another chunk.
+fn push_after(
+    lines: &mut Vec<Arc<Line>>,
+    chunks: &[Arc<Chunk>],
+    place: usize,
+    local: usize,
+    back: usize,
+) -> Result<(), AllocError>
+    requires place { place < back }
+    requires back { back ≤ length chunks.now }
+    requires local { length (flat_map lines_behind (take place chunks.now)) + local
+        ≤ length (flat_map lines_behind (take (place + 1) chunks.now)) }
+    ensures { let to = length (flat_map lines_behind (take place chunks.now)) + local in
+        OnOk result (map arc_value lines.new.items ++ flat_map lines_behind (drop back chunks.now)
+        ≡ map arc_value lines.old.items ++ drop to (flat_map lines_behind chunks.now)) }
+{
+    push_shared(lines, &chunks[place].lines[local..])?;
+    push_whole(lines, &chunks[place + 1..back])
+}
+
+// The chunk from which lines are cut anew: the one before, where the piece has few lines.
+fn front_of(few: bool, place: usize) -> usize
+    ensures { result ≤ place }
+{
+    if few && place > 0 { place - 1 } else { place }
+}
+
+// The chunk up to which lines are cut anew: past the one after, where the piece has few lines.
+fn back_of(few: bool, place: usize, count: usize) -> usize
+    requires { place < count }
+    ensures after { place < result }
+    ensures within { result ≤ count }
+{
+    if few && place + 1 < count { place + 2 } else { place + 1 }
+}
+
+// How many of so many lines come into the next chunk, so that all chunks have about as many.
+fn part_of(count: usize) -> usize
+    ensures { result ≤ MOST_LINES }
+{
+    let parts = count.div_ceil(MOST_LINES).max(1);
+    count.div_ceil(parts).min(MOST_LINES)
+}
+
+impl Lines {
+    // No lines, with room for so many chunks.
+    pub fn with_room(alloc: Global, room: usize) -> Result<Lines, AllocError>
+        ensures { IfOk result (λ lines. lines ≡ []) }
+    {
+        Ok(Lines {
+            chunks: Vec::with_capacity(alloc, room)?,
+            first_lines: Vec::with_capacity(alloc, room)?,
+            starts: Vec::with_capacity(alloc, room)?,
+            count: 0,
+            char_count: 0,
+            byte_count: 0,
+        })
+    }
+
+    // These lines, and those of a chunk.
+    fn with_chunk(self, chunk: Arc<Chunk>) -> Result<Lines, TextFault>
+        ensures ok { IfOk result (λ lines. lines ≡ self ++ lines_behind chunk) }
+        ensures too_large { IfErr result (λ e. e ≡ TextFault.TooLarge →
+            MAX_BYTES < length (encode_utf8_all (text_of (self ++ lines_behind chunk)))) }
+    {
+        let Lines { mut chunks, mut first_lines, mut starts, count, char_count, byte_count } = self;
+        let lines_more = chunk.lines.len();
+        let chars_more = chunk.char_count;
+        let bytes_more = chunk.byte_count;
+        if bytes_more > MAX_BYTES - byte_count {
+            return Err(TextFault::TooLarge);
+        }
+        let Some(all) = count.checked_add(lines_more) else {
+            return Err(TextFault::Memory);
+        };
+        push_number(&mut first_lines, count)?;
+        push_number(&mut starts, char_count)?;
+        push_chunk(&mut chunks, chunk)?;
+        Ok(Lines {
+            chunks,
+            first_lines,
+            starts,
+            count: all,
+            char_count: char_count + chars_more,
+            byte_count: byte_count + bytes_more,
+        })
+    }
+
+    // These lines, and those of some chunks.
+    fn with_chunks(self, chunks: &[Arc<Chunk>]) -> Result<Lines, TextFault>
+        ensures ok { IfOk result (λ lines. lines ≡ self ++ flat_map lines_behind chunks.now) }
+        ensures too_large { IfErr result (λ e. e ≡ TextFault.TooLarge →
+            MAX_BYTES < length (encode_utf8_all (text_of (self ++ flat_map lines_behind chunks.now)))) }
+    {
+        let mut lines = self;
+        for chunk in chunks {
+            lines = lines.with_chunk(Arc::try_clone(chunk)?)?;
+        }
+        Ok(lines)
+    }
+
+    // These lines, and some more, which come into one chunk.
+    fn with_part(self, alloc: Global, part: Vec<Arc<Line>>) -> Result<Lines, TextFault>
+        requires { length part.items ≤ MOST_LINES }
+        ensures ok { IfOk result (λ lines. lines ≡ self ++ map arc_value part.items) }
+        ensures too_large { IfErr result (λ e. e ≡ TextFault.TooLarge →
+            MAX_BYTES < length (encode_utf8_all (text_of (self ++ map arc_value part.items)))) }
+    {
+        if part.is_empty() {
+            return Ok(self);
+        }
+        let chunk = chunk_of(alloc, part)?;
+        self.with_chunk(shared_chunk(alloc, chunk)?)
+    }
+
+    // These lines, and some more, cut into chunks.
+    fn with_lines(self, alloc: Global, new: Vec<Arc<Line>>) -> Result<Lines, TextFault>
+        ensures ok { IfOk result (λ lines. lines ≡ self ++ map arc_value new.items) }
+        ensures too_large { IfErr result (λ e. e ≡ TextFault.TooLarge →
+            MAX_BYTES < length (encode_utf8_all (text_of (self ++ map arc_value new.items)))) }
+    {
+        let mut lines = self;
+        let mut left = new.len();
+        let mut room = part_of(left);
+        let mut part = Vec::with_capacity(alloc, room)?;
+        for line in new {
+            push_line(&mut part, line)?;
+            if part.len() >= room {
+                lines = lines.with_part(alloc, part)?;
+                left = left.saturating_sub(room);
+                room = part_of(left);
+                part = Vec::with_capacity(alloc, room)?;
+            }
+        }
+        lines.with_part(alloc, part)
+    }
+
+    // These lines, cut into chunks.
+    pub fn of(alloc: Global, lines: Vec<Arc<Line>>) -> Result<Lines, TextFault>
+        ensures ok { IfOk result (λ made. made ≡ map arc_value lines.items) }
+        ensures too_large { IfErr result (λ e. e ≡ TextFault.TooLarge →
+            MAX_BYTES < length (encode_utf8_all (text_of (map arc_value lines.items)))) }
+    {
+        Lines::with_room(alloc, lines.len() / FEW_LINES)?.with_lines(alloc, lines)
+    }
+
+    // These lines again. It shares all chunks.
+    pub fn share(&self, alloc: Global) -> Result<Lines, AllocError>
+        ensures { IfOk result (λ lines. lines ≡ self.now) }
+    {
+        match Lines::with_room(alloc, self.chunks.len())?.with_chunks(&self.chunks) {
+            Ok(lines) => Ok(lines),
+            Err(_) => Err(AllocError),
+        }
+    }
+
+    // The lines of some chunks, some more, cut into chunks, and those of some other chunks.
+    fn joined(
+        alloc: Global,
+        front: &[Arc<Chunk>],
+        new: Vec<Arc<Line>>,
+        back: &[Arc<Chunk>],
+    ) -> Result<Lines, TextFault>
+        ensures ok { IfOk result (λ lines. lines
+            ≡ (flat_map lines_behind front.now ++ map arc_value new.items) ++ flat_map lines_behind back.now) }
+        ensures too_large {
+            let lines = (flat_map lines_behind front.now ++ map arc_value new.items) ++ flat_map lines_behind back.now in
+            IfErr result (λ e. e ≡ TextFault.TooLarge → MAX_BYTES < length (encode_utf8_all (text_of lines))) }
+    {
+        let room = front.len().saturating_add(back.len()).saturating_add(2);
+        let start = Lines::with_room(alloc, room)?.with_chunks(front)?;
+        start.with_lines(alloc, new)?.with_chunks(back)
+    }
+
+    // How many lines there are.
+    pub fn len(&self) -> usize
+        ensures { result ≡ length self.now }
+    {
+        self.count
+    }
+
+    // The characters of the lines with their line ends.
+    pub fn char_count(&self) -> usize
+        ensures count { result ≡ length (text_of self.now) }
+        ensures scalars { All IsScalar (text_of self.now) }
+        ensures small { length (encode_utf8_all (text_of self.now)) ≤ MAX_BYTES }
+    {
+        self.char_count
+    }
+
+    // A line, and where it starts.
+    pub fn line(&self, at: usize) -> (&Line, usize)
+        requires { at < length self.now }
+        ensures { IsLineAt self.now at result.0.now result.1 }
+    {
+        let place = start_before(&self.first_lines, at);
+        let chunk: &Chunk = &self.chunks[place];
+        let local = at - self.first_lines[place];
+        let line: &Line = &chunk.lines[local];
+        (line, self.starts[place] + chunk.starts[local])
+    }
+
+    // The last line that starts at the offset or before it: its number, itself, and where it starts.
+    pub fn line_before(&self, offset: usize) -> (usize, &Line, usize)
+        requires { 0 < length self.now }
+        ensures line { IsLineAt self.now result.0 result.1.now result.2 }
+        ensures starts { result.2 ≤ offset }
+        ensures last { result.0 + 1 < length self.now → offset < start_of self.now (result.0 + 1) }
+    {
+        let place = start_before(&self.starts, offset);
+        let chunk: &Chunk = &self.chunks[place];
+        let start = self.starts[place];
+        let local = start_before(&chunk.starts, offset - start);
+        let line: &Line = &chunk.lines[local];
+        (self.first_lines[place] + local, line, start + chunk.starts[local])
+    }
+
+    // These lines, with those from one up to another replaced. It shares the chunks that have none of them.
+    pub fn replaced(
+        &self,
+        alloc: Global,
+        from: usize,
+        to: usize,
+        new: &[Arc<Line>],
+    ) -> Result<Lines, TextFault>
+        requires some { 0 < length self.now }
+        requires from { from ≤ length self.now }
+        requires to { to ≤ length self.now }
+        ensures ok { IfOk result (λ lines. lines ≡ take from self.now ++ (map arc_value new.now ++ drop to self.now)) }
+        ensures too_large { let lines = take from self.now ++ (map arc_value new.now ++ drop to self.now) in
+            IfErr result (λ e. e ≡ TextFault.TooLarge → MAX_BYTES < length (encode_utf8_all (text_of lines))) }
+    {
+        let first = start_before(&self.first_lines, from);
+        let last = start_before(&self.first_lines, to);
+        let before = from - self.first_lines[first];
+        let after = to - self.first_lines[last];
+        let left = self.chunks[last].lines.len().saturating_sub(after);
+        let few = before.saturating_add(new.len()).saturating_add(left) < FEW_LINES;
+        let front = front_of(few, first);
+        let back = back_of(few && front == first, last, self.chunks.len());
+        let mut lines = lines_before(alloc, &self.chunks, front, first, before)?;
+        push_shared(&mut lines, new)?;
+        push_after(&mut lines, &self.chunks, last, after, back)?;
+        Lines::joined(alloc, &self.chunks[..front], lines, &self.chunks[back..])
+    }
+}
