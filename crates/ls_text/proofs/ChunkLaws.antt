@@ -91,8 +91,8 @@ module _ {X : Type 0} (value : X → List Row) where
     count = omega (arith, length-append sums (total ∷ []), length-append cs (x ∷ []), s.count);
     sums_are = λ k lt. ⊎_elim (λ below. get_or_append_left sums (total ∷ []) 0 k (omega (arith, below, s.count)) ∙ s.sums_are k below ∙ ap (λ z. measure (flat_map value z)) (sym (take-append-le k cs (x ∷ []) (omega (arith, below)))))
         (λ above. let e : k ≡ length cs = omega (arith, above, lt, length-append cs (x ∷ [])) in
-          subst (λ z. get_or (sums ++ total ∷ []) z 0 ≡ measure (flat_map value (take z (cs ++ x ∷ [])))) (sym e)
-          (get_or_push sums total 0 (length cs) s.count ∙ s.total_is ∙ ap (λ z. measure (flat_map value z)) (sym (take_at cs (x ∷ []) (length cs) refl)))) (cases_lt k (length cs));
+        subst (λ z. get_or (sums ++ total ∷ []) z 0 ≡ measure (flat_map value (take z (cs ++ x ∷ [])))) (sym e)
+        (get_or_push sums total 0 (length cs) s.count ∙ s.total_is ∙ ap (λ z. measure (flat_map value z)) (sym (take_at cs (x ∷ []) (length cs) refl)))) (cases_lt k (length cs));
     total_is = (λ i. s.total_is i + more_is i) ∙ sym (add (flat_map value cs) (value x)) ∙ ap measure (sym (pieces_push cs x));
   }
 

@@ -58,7 +58,12 @@ pub fn spot_of(lines: &Lines, at: Position) -> Spot
     let number = at.line as usize;
     if number < lines.len() {
         let (line, start) = lines.line(number);
-        let fit = fitting(line.text(), line.char_count(), Units::Utf16, at.character as usize);
+        let fit = fitting(
+            line.text(),
+            line.char_count(),
+            Units::Utf16,
+            at.character as usize,
+        );
         Spot {
             line: number,
             bytes: fit.bytes,
@@ -166,10 +171,10 @@ pub fn spliced(
     requires from { IsSpot lines.now from }
     requires to { IsSpot lines.now to }
     ensures ok { let text = take from.offset (text_of lines.now)
-            ++ (chars new.now ++ drop to.offset (text_of lines.now)) in
+        ++ (chars new.now ++ drop to.offset (text_of lines.now)) in
         IfOk result (λ cut. IsCut text cut) }
     ensures too_large { let text = take from.offset (text_of lines.now)
-            ++ (chars new.now ++ drop to.offset (text_of lines.now)) in
+        ++ (chars new.now ++ drop to.offset (text_of lines.now)) in
         IfErr result (λ e. e ≡ TextFault.TooLarge → MAX_BYTES < length (encode_utf8_all text)) }
 {
     let kept = from.line.saturating_sub(1);

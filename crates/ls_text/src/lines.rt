@@ -136,7 +136,11 @@ fn back_of(few: bool, place: usize, count: usize) -> usize
     ensures after { place < result }
     ensures within { result ≤ count }
 {
-    if few && place + 1 < count { place + 2 } else { place + 1 }
+    if few && place + 1 < count {
+        place + 2
+    } else {
+        place + 1
+    }
 }
 
 // How many of so many lines come into the next chunk, so that all chunks have about as many.
@@ -168,7 +172,14 @@ impl Lines {
         ensures too_large { IfErr result (λ e. e ≡ TextFault.TooLarge →
             MAX_BYTES < length (encode_utf8_all (text_of (self ++ lines_behind chunk)))) }
     {
-        let Lines { mut chunks, mut first_lines, mut starts, count, char_count, byte_count } = self;
+        let Lines {
+            mut chunks,
+            mut first_lines,
+            mut starts,
+            count,
+            char_count,
+            byte_count,
+        } = self;
         let lines_more = chunk.lines.len();
         let chars_more = chunk.char_count;
         let bytes_more = chunk.byte_count;
@@ -268,8 +279,7 @@ impl Lines {
     ) -> Result<Lines, TextFault>
         ensures ok { IfOk result (λ lines. lines
             ≡ (flat_map lines_behind front.now ++ map arc_value new.items) ++ flat_map lines_behind back.now) }
-        ensures too_large {
-            let lines = (flat_map lines_behind front.now ++ map arc_value new.items) ++ flat_map lines_behind back.now in
+        ensures too_large { let lines = (flat_map lines_behind front.now ++ map arc_value new.items) ++ flat_map lines_behind back.now in
             IfErr result (λ e. e ≡ TextFault.TooLarge → MAX_BYTES < length (encode_utf8_all (text_of lines))) }
     {
         let room = front.len().saturating_add(back.len()).saturating_add(2);
@@ -317,7 +327,11 @@ impl Lines {
         let start = self.starts[place];
         let local = start_before(&chunk.starts, offset - start);
         let line: &Line = &chunk.lines[local];
-        (self.first_lines[place] + local, line, start + chunk.starts[local])
+        (
+            self.first_lines[place] + local,
+            line,
+            start + chunk.starts[local],
+        )
     }
 
     // These lines, with those from one up to another replaced. It shares the chunks that have none of them.

@@ -248,11 +248,10 @@ impl Snapshot {
             (position_offset utf16_len self.now range.end)
             (chars new.now))
             lines) }
-        ensures too_large {
-            let text = replaced self.now
-                (position_offset utf16_len self.now range.start)
-                (position_offset utf16_len self.now range.end)
-                (chars new.now) in
+        ensures too_large { let text = replaced self.now
+            (position_offset utf16_len self.now range.start)
+            (position_offset utf16_len self.now range.end)
+            (chars new.now) in
             IfErr result (λ e. e ≡ TextFault.TooLarge → MAX_BYTES < length (encode_utf8_all text)) }
     {
         let start = spot_of(&self.lines, range.start);

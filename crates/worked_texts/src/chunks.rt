@@ -22,7 +22,12 @@ fn position(line: u32, character: u32) -> Position
     Position { line, character }
 }
 
-fn replacing(alloc: Global, start: Position, end: Position, text: &str) -> Result<Edit, AllocError> {
+fn replacing(
+    alloc: Global,
+    start: Position,
+    end: Position,
+    text: &str,
+) -> Result<Edit, AllocError> {
     Ok(Edit {
         range: Some(Range { start, end }),
         text: Text::from_str(alloc, text)?,
@@ -32,7 +37,11 @@ fn replacing(alloc: Global, start: Position, end: Position, text: &str) -> Resul
 // Checks the mark at a place in a line's marks.
 fn has_mark(rt: &impl Abort, text: &Snapshot, at: usize, kind: Kind, start: u32, end: u32) {
     let marks = text.marks(0).unwrap_or(&[]);
-    assert_eq!(rt; marks.get(at), Some(&TokenMark { kind, start, end }), "mark {at}");
+    assert_eq!(rt;
+        marks.get(at),
+        Some(&TokenMark { kind, start, end }),
+        "mark {at}"
+    );
 }
 
 fn mark_count(text: &Snapshot, line: usize) -> Option<usize> {
@@ -148,7 +157,12 @@ fn plain_offset(text: &str, at: Position) -> usize {
 }
 
 // The text with a range replaced, character by character.
-fn plainly_edited(alloc: Global, text: &str, range: Range, new: &str) -> Result<String, AllocError> {
+fn plainly_edited(
+    alloc: Global,
+    text: &str,
+    range: Range,
+    new: &str,
+) -> Result<String, AllocError> {
     let start = plain_offset(text, range.start);
     let end = plain_offset(text, range.end);
     let mut result = String::with_capacity(alloc, text.len())?;
@@ -201,16 +215,19 @@ fn random_text(alloc: Global, state: &mut u64, round: u32) -> Result<String, All
     if round % 500 == 249 {
         return lines_of_all_ends(alloc, 3_000);
     }
-    String::from_str(alloc, match below(state, 8) {
-        0 => "",
-        1 => "\r",
-        2 => "\n",
-        3 => "\r\n",
-        4 => "a",
-        5 => "= \"b\"",
-        6 => "\n\r",
-        _ => "; c\na",
-    })
+    String::from_str(
+        alloc,
+        match below(state, 8) {
+            0 => "",
+            1 => "\r",
+            2 => "\n",
+            3 => "\r\n",
+            4 => "a",
+            5 => "= \"b\"",
+            6 => "\n\r",
+            _ => "; c\na",
+        },
+    )
 }
 
 // The first line that differs in two texts: in its characters, its marks or where it starts.

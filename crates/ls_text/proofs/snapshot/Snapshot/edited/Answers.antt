@@ -29,8 +29,8 @@ pub returns-in_err-lines-in-None-clause-too_large :
 returns-in_err-lines-in-None-clause-too_large c =
     let p = err_from_is_err_and c.from_residual.result c.from_residual.ensures.1 in
     rw p.1 (λ e.
-      ap is_too_large (edited-none utf16_len c.args.self.now c.args.edit.now c.in-None.is ∙ sym (ap chars c.as_str.ensures))
-      ∙ larger (length (encode_utf8_all (chars c.as_str.result.now))) (c.in_err-lines-in-None.ensures.too_large (sym p.2 ∙ e)))
+    ap is_too_large (edited-none utf16_len c.args.self.now c.args.edit.now c.in-None.is ∙ sym (ap chars c.as_str.ensures))
+    ∙ larger (length (encode_utf8_all (chars c.as_str.result.now))) (c.in_err-lines-in-None.ensures.too_large (sym p.2 ∙ e)))
 
 pub returns-in_err-lines-in-Some-clause-too_large :
     goal.returns-in_err-lines-in-Some-clause-too_large

@@ -7,13 +7,15 @@ use Rattle.ls_text.proofs.snapshot.Snapshot.of_text.Goals as goal
 
 pub returns-in_err-whole-clause-too_large : goal.returns-in_err-whole-clause-too_large
 returns-in_err-whole-clause-too_large c =
-    let p = err_from_is_err_and c.from_residual.result c.from_residual.ensures.1 in
-    (λ is. omega (
-      arith,
-      c.in_err-whole.ensures.too_large (sym p.2 ∙ (cc p.1)),
-      ap (λ x. length (encode_utf8_all (chars x))) c.as_str.ensures.value ∙ ap length (encodes-chars (string_bytes c.args.text) (IsUtf8-string_bytes c.args.text)),
-      c.args.text.bytes.ok.0,
-    ), λ larger. absurd (omega (arith, larger)))
+    let p = err_from_is_err_and c.from_residual.result c.from_residual.ensures.1 in (
+      λ is. omega (
+        arith,
+        c.in_err-whole.ensures.too_large (sym p.2 ∙ (cc p.1)),
+        ap (λ x. length (encode_utf8_all (chars x))) c.as_str.ensures.value ∙ ap length (encodes-chars (string_bytes c.args.text) (IsUtf8-string_bytes c.args.text)),
+        c.args.text.bytes.ok.0,
+      ),
+      λ larger. absurd (omega (arith, larger)),
+    )
 
 pub returns-clause-ok : goal.returns-clause-ok
 returns-clause-ok c =
