@@ -1,5 +1,5 @@
 -- What is written, with the sentences of the parts that are left, is the sentence of the rule.
-use Rattle.std.proofs.Common.{◌≡◌, ℕ, zero, suc, ◌+◌, ◌<◌, ◌≤◌, inl, inr, ⊎_elim, List, [], ◌∷◌, ◌++◌, length, Some, refl, sym, ap, ◌∙◌, subst, arith, append_assoc, map, take, max}
+use Rattle.std.proofs.Common.{◌≡◌, ℕ, zero, suc, ◌+◌, ◌<◌, ◌≤◌, inl, inr, ⊎_elim, List, [], ◌∷◌, ◌++◌, length, Some, refl, sym, ap, ◌∙◌, subst, arith, append_assoc, map, take, drop, max}
 use Rattle.std.proofs.lemmas.List.{append-nil}
 use Rattle.std.proofs.lemmas.Bool.{cases_lt}
 use Rattle.std.proofs.lemmas.Option.{none-some, same_Some, slice_get-get_or}
@@ -15,6 +15,8 @@ use Rattle.abnf_cert.proofs.Below.{TreesFit}
 use Rattle.abnf_cert.proofs.Upper.{past_end}
 use Rattle.abnf_cert.proofs.Right.{low_at}
 use Rattle.abnf_least.specs.Sentence.{PartSentence, EachSentence, FirstSentence, RuleSentence, IsSentence}
+use Rattle.abnf_least.specs.declared.work.Task.{Task}
+use Rattle.abnf_least.specs.declared.work.Task.TheVariants.{Write, End}
 use Rattle.abnf_least.specs.Walk.{IsBelowTop, keep, keep_by, keep_all, keep_times}
 use Rattle.abnf_least.proofs.Named.{Named, part_named, value_at, later}
 use Rattle.abnf_least.proofs.More.{up, all_more}
@@ -37,16 +39,18 @@ no_characters [] e = refl
 no_characters (c ∷ s) e = absurd (omega arith)
 
 module _ (roots : List Part) (r : ℕ) where
-  -- with a sentence of each part that is left, in their order, what is written becomes a sentence of the rule
-  abbrev pub Complete : List ℕ → List ℕ → Type 0
+  -- With a sentence of each part that is left, in their order, what is written becomes a sentence of the rule. Where a part ends, its
+  -- sentence has been written since it began.
+  abbrev pub Complete : List Task → List ℕ → Type 0
   Complete [] w = IsSentence roots r w
-  Complete (n ∷ ns) w = (t : List ℕ) → NodeSentence roots n t → Complete ns (w ++ t)
+  Complete (Write n ∷ ts) w = (t : List ℕ) → NodeSentence roots n t → Complete ts (w ++ t)
+  Complete (End n start ∷ ts) w = (start ≤ length w) × NodeSentence roots n (drop start w) × Complete ts w
 
-  pub nothing_more : (ns w : List ℕ) → Complete ns (w ++ []) → Complete ns w
-  nothing_more ns w h = subst (λ x. Complete ns x) (append-nil w) h
+  pub nothing_more : (ts : List Task) (w : List ℕ) → Complete ts (w ++ []) → Complete ts w
+  nothing_more ts w h = subst (λ x. Complete ts x) (append-nil w) h
 
-  pub joined_more : (ns w t u : List ℕ) → Complete ns (w ++ (t ++ u)) → Complete ns ((w ++ t) ++ u)
-  joined_more ns w t u h = subst (λ x. Complete ns x) (sym (append_assoc w t u)) h
+  pub joined_more : (ts : List Task) (w t u : List ℕ) → Complete ts (w ++ (t ++ u)) → Complete ts ((w ++ t) ++ u)
+  joined_more ts w t u h = subst (λ x. Complete ts x) (sym (append_assoc w t u)) h
 
 module _ (roots : List Part) (cert : List Entry) (accepted : IsAccepted roots cert) where
   -- a part with an entry
@@ -71,23 +75,23 @@ module _ (roots : List Part) (cert : List Entry) (accepted : IsAccepted roots ce
       (part.1, part.2, h, subst S (no_characters s.0 s.3) s.1)
 
   module _ (r : ℕ) where
-    keep_complete_by : (e : Entry) (n : ℕ) (ns w : List ℕ) → entry_at cert n ≡ e → IsBelowTop e → Complete roots r (n ∷ ns) w → Complete roots r (keep_by e n ns) w
-    keep_complete_by Nothing n ns w is below f = absurd below
-    keep_complete_by (Least zero h c) n ns w is below f = nothing_more roots r ns w (f [] (empty_sentence n h c is))
-    keep_complete_by (Least (suc l) h c) n ns w is below f = f
+    keep_complete_by : (e : Entry) (n : ℕ) (ts : List Task) (w : List ℕ) → entry_at cert n ≡ e → IsBelowTop e → Complete roots r (Write n ∷ ts) w → Complete roots r (keep_by e n ts) w
+    keep_complete_by Nothing n ts w is below f = absurd below
+    keep_complete_by (Least zero h c) n ts w is below f = nothing_more roots r ts w (f [] (empty_sentence n h c is))
+    keep_complete_by (Least (suc l) h c) n ts w is below f = f
 
-    pub keep_complete : (n : ℕ) (ns w : List ℕ) → IsBelowTop (entry_at cert n) → Complete roots r (n ∷ ns) w → Complete roots r (keep (entry_at cert) n ns) w
-    keep_complete n ns w below f = keep_complete_by (entry_at cert n) n ns w refl below f
+    pub keep_complete : (n : ℕ) (ts : List Task) (w : List ℕ) → IsBelowTop (entry_at cert n) → Complete roots r (Write n ∷ ts) w → Complete roots r (keep (entry_at cert) n ts) w
+    keep_complete n ts w below f = keep_complete_by (entry_at cert n) n ts w refl below f
 
-    pub row_complete : (n : ℕ) (ps : Parts) (ns w : List ℕ) → TreesHold (StandsAt roots) n ps → AllByRecursion (λ m. IsBelowTop (entry_at cert m)) (numbers n ps) → ((k : ℕ) (t : List ℕ) → EachSentence roots (RuleSentence roots k) ps t → Complete roots r ns (w ++ t)) → Complete roots r (keep_all (entry_at cert) (numbers n ps) ns) w
-    row_complete n end ns w stands below f = nothing_more roots r ns w (f 0 [] refl)
-    row_complete n (next p ps) ns w stands below f =
-        keep_complete n (keep_all (entry_at cert) (numbers (n + length (subparts p)) ps) ns) w below.0
-        (λ t s. row_complete (n + length (subparts p)) ps ns (w ++ t) stands.1 below.1
+    pub row_complete : (n : ℕ) (ps : Parts) (ts : List Task) (w : List ℕ) → TreesHold (StandsAt roots) n ps → AllByRecursion (λ m. IsBelowTop (entry_at cert m)) (numbers n ps) → ((k : ℕ) (t : List ℕ) → EachSentence roots (RuleSentence roots k) ps t → Complete roots r ts (w ++ t)) → Complete roots r (keep_all (entry_at cert) (numbers n ps) ts) w
+    row_complete n end ts w stands below f = nothing_more roots r ts w (f 0 [] refl)
+    row_complete n (next p ps) ts w stands below f =
+        keep_complete n (keep_all (entry_at cert) (numbers (n + length (subparts p)) ps) ts) w below.0
+        (λ t s. row_complete (n + length (subparts p)) ps ts (w ++ t) stands.1 below.1
         (λ k u each.
         let same : s.0 ≡ p = same_Some s.0 p (sym s.1 ∙ holds_here (StandsAt roots) n p stands.0) in
         let front : PartSentence roots (RuleSentence roots s.2) p t = subst (λ q. PartSentence roots (RuleSentence roots s.2) q t) same s.3 in
-        joined_more roots r ns w t u
+        joined_more roots r ts w t u
         (f (max s.2 k) (t ++ u)
         (record {
           front = t;
@@ -100,15 +104,15 @@ module _ (roots : List Part) (cert : List Entry) (accepted : IsAccepted roots ce
         each_up : (k j : ℕ) → k ≤ j → (ps : Parts) (s : List ℕ) → EachSentence roots (RuleSentence roots k) ps s → EachSentence roots (RuleSentence roots j) ps s
         each_up k j le ps s h = up roots k j le (seq ps) s h
 
-    pub times_complete : (n : ℕ) (p : Part) → StandsAt roots n p → IsBelowTop (entry_at cert n) → (count : ℕ) (ns w : List ℕ) → ((k : ℕ) (ss : List (List ℕ)) → AllByRecursion (PartSentence roots (RuleSentence roots k) p) ss → length ss ≡ count → Complete roots r ns (w ++ concat ss)) → Complete roots r (keep_times (entry_at cert) count n ns) w
-    times_complete n p is below zero ns w f = nothing_more roots r ns w (f 0 [] tt refl)
-    times_complete n p is below (suc count) ns w f =
-        keep_complete n (keep_times (entry_at cert) count n ns) w below
-        (λ t s. times_complete n p is below count ns (w ++ t)
+    pub times_complete : (n : ℕ) (p : Part) → StandsAt roots n p → IsBelowTop (entry_at cert n) → (count : ℕ) (ts : List Task) (w : List ℕ) → ((k : ℕ) (ss : List (List ℕ)) → AllByRecursion (PartSentence roots (RuleSentence roots k) p) ss → length ss ≡ count → Complete roots r ts (w ++ concat ss)) → Complete roots r (keep_times (entry_at cert) count n ts) w
+    times_complete n p is below zero ts w f = nothing_more roots r ts w (f 0 [] tt refl)
+    times_complete n p is below (suc count) ts w f =
+        keep_complete n (keep_times (entry_at cert) count n ts) w below
+        (λ t s. times_complete n p is below count ts (w ++ t)
         (λ k ss all len.
         let same : s.0 ≡ p = same_Some s.0 p (sym s.1 ∙ is) in
         let one : PartSentence roots (RuleSentence roots s.2) p t = subst (λ q. PartSentence roots (RuleSentence roots s.2) q t) same s.3 in
-        joined_more roots r ns w t (concat ss)
+        joined_more roots r ts w t (concat ss)
         (f (max s.2 k) (t ∷ ss) (
           up roots s.2 (max s.2 k) (omega arith) p t one,
           all_more (PartSentence roots (RuleSentence roots k) p) (PartSentence roots (RuleSentence roots (max s.2 k)) p) (up roots k (max s.2 k) (omega arith) p) ss all,

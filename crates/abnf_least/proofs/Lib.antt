@@ -12,6 +12,7 @@ pub mod More
 pub mod Weight
 pub mod Complete
 pub mod WalkStep
+pub mod Draft
 pub mod RootSays
 pub mod One
 pub mod OneShown

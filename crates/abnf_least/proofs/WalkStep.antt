@@ -2,7 +2,7 @@
 use Rattle.std.proofs.Common.{◌≡◌, ℕ, zero, suc, ◌+◌, ◌*◌, ◌<◌, ◌≤◌, ⊎_elim, List, [], ◌∷◌, ◌++◌, length, Option, Some, None, refl, sym, ap, ◌∙◌, subst, arith, map, get_or}
 use Rattle.std.proofs.lemmas.List.{append-nil}
 use Rattle.std.proofs.Math.Nat.{mul-suc}
-use Rattle.std.proofs.lemmas.Option.{none-some, same_Some, slice_get-map, slice_get-get_or, get_or_from_slice_get}
+use Rattle.std.proofs.lemmas.Option.{none-some, same_Some, slice_get-map, slice_get-get_or}
 use Rattle.std.specs.List.{concat, AllByRecursion}
 use Rattle.std.specs.Prelude.{slice_get, option_map}
 use Rattle.abnf_cert.specs.declared.entry.Entry.{Entry}
@@ -10,36 +10,43 @@ use Rattle.abnf_cert.specs.declared.entry.Entry.TheVariants.{Nothing, Least}
 use Rattle.abnf_parts.specs.declared.node.Node.{Node}
 use Rattle.abnf_parts.specs.declared.node.Node.TheVariants.{Quoted, Series, Span, Seq, Alt, Rep, Ref}
 use Rattle.abnf_parts.specs.Part.{Part, Parts, quoted, series, span, seq, alt, rep, ref, opaque, end, next, subparts, root_number, parts_of, numbers}
-use Rattle.abnf_parts.specs.Nodes.{IsNode, RefersWithin, AreNodes}
+use Rattle.abnf_parts.specs.Nodes.{IsNode, RefersWithin}
 use Rattle.abnf_parts.proofs.Closed.{all_at}
 use Rattle.abnf_cert.specs.Accepted.{top, cut, all_in_a_row, times, referred, IsChoice, IsFirstLeast, entry_at, IsAccepted}
 use Rattle.abnf_cert.proofs.Holds.{TreeHolds, holds_here, part_holds, rule_holds}
 use Rattle.abnf_cert.proofs.Below.{TreeFits, part_fits}
 use Rattle.abnf_least.specs.Sentence.{PartSentence, RuleSentence}
+use Rattle.abnf_least.specs.declared.work.Task.{Task}
+use Rattle.abnf_least.specs.declared.work.Task.TheVariants.{Write, End}
 use Rattle.abnf_least.specs.Walk.{IsBelowTop, choice_of, keep, keep_by, keep_all, keep_times, keep_some, work_after, text_of}
 use Rattle.abnf_least.proofs.Named.{value_at}
 use Rattle.abnf_least.proofs.Weight.{room, weight_of, weight, keep_weight, below_weight, root_weight, row_of, row_weight, times_weight}
-use Rattle.abnf_least.proofs.Complete.{IsShort, StandsAt, NodeSentence, Complete, part_at, keep_complete, row_complete, times_complete, first_sentence}
+use Rattle.abnf_least.proofs.Complete.{IsShort, StandsAt, NodeSentence, Complete, keep_complete, row_complete, times_complete, first_sentence}
 
-abbrev pub AllShort : (ℕ → Entry) → List ℕ → Type 0
-AllShort at ns = AllByRecursion (λ n. IsShort (at n)) ns
+-- a part that is to be written has a length that is known exactly, and isn't 0
+abbrev pub IsShortTask : (ℕ → Entry) → Task → Type 0
+IsShortTask at (Write n) = IsShort (at n)
+IsShortTask at (End n start) = Unit {0}
+
+abbrev pub AllShort : (ℕ → Entry) → List Task → Type 0
+AllShort at ts = AllByRecursion (IsShortTask at) ts
 
 module _ (at : ℕ → Entry) where
-  kept_short : (e : Entry) (n : ℕ) (ns : List ℕ) → at n ≡ e → IsBelowTop e → AllShort at ns → AllShort at (keep_by e n ns)
-  kept_short Nothing n ns is below all = absurd below
-  kept_short (Least zero h c) n ns is below all = all
-  kept_short (Least (suc l) h c) n ns is below all = (subst IsShort (sym is) (omega arith, below), all)
+  kept_short : (e : Entry) (n : ℕ) (ts : List Task) → at n ≡ e → IsBelowTop e → AllShort at ts → AllShort at (keep_by e n ts)
+  kept_short Nothing n ts is below all = absurd below
+  kept_short (Least zero h c) n ts is below all = all
+  kept_short (Least (suc l) h c) n ts is below all = (subst IsShort (sym is) (omega arith, below), all)
 
-  pub keep_short : (n : ℕ) (ns : List ℕ) → IsBelowTop (at n) → AllShort at ns → AllShort at (keep at n ns)
-  keep_short n ns below all = kept_short (at n) n ns refl below all
+  pub keep_short : (n : ℕ) (ts : List Task) → IsBelowTop (at n) → AllShort at ts → AllShort at (keep at n ts)
+  keep_short n ts below all = kept_short (at n) n ts refl below all
 
-  pub all_short : (ms ns : List ℕ) → AllByRecursion (λ m. IsBelowTop (at m)) ms → AllShort at ns → AllShort at (keep_all at ms ns)
-  all_short [] ns below all = all
-  all_short (m ∷ ms) ns below all = keep_short m (keep_all at ms ns) below.0 (all_short ms ns below.1 all)
+  pub all_short : (ms : List ℕ) (ts : List Task) → AllByRecursion (λ m. IsBelowTop (at m)) ms → AllShort at ts → AllShort at (keep_all at ms ts)
+  all_short [] ts below all = all
+  all_short (m ∷ ms) ts below all = keep_short m (keep_all at ms ts) below.0 (all_short ms ts below.1 all)
 
-  pub times_short : (k m : ℕ) (ns : List ℕ) → IsBelowTop (at m) → AllShort at ns → AllShort at (keep_times at k m ns)
-  times_short zero m ns below all = all
-  times_short (suc k) m ns below all = keep_short m (keep_times at k m ns) below (times_short k m ns below all)
+  pub times_short : (k m : ℕ) (ts : List Task) → IsBelowTop (at m) → AllShort at ts → AllShort at (keep_times at k m ts)
+  times_short zero m ts below all = all
+  times_short (suc k) m ts below all = keep_short m (keep_times at k m ts) below (times_short k m ts below all)
 
   pub row_below : (ms : List ℕ) (l h c : ℕ) → all_in_a_row (map at ms) ≡ Least l h c → l < top → AllByRecursion (λ m. IsBelowTop (at m)) ms
   row_below [] l h c is below = tt
@@ -73,33 +80,33 @@ referred_entry l h c (Least a j d) is =
     let heights : j + 1 ≡ h = cc in
     (j, d, ap (λ x. Least x j d) lengths, heights)
 
-module _ (roots : List Part) (cert : List Entry) (accepted : IsAccepted roots cert) (r : ℕ) (n l h c : ℕ) (ns w : List ℕ) where
+module _ (roots : List Part) (cert : List Entry) (accepted : IsAccepted roots cert) (r : ℕ) (n l h c : ℕ) (ts : List Task) (w : List ℕ) where
   abbrev count : ℕ
   count = length (parts_of roots)
 
   -- what a step from a node keeps
   pub record IsStep (node : Node) : Type 0 where
-    pub short : AllShort (entry_at cert) (work_after (entry_at cert) (root_number roots) node c ns)
-    pub less : weight (entry_at cert) count (work_after (entry_at cert) (root_number roots) node c ns) < weight_of count (Least l h c) n + weight (entry_at cert) count ns
-    pub complete : Complete roots r (work_after (entry_at cert) (root_number roots) node c ns) (w ++ text_of node)
+    pub short : AllShort (entry_at cert) (work_after (entry_at cert) (root_number roots) node c ts)
+    pub less : weight (entry_at cert) count (work_after (entry_at cert) (root_number roots) node c ts) < weight_of count (Least l h c) n + weight (entry_at cert) count ts
+    pub complete : Complete roots r (work_after (entry_at cert) (root_number roots) node c ts) (w ++ text_of node)
 
-  module _ (is : entry_at cert n ≡ Least l h c) (some : 0 < l) (below : l < top) (within : n < count) (all : AllShort (entry_at cert) ns) (f : Complete roots r (n ∷ ns) w) where
+  module _ (is : entry_at cert n ≡ Least l h c) (some : 0 < l) (below : l < top) (within : n < count) (all : AllShort (entry_at cert) ts) (f : Complete roots r (Write n ∷ ts) w) where
     -- what each character may take is less than what the part had
     falls : (x y : ℕ) → x ≤ l * room count n h + y → x < weight_of count (Least l h c) n + y
     falls x y le = omega (arith, mul-suc l (room count n h))
 
-    stays : weight (entry_at cert) count ns < weight_of count (Least l h c) n + weight (entry_at cert) count ns
-    stays = falls (weight (entry_at cert) count ns) (weight (entry_at cert) count ns) (omega arith)
+    stays : weight (entry_at cert) count ts < weight_of count (Least l h c) n + weight (entry_at cert) count ts
+    stays = falls (weight (entry_at cert) count ts) (weight (entry_at cert) count ts) (omega arith)
 
-    no_text : (ms : List ℕ) → Complete roots r ms w → Complete roots r ms (w ++ [])
+    no_text : (ms : List Task) → Complete roots r ms w → Complete roots r ms (w ++ [])
     no_text ms h = subst (λ x. Complete roots r ms x) (sym (append-nil w)) h
 
-    pub leaf : (p : Part) (t : List ℕ) (node : Node) → StandsAt roots n p → PartSentence roots (RuleSentence roots 0) p t → work_after (entry_at cert) (root_number roots) node c ns ≡ ns → text_of node ≡ t → IsStep node
+    pub leaf : (p : Part) (t : List ℕ) (node : Node) → StandsAt roots n p → PartSentence roots (RuleSentence roots 0) p t → work_after (entry_at cert) (root_number roots) node c ts ≡ ts → text_of node ≡ t → IsStep node
     leaf p t node stands s same written =
         record {
           short = subst (λ ms. AllShort (entry_at cert) ms) (sym same) all;
-          less = subst (λ ms. weight (entry_at cert) count ms < weight_of count (Least l h c) n + weight (entry_at cert) count ns) (sym same) stays;
-          complete = subst (λ ms. Complete roots r ms (w ++ text_of node)) (sym same) (subst (λ u. Complete roots r ns (w ++ u)) (sym written) (f t (p, stands, 0, s)));
+          less = subst (λ ms. weight (entry_at cert) count ms < weight_of count (Least l h c) n + weight (entry_at cert) count ts) (sym same) stays;
+          complete = subst (λ ms. Complete roots r ms (w ++ text_of node)) (sym same) (subst (λ u. Complete roots r ts (w ++ u)) (sym written) (f t (p, stands, 0, s)));
         }
 
     row_step : (ps : Parts) → StandsAt roots n (seq ps) → TreeHolds (StandsAt roots) n (seq ps) → entry_at cert n ≡ all_in_a_row (map (entry_at cert) (numbers (suc n) ps)) → IsStep (Seq (numbers (suc n) ps))
@@ -107,25 +114,25 @@ module _ (roots : List Part) (cert : List Entry) (accepted : IsAccepted roots ce
         let e : all_in_a_row (map (entry_at cert) (numbers (suc n) ps)) ≡ Least l h c = sym fits ∙ is in
         let each = row_below (entry_at cert) (numbers (suc n) ps) l h c e below in
         record {
-          short = all_short (entry_at cert) (numbers (suc n) ps) ns each all;
-          less = falls (weight (entry_at cert) count (keep_all (entry_at cert) (numbers (suc n) ps) ns)) (weight (entry_at cert) count ns)
-              (row_weight (entry_at cert) count n h within (numbers (suc n) ps) ns (numbers_after n (suc n) ps (omega arith)) l h c e below (omega arith));
-          complete = no_text (keep_all (entry_at cert) (numbers (suc n) ps) ns) (row_complete roots cert accepted r (suc n) ps ns w holds.1 each (λ k t s. f t (seq ps, stands, k, s)));
+          short = all_short (entry_at cert) (numbers (suc n) ps) ts each all;
+          less = falls (weight (entry_at cert) count (keep_all (entry_at cert) (numbers (suc n) ps) ts)) (weight (entry_at cert) count ts)
+              (row_weight (entry_at cert) count n h within (numbers (suc n) ps) ts (numbers_after n (suc n) ps (omega arith)) l h c e below (omega arith));
+          complete = no_text (keep_all (entry_at cert) (numbers (suc n) ps) ts) (row_complete roots cert accepted r (suc n) ps ts w holds.1 each (λ k t s. f t (seq ps, stands, k, s)));
         }
 
-    one_step : (m j d : ℕ) (node : Node) → entry_at cert m ≡ Least l j d → weight_of count (Least l j d) m ≤ l * room count n h → ((t : List ℕ) → NodeSentence roots m t → NodeSentence roots n t) → work_after (entry_at cert) (root_number roots) node c ns ≡ keep (entry_at cert) m ns → text_of node ≡ [] → IsStep node
+    one_step : (m j d : ℕ) (node : Node) → entry_at cert m ≡ Least l j d → weight_of count (Least l j d) m ≤ l * room count n h → ((t : List ℕ) → NodeSentence roots m t → NodeSentence roots n t) → work_after (entry_at cert) (root_number roots) node c ts ≡ keep (entry_at cert) m ts → text_of node ≡ [] → IsStep node
     one_step m j d node e le g same written =
         let part_below : IsBelowTop (entry_at cert m) = subst IsBelowTop (sym e) below in
-        let kept = keep_weight (entry_at cert) count m ns in
+        let kept = keep_weight (entry_at cert) count m ts in
         let weights = ap (λ x. weight_of count x m) e in
-        let bound : weight (entry_at cert) count (keep (entry_at cert) m ns) ≤ l * room count n h + weight (entry_at cert) count ns = omega arith in
+        let bound : weight (entry_at cert) count (keep (entry_at cert) m ts) ≤ l * room count n h + weight (entry_at cert) count ts = omega arith in
         record {
-          short = subst (λ ms. AllShort (entry_at cert) ms) (sym same) (keep_short (entry_at cert) m ns part_below all);
-          less = subst (λ ms. weight (entry_at cert) count ms < weight_of count (Least l h c) n + weight (entry_at cert) count ns) (sym same)
-              (falls (weight (entry_at cert) count (keep (entry_at cert) m ns)) (weight (entry_at cert) count ns) bound);
+          short = subst (λ ms. AllShort (entry_at cert) ms) (sym same) (keep_short (entry_at cert) m ts part_below all);
+          less = subst (λ ms. weight (entry_at cert) count ms < weight_of count (Least l h c) n + weight (entry_at cert) count ts) (sym same)
+              (falls (weight (entry_at cert) count (keep (entry_at cert) m ts)) (weight (entry_at cert) count ts) bound);
           complete = subst (λ ms. Complete roots r ms (w ++ text_of node)) (sym same)
-              (subst (λ u. Complete roots r (keep (entry_at cert) m ns) (w ++ u)) (sym written)
-              (no_text (keep (entry_at cert) m ns) (keep_complete roots cert accepted r m ns w part_below (λ t s. f t (g t s)))));
+              (subst (λ u. Complete roots r (keep (entry_at cert) m ts) (w ++ u)) (sym written)
+              (no_text (keep (entry_at cert) m ts) (keep_complete roots cert accepted r m ts w part_below (λ t s. f t (g t s)))));
         }
 
     choice_step : (ps : Parts) → StandsAt roots n (alt ps) → TreeHolds (StandsAt roots) n (alt ps) → TreeFits (entry_at cert) (root_number roots) n (alt ps) → IsStep (Alt (numbers (suc n) ps))
@@ -146,19 +153,19 @@ module _ (roots : List Part) (cert : List Entry) (accepted : IsAccepted roots ce
             first_sentence roots cert accepted (suc n) ps fits.1 holds.1 c l h choice.0.0 m.0 choice.0.1 first.first below m.1 t s,
           ),
         ))
-        (ap (λ o. keep_some (entry_at cert) o ns) m.1) refl
+        (ap (λ o. keep_some (entry_at cert) o ts) m.1) refl
 
     repeat_step : (least : ℕ) (most : Option ℕ) (p : Part) → StandsAt roots n (rep least most p) → StandsAt roots (suc n) p → times least (entry_at cert (suc n)) ≡ Least l h c → IsStep (Rep least most (suc n))
     repeat_step least most p stands body e =
         let entry = repeated_entry least l h c (entry_at cert (suc n)) e some below in
         let part_below : IsBelowTop (entry_at cert (suc n)) = subst IsBelowTop (sym entry.2) (shorter least entry.0 entry.3) in
-        let bound = times_weight (entry_at cert) count n h within (suc n) entry.0 h entry.1 entry.2 (omega arith) (omega arith) least ns in
+        let bound = times_weight (entry_at cert) count n h within (suc n) entry.0 h entry.1 entry.2 (omega arith) (omega arith) least ts in
         let product = ap (λ x. x * room count n h) entry.3 in
         record {
-          short = times_short (entry_at cert) least (suc n) ns part_below all;
-          less = falls (weight (entry_at cert) count (keep_times (entry_at cert) least (suc n) ns)) (weight (entry_at cert) count ns) (omega arith);
-          complete = no_text (keep_times (entry_at cert) least (suc n) ns)
-              (times_complete roots cert accepted r (suc n) p body part_below least ns w
+          short = times_short (entry_at cert) least (suc n) ts part_below all;
+          less = falls (weight (entry_at cert) count (keep_times (entry_at cert) least (suc n) ts)) (weight (entry_at cert) count ts) (omega arith);
+          complete = no_text (keep_times (entry_at cert) least (suc n) ts)
+              (times_complete roots cert accepted r (suc n) p body part_below least ts w
               (λ k ss each len. f (concat ss) (rep least most p, stands, k, record { strings = ss; enough = omega arith; few = omega arith; each = each; joined = refl })));
         }
       where
@@ -166,7 +173,7 @@ module _ (roots : List Part) (cert : List Entry) (accepted : IsAccepted roots ce
         shorter zero a e = absurd (omega arith)
         shorter (suc k) a e = omega arith
 
-    refer_step : (name : List ℕ) (q : ℕ) (node : Node) → StandsAt roots n (ref name (Some q)) → q < length roots → referred (entry_at cert (root_number roots q)) ≡ Least l h c → work_after (entry_at cert) (root_number roots) node c ns ≡ keep (entry_at cert) (root_number roots q) ns → text_of node ≡ [] → IsStep node
+    refer_step : (name : List ℕ) (q : ℕ) (node : Node) → StandsAt roots n (ref name (Some q)) → q < length roots → referred (entry_at cert (root_number roots q)) ≡ Least l h c → work_after (entry_at cert) (root_number roots) node c ts ≡ keep (entry_at cert) (root_number roots q) ts → text_of node ≡ [] → IsStep node
     refer_step name q node stands known e same written =
         let entry = referred_entry l h c (entry_at cert (root_number roots q)) e in
         let root = get_or roots q opaque in
@@ -222,53 +229,27 @@ module _ (roots : List Part) (cert : List Entry) (accepted : IsAccepted roots ce
       (suc s.2, (root, is_root, subst (λ p. PartSentence roots (RuleSentence roots s.2) p t) is_it s.3)))
 
 -- a part with a length that is known and not 0 has a node, and a step from it
-module _ (roots : List Part) (cert : List Entry) (accepted : IsAccepted roots cert) (r n : ℕ) (ns w : List ℕ) where
+module _ (roots : List Part) (cert : List Entry) (accepted : IsAccepted roots cert) (r n : ℕ) (ts : List Task) (w : List ℕ) where
   abbrev pub NextStep : Node → Type 0
   NextStep node =
-      let after = work_after (entry_at cert) (root_number roots) node (choice_of (entry_at cert n)) ns in
+      let after = work_after (entry_at cert) (root_number roots) node (choice_of (entry_at cert n)) ts in
       AllShort (entry_at cert) after
-      × (weight (entry_at cert) (length (parts_of roots)) after < weight (entry_at cert) (length (parts_of roots)) (n ∷ ns))
+      × (weight (entry_at cert) (length (parts_of roots)) after < weight (entry_at cert) (length (parts_of roots)) (Write n ∷ ts))
       × Complete roots r after (w ++ text_of node)
 
-  next_by : (e : Entry) → entry_at cert n ≡ e → IsShort e → (node : Node) (p : Part) → IsNode n p node → RefersWithin (length roots) p → StandsAt roots n p → n < length (parts_of roots) → AllShort (entry_at cert) ns → Complete roots r (n ∷ ns) w → NextStep node
+  next_by : (e : Entry) → entry_at cert n ≡ e → IsShort e → (node : Node) (p : Part) → IsNode n p node → RefersWithin (length roots) p → StandsAt roots n p → n < length (parts_of roots) → AllShort (entry_at cert) ts → Complete roots r (Write n ∷ ts) w → NextStep node
   next_by Nothing is short node p is_node known stands within all f = absurd short
   next_by (Least l h c) is short node p is_node known stands within all f =
-      let step = step_of roots cert accepted r n l h c ns w is short.0 short.1 within all f p node is_node known stands (part_fits roots cert accepted n p stands) (part_holds roots (StandsAt roots) (λ m q x. x) n p stands) in
+      let step = step_of roots cert accepted r n l h c ts w is short.0 short.1 within all f p node is_node known stands (part_fits roots cert accepted n p stands) (part_holds roots (StandsAt roots) (λ m q x. x) n p stands) in
       let same = sym is in (
-        subst (λ e. AllShort (entry_at cert) (work_after (entry_at cert) (root_number roots) node (choice_of e) ns)) same step.short,
-        subst (λ e. weight (entry_at cert) (length (parts_of roots)) (work_after (entry_at cert) (root_number roots) node (choice_of e) ns) < weight_of (length (parts_of roots)) e n + weight (entry_at cert) (length (parts_of roots)) ns) same step.less,
-        subst (λ e. Complete roots r (work_after (entry_at cert) (root_number roots) node (choice_of e) ns) (w ++ text_of node)) same step.complete,
+        subst (λ e. AllShort (entry_at cert) (work_after (entry_at cert) (root_number roots) node (choice_of e) ts)) same step.short,
+        subst (λ e. weight (entry_at cert) (length (parts_of roots)) (work_after (entry_at cert) (root_number roots) node (choice_of e) ts) < weight_of (length (parts_of roots)) e n + weight (entry_at cert) (length (parts_of roots)) ts) same step.less,
+        subst (λ e. Complete roots r (work_after (entry_at cert) (root_number roots) node (choice_of e) ts) (w ++ text_of node)) same step.complete,
       )
 
-  pub next_step : (node : Node) (p : Part) → IsNode n p node → RefersWithin (length roots) p → StandsAt roots n p → n < length (parts_of roots) → AllShort (entry_at cert) (n ∷ ns) → Complete roots r (n ∷ ns) w → NextStep node
+  pub next_step : (node : Node) (p : Part) → IsNode n p node → RefersWithin (length roots) p → StandsAt roots n p → n < length (parts_of roots) → AllShort (entry_at cert) (Write n ∷ ts) → Complete roots r (Write n ∷ ts) w → NextStep node
   next_step node p is_node known stands within all f = next_by (entry_at cert n) refl all.0 node p is_node known stands within all.1 f
 
-short_below : (e : Entry) → IsShort e → IsBelowTop e
+pub short_below : (e : Entry) → IsShort e → IsBelowTop e
 short_below Nothing h = h
 short_below (Least l h c) s = s.1
-
--- a step from a node as the code takes it
-module _ (roots : List Part) (cert : List Entry) (accepted : IsAccepted roots cert) (r : ℕ) (nodes : List Node) (are : AreNodes roots nodes) where
-  module _ (n : ℕ) (ns work w : List ℕ) (popped : work ≡ n ∷ ns) (all : AllShort (entry_at cert) work) where
-    first_short : IsShort (entry_at cert n)
-    first_short = (subst (λ x. AllShort (entry_at cert) x) popped all).0
-
-    pub node_within : n < length nodes
-    node_within = omega (arith, are.one_each, (part_at roots cert accepted n (short_below (entry_at cert n) first_short)).0)
-
-    pub walked : Complete roots r work w → (node : Node) → node ≡ get_or nodes n node → (c : ℕ) → c ≡ choice_of (entry_at cert n) → (work' w' : List ℕ) → work' ≡ work_after (entry_at cert) (root_number roots) node c ns → w' ≡ w ++ text_of node →
-        AllShort (entry_at cert) work' × (weight (entry_at cert) (length (parts_of roots)) work' < weight (entry_at cert) (length (parts_of roots)) work) × Complete roots r work' w'
-    walked f node is c chosen work' w' after written =
-        let within = node_within in
-        let part = part_at roots cert accepted n (short_below (entry_at cert n) first_short) in
-        let known = are.each n part.1 part.2 in
-        let same_node : known.0 ≡ node = sym (get_or_from_slice_get nodes n known.0 node known.1) ∙ sym is in
-        let is_node : IsNode n part.1 node = subst (λ x. IsNode n part.1 x) same_node known.2 in
-        let step = next_step roots cert accepted r n ns w node part.1 is_node known.3 part.2 part.0
-        (subst (λ x. AllShort (entry_at cert) x) popped all) (subst (λ x. Complete roots r x w) popped f) in
-        let same : work' ≡ work_after (entry_at cert) (root_number roots) node (choice_of (entry_at cert n)) ns = after ∙ ap (λ x. work_after (entry_at cert) (root_number roots) node x ns) chosen in (
-          subst (λ x. AllShort (entry_at cert) x) (sym same) step.0,
-          subst (λ x. weight (entry_at cert) (length (parts_of roots)) work' < weight (entry_at cert) (length (parts_of roots)) x) (sym popped)
-              (subst (λ x. weight (entry_at cert) (length (parts_of roots)) x < weight (entry_at cert) (length (parts_of roots)) (n ∷ ns)) (sym same) step.1),
-          subst (λ x. Complete roots r x w') (sym same) (subst (λ x. Complete roots r (work_after (entry_at cert) (root_number roots) node (choice_of (entry_at cert n)) ns) x) (sym written) step.2),
-        )

@@ -1,8 +1,9 @@
-//! The parts that are still to be written.
+//! What is still to be done in the walk.
 
 ghost use Rattle.std.specs.Prelude.{◌≡◌, [], ◌∷◌, MatchOption, OnOk};
 ghost use Rattle.abnf_cert.specs.Accepted.{entry_at};
 ghost use Rattle.abnf_least.specs.Walk.{keep, keep_all, keep_times};
+ghost use Rattle.abnf_least.specs.declared.work.Task.TheVariants.{End};
 
 use abnf_cert::Entry;
 use abnf_cert::entries::entry_of;
@@ -10,18 +11,27 @@ use abnf_parts::NodeNo;
 use std::alloc::{AllocError, Global};
 use std::marker::Model;
 
-/// Numbers of the parts that are still to be written, the next one first.
+#[derive(Clone, Copy)]
+pub(crate) enum Task {
+    /// The part with this number is to be written.
+    Write(usize),
+    /// A part has been written whole, from this character of the text on.
+    End { part: usize, start: usize },
+}
+
+/// Tasks, the next one first. Contracts see their list.
 #[derive(Drop)]
-pub struct Work {
-    numbers: Vec<usize>,
+pub(crate) struct Work {
+    tasks: Vec<Task>,
 }
 
 impl Model for Work {
-    ghost use Rattle.std.specs.Prelude.{ℕ, List, reverse};
+    ghost use Rattle.std.specs.Prelude.{List, reverse};
+    ghost use Rattle.abnf_least.specs.declared.work.Task.{Task};
 
-    ghost Value = { List ℕ };
+    ghost Value = { List Task };
 
-    ghost view = { λ w. reverse w.numbers.items };
+    ghost view = { λ w. reverse w.tasks.items };
 }
 
 impl Work {
@@ -29,47 +39,60 @@ impl Work {
         ensures { result ≡ [] }
     {
         Work {
-            numbers: Vec::new(alloc),
+            tasks: Vec::new(alloc),
         }
     }
 
-    /// Takes the next part away.
-    pub fn pop(&mut self) -> Option<usize>
-        ensures { MatchOption result (self.old ≡ []) (λ n. self.old ≡ n ∷ self.new) }
+    /// Takes the next task away.
+    pub fn pop(&mut self) -> Option<Task>
+        ensures { MatchOption result (self.old ≡ []) (λ task. self.old ≡ task ∷ self.new) }
     {
-        self.numbers.pop()
+        self.tasks.pop()
     }
 
-    /// Puts a part before the others, unless nothing is to be written for it.
-    pub fn push(&mut self, cert: &[Entry], number: usize) -> Result<(), AllocError>
-        ensures { OnOk result (self.new ≡ keep (entry_at cert.now) number self.old) }
+    /// Lets a part be written next, unless its length is 0.
+    pub fn push(&mut self, entries: &[Entry], part: usize) -> Result<(), AllocError>
+        ensures { OnOk result (self.new ≡ keep (entry_at entries.now) part self.old) }
     {
-        match entry_of(cert, number) {
+        match entry_of(entries, part) {
             Entry::Nothing | Entry::Least { length: 0, .. } => {}
-            Entry::Least { .. } => self.numbers.push(number)?,
+            Entry::Least { .. } => self.tasks.push(Task::Write(part))?,
         }
         Ok(())
     }
 
-    /// Puts parts before the others, in their order.
-    pub fn push_all(&mut self, cert: &[Entry], parts: &[NodeNo]) -> Result<(), AllocError>
-        ensures { OnOk result (self.new ≡ keep_all (entry_at cert.now) parts.now self.old) }
+    /// Lets parts be written next, in their order.
+    pub fn push_all(&mut self, entries: &[Entry], parts: &[NodeNo]) -> Result<(), AllocError>
+        ensures { OnOk result (self.new ≡ keep_all (entry_at entries.now) parts.now self.old) }
     {
         let mut at = parts.len();
         while at > 0 {
             at -= 1;
-            self.push(cert, parts[at].get())?;
+            self.push(entries, parts[at].get())?;
         }
         Ok(())
     }
 
-    /// Puts a part before the others so many times.
-    pub fn push_times(&mut self, cert: &[Entry], count: u32, part: usize) -> Result<(), AllocError>
-        ensures { OnOk result (self.new ≡ keep_times (entry_at cert.now) count part self.old) }
+    /// Lets a part be written next so many times. A part of length 0 takes no step.
+    pub fn push_times(
+        &mut self,
+        entries: &[Entry],
+        count: u32,
+        part: usize,
+    ) -> Result<(), AllocError>
+        ensures { OnOk result (self.new ≡ keep_times (entry_at entries.now) count part self.old) }
     {
         for _ in 0..count {
-            self.push(cert, part)?;
+            self.push(entries, part)?;
         }
+        Ok(())
+    }
+
+    /// Lets a part end next.
+    pub fn push_end(&mut self, part: usize, start: usize) -> Result<(), AllocError>
+        ensures { OnOk result (self.new ≡ End part start ∷ self.old) }
+    {
+        self.tasks.push(Task::End { part, start })?;
         Ok(())
     }
 }

@@ -1,37 +1,45 @@
-use Rattle.std.proofs.Common.{◌≡◌, ◌∙◌, ap, sym, subst, [], List, ℕ}
-use Rattle.abnf_parts.specs.Part.{root_number}
+use Rattle.std.proofs.Common.{◌≡◌, ◌<◌, [], ◌∙◌, Option, Some, None, refl, ℕ, List, length, ap, sym, subst}
+use Rattle.std.specs.Prelude.{replicate}
+use Rattle.abnf_parts.specs.Part.{parts_of, root_number}
 use Rattle.abnf_cert.specs.Accepted.{entry_at}
-use Rattle.abnf_cert.proofs.Checked.{stands_at}
-use Rattle.abnf_least.specs.Walk.{choice_of, keep}
-use Rattle.abnf_least.proofs.Complete.{Complete}
-use Rattle.abnf_least.proofs.WalkStep.{AllShort, keep_short, start, node_within, walked}
+use Rattle.abnf_least.specs.declared.work.Task.{Task}
+use Rattle.abnf_least.specs.Walk.{keep}
+use Rattle.abnf_least.proofs.Draft.{IsDraft, left, first_draft, task_of, does_more}
 use Rattle.abnf_least.proofs.walk.sentence.Goals as goal
 
-pub loop-number-init : goal.loop-number-init
-loop-number-init c =
-    let roots = c.args.grammar.now.rules in
-    let pushed : c.push.new.self ≡ keep (entry_at c.args.cert.now) (root_number roots c.args.rule) [] =
-    c.in_ok-push.ensures ∙ ap (λ (x : List ℕ). keep (entry_at c.args.cert.now) c.get.result x) c.new-work.ensures ∙ ap (λ (x : ℕ). keep (entry_at c.args.cert.now) x []) (c.get.ensures ∙ c.root_of.ensures) in
-    record {
-      short = subst (λ (x : List ℕ). AllShort (entry_at c.args.cert.now) x) (sym pushed) (keep_short (entry_at c.args.cert.now) (root_number roots c.args.rule) [] c.requires.below_top tt);
-      complete = subst (λ (x : List ℕ). Complete roots c.args.rule x c.new-text.result) (sym pushed)
-          (subst (λ (x : List ℕ). Complete roots c.args.rule (keep (entry_at c.args.cert.now) (root_number roots c.args.rule) []) x) (sym c.new-text.ensures)
-          (start roots c.args.cert.now c.requires.accepted c.args.rule c.requires.rule c.requires.below_top));
-    }
+none_only : {X : Type 0} (P : Option X → Type 0) → ((x : X) → P (Some x) → ⊥) → (y : Option X) → P y → y ≡ None
+none_only P f None p = refl
+none_only P f (Some x) p = absurd (f x p)
 
-pub replace-requires : goal.replace-requires
-replace-requires c =
-    (stands_at c.args.grammar.now.rules c.nodes-nodes.result.now c.in-Some.number c.index-nodes-number.result c.nodes-nodes.ensures
-    (node_within c.args.grammar.now.rules c.args.cert.now c.requires.accepted c.args.rule c.nodes-nodes.result.now c.nodes-nodes.ensures c.in-Some.number c.pop.new.self c.loop-number.work c.loop-number.text c.in-Some.ensures c.loop-number.invariant.short)
-    c.index-nodes-number.is).refers
+pub loop-task-init : goal.loop-task-init
+loop-task-init c =
+    let rules = c.args.grammar.now.rules in
+    let es = c.args.entries.now in
+    let first = keep (entry_at es) (root_number rules c.args.rule) [] in
+    let count = length c.nodes.result.now in
+    let places : c.as_mut_slice-places.result.now ≡ replicate count None = c.as_mut_slice-places.ensures.value ∙ c.in_ok-noted.ensures.items_if_clones_equal (none_only _ (λ x p. absurd p)) in
+    let pushed : c.push.new.self ≡ first =
+    c.in_ok-push.ensures ∙ ap (λ (x : List Task). keep (entry_at es) c.get.result x) c.new-work.ensures ∙ ap (λ (x : ℕ). keep (entry_at es) x []) (c.get.ensures ∙ c.root_of.ensures) in
+    subst (λ (ts : List Task). IsDraft rules es c.args.rule ts c.new-text.result.items c.as_mut_slice-places.result.now) (sym pushed)
+    (subst (λ (w : List ℕ). IsDraft rules es c.args.rule first w c.as_mut_slice-places.result.now) (sym c.new-text.ensures.items)
+    (first_draft rules es c.requires.accepted c.args.rule c.requires.rule c.requires.below_top c.as_mut_slice-places.result.now count places c.nodes.ensures.one_each))
 
-pub loop-number-smaller : goal.loop-number-smaller
-loop-number-smaller c =
-    (walked c.args.grammar.now.rules c.args.cert.now c.requires.accepted c.args.rule c.nodes-nodes.result.now c.nodes-nodes.ensures c.in-Some.number c.pop.new.self c.loop-number.work c.loop-number.text c.in-Some.ensures c.loop-number.invariant.short
-    c.loop-number.invariant.complete c.index-nodes-number.result c.index-nodes-number.is c.choice_in.result (c.choice_in.ensures ∙ ap choice_of c.entry_of.ensures) c.replace.new.work c.write.new.text c.in_ok-replace.ensures c.in_ok-write.ensures).1
+pub perform-requires-clause-task : goal.perform-requires-clause-task
+perform-requires-clause-task c =
+    task_of c.args.grammar.now.rules c.args.entries.now c.requires.accepted c.args.rule c.pop.new.self c.loop-task.text.items c.loop-task.places c.in-Some.task
+    (subst (λ (ts : List Task). IsDraft c.args.grammar.now.rules c.args.entries.now c.args.rule ts c.loop-task.text.items c.loop-task.places) c.in-Some.ensures c.loop-task.invariant)
 
-pub loop-number-preserved : goal.loop-number-preserved
-loop-number-preserved c =
-    let all = walked c.args.grammar.now.rules c.args.cert.now c.requires.accepted c.args.rule c.nodes-nodes.result.now c.nodes-nodes.ensures c.in-Some.number c.pop.new.self c.loop-number.work c.loop-number.text c.in-Some.ensures c.loop-number.invariant.short
-    c.loop-number.invariant.complete c.index-nodes-number.result c.index-nodes-number.is c.choice_in.result (c.choice_in.ensures ∙ ap choice_of c.entry_of.ensures) c.replace.new.work c.write.new.text c.in_ok-replace.ensures c.in_ok-write.ensures in
-    record { short = all.0; complete = all.2 }
+pub loop-task-smaller : goal.loop-task-smaller
+loop-task-smaller c =
+    let at = entry_at c.args.entries.now in
+    let count = length (parts_of c.args.grammar.now.rules) in
+    subst (λ (ts : List Task). left at count c.perform.new.work < left at count ts) (sym c.in-Some.ensures)
+    (does_more c.args.grammar.now.rules c.args.entries.now c.requires.accepted c.args.rule c.pop.new.self c.loop-task.text.items c.loop-task.places c.in-Some.task
+    c.perform.new.work c.perform.new.text.items c.perform.new.places c.in_ok-perform.ensures
+    (subst (λ (ts : List Task). IsDraft c.args.grammar.now.rules c.args.entries.now c.args.rule ts c.loop-task.text.items c.loop-task.places) c.in-Some.ensures c.loop-task.invariant)).1
+
+pub loop-task-preserved : goal.loop-task-preserved
+loop-task-preserved c =
+    (does_more c.args.grammar.now.rules c.args.entries.now c.requires.accepted c.args.rule c.pop.new.self c.loop-task.text.items c.loop-task.places c.in-Some.task
+    c.perform.new.work c.perform.new.text.items c.perform.new.places c.in_ok-perform.ensures
+    (subst (λ (ts : List Task). IsDraft c.args.grammar.now.rules c.args.entries.now c.args.rule ts c.loop-task.text.items c.loop-task.places) c.in-Some.ensures c.loop-task.invariant)).0
