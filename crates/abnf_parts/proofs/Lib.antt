@@ -10,3 +10,4 @@ pub mod Tied
 pub mod Worked
 pub mod Unknown
 pub mod Nesting
+pub mod Uncut

@@ -10,3 +10,4 @@ pub mod Reach
 pub mod Pushed
 pub mod CoreTable
 pub mod Rows
+pub mod Uncut

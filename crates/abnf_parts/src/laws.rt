@@ -1,12 +1,15 @@
 //! Worked rules: what they generate, computed by the check. The functions do nothing.
 
-ghost use Rattle.std.specs.Prelude.{◌≡◌, ◌↔◌, List, ℕ, Option, None, [], ◌∷◌, map, codes, true, false};
+ghost use Rattle.std.specs.Prelude.{◌≡◌, ◌↔◌, List, ℕ, Option, None, [], ◌∷◌, All, map, codes, true, false};
+ghost use Rattle.abnf_token.specs.Classes.{Text};
 ghost use Rattle.abnf_syntax.specs.declared.item.Item.{Item};
 ghost use Rattle.abnf_syntax.specs.declared.tree.Rule.{Rule};
 ghost use Rattle.abnf_syntax.specs.Grammar.{Derives, max_nesting};
+ghost use Rattle.abnf_syntax.specs.Items.{AreItems};
 ghost use Rattle.abnf_parts.specs.Part.{Part, quoted, rep, ref, opaque};
 ghost use Rattle.abnf_parts.specs.Tree.{alternatives, concatenation_part, tree_ending};
 ghost use Rattle.abnf_parts.specs.Generates.{Generates, IsLeastLength, IsValue};
+ghost use Rattle.abnf_parts.specs.Uncut.{IsUncut};
 ghost use Rattle.abnf_parts.specs.Rows as row;
 
 /// Quoted texts match in either case, and exact ones as they are written (RFC 7405 section 2.1).
@@ -49,4 +52,10 @@ pub fn least_lengths()
 pub fn nesting_suffices()
     ensures { (items : List Item) (rule : Rule) (number : List ℕ → Option ℕ) (last : Part) → Derives items rule
         → map (concatenation_part number (tree_ending last number max_nesting)) rule.body ≡ alternatives number rule.body }
+{}
+
+/// In a rule that the items of lines derive no number is cut: each is the value of its digits, however many there are.
+pub fn numbers_are_uncut()
+    ensures { (lines : List Text) (first end : ℕ) (items : List Item) (rule : Rule) → AreItems lines first end items → Derives items rule
+        → All (λ item. IsUncut item.token.kind item.token.text.now) items }
 {}

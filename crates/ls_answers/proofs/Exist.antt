@@ -1,6 +1,5 @@
 -- Each question about a text has an answer.
 use Rattle.std.proofs.Common.{ℕ, ◌^◌, ◌<◌, List, length, map, refl}
-use Rattle.std.specs.List.{filter_map}
 use Rattle.ls_text.specs.Lines.{utf16_len}
 use Rattle.ls_text.specs.Positions.{place_range}
 use Rattle.ls_text.specs.declared.position.Position.{Position}
@@ -9,7 +8,8 @@ use Rattle.abnf_syntax.proofs.Exist.{some_blocks}
 use Rattle.abnf_names.specs.Places.{Named}
 use Rattle.abnf_names.proofs.Exist.{some_grammar}
 use Rattle.ls_answers.specs.Answers.{IsAnswer}
-use Rattle.ls_answers.specs.Outline.{IsOutline, symbol_of}
+use Rattle.ls_answers.specs.Outline.{IsOutline}
+use Rattle.ls_answers.proofs.Outlines.{outline as outlined}
 use Rattle.ls_answers.specs.Places.{AreDefinitions, defining, name_at}
 use Rattle.ls_answers.specs.declared.ask.Ask.{Ask}
 use Rattle.ls_answers.specs.declared.ask.Ask.TheVariants as ask
@@ -20,7 +20,7 @@ use Rattle.ls_answers.specs.declared.answer.Symbol.{Symbol}
 outline : (text : List ℕ) → length text < 2 ^ 62 → (symbols : List Symbol) × IsOutline text symbols
 outline text small =
     let found = some_blocks text small in
-    (filter_map (symbol_of text) found.0, record { blocks = found.0; all = found.1; items = λ at d less. (found.2 at d less).0; symbols_are = refl })
+    (outlined text found.0, record { blocks = found.0; all = found.1; items = λ at d less. (found.2 at d less).0; symbols_are = refl })
 
 definitions : (text : List ℕ) (at : Position) → length text < 2 ^ 62 → (ranges : List Range) × AreDefinitions text at ranges
 definitions text at small =

@@ -1,10 +1,8 @@
 -- A question about a text has one answer.
-use Rattle.std.proofs.Common.{◌≡◌, ℕ, ◌-◌, List, [], ◌∷◌, length, map, Option, Some, None, option_map, refl, sym, ap, subst, ◌∙◌}
-use Rattle.std.specs.Prelude.{All, slice_get}
-use Rattle.std.specs.List.{filter_map, cons_option}
-use Rattle.std.proofs.lemmas.List.{length-map}
+use Rattle.std.proofs.Common.{◌≡◌, ℕ, List, [], ◌∷◌, map, Option, Some, None, option_map, refl, sym, ap, subst, ◌∙◌}
+use Rattle.std.specs.Prelude.{All}
+use Rattle.std.specs.List.{cons_option}
 use Rattle.std.proofs.lemmas.List.Elements.{All-head, All-tail}
-use Rattle.std.proofs.lemmas.Option.{slice_get-map}
 use Rattle.ls_text.specs.Lines.{utf16_len}
 use Rattle.ls_text.specs.Positions.{place_range}
 use Rattle.ls_text.specs.declared.position.Position.{Position}
@@ -15,6 +13,7 @@ use Rattle.abnf_syntax.specs.declared.block.Head.{Head}
 use Rattle.abnf_syntax.specs.declared.item.Item.{Item}
 use Rattle.abnf_syntax.specs.Blocks.{line_texts}
 use Rattle.abnf_syntax.specs.Bounds.{bounds}
+use Rattle.abnf_syntax.specs.Faults.{last_of}
 use Rattle.abnf_syntax.specs.Heads.{head_of}
 use Rattle.abnf_syntax.specs.Items.{AreItems}
 use Rattle.abnf_syntax.proofs.Bare.{bare, bare_head, head_bare, one_list, same_items}
@@ -27,7 +26,8 @@ use Rattle.ls_answers.specs.declared.answer.Answer.{Answer}
 use Rattle.ls_answers.specs.declared.answer.Answer.TheVariants as answer
 use Rattle.ls_answers.specs.declared.ask.Ask.{Ask}
 use Rattle.ls_answers.specs.declared.ask.Ask.TheVariants as ask
-use Rattle.ls_answers.specs.Outline.{from_to, extent, symbol_with, symbol_of, IsOutline}
+use Rattle.ls_answers.specs.Outline.{symbol_with, symbol_of, IsOutline}
+use Rattle.ls_answers.proofs.Outlines.{outline}
 use Rattle.ls_answers.specs.Places.{AreDefinitions, defining, name_at}
 use Rattle.ls_answers.specs.Answers.{IsAnswer}
 
@@ -36,27 +36,23 @@ use Rattle.ls_answers.specs.Answers.{IsAnswer}
 abbrev bare_block : Block → Block
 bare_block block = record { first = block.first; end = block.end; items = map bare block.items }
 
-from_to_bare : (text : List ℕ) (o p : Option Item) → from_to text (option_map bare o) (option_map bare p) ≡ from_to text o p
-from_to_bare text None p = refl
-from_to_bare text (Some x) None = refl
-from_to_bare text (Some x) (Some y) = refl
+last_bare : (last : Item) (xs : List Item) → last_of (bare last) (map bare xs) ≡ bare (last_of last xs)
+last_bare last [] = refl
+last_bare last (x ∷ xs) = last_bare x xs
 
-extent_bare : (text : List ℕ) (xs : List Item) → extent text (map bare xs) ≡ extent text xs
-extent_bare text xs =
-    ap (λ n. from_to text (slice_get (map bare xs) 0) (slice_get (map bare xs) (n - 1))) (length-map xs bare)
-    ∙ ((λ i. from_to text (slice_get-map bare xs 0 i) (slice_get-map bare xs (length xs - 1) i))
-    ∙ from_to_bare text (slice_get xs 0) (slice_get xs (length xs - 1)))
+symbol_by : (text : List ℕ) (first last : Item) (o : Option Head) → option_map (symbol_with text (bare first) (bare last)) (option_map bare_head o) ≡ option_map (symbol_with text first last) o
+symbol_by text first last None = refl
+symbol_by text first last (Some head) = refl
 
-symbol_by : (text : List ℕ) (block : Block) (o : Option Head) → option_map (symbol_with text (bare_block block)) (option_map bare_head o) ≡ option_map (symbol_with text block) o
-symbol_by text block None = refl
-symbol_by text block (Some head) = ap (λ (range : Range). Some (record (symbol_with text block head) { range = range })) (extent_bare text block.items)
+symbol_bare : (text : List ℕ) (xs : List Item) → symbol_of text (map bare xs) ≡ symbol_of text xs
+symbol_bare text [] = refl
+symbol_bare text (x ∷ xs) =
+    (λ i. option_map (symbol_with text (bare x) (last_bare x xs i)) (head_bare (x ∷ xs) i))
+    ∙ symbol_by text x (last_of x xs) (head_of (x ∷ xs))
 
-symbol_bare : (text : List ℕ) (block : Block) → symbol_of text (bare_block block) ≡ symbol_of text block
-symbol_bare text block = ap (option_map (symbol_with text (bare_block block))) (head_bare block.items) ∙ symbol_by text block (head_of block.items)
-
-symbols_bare : (text : List ℕ) (blocks : List Block) → filter_map (symbol_of text) (map bare_block blocks) ≡ filter_map (symbol_of text) blocks
+symbols_bare : (text : List ℕ) (blocks : List Block) → outline text (map bare_block blocks) ≡ outline text blocks
 symbols_bare text [] = refl
-symbols_bare text (block ∷ blocks) = (λ i. cons_option (symbol_bare text block i) (symbols_bare text blocks i))
+symbols_bare text (block ∷ blocks) = (λ i. cons_option (symbol_bare text block.items i) (symbols_bare text blocks i))
 
 abbrev HasItems : List Text → Block → Type 0
 HasItems ls block = AreItems ls block.first block.end block.items
@@ -82,7 +78,7 @@ one_outline : (text : List ℕ) (xs ys : List Symbol) → IsOutline text xs → 
 one_outline text xs ys p q =
     let ls = line_texts text in
     let blocks_are = same_blocks ls p.blocks q.blocks (one_list ls 0 (map bounds p.blocks) (map bounds q.blocks) p.all q.all) p.items q.items in
-    p.symbols_are ∙ (sym (symbols_bare text p.blocks) ∙ (ap (filter_map (symbol_of text)) blocks_are ∙ (symbols_bare text q.blocks ∙ sym q.symbols_are)))
+    p.symbols_are ∙ (sym (symbols_bare text p.blocks) ∙ (ap (outline text) blocks_are ∙ (symbols_bare text q.blocks ∙ sym q.symbols_are)))
 
 -- ---- definitions
 

@@ -1,12 +1,12 @@
 //! The outline of a text: its blocks that have a head.
 ghost use Rattle.std.specs.Prelude.{◌≡◌, ◌++◌, IfOk, OnOk};
 ghost use Rattle.abnf_syntax.specs.Heads.{head_of};
-ghost use Rattle.ls_answers.specs.Outline.{IsOutline, extent, symbol_of, symbols_in};
+ghost use Rattle.ls_answers.specs.Outline.{IsOutline, extent, symbols_in};
 
 use crate::answer::Symbol;
 use abnf_syntax::{Block, Item, blocks, place_of};
 use ls_lists::{List, Text};
-use ls_text::{Place, Range, Snapshot};
+use ls_text::{Range, Snapshot};
 use std::alloc::{AllocError as Memory, Global};
 
 /// The symbols of a text: one for each block with a head, in their order.
@@ -32,33 +32,25 @@ fn push_symbol(
 ) -> Result<(), Memory>
     ensures { OnOk result (symbols.new.items ≡ symbols.old.items ++ symbols_in snapshot.now block.now) }
 {
-    let Some(head) = block.head() else {
+    let (Some(head), [first, .., last]) = (block.head(), block.items.as_slice()) else {
         return Ok(());
     };
     let name = Text::from_str(alloc, head.name.text)?;
     let symbol = Symbol {
         name,
-        range: extent(snapshot, block.items.as_slice()),
+        range: extent(snapshot, first, last),
         name_range: snapshot.range_of(&place_of(head.name)),
     };
     symbols.push(symbol)?;
     Ok(())
 }
 
-/// From the first item to the end of the last.
-fn extent(snapshot: &Snapshot, items: &[Item]) -> Range
-    ensures { result ≡ extent snapshot.now items.now }
+/// From the start of the first item to the end of the last.
+fn extent(snapshot: &Snapshot, first: &Item, last: &Item) -> Range
+    ensures { result ≡ extent snapshot.now first.now last.now }
 {
-    match (items.first(), items.last()) {
-        (Some(first), Some(last)) => {
-            let start = snapshot.range_of(&place_of(first.token)).start;
-            let end = snapshot.range_of(&place_of(last.token)).end;
-            Range { start, end }
-        }
-        _ => snapshot.range_of(&Place {
-            line: 0,
-            start: 0,
-            end: 0,
-        }),
+    Range {
+        start: snapshot.range_of(&place_of(first.token)).start,
+        end: snapshot.range_of(&place_of(last.token)).end,
     }
 }
