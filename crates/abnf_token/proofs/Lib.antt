@@ -6,3 +6,4 @@ pub mod Laws
 pub mod Values
 pub mod MarkLaws
 pub mod Exist
+pub mod Runs

@@ -7,6 +7,9 @@ use crate::scan::tokens;
 use crate::token::{Kind, Token};
 use std::alloc::{AllocError, Global};
 
+/// How many bytes most tokens have, so that a line's marks need one allocation.
+const BYTES_A_TOKEN: usize = 4;
+
 /// The class of a token, and where its text stands in its line, in bytes.
 ///
 /// A line's marks can be kept with the line, which tokens, that borrow from it, can't be. [`token_at`] gives the token again.
@@ -36,7 +39,7 @@ pub fn marks_of(alloc: Global, text: &str) -> Result<Vec<TokenMark>, AllocError>
     requires { length text.now < 2 ^ 32 }
     ensures { IfOk result (λ marks. AreMarks text.now marks.items) }
 {
-    let mut marks = Vec::new(alloc);
+    let mut marks = Vec::with_capacity(alloc, text.len().div_ceil(BYTES_A_TOKEN))?;
     for token in tokens(text, 0) {
         marks.push(mark_of(&token))?;
     }

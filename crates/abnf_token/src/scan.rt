@@ -4,9 +4,9 @@ ghost use Rattle.std.specs.Prelude.{◌≡◌, ◌∷◌, ◌<◌, ◌≤◌, �
 ghost use Rattle.std.specs.Str.{IsCharBoundary, continuation_len};
 ghost use Rattle.abnf_token.specs.Rest.{HasNoClose};
 ghost use Rattle.abnf_token.specs.Tokens.{IsNext, HasOneAnswer, HasSlices, HasJoin, AreApart, GivesTokensOf};
-ghost use Rattle.abnf_token.specs.Machine.{munch};
+ghost use Rattle.abnf_token.specs.Machine.{begin, munch};
 
-use crate::machine::{State, accepted, step};
+use crate::machine::{State, accepted, begin, is_blank_byte, is_name_byte, is_quotable, step};
 use crate::token::{Kind, Token};
 use std::marker::Model;
 
@@ -50,7 +50,53 @@ fn longest(bytes: &[u8]) -> Option<(Kind, usize)>
     found
 }
 
-/// The same, without a look at the rest where a `<` is known to have no `>` behind it.
+/// The same where a name begins.
+fn longest_name(bytes: &[u8]) -> Option<(Kind, usize)>
+    requires some { 0 < length bytes.now }
+    requires first { begin (slice_index bytes.now 0) ≡ State.Name }
+    ensures { result ≡ munch State.Start 0 None bytes.now }
+{
+    for i in 1..bytes.len() {
+        if !is_name_byte(bytes[i]) {
+            return Some((Kind::Name, i));
+        }
+    }
+    Some((Kind::Name, bytes.len()))
+}
+
+/// The same where blanks begin.
+fn longest_blank(bytes: &[u8]) -> Option<(Kind, usize)>
+    requires some { 0 < length bytes.now }
+    requires first { begin (slice_index bytes.now 0) ≡ State.Blank }
+    ensures { result ≡ munch State.Start 0 None bytes.now }
+{
+    for i in 1..bytes.len() {
+        if !is_blank_byte(bytes[i]) {
+            return Some((Kind::Blank, i));
+        }
+    }
+    Some((Kind::Blank, bytes.len()))
+}
+
+/// The same where a quotation begins.
+fn longest_quotation(bytes: &[u8]) -> Option<(Kind, usize)>
+    requires some { 0 < length bytes.now }
+    requires first { begin (slice_index bytes.now 0) ≡ State.Quote }
+    ensures { result ≡ munch State.Start 0 None bytes.now }
+{
+    for i in 1..bytes.len() {
+        if bytes[i] == b'"' {
+            return Some((Kind::Quoted, i + 1));
+        }
+        if !is_quotable(bytes[i]) {
+            return None;
+        }
+    }
+    None
+}
+
+/// The same, without the machine where the first byte says enough, and without a look at the rest where a `<` is known to have
+/// no `>` behind it.
 fn longest_unless(bytes: &[u8], may_close: bool) -> Option<(Kind, usize)>
     requires some { 0 < length bytes.now }
     requires closes { may_close ≡ false → HasNoClose bytes.now }
@@ -59,7 +105,13 @@ fn longest_unless(bytes: &[u8], may_close: bool) -> Option<(Kind, usize)>
     if !may_close && bytes[0] == b'<' {
         return None;
     }
-    longest(bytes)
+    match begin(bytes[0]) {
+        State::Name => longest_name(bytes),
+        State::Blank => longest_blank(bytes),
+        State::Quote => longest_quotation(bytes),
+        State::Done(kind) => Some((kind, 1)),
+        _ => longest(bytes),
+    }
 }
 
 /// The length in bytes of the character that begins with this byte.

@@ -16,7 +16,7 @@ pub struct Line {
     text: String,
     end: LineEnd,
     // How many characters the text has.
-    char_count: usize,
+    char_count: u32,
     // Where the tokens of the text stand.
     marks: Vec<TokenMark>,
 }
@@ -42,7 +42,7 @@ impl Line {
         requires { length text.now < 2 ^ 32 }
         ensures { IfOk result (λ line. line ≡ row (chars text.now) end) }
     {
-        let char_count = char_count(text);
+        let char_count = char_count(text) as u32;
         let marks = marks_of(alloc, text)?;
         Ok(Line {
             text: String::from_str(alloc, text)?,
@@ -71,7 +71,7 @@ impl Line {
     pub fn char_count(&self) -> usize
         ensures { result ≡ length self.now.text }
     {
-        self.char_count
+        self.char_count as usize
     }
 
     // Where the tokens of the text stand.

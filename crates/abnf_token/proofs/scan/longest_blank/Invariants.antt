@@ -1,0 +1,8 @@
+use Rattle.std.proofs.Common.{◌≡◌, drop, Some, None}
+use Rattle.abnf_token.specs.declared.token.Kind.TheVariants as k
+use Rattle.abnf_token.specs.declared.machine.State.TheVariants.{Start, Blank}
+use Rattle.abnf_token.specs.Machine.{munch}
+use Rattle.abnf_token.proofs.scan.longest_blank.Given as goal
+
+abbrev pub invariant-loop-i : goal.invariant-loop-i
+invariant-loop-i l = munch Blank l.i (Some (k.Blank, l.i)) (drop l.i l.bytes) ≡ munch Start 0 None l.bytes
