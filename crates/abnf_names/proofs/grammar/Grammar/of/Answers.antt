@@ -1,14 +1,11 @@
-use Rattle.std.proofs.Common.{◌≡◌, ◌∙◌, sym, ap, subst, map, List, ℕ}
+use Rattle.std.proofs.Common.{◌∙◌, sym, ap, subst, map, List, ℕ}
 use Rattle.abnf_parts.specs.CoreTable.{core_of}
 use Rattle.abnf_parts.specs.declared.node.Node.{Node}
-use Rattle.abnf_parts.specs.Nodes.{trees_at, AreNumbered}
-use Rattle.abnf_parts.specs.Reach.{AreReaching}
+use Rattle.abnf_parts.specs.Nodes.{AreNumbered}
 use Rattle.abnf_names.specs.declared.parsed.Parsed.{Parsed}
-use Rattle.abnf_names.specs.declared.place.Spot.{Spot}
-use Rattle.abnf_names.specs.Places.{places_of}
-use Rattle.abnf_names.specs.Rules.{needed, faults_of}
-use Rattle.abnf_names.specs.Passes.{block_of, named_at, AreNames, ArePlaced}
-use Rattle.abnf_names.proofs.Kept.{kept, numbered}
+use Rattle.abnf_names.specs.Rules.{needed}
+use Rattle.abnf_names.specs.Passes.{block_of, AreNames}
+use Rattle.abnf_names.proofs.Kept.{made, numbered}
 use Rattle.abnf_names.proofs.grammar.Grammar.of.Goals as goal
 
 pub numbered_rules-requires-clause-names : goal.numbered_rules-requires-clause-names
@@ -28,32 +25,14 @@ reaching-requires c =
 
 pub invariant_of-result : goal.invariant_of-result
 invariant_of-result c =
-    let blocks = map block_of c.in_ok-parsed.parsed.items in
-    let places : map named_at c.in_ok-spots.spots ≡ places_of blocks =
-    c.in_ok-spots.ensures ∙ ap (λ (ps : List Parsed). places_of (map block_of ps)) c.as_slice.ensures.value in
-    kept (record {
-      source = c.args.snapshot;
-      nodes = c.in_ok-nodes.nodes;
-      roots = c.in_ok-nodes.roots;
-      names = c.in_ok-names.names;
-      spots = c.in_ok-spots.spots;
-      by_name = c.in_ok-by_name.by_name;
-      faults = c.in_ok-faults.faults;
-      opaque = c.in_ok-opaque.opaque;
-    })
-    blocks c.in_ok-parsed.ensures (subst (λ (ps : List Parsed). AreNames (map block_of ps) c.in_ok-names.names) c.as_slice-4.ensures.value c.in_ok-names.ensures.names) c.in_ok-nodes.ensures places
-    (c.in_ok-faults.ensures ∙ ap (λ (ps : List Parsed). faults_of (map block_of ps)) c.as_slice-2.ensures.value)
-    (subst (λ (ss : List Spot). ArePlaced (map named_at ss) c.in_ok-by_name.by_name) c.as_slice-3.ensures c.in_ok-by_name.ensures)
-    (subst (λ (ns : List Node). AreReaching (trees_at ns c.in_ok-nodes.roots.items) c.in_ok-opaque.opaque.items) c.as_slice-7.ensures.value
-    (subst (λ (rs : List ℕ). AreReaching (trees_at c.as_slice-7.result.now rs) c.in_ok-opaque.opaque.items) c.as_slice-8.ensures.value c.in_ok-opaque.ensures))
+    made _ c.in_ok-parsed.parsed.items c.as_slice-4.result.now c.as_slice.result.now c.as_slice-2.result.now c.as_slice-3.result.now c.as_slice-7.result.now c.as_slice-8.result.now
+    c.in_ok-parsed.ensures c.as_slice-4.ensures.value c.in_ok-names.ensures.names c.in_ok-nodes.ensures c.as_slice.ensures.value c.in_ok-spots.ensures c.as_slice-2.ensures.value c.in_ok-faults.ensures
+    c.as_slice-3.ensures c.in_ok-by_name.ensures c.as_slice-7.ensures.value c.as_slice-8.ensures.value c.in_ok-opaque.ensures
 
 pub returns-clause-grammar : goal.returns-clause-grammar
 returns-clause-grammar c =
-    let blocks = map block_of c.in_ok-parsed.parsed.items in
-    let places : map named_at c.in_ok-spots.spots ≡ places_of blocks =
-    c.in_ok-spots.ensures ∙ ap (λ (ps : List Parsed). places_of (map block_of ps)) c.as_slice.ensures.value in
     let inside =
-    kept (record {
+    made (record {
       source = c.args.snapshot;
       nodes = c.in_ok-nodes.nodes;
       roots = c.in_ok-nodes.roots;
@@ -63,9 +42,7 @@ returns-clause-grammar c =
       faults = c.in_ok-faults.faults;
       opaque = c.in_ok-opaque.opaque;
     })
-    blocks c.in_ok-parsed.ensures (subst (λ (ps : List Parsed). AreNames (map block_of ps) c.in_ok-names.names) c.as_slice-4.ensures.value c.in_ok-names.ensures.names) c.in_ok-nodes.ensures places
-    (c.in_ok-faults.ensures ∙ ap (λ (ps : List Parsed). faults_of (map block_of ps)) c.as_slice-2.ensures.value)
-    (subst (λ (ss : List Spot). ArePlaced (map named_at ss) c.in_ok-by_name.by_name) c.as_slice-3.ensures c.in_ok-by_name.ensures)
-    (subst (λ (ns : List Node). AreReaching (trees_at ns c.in_ok-nodes.roots.items) c.in_ok-opaque.opaque.items) c.as_slice-7.ensures.value
-    (subst (λ (rs : List ℕ). AreReaching (trees_at c.as_slice-7.result.now rs) c.in_ok-opaque.opaque.items) c.as_slice-8.ensures.value c.in_ok-opaque.ensures))
+    c.in_ok-parsed.parsed.items c.as_slice-4.result.now c.as_slice.result.now c.as_slice-2.result.now c.as_slice-3.result.now c.as_slice-7.result.now c.as_slice-8.result.now
+    c.in_ok-parsed.ensures c.as_slice-4.ensures.value c.in_ok-names.ensures.names c.in_ok-nodes.ensures c.as_slice.ensures.value c.in_ok-spots.ensures c.as_slice-2.ensures.value c.in_ok-faults.ensures
+    c.as_slice-3.ensures c.in_ok-by_name.ensures c.as_slice-7.ensures.value c.as_slice-8.ensures.value c.in_ok-opaque.ensures
     in inside.is_grammar
