@@ -1,0 +1,102 @@
+-- The certificates that are accepted: each entry follows from those of the parts right below it.
+use Rattle.std.specs.Prelude.{◌≡◌, ℕ, zero, suc, ◌+◌, ◌*◌, ◌<◌, ◌≤◌, ◌⊎◌, min, max, Option, Some, None, List, [], ◌∷◌, length, map, take, slice_get, slice_index_or}
+use Rattle.std.specs.List.{AllByRecursion}
+use Rattle.abnf_cert.specs.declared.entry.Entry.{Entry}
+use Rattle.abnf_cert.specs.declared.entry.Entry.TheVariants.{Nothing, Least}
+use Rattle.abnf_parts.specs.Part.{Part, quoted, series, span, seq, alt, rep, ref, opaque, parts_of, root_number, numbers}
+use Rattle.abnf_parts.specs.Generates.{UpTo}
+
+-- where lengths saturate: the greatest number of 64 bits
+abbrev pub top : ℕ
+top = 18446744073709551615
+
+-- a sum or a product of lengths, cut off at the top
+abbrev pub cut : ℕ → ℕ
+cut n = min n top
+
+-- two parts in a row
+abbrev pub in_a_row : Entry → Entry → Entry
+in_a_row Nothing e = Nothing
+in_a_row (Least l h c) Nothing = Nothing
+in_a_row (Least l h c) (Least m k d) = Least (cut (l + m)) (max h k) 0
+
+-- parts in a row: nothing where one is nothing, else the sum of the lengths and the greatest height
+abbrev pub all_in_a_row : List Entry → Entry
+all_in_a_row [] = Least 0 0 0
+all_in_a_row (e ∷ es) = in_a_row e (all_in_a_row es)
+
+-- a part, as often as told
+abbrev pub times : ℕ → Entry → Entry
+times zero e = Least 0 0 0
+times (suc n) Nothing = Nothing
+times (suc n) (Least l h c) = Least (cut (suc n * l)) h 0
+
+-- a reference to a rule whose root has this entry
+abbrev pub referred : Entry → Entry
+referred Nothing = Nothing
+referred (Least l h c) = Least l (h + 1) 0
+
+-- the entry has this length and this height
+abbrev pub HasPair : ℕ → ℕ → Entry → Type 0
+HasPair l h e = (c : ℕ) × (e ≡ Least l h c)
+
+-- the least is above the most
+abbrev pub Exceeds : Option ℕ → ℕ → Type 0
+Exceeds None n = ⊥
+Exceeds (Some most) n = most < n
+
+-- the entry's pair of length and height isn't before this one, the length compared first
+abbrev pub NotBefore : ℕ → ℕ → Entry → Type 0
+NotBefore l h Nothing = Unit {0}
+NotBefore l h (Least m k c) = (l < m) ⊎ ((l ≡ m) × (h ≤ k))
+
+-- it comes after this one
+abbrev pub After : ℕ → ℕ → Entry → Type 0
+After l h Nothing = Unit {0}
+After l h (Least m k c) = (l < m) ⊎ ((l ≡ m) × (h < k))
+
+-- its length isn't below the top
+abbrev pub Saturated : Entry → Type 0
+Saturated Nothing = Unit {0}
+Saturated (Least m k c) = m ≡ top
+
+-- Where a part is below the top: no part has a pair before this one, and those before the chosen one have later pairs.
+pub record IsFirstLeast (es : List Entry) (l h c : ℕ) : Type 0 where
+  pub below : l < top
+  pub least : AllByRecursion (NotBefore l h) es
+  pub first : AllByRecursion (After l h) (take c es)
+
+-- where no part is below the top
+pub record IsSaturated (es : List Entry) (l : ℕ) : Type 0 where
+  pub at_top : l ≡ top
+  pub all : AllByRecursion Saturated es
+
+-- The entry of a choice among parts with these entries: nothing where all are, else the pair of the chosen one, which is the first
+-- with the least pair, or any at the top where none is below it.
+abbrev pub IsChoice : List Entry → Entry → Type 0
+IsChoice es Nothing = AllByRecursion (λ e. e ≡ Nothing) es
+IsChoice es (Least l h c) =
+    ((d : ℕ) × (slice_get es c ≡ Some (Least l h d))) × (IsFirstLeast es l h c ⊎ IsSaturated es l)
+
+-- an entry fits part n, where the entry of each part and the number of each rule's root are known
+abbrev pub Fits : (ℕ → Entry) → (ℕ → ℕ) → ℕ → Part → Entry → Type 0
+Fits at root n (quoted text exact) e = e ≡ Least (length text) 0 0
+Fits at root n (series characters) e = e ≡ Least (length characters) 0 0
+Fits at root n (span low high) e = ((low ≤ high) × (e ≡ Least 1 0 0)) ⊎ ((high < low) × (e ≡ Nothing))
+Fits at root n (seq ps) e = e ≡ all_in_a_row (map at (numbers (suc n) ps))
+Fits at root n (alt ps) e = IsChoice (map at (numbers (suc n) ps)) e
+Fits at root n (rep least most p) e =
+    (UpTo most least × (e ≡ times least (at (suc n)))) ⊎ (Exceeds most least × (e ≡ Nothing))
+Fits at root n (ref name None) e = e ≡ Nothing
+Fits at root n (ref name (Some r)) e = e ≡ referred (at (root r))
+Fits at root n opaque e = e ≡ Nothing
+
+-- the entry of a part, nothing past the end
+abbrev pub entry_at : List Entry → ℕ → Entry
+entry_at cert n = slice_index_or cert n Nothing
+
+-- one entry for each part, and each fits
+pub record IsAccepted (roots : List Part) (cert : List Entry) : Type 0 where
+  pub one_each : length cert ≡ length (parts_of roots)
+  pub fits : (n : ℕ) (p : Part) → slice_get (parts_of roots) n ≡ Some p →
+      Fits (entry_at cert) (root_number roots) n p (entry_at cert n)

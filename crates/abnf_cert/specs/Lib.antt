@@ -1,0 +1,6 @@
+pub mod Accepted
+pub mod FitsNode
+pub mod Test
+pub mod Says
+pub mod Text
+pub mod Read

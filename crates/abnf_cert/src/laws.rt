@@ -1,0 +1,19 @@
+//! Laws of certificates and of their texts. The functions do nothing.
+
+ghost use Rattle.abnf_cert.specs.Says.{AcceptedIsRight};
+ghost use Rattle.abnf_cert.specs.Read.{TextsAreRead, TextsAreUnique};
+
+/// Each entry of an accepted certificate is right, for any grammar and whoever made the certificate.
+pub fn accepted_is_right()
+    ensures { AcceptedIsRight }
+{}
+
+/// A certificate has one text: what reads as the certificate is what is written of it.
+pub fn texts_are_unique()
+    ensures { TextsAreUnique }
+{}
+
+/// The text of a certificate reads as that certificate, and as no other.
+pub fn texts_are_read()
+    ensures { TextsAreRead }
+{}

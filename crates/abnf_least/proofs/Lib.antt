@@ -1,0 +1,17 @@
+pub mod Choice
+pub mod Settle
+pub mod Accept
+pub mod Height
+pub mod Queued
+pub mod SearchStep
+pub mod At
+pub mod Listed
+pub mod Offers
+pub mod Named
+pub mod More
+pub mod Weight
+pub mod Complete
+pub mod WalkStep
+pub mod RootSays
+pub mod One
+pub mod OneShown

@@ -1,0 +1,117 @@
+-- What users are offered, one after the other.
+use Rattle.std.proofs.Common.{◌≡◌, ℕ, ◌+◌, ◌<◌, ◌≤◌, ⊎_elim, List, [], ◌∷◌, ◌++◌, length, sym, ap, ◌∙◌, subst, arith, get_or, Result, Ok, Err}
+use Rattle.std.proofs.lemmas.Bool.{cases_lt}
+use Rattle.std.proofs.lemmas.List.{get_or_past, get_or_push, get_or_append_left, length_push, get_or_default}
+use Rattle.std.specs.Prelude.{OnOk}
+use Rattle.std.specs.List.{Contains}
+use Rattle.abnf_cert.specs.declared.entry.Entry.{Entry}
+use Rattle.abnf_cert.specs.declared.entry.Entry.TheVariants.{Nothing, Least}
+use Rattle.abnf_parts.specs.Part.{Part, parts_of}
+use Rattle.abnf_cert.specs.Accepted.{entry_at}
+use Rattle.abnf_least.specs.declared.candidate.Candidate.{Candidate}
+use Rattle.abnf_least.specs.Form.{Form, entry_given}
+use Rattle.abnf_least.specs.Table.{InRange}
+use Rattle.abnf_least.specs.Search.{form_at, offered, IsOffered, IsPushed, Keeps, AllWait, AreGiven, candidate}
+use Rattle.abnf_least.proofs.At.{past_form}
+use Rattle.abnf_least.proofs.Settle.{nothing_least}
+
+pub on_ok : {A E : Type 0} (r : Result A E) {P Q : Type 0} → OnOk r P → (P → Q) → OnOk r Q
+on_ok (Ok x) p f = f p
+on_ok (Err e) p f = tt
+
+pub offered_from : (form : ℕ → Form) (at : ℕ → Entry) (part user : ℕ) (queue : List Candidate) (e : Entry) (f : Form) → form user ≡ f → e ≡ offered at f part → IsPushed e user queue → IsOffered form at part user queue
+offered_from form at part user queue e f is e_is pushed l h d given =
+    pushed l h d (e_is ∙ ap (λ x. offered at x part) (sym is) ∙ given)
+
+pub offered_still : (form : ℕ → Form) (at : ℕ → Entry) (part user : ℕ) (old new : List Candidate) → Keeps old new → IsOffered form at part user old → IsOffered form at part user new
+offered_still form at part user old new keeps off l h d given = keeps (candidate l h user) (off l h d given)
+
+-- the first users have been offered
+pub record OffersUpTo (form : ℕ → Form) (at : ℕ → Entry) (part : ℕ) (users : List ℕ) (old new : List Candidate) (count : ℕ) : Type 0 where
+  pub kept : Keeps old new
+  pub each : (j : ℕ) → j < count → IsOffered form at part (get_or users j 0) new
+
+pub offers_more :
+    (form : ℕ → Form) (at : ℕ → Entry) (part : ℕ) (users : List ℕ) (old mid new : List Candidate) (count : ℕ) → OffersUpTo form at part users old mid count → Keeps mid new →
+    IsOffered form at part (get_or users count 0) new → OffersUpTo form at part users old new (count + 1)
+offers_more form at part users old mid new count o keeps now =
+    record {
+      kept = λ y here. keeps y (o.kept y here);
+      each = λ j below.
+          ⊎_elim
+          (λ less. offered_still form at part (get_or users j 0) mid new keeps (o.each j less))
+          (λ ge. let e : count ≡ j = omega arith in subst (λ n. IsOffered form at part (get_or users n 0) new) e now)
+          (cases_lt j count);
+    }
+
+pub offers_all :
+    (form : ℕ → Form) (at : ℕ → Entry) (part : ℕ) (users : List ℕ) (old new : List Candidate) (count : ℕ) → OffersUpTo form at part users old new count → length users ≤ count →
+    (k : ℕ) → Contains users k → IsOffered form at part k new
+offers_all form at part users old new count o all k here =
+    subst (λ n. IsOffered form at part n new) (get_or_default users here.0 0 k here.1 ∙ here.2) (o.each here.0 (let w = here.1 in omega arith))
+
+-- the first parts wait that are given an entry
+abbrev pub WaitUpTo : (ℕ → Form) → (ℕ → Entry) → ℕ → List Candidate → Type 0
+WaitUpTo form at count queue = (k l h d : ℕ) → k < count → at k ≡ Nothing → entry_given at (form k) ≡ Least l h d → Contains queue (candidate l h k)
+
+pub wait_more :
+    (form : ℕ → Form) (at : ℕ → Entry) (count : ℕ) (old new : List Candidate) (e : Entry) (f : Form) → WaitUpTo form at count old → Keeps old new → form count ≡ f →
+    e ≡ entry_given at f → IsPushed e count new → WaitUpTo form at (count + 1) new
+wait_more form at count old new e f wait keeps is e_is pushed k l h d below none given =
+    ⊎_elim
+    (λ less. keeps (candidate l h k) (wait k l h d less none given))
+    (λ ge.
+    let same : k ≡ count = omega arith in
+    subst (λ n. Contains new (candidate l h n)) (sym same) (pushed l h d (e_is ∙ ap (entry_given at) (sym is) ∙ ap (λ n. entry_given at (form n)) (sym same) ∙ given)))
+    (cases_lt k count)
+
+pub wait_all :
+    (trees : List Part) (at : ℕ → Entry) (count : ℕ) (queue : List Candidate) → WaitUpTo (form_at trees) at count queue → length (parts_of trees) ≤ count → AllWait (form_at trees) at queue
+wait_all trees at count queue wait all k l h d none given =
+    ⊎_elim
+    (λ less. wait k l h d less none given)
+    (λ ge. absurd (nothing_least l h d (sym (ap (entry_given at) (past_form trees k (omega arith))) ∙ given)))
+    (cases_lt k count)
+
+-- the values of the first parts
+pub record GivenUpTo (form : ℕ → Form) (at : ℕ → Entry) (count : ℕ) (cert : List Entry) : Type 0 where
+  pub one_each : length cert ≡ count
+  pub each : (n : ℕ) → n < count → entry_at cert n ≡ entry_given at (form n)
+  pub lengths : (n : ℕ) → n < count → InRange (entry_at cert n)
+
+pub given_more :
+    (form : ℕ → Form) (at : ℕ → Entry) (count : ℕ) (cert : List Entry) (e : Entry) (f : Form) → GivenUpTo form at count cert → form count ≡ f → e ≡ entry_given at f → InRange e →
+    GivenUpTo form at (count + 1) (cert ++ e ∷ [])
+given_more form at count cert e f v is e_is range =
+    let last : entry_at (cert ++ e ∷ []) count ≡ e = get_or_push cert e Nothing count v.one_each in
+    let front : (n : ℕ) → n < count → entry_at (cert ++ e ∷ []) n ≡ entry_at cert n =
+    λ n less. get_or_append_left cert (e ∷ []) Nothing n (let one = v.one_each in omega arith) in
+    record {
+      one_each = length_push cert e ∙ ap (λ n. n + 1) v.one_each;
+      each = λ n below.
+          ⊎_elim
+          (λ less. front n less ∙ v.each n less)
+          (λ ge.
+          let same : n ≡ count = omega arith in
+          ap (entry_at (cert ++ e ∷ [])) same ∙ last ∙ e_is ∙ ap (entry_given at) (sym is) ∙ ap (λ m. entry_given at (form m)) (sym same))
+          (cases_lt n count);
+      lengths = λ n below.
+          ⊎_elim
+          (λ less. subst InRange (sym (front n less)) (v.lengths n less))
+          (λ ge. let same : n ≡ count = omega arith in subst InRange (sym (ap (entry_at (cert ++ e ∷ [])) same ∙ last)) range)
+          (cases_lt n count);
+    }
+
+pub given_all :
+    (trees : List Part) (table cert : List Entry) (count : ℕ) → GivenUpTo (form_at trees) (entry_at table) count cert → count ≡ length (parts_of trees) → AreGiven trees table cert
+given_all trees table cert count v all =
+    let past : (n : ℕ) → count ≤ n → entry_at cert n ≡ Nothing = λ n ge. get_or_past cert n Nothing (let one = v.one_each in omega arith) in
+    record {
+      one_each = v.one_each ∙ all;
+      each = λ n.
+          ⊎_elim
+          (λ less. v.each n less)
+          (λ ge. past n ge ∙ sym (ap (entry_given (entry_at table)) (past_form trees n (omega arith))))
+          (cases_lt n count);
+      lengths = λ n. ⊎_elim (λ less. v.lengths n less) (λ ge. subst InRange (sym (past n ge)) tt) (cases_lt n count);
+    }

@@ -1,0 +1,9 @@
+pub mod Form
+pub mod Table
+pub mod Order
+pub mod Queue
+pub mod Search
+pub mod Sentence
+pub mod Shown
+pub mod Walk
+pub mod Rendered

@@ -1,0 +1,25 @@
+-- The table of settled entries.
+use Rattle.std.specs.Prelude.{ℕ, suc, ◌≤◌, List, [], ◌∷◌}
+use Rattle.abnf_cert.specs.declared.entry.Entry.{Entry}
+use Rattle.abnf_cert.specs.declared.entry.Entry.TheVariants.{Nothing, Least}
+use Rattle.abnf_cert.specs.Accepted.{entry_at, top}
+
+-- the height is at most b
+abbrev pub IsUpTo : ℕ → Entry → Type 0
+IsUpTo b Nothing = Unit {0}
+IsUpTo b (Least l h c) = h ≤ b
+
+-- how many parts aren't settled
+abbrev pub unsettled : List Entry → ℕ
+unsettled [] = 0
+unsettled (Nothing ∷ table) = suc (unsettled table)
+unsettled (Least l h c ∷ table) = unsettled table
+
+-- no height of the table is the greatest number of 64 bits
+abbrev pub HasRoom : List Entry → Type 0
+HasRoom table = (n : ℕ) → IsUpTo 18446744073709551614 (entry_at table n)
+
+-- lengths never go past the top
+abbrev pub InRange : Entry → Type 0
+InRange Nothing = Unit {0}
+InRange (Least l h c) = l ≤ top

@@ -1,0 +1,122 @@
+//! What the users of a part are offered once it is settled.
+
+ghost use Rattle.std.specs.Prelude.{OnOk, ◌≡◌, ◌<◌, ℕ, false, length, map, slice_index_or as get_or};
+ghost use Rattle.std.specs.List.{Contains};
+ghost use Rattle.abnf_parts.specs.Part.{parts_of, root_number};
+ghost use Rattle.abnf_cert.specs.Accepted.{all_in_a_row, entry_at};
+ghost use Rattle.abnf_cert.specs.FitsNode.{NodeRefersWithin};
+ghost use Rattle.abnf_cert.specs.declared.entry.Entry.TheVariants.{Nothing};
+ghost use Rattle.abnf_least.specs.Form.{node_form};
+ghost use Rattle.abnf_least.specs.Search.{IsOffered, IsPushed, Keeps, form_at, offered};
+ghost use Rattle.abnf_least.specs.Table.{HasRoom};
+
+use crate::candidate::Candidate;
+use crate::given::entry_given;
+use crate::queue::Queue;
+use abnf_cert::Entry;
+use abnf_cert::entries::entry_of;
+use abnf_names::Grammar;
+use abnf_parts::{Node, NodeNo};
+use std::alloc::AllocError;
+
+/// Lets a part wait, if it is given an entry.
+pub(crate) fn push_given(queue: &mut Queue, number: usize, entry: Entry) -> Result<(), AllocError>
+    ensures kept { OnOk result (Keeps queue.old queue.new) }
+    ensures pushed { OnOk result (IsPushed entry number queue.new) }
+{
+    match entry {
+        Entry::Nothing => Ok(()),
+        Entry::Least { length, height, .. } => queue.push(Candidate {
+            length,
+            height,
+            number,
+        }),
+    }
+}
+
+/// What a user of a settled part is offered: a choice that part's own pair, so that its other parts aren't looked at, and any other
+/// part the entry that it is given.
+fn offered_entry(grammar: &Grammar, table: &[Entry], node: &Node, part: usize) -> Entry
+    requires refers { NodeRefersWithin (length grammar.now.rules) node.now }
+    requires room { HasRoom table.now }
+    ensures { result ≡ offered (entry_at table.now) (node_form (root_number grammar.now.rules) node.now) part }
+{
+    match node {
+        Node::Alt(_) => entry_of(table, part),
+        _ => entry_given(grammar, table, node),
+    }
+}
+
+/// The first place from this one on where a part isn't settled.
+fn first_unsettled(table: &[Entry], parts: &[NodeNo], from: usize) -> usize
+    ensures { result < length parts.now → entry_at table.now (get_or parts.now result 0) ≡ Nothing }
+{
+    let mut at = from;
+    while at < parts.len() {
+        match entry_of(table, parts[at].get()) {
+            Entry::Nothing => return at,
+            Entry::Least { .. } => at += 1,
+        }
+    }
+    at
+}
+
+/// Whether all parts of a row are settled. At the row's number `ready` says up to which place they were so before, so that all calls
+/// together pass each place once.
+fn is_ready(table: &[Entry], parts: &[NodeNo], number: usize, ready: &mut [usize]) -> bool
+    ensures { result ≡ false → all_in_a_row (map (entry_at table.now) parts.now) ≡ Nothing }
+{
+    if number >= ready.len() {
+        return true;
+    }
+    let at = first_unsettled(table, parts, ready[number]);
+    ready[number] = at;
+    at >= parts.len()
+}
+
+/// Lets a user of a part that was settled just now wait, if it is given an entry.
+fn offer(
+    grammar: &Grammar,
+    table: &[Entry],
+    part: usize,
+    user: usize,
+    ready: &mut [usize],
+    queue: &mut Queue,
+) -> Result<(), AllocError>
+    requires one_each { length table.now ≡ length (parts_of grammar.now.rules) }
+    requires room { HasRoom table.now }
+    ensures kept { OnOk result (Keeps queue.old queue.new) }
+    ensures offered { OnOk result (IsOffered (form_at grammar.now.rules) (entry_at table.now) part user queue.new) }
+{
+    let nodes = grammar.nodes();
+    if user >= nodes.len() {
+        return Ok(());
+    }
+    let node = &nodes[user];
+    if let Node::Seq(parts) = node {
+        if !is_ready(table, parts.as_slice(), user, ready) {
+            return Ok(());
+        }
+    }
+    push_given(queue, user, offered_entry(grammar, table, node, part))
+}
+
+/// Lets the users of a part that was settled just now wait, each if it is given an entry.
+pub(crate) fn offer_all(
+    grammar: &Grammar,
+    table: &[Entry],
+    part: usize,
+    users: &[usize],
+    ready: &mut [usize],
+    queue: &mut Queue,
+) -> Result<(), AllocError>
+    requires one_each { length table.now ≡ length (parts_of grammar.now.rules) }
+    requires room { HasRoom table.now }
+    ensures kept { OnOk result (Keeps queue.old queue.new) }
+    ensures offered { OnOk result ((k : ℕ) → Contains users.now k → IsOffered (form_at grammar.now.rules) (entry_at table.now) part k queue.new) }
+{
+    for user in users {
+        offer(grammar, table, part, *user, ready, queue)?;
+    }
+    Ok(())
+}

@@ -1,0 +1,138 @@
+//! The search for least lengths.
+//!
+//! Parts are settled in the order of their pairs, each once: a queue gives the least, since no part has a pair before those of the
+//! parts from which it follows. A settled part is offered to its users, which then wait in the queue. What waits is checked again
+//! when it leaves, so nothing need be taken from the queue's middle. In the end each part gets the entry that the settled ones give
+//! it, which at a choice names the first part with the least pair.
+
+ghost use Rattle.std.specs.Prelude.{IfNone, IfOk, IfSome, IsTrue, OnOk, ◌≡◌, ◌↔◌, length};
+ghost use Rattle.abnf_parts.specs.Part.{parts_of};
+ghost use Rattle.abnf_cert.specs.Accepted.{IsAccepted, entry_at};
+ghost use Rattle.abnf_least.specs.Search.{AllWait, AreGiven, AreUsers, IsDone, IsFound, IsGiven, Stands, form_at};
+ghost use Rattle.abnf_least.specs.Table.{HasRoom};
+
+use crate::candidate::Candidate;
+use crate::given::entry_given;
+use crate::offer::{offer_all, push_given};
+use crate::queue::Queue;
+use crate::users::Users;
+use abnf_cert::entries::{entry_of, has_pair};
+use abnf_cert::{Cert, Entry};
+use abnf_names::Grammar;
+use std::alloc::{AllocError, Global};
+
+/// Whether a candidate isn't settled yet, and has the pair that the table gives it.
+fn is_given(grammar: &Grammar, table: &[Entry], candidate: Candidate) -> bool
+    requires one_each { length table.now ≡ length (parts_of grammar.now.rules) }
+    requires room { HasRoom table.now }
+    ensures { IsTrue result ↔ IsGiven (form_at grammar.now.rules) table.now candidate }
+{
+    let nodes = grammar.nodes();
+    if candidate.number >= nodes.len() {
+        return false;
+    }
+    match entry_of(table, candidate.number) {
+        Entry::Least { .. } => false,
+        Entry::Nothing => {
+            let node = &nodes[candidate.number];
+            has_pair(
+                entry_given(grammar, table, node),
+                candidate.length,
+                candidate.height,
+            )
+        }
+    }
+}
+
+/// Takes the next part to be settled from the queue.
+fn take_next(grammar: &Grammar, table: &[Entry], queue: &mut Queue) -> Option<Candidate>
+    requires one_each { length table.now ≡ length (parts_of grammar.now.rules) }
+    requires room { HasRoom table.now }
+    requires waiting { AllWait (form_at grammar.now.rules) (entry_at table.now) queue.old }
+    ensures some { IfSome result (λ x. IsFound (form_at grammar.now.rules) table.now x queue.new) }
+    ensures none { IfNone result (IsDone (form_at grammar.now.rules) (entry_at table.now)) }
+{
+    while let Some(candidate) = queue.pop() {
+        if is_given(grammar, table, candidate) {
+            return Some(candidate);
+        }
+    }
+    None
+}
+
+/// Settles all parts that are given an entry, one with the least pair first.
+fn settle(
+    grammar: &Grammar,
+    users: &Users,
+    table: &mut [Entry],
+    ready: &mut [usize],
+    queue: &mut Queue,
+) -> Result<(), AllocError>
+    requires stands { Stands grammar.now.rules table.old queue.old }
+    requires users { AreUsers grammar.now.rules users.now }
+    ensures stands { OnOk result (Stands grammar.now.rules table.new queue.new) }
+    ensures done { OnOk result (IsDone (form_at grammar.now.rules) (entry_at table.new)) }
+{
+    while let Some(next) = take_next(grammar, table, queue) {
+        table[next.number] = Entry::Least {
+            length: next.length,
+            height: next.height,
+            choice: 0,
+        };
+        offer_all(
+            grammar,
+            table,
+            next.number,
+            users.of(next.number),
+            ready,
+            queue,
+        )?;
+    }
+    Ok(())
+}
+
+/// Lets all parts wait that are given an entry at the start.
+fn start(grammar: &Grammar, table: &[Entry], queue: &mut Queue) -> Result<(), AllocError>
+    requires one_each { length table.now ≡ length (parts_of grammar.now.rules) }
+    requires room { HasRoom table.now }
+    ensures { OnOk result (AllWait (form_at grammar.now.rules) (entry_at table.now) queue.new) }
+{
+    let nodes = grammar.nodes();
+    for (number, node) in nodes.iter().enumerate() {
+        push_given(queue, number, entry_given(grammar, table, node))?;
+    }
+    Ok(())
+}
+
+/// The entries that the table gives all parts.
+fn all_given(alloc: Global, grammar: &Grammar, table: &[Entry]) -> Result<Vec<Entry>, AllocError>
+    requires room { HasRoom table.now }
+    ensures { IfOk result (λ entries. AreGiven grammar.now.rules table.now entries.items) }
+{
+    let nodes = grammar.nodes();
+    let mut entries = Vec::with_capacity(alloc, nodes.len())?;
+    for node in nodes {
+        entries.push(entry_given(grammar, table, node))?;
+    }
+    Ok(entries)
+}
+
+/// The least lengths of what the parts of a grammar generate: a certificate that [`check`](abnf_cert::check) accepts. For n nodes it
+/// takes time in proportion to n times the logarithm of n, and memory in proportion to n.
+///
+/// # Errors
+///
+/// Where an allocation is refused.
+pub fn least(alloc: Global, grammar: &Grammar) -> Result<Cert, AllocError>
+    ensures { IfOk result (λ cert. IsAccepted grammar.now.rules cert) }
+{
+    let count = grammar.nodes().len();
+    let users = Users::of_grammar(alloc, grammar)?;
+    let mut ready = vec![in alloc; 0usize; count]?;
+    let mut table = vec![in alloc; Entry::Nothing; count]?;
+    let mut queue = Queue::new(alloc);
+    start(grammar, &table, &mut queue)?;
+    settle(grammar, &users, &mut table, &mut ready, &mut queue)?;
+    let entries = all_given(alloc, grammar, &table)?;
+    Ok(Cert::new(entries))
+}
