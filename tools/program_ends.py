@@ -3,13 +3,16 @@
 
     tools/program_ends.py ['N passed, M failed']
 
-No contract speaks of arguments and devices. Each of the two compilers' programs is run, where it is there. The last line has
+No contract speaks of arguments, files and devices. Each of the two compilers' programs is run, where it is there. The last line has
 the form of that of `rt ci`, and counts what is handed in too.
 """
 import os
 import re
 import subprocess
 import sys
+import tempfile
+
+import command_rows
 
 TOP = os.path.dirname(os.path.dirname(os.path.abspath(__file__)))
 BUILT = os.path.join(TOP, "crates", "abnf_ls", "out", "abnf_ls")
@@ -36,6 +39,14 @@ def ended(program, given, arguments=(), stdin=subprocess.PIPE, stdout=subprocess
     return ran.returncode, said, wrote or b""
 
 
+def with_device(program, given, path, flags, arguments=(), **at):
+    device = os.open(path, flags)
+    try:
+        return ended(program, given, arguments, **{name: device for name in at})
+    finally:
+        os.close(device)
+
+
 def cases(program):
     """What each case is, how the program ended in it, and how it must end."""
     for argument in ("--stdio", b"\xff"):
@@ -58,6 +69,80 @@ def cases(program):
     os.close(folder)
     status, said, wrote = ended(program, INITIALIZE + SHUTDOWN + EXIT)
     yield "shutdown and exit", (status, said, wrote[-len(IS_SHUT_DOWN):]), (0, b"", IS_SHUT_DOWN)
+    for arguments in (["example", "x"], ["example", "x", "a", "a"], ["Example", "x", "a"], ["example", "x", b"\xff"]):
+        yield f"the arguments {arguments}", ended(program, None, arguments), (5, USAGE, b"")
+
+
+class Files:
+    """Files with the bytes that they are made of, in a folder of their own."""
+
+    def __init__(self, folder):
+        self.folder = folder
+
+    def path(self, name):
+        return os.path.join(self.folder, name)
+
+    def written(self, name, text):
+        with open(self.path(name), "wb") as file:
+            file.write(text if isinstance(text, bytes) else text.encode())
+        return self.path(name)
+
+    def sparse(self, name, size):
+        os.truncate(self.written(name, b""), size)
+        return self.path(name)
+
+
+def example_cases(program, files):
+    """Each row's example, and the check of it."""
+    for text, rule, shown, cert in command_rows.EXAMPLES:
+        file = files.written("g.abnf", text)
+        status, said, wrote = ended(program, None, ["example", file, rule])
+        head, _, tail = wrote.decode().partition("\n\n")
+        of = f"example {rule} of {text[:40]!r}"
+        yield of, (status, said, head, tail if cert is not None else None), (0, b"", shown, cert)
+        yield f"check of the {of}", ended(program, None, ["check", file, files.written("c", wrote)]), (0, b"", b"yes\n")
+
+
+def check_cases(program, files):
+    """Certificates that aren't accepted, and texts that are none."""
+    for text, cert, wanted in command_rows.CHECKS:
+        found = ended(program, None, ["check", files.written("g.abnf", text), files.written("c", cert)])
+        yield f"check of {cert[:40]!r} for {text!r}", found, wanted
+
+
+def file_cases(program, files):
+    """Files that can't be read, and files that are no texts: the grammar's come first."""
+    good, cert = files.written("g.abnf", 'a = "x"'), files.written("c", "0 1 0 0\n1 1 0 0\n")
+    bad, no_cert = files.written("bad.abnf", b'a = "\xff"'), files.written("bad", b"\xff\n")
+    large, large_cert = files.sparse("large.abnf", 4_194_305), files.sparse("large", 268_435_457)
+    widest = files.written("widest.abnf", b" " * 4_194_304)
+    none, folder = files.path("none"), files.folder
+    yield "a text of the greatest size", ended(program, None, ["example", widest, "a"]), (0, b"", b"undefined\n\n")
+    for what, arguments, line in (
+        ("no file", ["example", none, "a"], f"cannot read {none}"),
+        ("a folder", ["example", folder, "a"], f"cannot read {folder}"),
+        ("a file that isn't UTF-8", ["example", bad, "a"], f"not a text: {bad}"),
+        ("a file that is too large", ["example", large, "a"], f"not a text: {large}"),
+        ("a file without an end", ["example", "/dev/zero", "a"], "not a text: /dev/zero"),
+        ("no certificate", ["check", good, none], f"cannot read {none}"),
+        ("a certificate that isn't UTF-8", ["check", good, no_cert], "certificate fault 1 BadLine"),
+        ("a certificate that is too large", ["check", good, large_cert], f"not a text: {large_cert}"),
+        ("no file, and no certificate", ["check", none, files.path("no")], f"cannot read {none}"),
+        ("a file that isn't UTF-8, and no certificate", ["check", bad, none], f"not a text: {bad}"),
+        ("a file that is too large, and a bad certificate", ["check", large, no_cert], f"not a text: {large}"),
+    ):
+        yield what, ended(program, None, arguments), (2, f"{line}\n".encode(), b"")
+    for arguments in (["example", good, "a"], ["check", good, cert]):
+        full = with_device(program, None, "/dev/full", os.O_WRONLY, arguments=arguments, stdout=True)
+        yield f"{arguments[0]} with an output that is full", full, (2, b"write failed\n", b"")
+
+
+def all_cases(program):
+    yield from cases(program)
+    with tempfile.TemporaryDirectory() as folder:
+        files = Files(folder)
+        for some in (example_cases, check_cases, file_cases):
+            yield from some(program, files)
 
 
 def main(words):
@@ -67,7 +152,7 @@ def main(words):
         print(f"program_ends: there is no program {BUILT}", file=sys.stderr)
         failed += 1
     for program in filter(os.path.isfile, PROGRAMS):
-        for what, found, wanted in cases(program):
+        for what, found, wanted in all_cases(program):
             is_good = found == wanted
             print(f"{os.path.basename(program)}, {what}: {'ended as it must' if is_good else f'FAILED: {found}, and not {wanted}'}")
             passed, failed = passed + is_good, failed + (not is_good)

@@ -1,29 +1,107 @@
-//! `abnf_ls`, a language server for ABNF grammars over standard input and output.
+//! `abnf_ls`, a language server for ABNF grammars over standard input and output, and its two commands: a shortest sentence of a
+//! rule, and the check of a certificate.
 #![tactic(auto)]
 
-use ls_server::{Ending, ReadFrom, WriteTo, serve_plain};
-use std::env;
+use ls_server::{
+    Ending, FileFault, ReadFrom, Snapshot, WriteTo, check_text, example_text, read_cert_file,
+    read_text, serve_plain,
+};
+use std::fs::File;
+use std::io::{ErrorKind, Write};
 use std::process::ExitCode;
+use std::{env, fs, io};
 
-/// Whether the program was given arguments. One that isn't a text counts.
-fn has_arguments(rt: &HostRuntime) -> bool {
-    match env::args(rt) {
-        Ok(arguments) => arguments.skip(1).count() > 0,
-        Err(_) => true,
+/// Opens the file with this path.
+fn opened(rt: &HostRuntime, path: &str) -> Result<File, FileFault> {
+    match fs::open(rt, path) {
+        Ok(file) => Ok(file),
+        Err(error) => Err(FileFault::of(&error)),
     }
 }
 
-fn run(rt: &HostRuntime) -> Ending {
-    if has_arguments(rt) {
-        return Ending::Usage;
+/// The text of a grammar's file.
+fn text_at(rt: &HostRuntime, path: String) -> Result<Snapshot, Ending> {
+    let read = match opened(rt, path.as_str()) {
+        Ok(file) => read_text(rt.alloc(), file),
+        Err(fault) => Err(fault),
+    };
+    match read {
+        Ok(text) => Ok(text),
+        Err(fault) => Err(Ending::of_file(fault, path)),
     }
+}
+
+/// The bytes of a certificate's file.
+fn cert_at(rt: &HostRuntime, path: String) -> Result<Vec<u8>, Ending> {
+    let read = match opened(rt, path.as_str()) {
+        Ok(file) => read_cert_file(rt.alloc(), file),
+        Err(fault) => Err(fault),
+    };
+    match read {
+        Ok(bytes) => Ok(bytes),
+        Err(fault) => Err(Ending::of_file(fault, path)),
+    }
+}
+
+/// Prints a text. The ending is this one, unless that fails.
+fn printed(rt: &HostRuntime, text: &str, ending: Ending) -> Ending {
+    let mut writer = io::writer(rt);
+    match writer.write_all(text.as_bytes()) {
+        Ok(()) => ending,
+        Err(_) => Ending::WriteFailed,
+    }
+}
+
+/// `example FILE RULE`
+fn example(rt: &HostRuntime, file: String, rule: &str) -> Result<Ending, Ending> {
+    let text = text_at(rt, file)?;
+    match example_text(rt.alloc(), &text, rule) {
+        Ok(example) => Ok(printed(rt, example.as_str(), Ending::Good)),
+        Err(_) => Err(Ending::OutOfMemory),
+    }
+}
+
+/// `check FILE CERT`
+fn check(rt: &HostRuntime, file: String, cert: String) -> Result<Ending, Ending> {
+    let text = text_at(rt, file)?;
+    let cert = cert_at(rt, cert)?;
+    let (said, ending) = Ending::of_check(check_text(rt.alloc(), &text, &cert));
+    Ok(printed(rt, said, ending))
+}
+
+/// Serves standard input and output.
+fn serve(rt: &HostRuntime) -> Ending {
     let mut reader = ReadFrom::new(rt.stdin());
     let mut writer = WriteTo::new(rt.stdout());
     Ending::of(serve_plain(rt.alloc(), &mut reader, &mut writer))
 }
 
+/// Does what the arguments ask for. One that isn't a text asks for nothing that there is.
+fn run(rt: &HostRuntime) -> Result<Ending, Ending> {
+    let mut arguments = match env::args(rt) {
+        Ok(arguments) => arguments.skip(1),
+        Err(error) if error.kind() == ErrorKind::OutOfMemory => return Err(Ending::OutOfMemory),
+        Err(_) => return Err(Ending::Usage),
+    };
+    let Some(command) = arguments.next() else {
+        return Ok(serve(rt));
+    };
+    let (Some(file), Some(other), None) = (arguments.next(), arguments.next(), arguments.next())
+    else {
+        return Err(Ending::Usage);
+    };
+    match command.as_str() {
+        "example" => example(rt, file, other.as_str()),
+        "check" => check(rt, file, other),
+        _ => Err(Ending::Usage),
+    }
+}
+
 fn main(rt: HostRuntime) -> ExitCode {
-    let ending = run(&rt);
+    let ending = match run(&rt) {
+        Ok(ending) => ending,
+        Err(ending) => ending,
+    };
     let (kind, detail) = ending.line();
     if !kind.is_empty() {
         // A line that can't be printed leaves the status to tell the ending.

@@ -9,6 +9,8 @@ mod answers;
 #[cfg(test)]
 mod bodies;
 #[cfg(test)]
+mod commands;
+#[cfg(test)]
 mod definitions;
 mod devices;
 #[cfg(test)]

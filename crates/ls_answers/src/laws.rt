@@ -1,6 +1,7 @@
 //! Laws of answers.
 ghost use Rattle.std.specs.Prelude.{◌≡◌, ◌<◌, ◌^◌, List, ℕ, length};
 ghost use Rattle.ls_answers.specs.Answers.{IsAnswer};
+ghost use Rattle.ls_answers.specs.Hover.{AtMostOneHoverText};
 ghost use Rattle.ls_answers.specs.declared.answer.Answer.{Answer};
 ghost use Rattle.ls_answers.specs.declared.ask.Ask.{Ask};
 
@@ -12,4 +13,9 @@ pub fn answers_are_unique()
 /// Each question about a text of fewer than 2^62 characters has an answer.
 pub fn answers_exist()
     ensures { (text : List ℕ) (question : Ask) → length text < 2 ^ 62 → (a : Answer) × IsAnswer text question a }
+{}
+
+/// Of a rule, or of a name that stands for none, one text is shown at most, by whatever certificate.
+pub fn hover_texts_are_unique()
+    ensures { AtMostOneHoverText }
 {}

@@ -3,10 +3,13 @@
 //! A [`Job`] is a question about a snapshot; [`run`] gives a [`Done`], whose type keeps that its answer is the definition's for
 //! its own text and question, or that memory was refused. A question about a text has at most one answer
 //! ([`answers_are_unique`]).
+//!
+//! [`hover_text`] says in one or two lines what is known of the shortest strings of a rule.
 #![tactic(auto)]
 
 mod answer;
 mod ask;
+mod hover;
 mod job;
 mod laws;
 mod outline;
@@ -14,5 +17,6 @@ mod places;
 
 pub use answer::{Answer, Symbol};
 pub use ask::Ask;
+pub use hover::hover_text;
 pub use job::{Done, Job, run};
-pub use laws::{answers_are_unique, answers_exist};
+pub use laws::{answers_are_unique, answers_exist, hover_texts_are_unique};

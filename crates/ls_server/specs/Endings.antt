@@ -1,13 +1,17 @@
 -- How the program ends: its status, and its line on standard error.
-use Rattle.std.specs.Prelude.{ℕ, List, [], ◌++◌, Result, Ok, Err, codes}
+use Rattle.std.specs.Prelude.{ℕ, List, [], ◌∷◌, ◌++◌, Bool, true, false, Result, Ok, Err, codes}
 use Rattle.ls_frame.specs.declared.fault.FrameFault.{FrameFault}
 use Rattle.ls_frame.specs.declared.fault.FrameFault.TheVariants.{HeaderTooLong, BadHeader, NoLength, TwoLengths, BadLength, TooLarge, Truncated, Memory as NoMemory}
+use Rattle.abnf_cert.specs.declared.fault.CertFault.{CertFault}
+use Rattle.abnf_cert.specs.declared.fault.CertFault.TheVariants as cert
 use Rattle.ls_session.specs.declared.event.Status.{Status}
 use Rattle.ls_session.specs.declared.event.Status.TheVariants.{Clean, Unclean, BadFrame}
 use Rattle.ls_server.specs.declared.serve.ServeFault.{ServeFault}
 use Rattle.ls_server.specs.declared.serve.ServeFault.TheVariants.{Read, Write, Memory}
+use Rattle.ls_server.specs.declared.file.FileFault.{FileFault}
+use Rattle.ls_server.specs.declared.file.FileFault.TheVariants as file
 use Rattle.ls_server.specs.declared.ending.Ending.{Ending}
-use Rattle.ls_server.specs.declared.ending.Ending.TheVariants.{Good, Not, Framing, ReadFailed, WriteFailed, Usage, OutOfMemory}
+use Rattle.ls_server.specs.declared.ending.Ending.TheVariants.{Good, Not, Framing, ReadFailed, WriteFailed, CannotRead, NotText, Certificate, Usage, OutOfMemory}
 
 -- the ending of a session
 abbrev pub ending_of : Result Status ServeFault → Ending
@@ -18,6 +22,27 @@ ending_of (Err Read) = ReadFailed
 ending_of (Err Write) = WriteFailed
 ending_of (Err Memory) = OutOfMemory
 
+-- the ending of a command that can't use the file with this path
+abbrev pub ending_of_file : FileFault → List ℕ → Ending
+ending_of_file file.CannotRead path = CannotRead path
+ending_of_file file.NotText path = NotText path
+ending_of_file file.Memory path = OutOfMemory
+
+-- the ending of a check
+abbrev pub ending_of_check : Result Bool CertFault → Ending
+ending_of_check (Ok true) = Good
+ending_of_check (Ok false) = Not
+ending_of_check (Err cert.BadLine) = Certificate cert.BadLine
+ending_of_check (Err cert.OutOfOrder) = Certificate cert.OutOfOrder
+ending_of_check (Err cert.NumberTooLarge) = Certificate cert.NumberTooLarge
+ending_of_check (Err cert.Memory) = OutOfMemory
+
+-- what a check prints
+abbrev pub text_of_check : Result Bool CertFault → List ℕ
+text_of_check (Ok true) = codes "yes" ++ 10 ∷ []
+text_of_check (Ok false) = codes "no" ++ 10 ∷ []
+text_of_check (Err fault) = []
+
 -- the status of the process
 abbrev pub status_of_ending : Ending → ℕ
 status_of_ending Good = 0
@@ -25,6 +50,9 @@ status_of_ending Not = 1
 status_of_ending (Framing fault) = 2
 status_of_ending ReadFailed = 2
 status_of_ending WriteFailed = 2
+status_of_ending (CannotRead path) = 2
+status_of_ending (NotText path) = 2
+status_of_ending (Certificate fault) = 2
 status_of_ending Usage = 5
 status_of_ending OutOfMemory = 6
 
@@ -39,6 +67,13 @@ fault_text TooLarge = codes "6 TooLarge"
 fault_text Truncated = codes "7 Truncated"
 fault_text NoMemory = codes "8 Memory"
 
+-- number and name of a certificate's fault
+abbrev pub cert_fault_text : CertFault → List ℕ
+cert_fault_text cert.BadLine = codes "1 BadLine"
+cert_fault_text cert.OutOfOrder = codes "2 OutOfOrder"
+cert_fault_text cert.NumberTooLarge = codes "3 NumberTooLarge"
+cert_fault_text cert.Memory = codes "4 Memory"
+
 -- the line on standard error, empty for none
 abbrev pub line_of_ending : Ending → List ℕ
 line_of_ending Good = []
@@ -46,5 +81,8 @@ line_of_ending Not = []
 line_of_ending (Framing fault) = codes "framing fault " ++ fault_text fault
 line_of_ending ReadFailed = codes "read failed"
 line_of_ending WriteFailed = codes "write failed"
+line_of_ending (CannotRead path) = codes "cannot read " ++ path
+line_of_ending (NotText path) = codes "not a text: " ++ path
+line_of_ending (Certificate fault) = codes "certificate fault " ++ cert_fault_text fault
 line_of_ending Usage = codes "usage: abnf_ls [example FILE RULE | check FILE CERT]"
 line_of_ending OutOfMemory = codes "out of memory"

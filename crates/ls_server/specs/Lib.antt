@@ -3,3 +3,4 @@ pub mod Kept
 pub mod Talk
 pub mod Runs
 pub mod Endings
+pub mod Commands

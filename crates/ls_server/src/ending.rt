@@ -1,19 +1,29 @@
 //! How the program ends.
-ghost use Rattle.std.specs.Prelude.{◌≡◌, ◌++◌};
-ghost use Rattle.ls_server.specs.Endings.{ending_of, fault_text, line_of_ending, status_of_ending};
+ghost use Rattle.std.specs.Prelude.{◌≡◌, ◌++◌, string_bytes};
+ghost use Rattle.ls_server.specs.Endings.{cert_fault_text, ending_of, ending_of_check, ending_of_file, fault_text, line_of_ending, status_of_ending, text_of_check};
 
+use crate::file::FileFault;
 use crate::serve::ServeFault;
+use abnf_cert::CertFault;
 use ls_frame::FrameFault;
+use ls_lists::Text;
 use ls_session::Status;
 
 /// The endings of the program, with the fault or path that each shows.
-#[derive(Debug, Drop)]
+#[derive(Drop)]
 pub enum Ending {
+    /// The client exited after a shutdown, an example was printed, or the answer is yes.
     Good,
+    /// The input ended without that, or the answer is no.
     Not,
     Framing(FrameFault),
     ReadFailed,
     WriteFailed,
+    /// A file can't be read.
+    CannotRead(Text),
+    /// A file is too large, or the one with the grammar isn't UTF-8.
+    NotText(Text),
+    Certificate(CertFault),
     Usage,
     OutOfMemory,
 }
@@ -34,6 +44,18 @@ fn numbered(fault: FrameFault) -> &'static str
     }
 }
 
+/// A fault of a certificate with its number.
+fn numbered_cert_fault(fault: CertFault) -> &'static str
+    ensures { result.now ≡ cert_fault_text fault }
+{
+    match fault {
+        CertFault::BadLine => "1 BadLine",
+        CertFault::OutOfOrder => "2 OutOfOrder",
+        CertFault::NumberTooLarge => "3 NumberTooLarge",
+        CertFault::Memory => "4 Memory",
+    }
+}
+
 impl Ending {
     pub fn of(served: Result<Status, ServeFault>) -> Ending
         ensures { result ≡ ending_of served }
@@ -48,13 +70,42 @@ impl Ending {
         }
     }
 
+    /// How a command ends that can't use the file with this path.
+    pub fn of_file(fault: FileFault, path: String) -> Ending
+        ensures { result ≡ ending_of_file fault (string_bytes path) }
+    {
+        match fault {
+            FileFault::CannotRead => Ending::CannotRead(Text::new(path)),
+            FileFault::NotText => Ending::NotText(Text::new(path)),
+            FileFault::Memory => Ending::OutOfMemory,
+        }
+    }
+
+    /// How a check with this answer ends, and what it prints.
+    pub fn of_check(answer: Result<bool, CertFault>) -> (&'static str, Ending)
+        ensures text { result.0.now ≡ text_of_check answer }
+        ensures ending { result.1 ≡ ending_of_check answer }
+    {
+        match answer {
+            Ok(true) => ("yes\n", Ending::Good),
+            Ok(false) => ("no\n", Ending::Not),
+            Err(CertFault::Memory) => ("", Ending::OutOfMemory),
+            Err(fault) => ("", Ending::Certificate(fault)),
+        }
+    }
+
     pub fn status(&self) -> u8
         ensures { result ≡ status_of_ending self.now }
     {
         match self {
             Ending::Good => 0,
             Ending::Not => 1,
-            Ending::Framing(_) | Ending::ReadFailed | Ending::WriteFailed => 2,
+            Ending::Framing(_)
+            | Ending::ReadFailed
+            | Ending::WriteFailed
+            | Ending::CannotRead(_)
+            | Ending::NotText(_)
+            | Ending::Certificate(_) => 2,
             Ending::Usage => 5,
             Ending::OutOfMemory => 6,
         }
@@ -68,6 +119,9 @@ impl Ending {
             Ending::Framing(fault) => ("framing fault ", numbered(*fault)),
             Ending::ReadFailed => ("read failed", ""),
             Ending::WriteFailed => ("write failed", ""),
+            Ending::CannotRead(path) => return ("cannot read ", path.as_str()),
+            Ending::NotText(path) => return ("not a text: ", path.as_str()),
+            Ending::Certificate(fault) => ("certificate fault ", numbered_cert_fault(*fault)),
             Ending::Usage => ("usage: abnf_ls [example FILE RULE | check FILE CERT]", ""),
             Ending::OutOfMemory => ("out of memory", ""),
         }

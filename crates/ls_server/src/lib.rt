@@ -1,16 +1,21 @@
 //! The server: it reads frames from a source, keeps the documents that the client opens, and writes its
-//! answers to a sink.
+//! answers to a sink. Beside it the program's two commands, which read a grammar from a file: [`example_text`] and [`check_text`].
 #![tactic(auto)]
 
+mod commands;
 mod conversation;
 mod device;
 mod ending;
+mod file;
 mod keeper;
 mod laws;
 mod serve;
 
+pub use commands::{cert_part, check_text, example_text};
 pub use device::{DeviceFault, ReadFrom, Sink, Source, WriteTo};
 pub use ending::Ending;
+pub use file::{FileFault, MAX_CERT_BYTES, read_cert_file, read_text};
 pub use laws::{inputs_have_one_output, sessions_are_unique, sessions_exist};
 pub use ls_session::{ClientEvent, DeskFault, Out, Session, Status, Turn, body_of, refusal_body};
+pub use ls_text::Snapshot;
 pub use serve::{ServeFault, serve_limited, serve_plain};

@@ -1,0 +1,25 @@
+-- The text that is shown of a rule.
+use Rattle.std.specs.Prelude.{◌≡◌, ℕ, ◌++◌, ◌∷◌, List, [], Option, Some, None, codes}
+use Rattle.std.specs.Fmt.{decimal}
+use Rattle.abnf_parts.specs.Part.{Part}
+use Rattle.abnf_least.specs.Rendered.{rendered_text}
+use Rattle.abnf_least.specs.Shown.{IsShown}
+use Rattle.abnf_least.specs.declared.shortest.Shortest.{Shortest}
+use Rattle.abnf_least.specs.declared.shortest.Shortest.TheVariants.{Shown, Long, Huge, Nothing, NotKnown}
+
+-- what is known of the shortest strings of a rule, as a text of one or two lines
+abbrev pub shown_text : Shortest → List ℕ
+shown_text (Shown n example) = codes "shortest length " ++ decimal n ++ 10 ∷ [] ++ codes "example " ++ rendered_text example
+shown_text (Long n) = codes "shortest length " ++ decimal n ++ 10 ∷ [] ++ codes "example " ++ codes "not shown"
+shown_text Huge = codes "shortest length 18446744073709551615 or more"
+shown_text Nothing = codes "generates nothing"
+shown_text NotKnown = codes "not known"
+
+-- the text of a rule, by what it generates, or of a name that stands for no rule
+abbrev pub IsHoverText : List Part → Option ℕ → List ℕ → Type 0
+IsHoverText roots None text = text ≡ codes "undefined"
+IsHoverText roots (Some r) text = (shown : Shortest) × IsShown roots r shown × (text ≡ shown_text shown)
+
+-- a rule has at most one text
+abbrev pub AtMostOneHoverText : Type 0
+AtMostOneHoverText = (roots : List Part) (rule : Option ℕ) (a b : List ℕ) → IsHoverText roots rule a → IsHoverText roots rule b → a ≡ b

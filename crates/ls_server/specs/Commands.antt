@@ -1,0 +1,53 @@
+-- What the commands of the program say of a text.
+use Rattle.std.specs.Prelude.{◌≡◌, ◌≤◌, ◌↔◌, ℕ, ◌++◌, ◌∷◌, Bool, ◌&&◌, ◌==◌, IsTrue, List, [], Option, Some, None, length, if◌then◌else◌}
+use Rattle.std.specs.Option.{unwrap_or}
+use Rattle.std.specs.Str.{IsUtf8}
+use Rattle.abnf_token.specs.Folded.{lowercase}
+use Rattle.abnf_parts.specs.Names.{rule_number}
+use Rattle.abnf_names.specs.Rules.{Grammar, IsGrammar}
+use Rattle.abnf_cert.specs.declared.entry.Entry.{Entry}
+use Rattle.abnf_cert.specs.Accepted.{IsAccepted}
+use Rattle.abnf_cert.specs.Says.{EachSays}
+use Rattle.abnf_cert.specs.Text.{cert_text}
+use Rattle.ls_answers.specs.Hover.{IsHoverText}
+
+-- What follows the first empty line, if there is one: an empty line is an LF right behind another, or where the bytes begin. The
+-- byte that stands before these is known.
+abbrev pub behind_empty_line : ℕ → List ℕ → Option (List ℕ)
+behind_empty_line before [] = None
+behind_empty_line before (b ∷ bs) = if before == 10 && b == 10 then Some bs else behind_empty_line b bs
+
+-- what follows the first empty line, or all where there is none
+abbrev pub cert_part : List ℕ → List ℕ
+cert_part bytes = unwrap_or (behind_empty_line 10 bytes) bytes
+
+-- The bytes show the rule of a grammar that has this name: its hover text, an empty line, and the text of an accepted certificate.
+pub record IsExampleIn (grammar : Grammar) (name bytes : List ℕ) : Type 0 where
+  pub shown : List ℕ
+  pub hover : IsHoverText grammar.rules (rule_number grammar.names (lowercase name)) shown
+  pub entries : List Entry
+  pub accepted : IsAccepted grammar.rules entries
+  pub bytes_are : bytes ≡ shown ++ 10 ∷ 10 ∷ [] ++ cert_text entries
+
+-- They do so for the grammar of a text.
+pub record IsExampleText (text name bytes : List ℕ) : Type 0 where
+  pub grammar : Grammar
+  pub of_text : grammar.text ≡ text
+  pub right : IsGrammar grammar
+  pub example : IsExampleIn grammar name bytes
+
+-- The answer is yes exactly where the bytes, past their first empty line, are the text of a certificate that is accepted for the
+-- text's grammar, and then each of its entries is right. They are the text of a certificate.
+pub record IsChecked (text bytes : List ℕ) (yes : Bool) : Type 0 where
+  pub grammar : Grammar
+  pub of_text : grammar.text ≡ text
+  pub right : IsGrammar grammar
+  pub entries : List Entry
+  pub read : cert_part bytes ≡ cert_text entries
+  pub answer : IsTrue yes ↔ IsAccepted grammar.rules entries
+  pub sound : IsTrue yes → EachSays grammar.rules entries
+
+-- the bytes of a grammar's file: a text in UTF-8 of at most 4,194,304 bytes
+pub record IsTextFile (bytes : List ℕ) : Type 0 where
+  pub utf8 : IsUtf8 bytes
+  pub small : length bytes ≤ 4194304

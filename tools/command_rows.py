@@ -1,0 +1,112 @@
+"""Worked rows of the commands `example` and `check`: what they print and how they end.
+
+Each example is a text, a rule of it, its hover text and the certificate, or None where another certificate may stand there.
+Each check is a text, a certificate, and the status with what stands on standard error and output.
+"""
+
+
+def lines(*all_lines):
+    return "".join(f"{line}\n" for line in all_lines)
+
+
+def shown(length, example):
+    return f"shortest length {length}\nexample {example}"
+
+
+def not_shown(length):
+    return f"shortest length {length}\nexample not shown"
+
+
+NOTHING = "generates nothing"
+NOT_KNOWN = "not known"
+X = lines("0 1 0 0", "1 1 0 0")
+TWO = 'a = b / "x"\nb = a'
+TWO_LINES = ("0 1 0 1", "1 1 2 0", "2 1 0 0", "3 1 1 0", "4 1 1 0")
+NO_TWO = 'a = b "x"\nb = a'
+NO_TWO_CERT = lines("0 -", "1 -", "2 -", "3 1 0 0", "4 -", "5 -")
+DOUBLED = "\n".join(['r0 = "x"'] + [f"r{n} = 2r{n - 1}" for n in range(1, 65)])
+HUGE = "\n".join(
+    (
+        'c = 4294967295"x"',
+        "b = 4294967295c",
+        "a = 4294967295b",
+        "d = 4294967295c 2c",
+        'e = 4294967295c 1c 4294967294"x"',
+        'f = a / "z"',
+        "h = *a",
+    )
+)
+IS_HUGE = "shortest length 18446744073709551615 or more"
+MANY = 100_000
+APART = "\n".join(f'r{n} = "x"' for n in range(MANY))
+CHAIN = "\n".join([f"r{n} = r{n - 1}" for n in range(MANY - 1, 0, -1)] + ['r0 = "x"'])
+
+EXAMPLES = (
+    ('a = "x"', "a", shown(1, "x"), X),
+    ('a = "x"', "A", shown(1, "x"), X),
+    ('a = "x"', "nope", "undefined", X),
+    ('a = "x"', "ALPHA", "undefined", X),
+    ("", "a", "undefined", ""),
+    ('a = a / ""', "a", shown(0, ""), lines("0 0 0 1", "1 0 1 0", "2 0 0 0")),
+    (TWO, "a", shown(1, "x"), lines(*TWO_LINES)),
+    (TWO, "b", shown(1, "x"), lines(*TWO_LINES)),
+    (NO_TWO, "a", NOTHING, NO_TWO_CERT),
+    (NO_TWO, "b", NOTHING, NO_TWO_CERT),
+    ('a = 0nope *nope [nope] "k"', "a", shown(1, "k"), None),
+    ('a = 3*2"x" / %x39-30', "a", NOTHING, None),
+    (DOUBLED, "r12", shown(4096, "x" * 4096), None),
+    (DOUBLED, "r13", not_shown(8192), None),
+    (DOUBLED, "r63", not_shown(9223372036854775808), None),
+    (DOUBLED, "r64", IS_HUGE, None),
+    ('a = <text> / "x"\nb = "y"', "a", NOT_KNOWN, None),
+    ('a = <text> / "x"\nb = "y"', "b", shown(1, "y"), None),
+    ('A = "yy"\na = "z"\na =/ "x"', "a", shown(1, "x"), None),
+    ('a = 5000"x"', "a", not_shown(5000), lines("0 5000 0 0", "1 5000 0 0", "2 1 0 0")),
+    (r'a = "\" %x0D.1F600', "a", shown(3, r"\\\x{D}\x{1F600}"), None),
+    ('LF = "n"\na = CRLF HEXDIG', "a", shown(3, r"\x{D}\x{A}A"), None),
+    ('LF = "n"\na = CRLF HEXDIG', "LF", shown(1, "n"), None),
+    *((text, "a", NOT_KNOWN, None) for text in ("a =", 'a = 2 "x"', 'a = "x""y"', "a = (b", "a = %x100000000", "a = ?")),
+    (
+        'r3 = r2\nr2 = r1\nr1 = r0\nr0 = "x"',
+        "r3",
+        shown(1, "x"),
+        lines("0 1 3 0", "1 1 3 0", "2 1 2 0", "3 1 2 0", "4 1 1 0", "5 1 1 0", "6 1 0 0", "7 1 0 0"),
+    ),
+    (
+        'a = 2"x" / b / c\nc = "z"\nb = "y"',
+        "a",
+        shown(1, "y"),
+        lines("0 1 1 1", "1 2 0 0", "2 1 0 0", "3 1 1 0", "4 1 1 0", "5 1 0 0", "6 1 0 0", "7 1 0 0", "8 1 0 0"),
+    ),
+    (APART, f"r{MANY - 1}", shown(1, "x"), lines(*(f"{n} 1 0 0" for n in range(2 * MANY)))),
+    (CHAIN, f"r{MANY - 1}", shown(1, "x"), None),
+    (HUGE, "c", not_shown(4294967295), None),
+    (HUGE, "b", not_shown(18446744065119617025), None),
+    (HUGE, "a", IS_HUGE, None),
+    (HUGE, "d", IS_HUGE, None),
+    (HUGE, "e", not_shown(18446744073709551614), None),
+    (HUGE, "f", shown(1, "z"), None),
+    (HUGE, "h", shown(0, ""), None),
+    ('a = 4294967295""', "a", shown(0, ""), None),
+)
+
+YES = (0, b"", b"yes\n")
+NO = (1, b"", b"no\n")
+
+
+def fault(name):
+    return (2, f"certificate fault {name}\n".encode(), b"")
+
+
+CHECKS = (
+    (TWO, lines(*TWO_LINES), YES),
+    (TWO, lines("0 0 0 1", *TWO_LINES[1:]), NO),
+    (TWO, lines(*TWO_LINES[:4], "4 -"), NO),
+    (TWO, lines(TWO_LINES[0], "1 1 3 0", *TWO_LINES[2:]), NO),
+    (TWO, lines(*TWO_LINES[:2], *TWO_LINES[3:]), fault("2 OutOfOrder")),
+    (TWO, lines(*TWO_LINES[:4]), NO),
+    (TWO, lines("0 01 0 1", *TWO_LINES[1:]), fault("1 BadLine")),
+    (TWO, lines("0 18446744073709551616 0 1", *TWO_LINES[1:]), fault("3 NumberTooLarge")),
+    ("a = a", lines("0 0 18446744073709551615 0", "1 0 18446744073709551615 0"), NO),
+    ("a = a", lines("0 -", "1 -"), YES),
+)
