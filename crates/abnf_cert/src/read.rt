@@ -23,14 +23,8 @@ fn count_digits(bytes: &[u8]) -> usize
     ensures within { result ≤ length bytes.now }
 {
     let mut count = 0;
-    let mut at = bytes.len();
-    while at > 0 {
-        at -= 1;
-        count = if bytes[at].is_ascii_digit() {
-            count + 1
-        } else {
-            0
-        };
+    'digits: while count < bytes.len() && bytes[count].is_ascii_digit() {
+        count += 1;
     }
     count
 }
