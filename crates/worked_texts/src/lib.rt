@@ -6,11 +6,11 @@
 #[cfg(test)]
 mod blocks;
 #[cfg(test)]
-mod chunks;
-#[cfg(test)]
 mod frames;
 #[cfg(test)]
 mod lists;
+#[cfg(test)]
+mod marks;
 #[cfg(test)]
 mod messages;
 #[cfg(test)]
