@@ -13,6 +13,7 @@ import sys
 import tempfile
 
 import command_rows
+import session_rows
 
 TOP = os.path.dirname(os.path.dirname(os.path.abspath(__file__)))
 BUILT = os.path.join(TOP, "crates", "abnf_ls", "out", "abnf_ls")
@@ -71,6 +72,22 @@ def cases(program):
     yield "shutdown and exit", (status, said, wrote[-len(IS_SHUT_DOWN):]), (0, b"", IS_SHUT_DOWN)
     for arguments in (["example", "x"], ["example", "x", "a", "a"], ["Example", "x", "a"], ["example", "x", b"\xff"]):
         yield f"the arguments {arguments}", ended(program, None, arguments), (5, USAGE, b"")
+
+
+def frames(bodies):
+    return b"".join(frame(body if isinstance(body, bytes) else body.encode()) for body in bodies)
+
+
+def session_cases(program):
+    """What is written in each session, and how it ends; and streams whose frames are broken behind a whole one."""
+    for what, said, answered, status in session_rows.SESSIONS:
+        yield what, ended(program, frames(said)), (status, b"", frames(answered))
+    before, answered = frames([session_rows.INITIALIZE]), frames([session_rows.CAPABILITIES])
+    for stream, fault in session_rows.FRAMES:
+        line = f"framing fault {fault}\n".encode()
+        yield f"{fault}: {stream[:60]}", ended(program, before + stream), (2, line, answered)
+    other_form = ended(program, b"content-length:  002 \r\n\r\n{}")
+    yield "a header part of another form", other_form, (1, b"", frames([session_rows.INVALID_REQUEST]))
 
 
 class Files:
@@ -139,6 +156,7 @@ def file_cases(program, files):
 
 def all_cases(program):
     yield from cases(program)
+    yield from session_cases(program)
     with tempfile.TemporaryDirectory() as folder:
         files = Files(folder)
         for some in (example_cases, check_cases, file_cases):

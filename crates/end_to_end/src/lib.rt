@@ -1,7 +1,7 @@
-//! Whole sessions, from the bytes of a client to the bytes of the server.
+//! What crosses the crates: the events of a session and their bodies, a job and its answer, the texts of the commands, devices that fail.
 //!
-//! The crates below prove what each call answers. Here are the bytes of worked sessions, and devices that fail,
-//! which no contract can show.
+//! The crates below prove what each call answers. Here is shown, with worked values, that the calls succeed where memory is ample, which
+//! no contract can show. Whole sessions, as bytes, run through the built program (`tools/session_rows.py`).
 #![tactic(auto)]
 
 #[cfg(test)]
@@ -10,14 +10,8 @@ mod answers;
 mod bodies;
 #[cfg(test)]
 mod commands;
-#[cfg(test)]
-mod definitions;
 mod devices;
 #[cfg(test)]
-mod edits;
-#[cfg(test)]
-mod sessions;
-#[cfg(test)]
-mod support;
+mod failing;
 
 pub use devices::{FailingSink, FailingSource};

@@ -110,21 +110,33 @@ fn nested(
     Ok(text)
 }
 
+/// The fault of such a text.
+fn nested_fault(
+    alloc: Global,
+    open: &str,
+    times: usize,
+    between: &str,
+    close: &str,
+) -> Result<Option<SyntaxFault>, Fail> {
+    fault_of(alloc, nested(alloc, open, times, between, close)?.as_str())
+}
+
 #[test]
 fn nests_64_deep(rt: HostRuntime) -> Result<(), Fail> {
-    let alloc = rt.alloc();
-    let whole = nested(alloc, "(", 64, "\"x\"", ")")?;
-    assert_eq!(rt; fault_of(alloc, whole.as_str())?, None);
-    let mixed = nested(alloc, "([", 32, "\"x\"", "])")?;
-    assert_eq!(rt; fault_of(alloc, mixed.as_str())?, None);
-    let deep = nested(alloc, "(", 65, "", "")?;
-    let want = SyntaxFault::TooDeep(place(68, 69));
-    assert_eq!(rt; fault_of(alloc, deep.as_str())?, Some(want));
-    let mixed = nested(alloc, "([", 32, "(", "")?;
-    assert_eq!(rt; fault_of(alloc, mixed.as_str())?, Some(want));
-    let joined = nested(alloc, "(", 64, "\"x\"(", "")?;
-    let want = SyntaxFault::BlankExpected(place(71, 72));
-    assert_eq!(rt; fault_of(alloc, joined.as_str())?, Some(want));
+    let a = rt.alloc();
+    assert!(rt; nested_fault(a, "(", 64, "\"x\"", ")")?.is_none());
+    assert!(rt; nested_fault(a, "([", 32, "\"x\"", "])")?.is_none());
+    Ok(())
+}
+
+#[test]
+fn nests_no_deeper(rt: HostRuntime) -> Result<(), Fail> {
+    let a = rt.alloc();
+    let too_deep = Some(SyntaxFault::TooDeep(place(68, 69)));
+    assert_eq!(rt; nested_fault(a, "(", 65, "", "")?, too_deep);
+    assert_eq!(rt; nested_fault(a, "([", 32, "(", "")?, too_deep);
+    let joined = Some(SyntaxFault::BlankExpected(place(71, 72)));
+    assert_eq!(rt; nested_fault(a, "(", 64, "\"x\"(", "")?, joined);
     Ok(())
 }
 

@@ -1,35 +1,13 @@
 //! The marks of lines, and the lines that an edit joins.
 
-ghost use Rattle.std.specs.Prelude.{◌≡◌, ◌<◌, ◌^◌, length};
+ghost use Rattle.std.specs.Prelude.{◌<◌, ◌^◌, length};
 
+use super::texts::{changed, snapshot};
 use abnf_token::{Kind, TokenMark, marks_of, token_at, tokens};
-use ls_lists::Text;
-use ls_text::{Edit, Position, Range, Snapshot, TextFault};
+use ls_text::Snapshot;
 use std::alloc::{AllocError, Global};
 use std::process::Abort;
 use std::test::Fail;
-
-fn snapshot(alloc: Global, text: &str) -> Result<Snapshot, TextFault> {
-    Snapshot::of_text(alloc, String::from_str(alloc, text)?)
-}
-
-fn position(line: u32, character: u32) -> Position
-    ensures { result ≡ record { line = line; character = character } }
-{
-    Position { line, character }
-}
-
-fn replacing(
-    alloc: Global,
-    start: Position,
-    end: Position,
-    text: &str,
-) -> Result<Edit, AllocError> {
-    Ok(Edit {
-        range: Some(Range { start, end }),
-        text: Text::from_str(alloc, text)?,
-    })
-}
 
 // Checks the mark at a place in a line's marks.
 fn has_mark(rt: &impl Abort, text: &Snapshot, at: usize, kind: Kind, start: u32, end: u32) {
@@ -92,28 +70,8 @@ fn tokens_at_marks(rt: HostRuntime) -> Result<(), Fail> {
 // The line end between two lines is deleted: the one line that they make has marks of its own.
 #[test]
 fn marks_of_joined_lines(rt: HostRuntime) -> Result<(), Fail> {
-    let alloc = rt.alloc();
-    let text = snapshot(alloc, "a\r\nb")?;
-    let mut edits = Vec::new(alloc);
-    edits.push(replacing(alloc, position(0, 1), position(1, 0), "")?)?;
-    let joined = text.apply(edits.as_slice())?;
-    assert_eq!(rt; joined.to_text()?.as_str(), "ab");
-    assert_eq!(rt; joined.line_count(), 1);
+    let joined = changed(rt.alloc(), "a\r\nb", ((0, 1), (1, 0)), "")?;
     has_mark(&rt, &joined, 0, Kind::Name, 0, 2);
     assert_eq!(rt; mark_count(&joined, 0), Some(1));
-    assert_eq!(rt; mark_count(&text, 1), Some(1));
-    Ok(())
-}
-
-// A CR is put before LF: the two are one line end.
-#[test]
-fn lines_where_cr_meets_lf(rt: HostRuntime) -> Result<(), Fail> {
-    let alloc = rt.alloc();
-    let text = snapshot(alloc, "a\n")?;
-    let mut edits = Vec::new(alloc);
-    edits.push(replacing(alloc, position(0, 1), position(0, 1), "\r")?)?;
-    let changed = text.apply(edits.as_slice())?;
-    assert_eq!(rt; changed.line_count(), 2);
-    assert_eq!(rt; changed.to_text()?.as_str(), "a\r\n");
     Ok(())
 }

@@ -1,79 +1,60 @@
 use ls_rpc::{
-    INVALID_REQUEST, Id, Message, PARSE_ERROR, error_text, notice_text, read_id, read_message,
-    result_text,
+    Id, Message, PARSE_ERROR, error_text, notice_text, read_id, read_message, result_text,
 };
 use serde_json::{Map, Value, json};
 use std::alloc::{AllocError as Memory, Global};
 use std::test::Fail;
 
-fn nested_arrays(alloc: Global, depth: usize) -> Result<Vec<u8>, Memory> {
-    let mut bytes = vec![in alloc; b'['; depth]?;
-    bytes.extend_from_slice(&vec![in alloc; b']'; depth]?)?;
-    Ok(bytes)
+fn is_request(message: &Message) -> bool {
+    match message {
+        Message::Request {
+            id: Id::Text(id),
+            method,
+            params,
+        } => id.as_str() == "x" && method.as_str() == "m" && params.as_bool() == Some(true),
+        _ => false,
+    }
 }
 
-fn is_bad(message: &Message, want_id: Option<i64>, want_code: i32) -> bool {
+fn is_notice(message: &Message) -> bool {
     match message {
-        Message::Bad { id: None, code } => want_id.is_none() && *code == want_code,
-        Message::Bad {
-            id: Some(Id::Number(number)),
-            code,
-        } => { want_id == Some(*number) && *code == want_code }
+        Message::Notice { method, params } => method.as_str() == "m" && params.is_null(),
         _ => false,
     }
 }
 
 #[test]
-fn requests_and_notices(rt: HostRuntime) -> Result<(), Fail> {
-    let alloc = rt.alloc();
-    let request = read_message(alloc, b"{\"id\":\"x\",\"method\":\"m\",\"params\":true}")?;
-    match &request {
-        Message::Request {
-            id: Id::Text(id),
-            method,
-            params,
-        } => {
-            assert!(rt; id.as_str() == "x" && method.as_str() == "m");
-            assert_eq!(rt; params.as_bool(), Some(true));
-        }
-        _ => panic!(rt; "no request"),
-    }
-    let notice = read_message(alloc, b"{\"method\":\"m\"}")?;
-    match &notice {
-        Message::Notice { method, params } => {
-            assert!(rt; method.as_str() == "m" && params.is_null());
-        }
-        _ => panic!(rt; "no notice"),
-    }
-    let response = read_message(alloc, b"{\"id\":1,\"error\":{}}")?;
+fn a_request(rt: HostRuntime) -> Result<(), Memory> {
+    let body = b"{\"id\":\"x\",\"method\":\"m\",\"params\":true}";
+    assert!(rt; is_request(&read_message(rt.alloc(), body)?));
+    Ok(())
+}
+
+#[test]
+fn a_notice(rt: HostRuntime) -> Result<(), Memory> {
+    assert!(rt; is_notice(&read_message(rt.alloc(), b"{\"method\":\"m\"}")?));
+    Ok(())
+}
+
+#[test]
+fn a_response(rt: HostRuntime) -> Result<(), Memory> {
+    let response = read_message(rt.alloc(), b"{\"id\":1,\"error\":{}}")?;
     assert!(rt; matches!(&response, Message::Response));
     Ok(())
 }
 
 #[test]
-fn bad_bodies(rt: HostRuntime) -> Result<(), Fail> {
-    let alloc = rt.alloc();
-    let deep = nested_arrays(alloc, 128)?;
-    assert!(rt; is_bad(&read_message(alloc, deep.as_slice())?, None, PARSE_ERROR));
-    let less = nested_arrays(alloc, 127)?;
+fn a_bad_body(rt: HostRuntime) -> Result<(), Memory> {
+    let bad = read_message(rt.alloc(), b"")?;
     assert!(rt;
-        is_bad(
-            &read_message(alloc, less.as_slice())?,
-            None,
-            INVALID_REQUEST
+        matches!(
+            &bad,
+            Message::Bad {
+                id: None,
+                code: PARSE_ERROR
+            }
         )
     );
-    assert!(rt;
-        is_bad(
-            &read_message(alloc, b"{\"id\":2}")?,
-            Some(2),
-            INVALID_REQUEST
-        )
-    );
-    let number = read_message(alloc, b"{\"id\":2,\"method\":5}")?;
-    assert!(rt; is_bad(&number, Some(2), INVALID_REQUEST));
-    let no_text = read_message(alloc, b"{\"id\":1,\"method\":\"\xff\"}")?;
-    assert!(rt; is_bad(&no_text, None, PARSE_ERROR));
     Ok(())
 }
 

@@ -6,7 +6,7 @@ use std::alloc::{AllocError, Global};
 use std::process::Abort;
 use std::test::Fail;
 
-fn snapshot(alloc: Global, text: &str) -> Result<Snapshot, TextFault> {
+pub fn snapshot(alloc: Global, text: &str) -> Result<Snapshot, TextFault> {
     Snapshot::of_text(alloc, String::from_str(alloc, text)?)
 }
 
@@ -166,77 +166,69 @@ fn edit(
     alloc: Global,
     range: Option<((u32, u32), (u32, u32))>,
     text: &str,
-) -> Result<Edit, TextFault> {
-    let range = match range {
-        None => None,
-        Some((start, end)) => Some(Range {
-            start: Position {
-                line: start.0,
-                character: start.1,
-            },
-            end: Position {
-                line: end.0,
-                character: end.1,
-            },
-        }),
-    };
+) -> Result<Edit, AllocError> {
     Ok(Edit {
-        range,
+        range: range.map(|(start, end)| Range {
+            start: position(start),
+            end: position(end),
+        }),
         text: Text::from_str(alloc, text)?,
     })
 }
 
-/// Checks what one edit makes of a text, and into how many lines.
+fn position(at: (u32, u32)) -> Position {
+    Position {
+        line: at.0,
+        character: at.1,
+    }
+}
+
+/// What one edit makes of a text.
+pub fn changed(
+    alloc: Global,
+    before: &str,
+    range: ((u32, u32), (u32, u32)),
+    new: &str,
+) -> Result<Snapshot, Fail> {
+    let mut edits = Vec::new(alloc);
+    edits.push(edit(alloc, Some(range), new)?)?;
+    Ok(snapshot(alloc, before)?.apply(edits.as_slice())?)
+}
+
+/// Whether a text is this one, in so many lines.
+fn is_cut(alloc: Global, text: &Snapshot, wanted: &str, lines: usize) -> Result<bool, Fail> {
+    let is_same = text.to_text()?.as_str() == wanted && text.line_count() == lines;
+    Ok(is_same && text.same_text(&snapshot(alloc, wanted)?))
+}
+
+/// Whether one edit makes this text of another, in so many lines.
 fn becomes(
-    rt: &impl Abort,
     alloc: Global,
     before: &str,
     range: ((u32, u32), (u32, u32)),
     new: &str,
     after: &str,
     lines: usize,
-) -> Result<(), Fail> {
-    let mut edits = Vec::new(alloc);
-    edits.push(edit(alloc, Some(range), new)?)?;
-    let text = snapshot(alloc, before)?;
-    let changed = text.apply(edits.as_slice())?;
-    assert_eq!(rt; changed.to_text()?.as_str(), after);
-    assert_eq!(rt; changed.line_count(), lines, "{after}");
-    assert!(rt; changed.same_text(&snapshot(alloc, after)?), "{after}");
-    assert!(rt; text.same_text(&snapshot(alloc, before)?));
-    Ok(())
+) -> Result<bool, Fail> {
+    is_cut(alloc, &changed(alloc, before, range, new)?, after, lines)
 }
 
 #[test]
 fn applies_edits(rt: HostRuntime) -> Result<(), Fail> {
     let a = rt.alloc();
     // Inside a surrogate pair is before it.
-    becomes(
-        &rt,
-        a,
-        ";\u{1F600}z",
-        ((0, 2), (0, 2)),
-        "a",
-        ";a\u{1F600}z",
-        1,
-    )?;
-    becomes(
-        &rt,
-        a,
-        ";a\u{1F600}z",
-        ((0, 4), (0, 4)),
-        "b",
-        ";a\u{1F600}bz",
-        1,
-    )?;
-    becomes(&rt, a, "abc", ((0, 1), (0, 1)), "XY", "aXYbc", 1)?;
-    becomes(&rt, a, "aXYbc", ((0, 2), (0, 4)), "-", "aX-c", 1)?;
+    let face = ";\u{1F600}z";
+    assert!(rt; becomes(a, face, ((0, 2), (0, 2)), "a", ";a\u{1F600}z", 1)?);
+    let face = ";a\u{1F600}z";
+    assert!(rt; becomes(a, face, ((0, 4), (0, 4)), "b", ";a\u{1F600}bz", 1)?);
+    assert!(rt; becomes(a, "abc", ((0, 1), (0, 1)), "XY", "aXYbc", 1)?);
+    assert!(rt; becomes(a, "aXYbc", ((0, 2), (0, 4)), "-", "aX-c", 1)?);
     // A range whose start is after its end.
-    becomes(&rt, a, "abcd", ((0, 3), (0, 1)), "", "ad", 1)?;
+    assert!(rt; becomes(a, "abcd", ((0, 3), (0, 1)), "", "ad", 1)?);
     // A line past the last, and a character past the line's end.
-    becomes(&rt, a, "ab\n", ((9, 5), (9, 5)), "!", "ab\n!", 2)?;
-    becomes(&rt, a, "ab\ncd", ((0, 9), (1, 0)), "", "abcd", 1)?;
-    becomes(&rt, a, "", ((0, 0), (0, 0)), "a\nb", "a\nb", 2)?;
+    assert!(rt; becomes(a, "ab\n", ((9, 5), (9, 5)), "!", "ab\n!", 2)?);
+    assert!(rt; becomes(a, "ab\ncd", ((0, 9), (1, 0)), "", "abcd", 1)?);
+    assert!(rt; becomes(a, "", ((0, 0), (0, 0)), "a\nb", "a\nb", 2)?);
     Ok(())
 }
 
@@ -244,19 +236,12 @@ fn applies_edits(rt: HostRuntime) -> Result<(), Fail> {
 #[test]
 fn edits_cut_lines_anew(rt: HostRuntime) -> Result<(), Fail> {
     let a = rt.alloc();
-    becomes(&rt, a, "a\r", ((1, 0), (1, 0)), "\n", "a\r\n", 2)?;
-    becomes(&rt, a, "a\r\nb", ((0, 1), (1, 0)), "", "ab", 1)?;
-    becomes(&rt, a, "a\rb\n", ((1, 0), (1, 1)), "", "a\r\n", 2)?;
-    becomes(&rt, a, "a\n", ((0, 1), (0, 1)), "\r", "a\r\n", 2)?;
-    becomes(
-        &rt,
-        a,
-        "a\nb",
-        ((0, 0), (0, 1)),
-        "x\r\ny\r",
-        "x\r\ny\r\nb",
-        3,
-    )?;
+    assert!(rt; becomes(a, "a\r", ((1, 0), (1, 0)), "\n", "a\r\n", 2)?);
+    assert!(rt; becomes(a, "a\r\nb", ((0, 1), (1, 0)), "", "ab", 1)?);
+    assert!(rt; becomes(a, "a\rb\n", ((1, 0), (1, 1)), "", "a\r\n", 2)?);
+    assert!(rt; becomes(a, "a\n", ((0, 1), (0, 1)), "\r", "a\r\n", 2)?);
+    let pasted = "x\r\ny\r";
+    assert!(rt; becomes(a, "a\nb", ((0, 0), (0, 1)), pasted, "x\r\ny\r\nb", 3)?);
     Ok(())
 }
 
