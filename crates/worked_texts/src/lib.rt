@@ -14,6 +14,8 @@ mod marks;
 #[cfg(test)]
 mod messages;
 #[cfg(test)]
+mod seams;
+#[cfg(test)]
 mod texts;
 #[cfg(test)]
 mod tokens;
