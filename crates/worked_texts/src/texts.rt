@@ -145,20 +145,31 @@ fn finds_places(rt: HostRuntime) -> Result<(), Fail> {
     Ok(())
 }
 
-#[test]
-fn refuses_large_texts(rt: HostRuntime) -> Result<(), Fail> {
-    let mut text = String::from_str(rt.alloc(), "a")?;
+/// A text of 4,194,304 letters.
+fn large_text(alloc: Global) -> Result<String, AllocError> {
+    let mut text = String::from_str(alloc, "a")?;
     for _ in 0..22u32 {
         let copy = text.clone()?;
         text.push_str(copy.as_str())?;
     }
+    Ok(text)
+}
+
+/// The fault of opening a text.
+fn opening_fault(alloc: Global, text: String) -> Option<TextFault> {
+    Snapshot::of_text(alloc, text).err()
+}
+
+#[test]
+fn refuses_large_texts(rt: HostRuntime) -> Result<(), Fail> {
+    let text = large_text(rt.alloc())?;
     assert_eq!(rt; text.len(), 4_194_304);
     let larger = format!(in rt.alloc(); "{text}b")?;
-    assert!(rt; Snapshot::of_text(rt.alloc(), text).is_ok());
-    match Snapshot::of_text(rt.alloc(), larger) {
-        Ok(_) => assert!(rt; false, "a text of 4,194,305 bytes"),
-        Err(fault) => assert_eq!(rt; fault, TextFault::TooLarge),
-    }
+    assert_eq!(rt; opening_fault(rt.alloc(), text), None);
+    assert_eq!(rt;
+        opening_fault(rt.alloc(), larger),
+        Some(TextFault::TooLarge)
+    );
     Ok(())
 }
 
@@ -245,39 +256,53 @@ fn edits_cut_lines_anew(rt: HostRuntime) -> Result<(), Fail> {
     Ok(())
 }
 
-#[test]
-fn applies_edits_in_turn(rt: HostRuntime) -> Result<(), Fail> {
-    let alloc = rt.alloc();
+/// The whole text, and then two edits of it.
+fn edits_in_turn(alloc: Global) -> Result<Vec<Edit>, Fail> {
     let mut edits = Vec::new(alloc);
     edits.push(edit(alloc, None, "abc")?)?;
     edits.push(edit(alloc, Some(((0, 1), (0, 1))), "XY")?)?;
     edits.push(edit(alloc, Some(((0, 2), (0, 4))), "-")?.copy()?)?;
-    let text = snapshot(alloc, "old\ntext")?;
-    let changed = text.apply(edits.as_slice())?;
-    assert_eq!(rt; changed.to_text()?.as_str(), "aX-c");
-    assert!(rt; !changed.same_text(&text));
-    assert!(rt; text.same_text(&text.apply(&[])?));
+    Ok(edits)
+}
+
+/// A text after edits.
+fn after_edits(alloc: Global, text: &str, edits: &[Edit]) -> Result<Snapshot, Fail> {
+    Ok(snapshot(alloc, text)?.apply(edits)?)
+}
+
+#[test]
+fn applies_edits_in_turn(rt: HostRuntime) -> Result<(), Fail> {
+    let edits = edits_in_turn(rt.alloc())?;
+    let changed = after_edits(rt.alloc(), "old\ntext", edits.as_slice())?;
+    assert!(rt; is_cut(rt.alloc(), &changed, "aX-c", 1)?);
     Ok(())
 }
 
 #[test]
-fn refuses_texts_that_are_large_on_the_way(rt: HostRuntime) -> Result<(), Fail> {
-    let alloc = rt.alloc();
-    let mut large = String::from_str(alloc, "a")?;
-    for _ in 0..22u32 {
-        let copy = large.clone()?;
-        large.push_str(copy.as_str())?;
-    }
-    let text = snapshot(alloc, "b")?;
+fn no_edits_change_nothing(rt: HostRuntime) -> Result<(), Fail> {
+    let text = after_edits(rt.alloc(), "old\ntext", &[])?;
+    assert!(rt; is_cut(rt.alloc(), &text, "old\ntext", 2)?);
+    Ok(())
+}
+
+/// A text of the greatest size, one more letter, and a short text.
+fn edits_that_are_large_on_the_way(alloc: Global) -> Result<Vec<Edit>, Fail> {
     let mut edits = Vec::new(alloc);
-    edits.push(edit(alloc, None, large.as_str())?)?;
-    assert!(rt; text.apply(edits.as_slice()).is_ok());
+    edits.push(edit(alloc, None, large_text(alloc)?.as_str())?)?;
     edits.push(edit(alloc, Some(((0, 0), (0, 0))), "b")?)?;
     edits.push(edit(alloc, None, "c")?)?;
-    match text.apply(edits.as_slice()) {
-        Ok(_) => assert!(rt; false, "4,194,305 bytes on the way"),
-        Err(fault) => assert_eq!(rt; fault, TextFault::TooLarge),
-    }
+    Ok(edits)
+}
+
+#[test]
+fn refuses_texts_that_are_large_on_the_way(rt: HostRuntime) -> Result<(), Fail> {
+    let edits = edits_that_are_large_on_the_way(rt.alloc())?;
+    let text = snapshot(rt.alloc(), "b")?;
+    assert!(rt; text.apply(&edits[..1]).is_ok());
+    assert_eq!(rt;
+        text.apply(edits.as_slice()).err(),
+        Some(TextFault::TooLarge)
+    );
     Ok(())
 }
 
@@ -357,30 +382,42 @@ fn first_other_line(one: &Snapshot, other: &Snapshot) -> Option<u32> {
     None
 }
 
+// Random edits of a text, and what a plain cut makes of it by them.
+fn random_edits(alloc: Global, state: &mut u64, text: &str) -> Result<(Vec<Edit>, String), Fail> {
+    let mut edits = Vec::new(alloc);
+    let mut plain = String::from_str(alloc, text)?;
+    for _ in 0..below(state, 4) {
+        let (edit, cut) = random_edit(alloc, state, plain.as_str())?;
+        edits.push(edit)?;
+        plain = cut;
+    }
+    Ok((edits, plain))
+}
+
+// Whether edits make of a text this one, with the same lines.
+fn agrees(alloc: Global, before: &str, edits: &[Edit], after: &str) -> Result<bool, Fail> {
+    let changed = after_edits(alloc, before, edits)?;
+    let whole = snapshot(alloc, after)?;
+    Ok(
+        first_other_line(&changed, &whole).is_none()
+            && is_cut(alloc, &changed, after, whole.line_count())?,
+    )
+}
+
 // Random lists of edits give the text, and the lines, of a plain cut of the whole result.
 #[test]
 fn agrees_with_a_plain_cut(rt: HostRuntime) -> Result<(), Fail> {
-    let alloc = rt.alloc();
     let mut state = 1u64;
     for round in 0..500u32 {
-        let mut plain = random_text(alloc, &mut state)?;
-        let text = snapshot(alloc, plain.as_str())?;
-        let mut edits = Vec::new(alloc);
-        for _ in 0..below(&mut state, 4) {
-            let (edit, cut) = random_edit(alloc, &mut state, plain.as_str())?;
-            edits.push(edit)?;
-            plain = cut;
-        }
-        let changed = text.apply(edits.as_slice())?;
-        let whole = snapshot(alloc, plain.as_str())?;
-        assert_eq!(rt;
-            changed.to_text()?.as_str(),
-            plain.as_str(),
-            "round {round}"
-        );
-        assert_eq!(rt; changed.line_count(), whole.line_count(), "round {round}");
-        assert_eq!(rt; first_other_line(&changed, &whole), None, "round {round}");
-        assert!(rt; changed.same_text(&whole), "round {round}");
+        let before = random_text(rt.alloc(), &mut state)?;
+        let (edits, after) = random_edits(rt.alloc(), &mut state, before.as_str())?;
+        let agrees = agrees(
+            rt.alloc(),
+            before.as_str(),
+            edits.as_slice(),
+            after.as_str(),
+        )?;
+        assert!(rt; agrees, "round {round}");
     }
     Ok(())
 }
