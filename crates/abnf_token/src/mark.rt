@@ -34,6 +34,15 @@ fn mark_of(token: &Token) -> TokenMark
     }
 }
 
+/// Gives back the room of marks that have more than one to spare.
+fn trim(marks: &mut Vec<TokenMark>)
+    ensures { marks.new.items ≡ marks.old.items }
+{
+    if marks.capacity() > marks.len().saturating_add(1) {
+        marks.shrink_to_fit();
+    }
+}
+
 /// The marks of the tokens of a line, from left to right. The line has less than 4 GiB.
 pub fn marks_of(alloc: Global, text: &str) -> Result<Vec<TokenMark>, AllocError>
     requires { length text.now < 2 ^ 32 }
@@ -43,7 +52,7 @@ pub fn marks_of(alloc: Global, text: &str) -> Result<Vec<TokenMark>, AllocError>
     for token in tokens(text, 0) {
         marks.push(mark_of(&token))?;
     }
-    marks.shrink_to_fit();
+    trim(&mut marks);
     Ok(marks)
 }
 

@@ -11,7 +11,7 @@ use Rattle.std.proofs.lemmas.List.{append-nil, length-map}
 use Rattle.std.proofs.lemmas.List.Folds.{list_any-append}
 use Rattle.std.proofs.lemmas.Bool.{cases_lt}
 use Rattle.std.proofs.lemmas.Bool.Decides.{nat_tests}
-use Rattle.std.proofs.lemmas.Str.{encodes-chars, chars-append, chars_from_encodes, encode_ascii, byte_from_char, char_from_byte, IsUtf8-drop, IsUtf8-take, IsCharBoundary-after_ascii, IsCharBoundary-before_ascii, IsCharBoundary-end, IsCharBoundary-start, length-encode, len_utf8_bounds}
+use Rattle.std.proofs.lemmas.Str.{encodes-append, encodes-chars, chars-append, chars_from_encodes, encode_ascii, byte_from_char, char_from_byte, IsUtf8-drop, IsUtf8-take, IsCharBoundary-after_ascii, IsCharBoundary-before_ascii, IsCharBoundary-end, IsCharBoundary-start, length-encode, len_utf8_bounds}
 use Rattle.ls_text.specs.Lines.{is_break, starts_with_lf, line_ends, lines}
 use Rattle.ls_text.specs.Cut.{end_text, line_text, text_of, IsPlain, is_end_before, AreLines, AreLinesBefore, IsCutSoFar, IsCutOnto, IsCut, first_end, IsCutFrom, IsPushed}
 use Rattle.ls_text.specs.declared.line_end.LineEnd.{LineEnd}
@@ -303,4 +303,35 @@ lines_of_cut onto plain pushed none =
     let joins = pushed.joins ∙ ap (λ x. x ++ pushed.line ∷ []) (onto.joins ∙ ap (λ x. x ++ onto.cut) none) in (
       subst AreLines (sym joins) (lines_end onto.cut pushed.line (subst (AreLinesBefore onto.cut) (sym text_is) onto.so_far.before) (subst IsPlain (sym text_is) plain) pushed.end_is),
       ap text_of joins ∙ sym (append-nil (text_of (onto.cut ++ pushed.line ∷ []))) ∙ text_of-push onto.cut pushed.line [] ∙ ap (λ x. text_of onto.cut ++ (line_text pushed.line ++ (end_text x ++ []))) pushed.end_is ∙ ap (λ x. text_of onto.cut ++ x) (append-nil (line_text pushed.line) ∙ text_is) ∙ onto.so_far.joins,
+    )
+
+-- the first line and the rest are no longer than the text
+pub parts_le : (line rest text : List ℕ) (end : LineEnd) → IsCutFrom line end rest text → (length line ≤ length text) × (length rest ≤ length text)
+parts_le line rest text end cut =
+    let whole = ap length cut.joins in
+    let first = length-append line (end_text end ++ rest) in
+    let second = length-append (end_text end) rest in
+    (omega arith, omega arith)
+
+-- lines that come to the end of lines come to the end of all before them
+pub pushed_behind : (front : List Row) {ls ms : List Row} {text : List ℕ} {end : LineEnd} → IsPushed ls text end ms → IsPushed (front ++ ls) text end (front ++ ms)
+pushed_behind front {ls = ls} p = record {
+  line = p.line;
+  text_is = p.text_is;
+  end_is = p.end_is;
+  joins = ap (λ z. front ++ z) p.joins ∙ sym (append_assoc front ls (p.line ∷ []));
+}
+
+pub pushed_last : {ls ms : List Row} {text : List ℕ} {end : LineEnd} → end ≡ Eof → IsPushed ls text end ms → IsPushed ls text Eof ms
+pushed_last e p = record { line = p.line; text_is = p.text_is; end_is = p.end_is ∙ e; joins = p.joins }
+
+-- the lines that are cut so far have no more bytes than the text
+pub cut_bytes : {text rest : List ℕ} {now : List Row} → IsCutOnto [] text rest now → length (encodes (text_of now)) ≤ length (encodes (chars text))
+cut_bytes {rest = rest} onto =
+    omega (
+      arith,
+      ap (λ t. length (encodes t)) onto.so_far.joins,
+      ap length (encodes-append (text_of onto.cut) (chars rest)),
+      length-append (encodes (text_of onto.cut)) (encodes (chars rest)),
+      ap (λ ls. length (encodes (text_of ls))) onto.joins,
     )

@@ -2,7 +2,7 @@ ghost use Rattle.std.specs.Prelude.{◌≡◌, ℕ, ◌<◌, ◌≤◌, ◌^◌,
 ghost use Rattle.std.specs.Arc.{arc_value};
 ghost use Rattle.std.specs.Str.{chars};
 ghost use Rattle.ls_text.specs.Lines.{is_break};
-ghost use Rattle.ls_text.specs.Cut.{IsCutFrom, IsPushed, IsPlain, IsCut, IsCutOnto};
+ghost use Rattle.ls_text.specs.Cut.{IsCutFrom, IsPushed, IsPlain, IsCutOnto};
 
 use crate::line::Line;
 use crate::line_end::{LineEnd, first_end};
@@ -23,7 +23,7 @@ fn first_break(bytes: &[u8]) -> usize
 }
 
 // The first line of a text, its line end, and what follows.
-fn first_line(text: &str) -> (&str, LineEnd, &str)
+pub fn first_line(text: &str) -> (&str, LineEnd, &str)
     ensures { IsCutFrom result.0.now result.1 result.2.now text.now }
 {
     let bytes = text.as_bytes();
@@ -71,15 +71,4 @@ pub fn push_lines<'a>(
         push_line(alloc, lines, line, end)?;
         rest = after;
     }
-}
-
-// The lines of a text.
-pub fn lines_of(alloc: Global, text: &str) -> Result<Vec<Arc<Line>>, AllocError>
-    requires { length text.now < 2 ^ 32 }
-    ensures { IfOk result (λ v. IsCut (chars text.now) (map arc_value v.items)) }
-{
-    let mut lines = Vec::new(alloc);
-    let rest = push_lines(alloc, &mut lines, text)?;
-    push_line(alloc, &mut lines, rest, LineEnd::Eof)?;
-    Ok(lines)
 }

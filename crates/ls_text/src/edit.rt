@@ -6,7 +6,8 @@ ghost use Rattle.ls_text.specs.Lines.{utf16_len, offset_of};
 ghost use Rattle.ls_text.specs.Cut.{end_text, line_text, end_at, text_of, IsCut, IsKept};
 ghost use Rattle.ls_text.specs.Spots.{IsSpot, front_of, back_of};
 
-use crate::cut::{lines_of, push_line, push_lines};
+use crate::chunk::MOST_LINES;
+use crate::cut::{first_line, push_line, push_lines};
 use crate::fault::TextFault;
 use crate::line::Line;
 use crate::line_end::LineEnd;
@@ -146,7 +147,7 @@ fn middle(
     Ok(text)
 }
 
-// The lines of a text.
+// The lines of a text. A chunk is made as soon as it is full.
 pub fn whole(alloc: Global, text: &str) -> Result<Lines, TextFault>
     ensures ok { IfOk result (λ lines. IsCut (chars text.now) lines) }
     ensures too_large { IfErr result
@@ -155,7 +156,21 @@ pub fn whole(alloc: Global, text: &str) -> Result<Lines, TextFault>
     if text.len() > MAX_BYTES {
         return Err(TextFault::TooLarge);
     }
-    Lines::of(alloc, lines_of(alloc, text)?)
+    let mut lines = Lines::with_room(alloc, 0)?;
+    let mut part = Vec::with_capacity(alloc, MOST_LINES)?;
+    let mut rest = text;
+    'lines: loop {
+        let (line, end, after) = first_line(rest);
+        push_line(alloc, &mut part, line, end)?;
+        if let LineEnd::Eof = end {
+            return lines.with_part(alloc, part);
+        }
+        if part.len() >= MOST_LINES {
+            lines = lines.with_part(alloc, part)?;
+            part = Vec::with_capacity(alloc, MOST_LINES)?;
+        }
+        rest = after;
+    }
 }
 
 // The lines with what stands between two spots replaced. The lines before the one before the first spot, and those after the

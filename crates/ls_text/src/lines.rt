@@ -216,7 +216,7 @@ impl Lines {
     }
 
     // These lines, and some more, which come into one chunk.
-    fn with_part(self, alloc: Global, part: Vec<Arc<Line>>) -> Result<Lines, TextFault>
+    pub fn with_part(self, alloc: Global, part: Vec<Arc<Line>>) -> Result<Lines, TextFault>
         requires { length part.items ≤ MOST_LINES }
         ensures ok { IfOk result (λ lines. lines ≡ self ++ map arc_value part.items) }
         ensures too_large { IfErr result (λ e. e ≡ TextFault.TooLarge →
@@ -249,15 +249,6 @@ impl Lines {
             }
         }
         lines.with_part(alloc, part)
-    }
-
-    // These lines, cut into chunks.
-    pub fn of(alloc: Global, lines: Vec<Arc<Line>>) -> Result<Lines, TextFault>
-        ensures ok { IfOk result (λ made. made ≡ map arc_value lines.items) }
-        ensures too_large { IfErr result (λ e. e ≡ TextFault.TooLarge →
-            MAX_BYTES < length (encode_utf8_all (text_of (map arc_value lines.items)))) }
-    {
-        Lines::with_room(alloc, lines.len() / FEW_LINES)?.with_lines(alloc, lines)
     }
 
     // These lines again. It shares all chunks.

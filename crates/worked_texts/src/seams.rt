@@ -8,7 +8,7 @@ use std::alloc::{AllocError, Global};
 use std::process::Abort;
 use std::test::Fail;
 
-// How many lines a chunk has at most.
+// How many lines a chunk has at most, and all chunks but the last of a text that was just opened.
 const MOST_LINES: u32 = 512;
 // About how many lines the texts have.
 const LINES: u32 = 3_072;
@@ -36,7 +36,7 @@ impl Dice {
             return self.below(count.saturating_add(2));
         }
         let chunks = count.div_ceil(MOST_LINES).max(1);
-        let seam = count.div_ceil(chunks).saturating_mul(self.below(chunks));
+        let seam = self.below(chunks).saturating_mul(MOST_LINES);
         seam.saturating_add(self.below(5)).saturating_sub(2)
     }
 

@@ -8,4 +8,4 @@ loop-token-preserved c =
     marks_more c.in-Some.token c.loop-token.invariant c.in-Some.ensures.steps (c.in_ok-push.ensures.items ∙ ap (λ m. c.loop-token.marks.items ++ m ∷ []) c.mark_of.ensures)
 
 pub returns : goal.returns
-returns c = subst (AreMarks c.args.text.now) (sym c.shrink_to_fit.ensures.items) (marks_done c.loop-token.invariant c.in-None.ensures.steps)
+returns c = subst (AreMarks c.args.text.now) (sym c.trim.ensures) (marks_done c.loop-token.invariant c.in-None.ensures.steps)
