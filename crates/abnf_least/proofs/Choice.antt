@@ -43,7 +43,7 @@ FirstOf i es Nothing = AllByRecursion (λ e. e ≡ Nothing) es
 FirstOf i es (Least l h c) = IsFirst i es l h c
 
 -- a pair that comes before (l, h) comes before what is not before (l, h)
-earlier : (m k l h : ℕ) (e : Entry) → (m < l) ⊎ ((m ≡ l) × (k ≤ h)) → NotBefore l h e → NotBefore m k e
+pub earlier : (m k l h : ℕ) (e : Entry) → (m < l) ⊎ ((m ≡ l) × (k ≤ h)) → NotBefore l h e → NotBefore m k e
 earlier m k l h Nothing p n = tt
 earlier m k l h (Least a b c) p n =
     ⊎_elim

@@ -16,3 +16,7 @@ pub mod Draft
 pub mod RootSays
 pub mod One
 pub mod OneShown
+pub mod Exist
+pub mod Reaching
+pub mod Short
+pub mod SomeShown

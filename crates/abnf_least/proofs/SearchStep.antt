@@ -151,7 +151,7 @@ room_more trees table queue found x s f n =
     (λ other. subst (IsUpTo 18446744073709551614) (sym (get_or-set_other table x.number n e Nothing other)) (room trees table queue s n))
     (cases_eq n x.number)
 
-none_at : (n m : ℕ) → entry_at (replicate n Nothing) m ≡ Nothing
+pub none_at : (n m : ℕ) → entry_at (replicate n Nothing) m ≡ Nothing
 none_at zero m = refl
 none_at (suc n) zero = refl
 none_at (suc n) (suc m) = none_at n m

@@ -25,7 +25,7 @@ among m (n ∷ ns) =
 pub nothing_least : (l h c : ℕ) → Nothing ≡ Least l h c → ⊥
 nothing_least l h c e = cc
 
-not_before_nothing : (l h : ℕ) (e : Entry) → e ≡ Nothing → NotBefore l h e
+pub not_before_nothing : (l h : ℕ) (e : Entry) → e ≡ Nothing → NotBefore l h e
 not_before_nothing l h e is = subst (λ x. NotBefore l h x) (sym is) tt
 
 itself : (l h c : ℕ) → NotBefore l h (Least l h c)
@@ -64,7 +64,7 @@ module _ (l h : ℕ) where
   referred_rest Nothing n = tt
   referred_rest (Least a b c) n = ⊎_elim (λ x. inl x) (λ y. inr (y.0, omega (arith, y.1))) n
 
-row_range : (es : List Entry) → InRange (all_in_a_row es)
+pub row_range : (es : List Entry) → InRange (all_in_a_row es)
 row_range [] = omega arith
 row_range (Nothing ∷ es) = tt
 row_range (Least a b c ∷ es) = elim (all_in_a_row es) as (λ x. InRange (in_a_row (Least a b c) x)) [ Nothing ↦ tt | Least m k d ↦ omega arith ]

@@ -7,3 +7,4 @@ pub mod Sentence
 pub mod Shown
 pub mod Walk
 pub mod Rendered
+pub mod Exist

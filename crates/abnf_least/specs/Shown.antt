@@ -8,9 +8,11 @@ use Rattle.abnf_least.specs.declared.shortest.Shortest.{Shortest}
 use Rattle.abnf_least.specs.declared.shortest.Shortest.TheVariants.{Shown, Long, Huge, Nothing, NotKnown}
 use Rattle.abnf_least.specs.Sentence.{IsSentence}
 
--- What is known of a rule with this root, if it leads to no opaque part. Of lengths from the top on no exact one is told.
+-- What is known of a rule with this root, if it leads to no opaque part: an example is the rule's sentence, which the rule generates
+-- and which has the length that is told. Of lengths from the top on no exact one is told.
 abbrev pub IsKnownOf : List Part → ℕ → Part → Shortest → Type 0
-IsKnownOf roots r root (Shown n text) = IsLeastLength roots root n × (n ≤ 4096) × IsSentence roots r text
+IsKnownOf roots r root (Shown n text) =
+    IsLeastLength roots root n × (n ≤ 4096) × IsSentence roots r text × Generates roots root text × (length text ≡ n)
 IsKnownOf roots r root (Long n) = IsLeastLength roots root n × (4096 < n) × (n < top)
 IsKnownOf roots r root Huge = ((s : List ℕ) × Generates roots root s) × ((s : List ℕ) → Generates roots root s → top ≤ length s)
 IsKnownOf roots r root Nothing = (s : List ℕ) → Generates roots root s → ⊥

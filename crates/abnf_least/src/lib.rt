@@ -16,7 +16,10 @@ mod users;
 mod walk;
 mod work;
 
-pub use laws::{examples_are_unique, sentences_are_generated, sentences_are_unique};
+pub use laws::{
+    certificates_exist, examples_are_unique, examples_exist, sentences_are_generated,
+    sentences_are_unique,
+};
 pub use rendering::render;
 pub use search::least;
 pub use shortest::{Shortest, example};

@@ -1,7 +1,8 @@
 -- The text that is shown of a rule.
-use Rattle.std.specs.Prelude.{◌≡◌, ℕ, ◌++◌, ◌∷◌, List, [], Option, Some, None, codes}
+use Rattle.std.specs.Prelude.{◌≡◌, ◌<◌, ℕ, ◌++◌, ◌∷◌, List, [], length, Option, Some, None, IfSome, codes}
 use Rattle.std.specs.Fmt.{decimal}
 use Rattle.abnf_parts.specs.Part.{Part}
+use Rattle.abnf_names.specs.Rules.{Grammar, IsGrammar}
 use Rattle.abnf_least.specs.Rendered.{rendered_text}
 use Rattle.abnf_least.specs.Shown.{IsShown}
 use Rattle.abnf_least.specs.declared.shortest.Shortest.{Shortest}
@@ -23,3 +24,7 @@ IsHoverText roots (Some r) text = (shown : Shortest) × IsShown roots r shown ×
 -- a rule has at most one text
 abbrev pub AtMostOneHoverText : Type 0
 AtMostOneHoverText = (roots : List Part) (rule : Option ℕ) (a b : List ℕ) → IsHoverText roots rule a → IsHoverText roots rule b → a ≡ b
+
+-- each rule of a text's grammar has a text, and so has a name that stands for none
+abbrev pub HoverTextsExist : Type 0
+HoverTextsExist = (g : Grammar) → IsGrammar g → (rule : Option ℕ) → IfSome rule (λ r. r < length g.rules) → (text : List ℕ) × IsHoverText g.rules rule text

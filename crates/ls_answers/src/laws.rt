@@ -1,7 +1,7 @@
 //! Laws of answers.
 ghost use Rattle.std.specs.Prelude.{◌≡◌, ◌<◌, ◌^◌, List, ℕ, length};
 ghost use Rattle.ls_answers.specs.Answers.{IsAnswer};
-ghost use Rattle.ls_answers.specs.Hover.{AtMostOneHoverText};
+ghost use Rattle.ls_answers.specs.Hover.{AtMostOneHoverText, HoverTextsExist};
 ghost use Rattle.ls_answers.specs.declared.answer.Answer.{Answer};
 ghost use Rattle.ls_answers.specs.declared.ask.Ask.{Ask};
 
@@ -18,4 +18,9 @@ pub fn answers_exist()
 /// Of a rule, or of a name that stands for none, one text is shown at most, by whatever certificate.
 pub fn hover_texts_are_unique()
     ensures { AtMostOneHoverText }
+{}
+
+/// Of each rule of the grammar of a text, and of a name that stands for none, a text is shown.
+pub fn hover_texts_exist()
+    ensures { HoverTextsExist }
 {}

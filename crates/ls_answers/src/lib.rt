@@ -19,4 +19,4 @@ pub use answer::{Answer, Symbol};
 pub use ask::Ask;
 pub use hover::hover_text;
 pub use job::{Done, Job, run};
-pub use laws::{answers_are_unique, answers_exist, hover_texts_are_unique};
+pub use laws::{answers_are_unique, answers_exist, hover_texts_are_unique, hover_texts_exist};

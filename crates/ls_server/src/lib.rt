@@ -15,7 +15,10 @@ pub use commands::{cert_part, check_text, example_text};
 pub use device::{DeviceFault, ReadFrom, Sink, Source, WriteTo};
 pub use ending::Ending;
 pub use file::{FileFault, MAX_CERT_BYTES, read_cert_file, read_text};
-pub use laws::{inputs_have_one_output, sessions_are_unique, sessions_exist};
+pub use laws::{
+    example_texts_are_accepted, example_texts_exist, inputs_have_one_output, sessions_are_unique,
+    sessions_exist,
+};
 pub use ls_session::{ClientEvent, DeskFault, Out, Session, Status, Turn, body_of, refusal_body};
 pub use ls_text::Snapshot;
 pub use serve::{ServeFault, serve_limited, serve_plain};

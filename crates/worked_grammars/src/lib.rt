@@ -1,4 +1,4 @@
-//! Worked grammars: the tests of `abnf_names`, and the grammars of `examples/`.
+//! Worked grammars: the tests of `abnf_names`, and the grammars of `examples/` with their shortest sentences.
 //!
 //! They stand above the crates that they test, since a crate with tests is proved twice, and those take long.
 #![tactic(auto)]
@@ -11,3 +11,5 @@ mod examples;
 mod grammars;
 #[cfg(test)]
 mod names;
+#[cfg(test)]
+mod sentences;

@@ -1,0 +1,98 @@
+//! Texts of certificates: those that are read and accepted, and the faults of others.
+
+use super::check::snapshot;
+use abnf_cert::{Cert, CertFault, check, read_cert, write_cert};
+use abnf_least::least;
+use abnf_names::Grammar;
+use std::alloc::{AllocError, Global};
+use std::test::Fail;
+
+fn answer(yes: bool) -> &'static str {
+    if yes { "yes" } else { "no" }
+}
+
+fn fault_name(fault: CertFault) -> &'static str {
+    match fault {
+        CertFault::BadLine => "BadLine",
+        CertFault::OutOfOrder => "OutOfOrder",
+        CertFault::NumberTooLarge => "NumberTooLarge",
+        CertFault::Memory => "Memory",
+    }
+}
+
+/// What is said of a certificate's text: whether the certificate is accepted, or its fault.
+fn verdict(alloc: Global, grammar: &Grammar<'_>, cert: &str) -> &'static str {
+    match read_cert(alloc, cert.as_bytes()) {
+        Ok(cert) => answer(check(grammar, &cert)),
+        Err(fault) => fault_name(fault),
+    }
+}
+
+/// Whether this is said of a certificate's text, for the grammar of a text.
+fn says(alloc: Global, text: &str, cert: &str, want: &str) -> Result<bool, Fail> {
+    let text = snapshot(alloc, text)?;
+    let grammar = Grammar::of(alloc, &text)?;
+    Ok(verdict(alloc, &grammar, cert) == want)
+}
+
+fn cert_text(alloc: Global, grammar: &Grammar<'_>) -> Result<String, AllocError> {
+    let cert: Cert = least(alloc, grammar)?;
+    write_cert(alloc, &cert)
+}
+
+/// Whether this is the text of the certificate that is found for the grammar of a text.
+fn finds(alloc: Global, text: &str, want: &str) -> Result<bool, Fail> {
+    let text = snapshot(alloc, text)?;
+    let grammar = Grammar::of(alloc, &text)?;
+    Ok(cert_text(alloc, &grammar)?.as_str() == want)
+}
+
+#[test]
+fn found(rt: HostRuntime) -> Result<(), Fail> {
+    assert!(rt; finds(rt.alloc(), "", "")?);
+    assert!(rt;
+        finds(
+            rt.alloc(),
+            "a = 4294967295\"\"",
+            "0 0 0 0\n1 0 0 0\n2 0 0 0\n"
+        )?
+    );
+    Ok(())
+}
+
+#[test]
+fn accepted(rt: HostRuntime) -> Result<(), Fail> {
+    assert!(rt; says(rt.alloc(), "", "", "yes")?);
+    assert!(rt;
+        says(
+            rt.alloc(),
+            "a = a / \"\"",
+            "0 0 0 1\n1 0 1 0\n2 0 0 0\n",
+            "yes"
+        )?
+    );
+    assert!(rt;
+        says(
+            rt.alloc(),
+            "a = a / \"\"",
+            "0 0 1 0\n1 0 1 0\n2 0 0 0\n",
+            "no"
+        )?
+    );
+    Ok(())
+}
+
+#[test]
+fn faulty(rt: HostRuntime) -> Result<(), Fail> {
+    assert!(rt; says(rt.alloc(), "a = a", "0 -\n1 -", "BadLine")?);
+    assert!(rt; says(rt.alloc(), "a = a", "0 -\r\n1 -\r\n", "BadLine")?);
+    assert!(rt;
+        says(
+            rt.alloc(),
+            "a = a",
+            "0 -\n5 18446744073709551616 0 1\n",
+            "OutOfOrder"
+        )?
+    );
+    Ok(())
+}
