@@ -10,36 +10,25 @@ ghost use Rattle.abnf_names.specs.Passes as spec;
 ghost use Rattle.abnf_parts.specs.CoreTable as table;
 ghost use Rattle.abnf_parts.specs.Pushed.{Adds, AddsTrees};
 
+use crate::definition::Definition;
 use crate::groups::Groups;
-use crate::own::own_groups;
-use crate::parsed::Parsed;
 use abnf_parts::{Core, Node, NodeNo, RuleNames, fill, push_concatenations, push_needed};
 use abnf_syntax::MAX_NESTING;
 use abnf_token::Folded;
 use ls_lists::List;
 use std::alloc::{AllocError, Global};
 
-/// Whether `=/` follows the name at a block's head.
-fn is_adding(parsed: &Parsed<'_>) -> bool
-    ensures { result ≡ rules.adds (spec.block_of parsed.now) }
-{
-    match parsed.block.head() {
-        Some(head) => head.adds,
-        None => false,
-    }
-}
-
-/// The alternatives that a block says, whose numbers are added to `numbers`.
+/// The alternatives that a definition says, whose numbers are added to `numbers`.
 fn push_alternatives<'t>(
     alloc: Global,
     names: &RuleNames<'t>,
-    parsed: &Parsed<'t>,
+    definition: &Definition<'t>,
     nodes: &mut Vec<Node<'t>>,
     numbers: &mut List<NodeNo>,
 ) -> Result<(), AllocError>
-    ensures { OnOk result (AddsTrees (rules.said_alternatives (rule_number (all_names names.now)) (spec.block_of parsed.now)) nodes.old.items nodes.new.items numbers.old numbers.new) }
+    ensures { OnOk result (AddsTrees (spec.alternatives_of (rule_number (all_names names.now)) definition.now) nodes.old.items nodes.new.items numbers.old numbers.new) }
 {
-    match &parsed.said {
+    match &definition.said {
         Ok(rule) => push_concatenations(
             alloc,
             names,
@@ -56,56 +45,56 @@ fn push_alternatives<'t>(
     }
 }
 
-/// The same if the block counts.
+/// The same if the definition counts.
 fn push_if<'t>(
     alloc: Global,
     counts: bool,
     names: &RuleNames<'t>,
-    parsed: &Parsed<'t>,
+    definition: &Definition<'t>,
     nodes: &mut Vec<Node<'t>>,
     numbers: &mut List<NodeNo>,
 ) -> Result<(), AllocError>
-    ensures { OnOk result (AddsTrees (if counts then rules.said_alternatives (rule_number (all_names names.now)) (spec.block_of parsed.now) else []) nodes.old.items nodes.new.items numbers.old numbers.new) }
+    ensures { OnOk result (AddsTrees (if counts then spec.alternatives_of (rule_number (all_names names.now)) definition.now else []) nodes.old.items nodes.new.items numbers.old numbers.new) }
 {
     if counts {
-        push_alternatives(alloc, names, parsed, nodes, numbers)
+        push_alternatives(alloc, names, definition, nodes, numbers)
     } else {
         Ok(())
     }
 }
 
-/// The alternatives that a name's blocks say which count, whose numbers are added to `numbers`.
+/// The alternatives that those of a name's definitions say which count, whose numbers are added to `numbers`.
 fn push_counted<'t>(
     alloc: Global,
     names: &RuleNames<'t>,
-    blocks: &[Parsed<'t>],
+    definitions: &[Definition<'t>],
     nodes: &mut Vec<Node<'t>>,
     numbers: &mut List<NodeNo>,
 ) -> Result<(), AllocError>
-    ensures { OnOk result (AddsTrees (flat_map (rules.said_alternatives (rule_number (all_names names.now))) (rules.counted (map spec.block_of blocks.now))) nodes.old.items nodes.new.items numbers.old numbers.new) }
+    ensures { OnOk result (AddsTrees (flat_map (spec.alternatives_of (rule_number (all_names names.now))) (spec.counted_among definitions.now)) nodes.old.items nodes.new.items numbers.old numbers.new) }
 {
     let mut is_defined = false;
-    for parsed in blocks {
-        let adds = is_adding(parsed);
-        push_if(alloc, adds | !is_defined, names, parsed, nodes, numbers)?;
-        is_defined = is_defined | !adds;
+    for definition in definitions {
+        let counts = definition.adds | !is_defined;
+        push_if(alloc, counts, names, definition, nodes, numbers)?;
+        is_defined = is_defined | !definition.adds;
     }
     Ok(())
 }
 
-/// The rule whose name has these blocks.
+/// The rule whose name has these definitions.
 fn push_rule<'t>(
     alloc: Global,
     names: &RuleNames<'t>,
-    blocks: &[Parsed<'t>],
+    definitions: &[Definition<'t>],
     nodes: &mut Vec<Node<'t>>,
 ) -> Result<(), AllocError>
-    ensures { OnOk result (Adds (subparts (alt (parts (flat_map (rules.said_alternatives (rule_number (all_names names.now))) (rules.counted (map spec.block_of blocks.now)))))) nodes.old.items nodes.new.items) }
+    ensures { OnOk result (Adds (subparts (alt (parts (flat_map (spec.alternatives_of (rule_number (all_names names.now))) (spec.counted_among definitions.now))))) nodes.old.items nodes.new.items) }
 {
     let at = nodes.len();
     let mut numbers = List::new(alloc);
     nodes.push(Node::Opaque)?;
-    push_counted(alloc, names, blocks, nodes, &mut numbers)?;
+    push_counted(alloc, names, definitions, nodes, &mut numbers)?;
     fill(nodes, at, Node::Alt(numbers));
     Ok(())
 }
@@ -114,7 +103,7 @@ fn push_rule<'t>(
 fn push_own<'t>(
     alloc: Global,
     names: &RuleNames<'t>,
-    groups: &Groups<'t, Parsed<'t>>,
+    groups: &Groups<'t, Definition<'t>>,
     own: &[Folded<'t>],
     nodes: &mut Vec<Node<'t>>,
     roots: &mut List<NodeNo>,
@@ -132,7 +121,7 @@ fn push_own<'t>(
 fn push_rules<'t>(
     alloc: Global,
     names: &RuleNames<'t>,
-    groups: &Groups<'t, Parsed<'t>>,
+    groups: &Groups<'t, Definition<'t>>,
     needed: &[Core],
     nodes: &mut Vec<Node<'t>>,
     roots: &mut List<NodeNo>,
@@ -149,16 +138,13 @@ fn push_rules<'t>(
 pub(crate) fn numbered_rules<'t>(
     alloc: Global,
     names: &RuleNames<'t>,
-    parsed: Vec<Parsed<'t>>,
+    groups: &Groups<'t, Definition<'t>>,
     needed: &[Core],
 ) -> Result<(Vec<Node<'t>>, Vec<NodeNo>), AllocError>
-    requires names { spec.AreNames (map spec.block_of parsed.items) names.now }
-    requires needed { map table.core_of needed.now ≡ rules.needed (map spec.block_of parsed.items) }
-    ensures { IfOk result (λ r. AddsTrees (rules.rules_of (map spec.block_of parsed.entry.items)) [] r.0.items [] r.1.items) }
+    ensures { IfOk result (λ r. (blocks : List said.Block) → spec.AreOwn blocks groups.now → spec.AreNames blocks names.now → map table.core_of needed.now ≡ rules.needed blocks → AddsTrees (rules.rules_of blocks) [] r.0.items [] r.1.items) }
 {
-    let groups = own_groups(alloc, parsed)?;
     let mut nodes = Vec::new(alloc);
     let mut roots = List::new(alloc);
-    push_rules(alloc, names, &groups, needed, &mut nodes, &mut roots)?;
+    push_rules(alloc, names, groups, needed, &mut nodes, &mut roots)?;
     Ok((nodes, roots.into_vec()))
 }
