@@ -4,8 +4,8 @@ use Rattle.std.proofs.Common.{◌≡◌, ◌∙◌, ◌<◌, ℕ, Bool, true, fa
 use Rattle.std.specs.Prelude.{if◌then◌else◌}
 use Rattle.std.specs.Option.{option_map_or}
 use Rattle.std.specs.declared.cmp.Ordering.{Ordering}
-use Rattle.std.specs.Ordering.{nat_cmp, then_cmp, is_lt}
-use Rattle.std.specs.Cmp.{IsTotalOrder, IsStrictWeakOrder}
+use Rattle.std.specs.Ordering.{nat_cmp, is_lt}
+use Rattle.std.specs.Cmp.{IsTotalOrder}
 use Rattle.std.proofs.lemmas.Cmp.{nat_cmp_total, then_total}
 use Rattle.std.proofs.lemmas.List.{ext_get_or}
 use Rattle.std.proofs.lemmas.List.Sorted.{ranks_by}
@@ -22,11 +22,11 @@ use Rattle.abnf_syntax.proofs.Bare.{bare, bare_head, head_bare, one_list, same_i
 use Rattle.abnf_parts.specs.Part.{Part}
 use Rattle.abnf_parts.specs.Names.{Name, with_name}
 use Rattle.abnf_names.specs.Said.{Block, Says, IsWithin, AreWithin, AreSaid, name_of}
-use Rattle.abnf_names.specs.Rules.{Grammar, IsGrammar, grammar_of, names_of, rules_of}
+use Rattle.abnf_names.specs.Rules.{Grammar, grammar_of, names_of, rules_of}
 use Rattle.abnf_names.specs.Excerpts.{Excerpt, excerpt_of, fault_shown}
 use Rattle.abnf_names.proofs.OneGrammar.{one_grammar}
 use Rattle.abnf_lint.specs.declared.finding.Finding.{Finding}
-use Rattle.abnf_lint.specs.Unproductive.{AreUnproductive, IsUnproductive}
+use Rattle.abnf_lint.specs.Unproductive.{AreUnproductive}
 use Rattle.abnf_lint.specs.Order.{AreOrdered, Key, key, key_cmp}
 use Rattle.abnf_lint.specs.Findings.{AreFindings, block_findings, body_findings, findings_in, fault_findings, head_findings, item_findings, items_findings}
 use Rattle.abnf_lint.specs.Passes.{findings_behind, with_base, with_head}

@@ -1,9 +1,9 @@
 -- What the pass found, in order, is what is found in the text.
-use Rattle.std.proofs.Common.{◌≡◌, ◌∙◌, Bool, List, [], map, sym, ap, subst}
+use Rattle.std.proofs.Common.{◌≡◌, ◌∙◌, Bool, List, [], map, ap, subst}
 use Rattle.abnf_parts.specs.Part.{Part}
 use Rattle.abnf_parts.specs.Names.{Name}
 use Rattle.abnf_names.specs.declared.section.Section.{Section}
-use Rattle.abnf_names.specs.Excerpts.{Excerpt, HasSections, excerpt, excerpt_of}
+use Rattle.abnf_names.specs.Excerpts.{Excerpt, HasSections, excerpt}
 use Rattle.abnf_names.specs.Rules.{Grammar, names_of}
 use Rattle.abnf_lint.specs.declared.finding.Finding.{Finding}
 use Rattle.abnf_lint.specs.Unproductive.{AreUnproductive}

@@ -1,5 +1,5 @@
 -- What is found in a text, block by block.
-use Rattle.std.specs.Prelude.{◌≡◌, ℕ, Bool, true, false, not, ◌&&◌, nat_lt, List, [], ◌∷◌, ◌++◌, filter, flat_map, Option, Some, None, slice_index_or, if◌then◌else◌}
+use Rattle.std.specs.Prelude.{ℕ, Bool, true, false, not, ◌&&◌, nat_lt, List, [], ◌∷◌, ◌++◌, filter, flat_map, Option, slice_index_or, if◌then◌else◌}
 use Rattle.std.specs.Option.{option_map_or, is_some}
 use Rattle.ls_text.specs.declared.position.Place.{Place}
 use Rattle.abnf_token.specs.declared.token.Kind.{Kind}

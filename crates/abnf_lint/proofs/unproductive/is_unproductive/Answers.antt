@@ -1,5 +1,5 @@
 use Rattle.std.proofs.Math.Nat.{eq-or-lt_of_le}
-use Rattle.std.proofs.Common.{◌≡◌, ◌<◌, ◌≤◌, ◌∙◌, inl, inr, ap, ℕ, List, subst, sym, refl, arith, Some}
+use Rattle.std.proofs.Common.{◌≡◌, ◌≤◌, ◌∙◌, inl, inr, ap, List, subst, sym, refl, arith}
 use Rattle.abnf_parts.specs.Part.{Part, root_number}
 use Rattle.abnf_parts.specs.Generates.{Generates}
 use Rattle.abnf_cert.specs.declared.entry.Entry.{Entry}

@@ -1,4 +1,4 @@
-use Rattle.std.proofs.Common.{subst, ℕ}
+use Rattle.std.proofs.Common.{subst}
 use Rattle.std.specs.Prelude.{◌↔◌, IsTrue}
 use Rattle.abnf_lint.specs.Unproductive.{IsUnproductive}
 use Rattle.abnf_lint.proofs.Marks.{each_more}
