@@ -13,8 +13,14 @@ use Rattle.abnf_names.specs.declared.place.NamePlace.{NamePlace}
 use Rattle.abnf_parts.specs.Names.{folded_text, Name}
 use Rattle.std.specs.Str.{bytes_eq}
 use Rattle.abnf_names.specs.Said.{Block}
-use Rattle.abnf_names.specs.Places.{Named, holds, ends_at, places_of_name}
-use Rattle.abnf_names.specs.Rules.{adds, alternatives_said, defined, defines, needed}
+use Rattle.abnf_names.specs.Places.{Named, holds, ends_at, places_of, places_of_name}
+use Rattle.abnf_names.specs.Rules.{adds, alternatives_said, defined, defines, needed, rules_of}
+use Rattle.abnf_names.specs.Excerpts.{excerpt, excerpt_of}
+use Rattle.abnf_names.specs.declared.own.NamePlaces.{NamePlaces}
+use Rattle.abnf_names.specs.declared.rules.Rules.{Rules}
+use Rattle.abnf_parts.specs.Nodes.{trees_at}
+use Rattle.abnf_parts.specs.Pushed.{AddsTrees}
+use Rattle.abnf_parts.specs.Reach.{AreReaching}
 use Rattle.abnf_parts.specs.Part.{Part}
 use Rattle.abnf_parts.specs.Core.{core_name}
 
@@ -89,3 +95,15 @@ spot_name spot = folded_text spot.name
 pub record AreNames (blocks : List Block) (names : List Name × List Name) : Type 0 where
   pub own : names.0 ≡ defined blocks
   pub core : names.1 ≡ map core_name (needed blocks)
+
+-- the places of the names of these blocks
+pub record AreNamePlaces (blocks : List Block) (found : NamePlaces) : Type 0 where
+  pub spots : map named_at found.spots ≡ places_of blocks
+  pub by_name : ArePlaced (map named_at found.spots) found.by_name
+
+-- the rules of these blocks, and the blocks without them
+pub record AreRules (blocks : List Block) (rules : Rules) : Type 0 where
+  pub names : AreNames blocks rules.names
+  pub nodes : AddsTrees (rules_of blocks) [] rules.nodes.items [] rules.roots.items
+  pub reaching : AreReaching (trees_at rules.nodes.items rules.roots.items) rules.opaque.items
+  pub sections : map excerpt rules.sections ≡ map excerpt_of blocks

@@ -11,11 +11,10 @@ ghost use Rattle.abnf_names.specs.Passes.{name_place};
 ghost use Rattle.abnf_names.specs.Excerpts.{HasSections};
 
 use crate::groups::Groups;
-use crate::own::{faults_of, own_groups, placed, rule_names};
+use crate::own::{faults_of, name_places};
 use crate::parsed::parsed_blocks;
-use crate::place::{NamePlace, Spot, found_at, places_of};
-use crate::reach::reaching;
-use crate::rules::numbered_rules;
+use crate::place::{NamePlace, Spot, found_at};
+use crate::rules::rules_said;
 use crate::section::Section;
 use abnf_parts::{Node, NodeNo, RuleNames, RuleNo};
 use abnf_syntax::SyntaxFault;
@@ -74,23 +73,19 @@ impl<'t> Grammar<'t> {
         ensures grammar { IfOk result IsGrammar }
     {
         let parsed = parsed_blocks(alloc, snapshot)?;
-        let spots = places_of(alloc, parsed.as_slice())?;
         let faults = faults_of(alloc, parsed.as_slice())?;
-        let by_name = placed(alloc, spots.as_slice())?;
-        let (names, needed) = rule_names(alloc, parsed.as_slice(), spots.as_slice())?;
-        let (groups, sections) = own_groups(alloc, parsed)?;
-        let (nodes, roots) = numbered_rules(alloc, &names, &groups, needed.as_slice())?;
-        let opaque = reaching(alloc, nodes.as_slice(), roots.as_slice())?;
+        let places = name_places(alloc, parsed.as_slice())?;
+        let rules = rules_said(alloc, parsed, places.spots.as_slice())?;
         Ok(Grammar {
             source: snapshot,
-            nodes,
-            roots,
-            names,
-            spots,
-            by_name,
+            nodes: rules.nodes,
+            roots: rules.roots,
+            names: rules.names,
+            spots: places.spots,
+            by_name: places.by_name,
             faults,
-            opaque,
-            sections,
+            opaque: rules.opaque,
+            sections: rules.sections,
         })
     }
 

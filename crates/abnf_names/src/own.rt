@@ -12,7 +12,7 @@ ghost use Rattle.abnf_parts.specs.CoreTable as table;
 use crate::definition::Definition;
 use crate::groups::Groups;
 use crate::parsed::Parsed;
-use crate::place::{NamePlace, Spot};
+use crate::place::{NamePlace, Spot, places_of};
 use crate::section::{Section, fault_shown};
 use abnf_parts::{Core, Names, RuleNames, core_names, needed_rules};
 use abnf_syntax::{Block, Rule, SyntaxFault};
@@ -101,10 +101,7 @@ fn with_spot<'t>(
 }
 
 /// Under each name its places.
-pub(crate) fn placed<'t>(
-    alloc: Global,
-    spots: &[Spot<'t>],
-) -> Result<Groups<'t, NamePlace>, AllocError>
+fn placed<'t>(alloc: Global, spots: &[Spot<'t>]) -> Result<Groups<'t, NamePlace>, AllocError>
     ensures { IfOk result (λ g. spec.ArePlaced (map spec.named_at spots.now) g) }
 {
     let mut groups = Groups::new(alloc);
@@ -112,6 +109,25 @@ pub(crate) fn placed<'t>(
         groups = with_spot(alloc, groups, spot)?;
     }
     Ok(groups)
+}
+
+/// The places of names in a text, in its order and by name.
+#[derive(Drop)]
+pub(crate) struct NamePlaces<'t> {
+    pub spots: List<Spot<'t>>,
+    pub by_name: Groups<'t, NamePlace>,
+}
+
+/// The places of the names in these blocks.
+pub(crate) fn name_places<'t>(
+    alloc: Global,
+    parsed: &[Parsed<'t>],
+) -> Result<NamePlaces<'t>, AllocError>
+    ensures { IfOk result (λ found. spec.AreNamePlaces (map spec.block_of parsed.now) found) }
+{
+    let spots = places_of(alloc, parsed)?;
+    let by_name = placed(alloc, spots.as_slice())?;
+    Ok(NamePlaces { spots, by_name })
 }
 
 /// Adds a name that no block defines.

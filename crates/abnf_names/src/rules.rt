@@ -7,11 +7,18 @@ ghost use Rattle.abnf_parts.specs.Names.{folded_text, all_names, rule_number};
 ghost use Rattle.abnf_names.specs.Said as said;
 ghost use Rattle.abnf_names.specs.Rules as rules;
 ghost use Rattle.abnf_names.specs.Passes as spec;
+ghost use Rattle.abnf_names.specs.Excerpts as excerpts;
+ghost use Rattle.abnf_names.specs.Places.{places_of};
 ghost use Rattle.abnf_parts.specs.CoreTable as table;
 ghost use Rattle.abnf_parts.specs.Pushed.{Adds, AddsTrees};
 
 use crate::definition::Definition;
 use crate::groups::Groups;
+use crate::own::{own_groups, rule_names};
+use crate::parsed::Parsed;
+use crate::place::Spot;
+use crate::reach::reaching;
+use crate::section::Section;
 use abnf_parts::{Core, Node, NodeNo, RuleNames, fill, push_concatenations, push_needed};
 use abnf_syntax::MAX_NESTING;
 use abnf_token::Folded;
@@ -135,7 +142,7 @@ fn push_rules<'t>(
 }
 
 /// The nodes of all rules, and the numbers of their roots.
-pub(crate) fn numbered_rules<'t>(
+fn numbered_rules<'t>(
     alloc: Global,
     names: &RuleNames<'t>,
     groups: &Groups<'t, Definition<'t>>,
@@ -147,4 +154,51 @@ pub(crate) fn numbered_rules<'t>(
     let mut roots = List::new(alloc);
     push_rules(alloc, names, groups, needed, &mut nodes, &mut roots)?;
     Ok((nodes, roots.into_vec()))
+}
+
+/// The nodes of the rules that these blocks say, the numbers of their roots, and the blocks without their rules.
+fn taken_apart<'t>(
+    alloc: Global,
+    parsed: Vec<Parsed<'t>>,
+    names: &RuleNames<'t>,
+    needed: &[Core],
+) -> Result<((Vec<Node<'t>>, Vec<NodeNo>), List<Section<'t>>), AllocError>
+    ensures rules { IfOk result (λ r. (blocks : List said.Block) → blocks ≡ map spec.block_of parsed.entry.items → spec.AreNames blocks names.now → map table.core_of needed.now ≡ rules.needed blocks → AddsTrees (rules.rules_of blocks) [] r.0.0.items [] r.0.1.items) }
+    ensures sections { IfOk result (λ r. map excerpts.excerpt r.1 ≡ map excerpts.excerpt_of (map spec.block_of parsed.entry.items)) }
+{
+    let (groups, sections) = own_groups(alloc, parsed)?;
+    let rules = numbered_rules(alloc, names, &groups, needed)?;
+    Ok((rules, sections))
+}
+
+/// The rules of a text: their names, nodes and roots, and for each whether it leads to prose or to a faulty block; and beside them the
+/// blocks without their rules.
+#[derive(Drop)]
+pub(crate) struct Rules<'t> {
+    pub names: RuleNames<'t>,
+    pub nodes: Vec<Node<'t>>,
+    pub roots: Vec<NodeNo>,
+    pub opaque: Vec<bool>,
+    pub sections: List<Section<'t>>,
+}
+
+/// The rules of these blocks, in which the names stand at these places.
+pub(crate) fn rules_said<'t>(
+    alloc: Global,
+    parsed: Vec<Parsed<'t>>,
+    spots: &[Spot<'t>],
+) -> Result<Rules<'t>, AllocError>
+    requires { map spec.named_at spots.now ≡ places_of (map spec.block_of parsed.items) }
+    ensures { IfOk result (λ r. spec.AreRules (map spec.block_of parsed.entry.items) r) }
+{
+    let (names, needed) = rule_names(alloc, parsed.as_slice(), spots)?;
+    let ((nodes, roots), sections) = taken_apart(alloc, parsed, &names, needed.as_slice())?;
+    let opaque = reaching(alloc, nodes.as_slice(), roots.as_slice())?;
+    Ok(Rules {
+        names,
+        nodes,
+        roots,
+        opaque,
+        sections,
+    })
 }
