@@ -1,5 +1,5 @@
 -- What a grammar's fields hold once they were made.
-use Rattle.std.proofs.Common.{◌≡◌, ℕ, List, [], map, sym, ap, subst, ◌∙◌}
+use Rattle.std.proofs.Common.{◌≡◌, ℕ, List, [], map, refl, sym, ap, subst, ◌∙◌}
 use Rattle.std.specs.Prelude.{fold, filter}
 use Rattle.ls_text.specs.declared.position.Place.{Place}
 use Rattle.abnf_syntax.specs.declared.fault.SyntaxFault.{SyntaxFault}
@@ -17,7 +17,9 @@ use Rattle.abnf_names.specs.Places.{Named, places_of}
 use Rattle.abnf_parts.specs.Nodes.{trees_at, AreNumbered}
 use Rattle.abnf_parts.specs.Reach.{AreReaching}
 use Rattle.abnf_names.specs.Rules.{defined, needed, undefined, names_of, rules_of, faults_of, Grammar}
-use Rattle.abnf_names.specs.Passes.{block_of, named_at, spot_name, is_unknown, AreNames, ArePlaced}
+use Rattle.abnf_names.specs.Passes.{block_of, named_at, spot_name, is_unknown, AreNames, ArePlaced, AreRules}
+use Rattle.abnf_names.specs.declared.rules.Rules.{Rules}
+use Rattle.abnf_names.specs.Excerpts.{excerpt, excerpt_of}
 use Rattle.abnf_names.specs.Inside.{IsGrammarInside}
 use Rattle.abnf_parts.specs.Pushed.{AddsTrees}
 use Rattle.abnf_parts.proofs.ApartLaws.{map_both, needed_names}
@@ -38,35 +40,40 @@ same_grammar text names ns rules rs places ps faults fs n r p f =
 pub numbered : (blocks : List Block) (nodes : List Node) (roots : List ℕ) → AddsTrees (rules_of blocks) [] nodes [] roots → AreNumbered nodes roots
 numbered blocks nodes roots added = (tied (rules_of blocks) nodes roots added (rules_closed blocks)).numbered
 
-kept : (g : Inside) (blocks : List Block) → AreSaid g.source.now blocks → AreNames blocks g.names → AddsTrees (rules_of blocks) [] g.nodes.items [] g.roots.items →
-    map named_at g.spots ≡ places_of blocks → g.faults ≡ faults_of blocks → ArePlaced (map named_at g.spots) g.by_name → AreReaching (trees_at g.nodes.items g.roots.items) g.opaque.items → IsGrammarInside g
-kept g blocks said are added places faults placed reaching =
+-- what was taken apart are the rules of the blocks that were read
+pub rules_added : (ps qs : List Parsed) (names : List Name × List Name) (given cores : List Core) (nodes : List Node) (roots : List ℕ)
+    → ((blocks : List Block) → blocks ≡ map block_of ps → AreNames blocks names → map core_of given ≡ needed blocks → AddsTrees (rules_of blocks) [] nodes [] roots)
+    → qs ≡ ps → AreNames (map block_of qs) names → given ≡ cores → map core_of cores ≡ needed (map block_of qs) → AddsTrees (rules_of (map block_of ps)) [] nodes [] roots
+rules_added ps qs names given cores nodes roots adds read are given_from needs =
+    adds (map block_of ps) refl (subst (λ (ps : List Parsed). AreNames (map block_of ps) names) read are)
+    (ap (map core_of) given_from ∙ (needs ∙ ap (λ (ps : List Parsed). needed (map block_of ps)) read))
+
+-- the same, with what leads to an opaque part
+pub rules_made : (rules : Rules) (ps qs : List Parsed) (ns : List Node) (ts : List ℕ) → qs ≡ ps → AreNames (map block_of qs) rules.names
+    → AddsTrees (rules_of (map block_of ps)) [] rules.nodes.items [] rules.roots.items → ns ≡ rules.nodes.items → ts ≡ rules.roots.items
+    → AreReaching (trees_at ns ts) rules.opaque.items → map excerpt rules.sections ≡ map excerpt_of (map block_of ps) → AreRules (map block_of ps) rules
+rules_made rules ps qs ns ts read names added nodes_from roots_from reaching excerpts = record {
+  names = subst (λ (ps : List Parsed). AreNames (map block_of ps) rules.names) read names;
+  nodes = added;
+  reaching =
+    subst (λ (ns : List Node). AreReaching (trees_at ns rules.roots.items) rules.opaque.items) nodes_from
+    (subst (λ (ts : List ℕ). AreReaching (trees_at ns ts) rules.opaque.items) roots_from reaching);
+  sections = excerpts;
+}
+
+pub kept : (g : Inside) (blocks : List Block) → AreSaid g.source.now blocks → AreNames blocks g.names → AddsTrees (rules_of blocks) [] g.nodes.items [] g.roots.items →
+    map named_at g.spots ≡ places_of blocks → g.faults ≡ faults_of blocks → ArePlaced (map named_at g.spots) g.by_name → AreReaching (trees_at g.nodes.items g.roots.items) g.opaque.items → map excerpt g.sections ≡ map excerpt_of blocks → IsGrammarInside g
+kept g blocks said are added places faults placed reaching excerpts =
     let t : IsTied (rules_of blocks) g.nodes.items g.roots.items = tied (rules_of blocks) g.nodes.items g.roots.items added (rules_closed blocks) in
+    let same = same_grammar g.source.now (all_names g.names) (names_of blocks) (trees_at g.nodes.items g.roots.items) (rules_of blocks) (map named_at g.spots) (places_of blocks) g.faults (faults_of blocks)
+    (sym (names_are blocks g.names are)) t.back places faults in
     record {
       numbered = t.numbered;
-      is_grammar = record {
-        blocks = blocks;
-        of_text = said;
-        is = same_grammar g.source.now (all_names g.names) (names_of blocks) (trees_at g.nodes.items g.roots.items) (rules_of blocks) (map named_at g.spots) (places_of blocks) g.faults (faults_of blocks)
-            (sym (names_are blocks g.names are)) t.back places faults;
-      };
+      is_grammar = record { blocks = blocks; of_text = said; is = same };
       placed = placed;
       reaching = reaching;
+      sections = record { blocks = blocks; of_text = said; is = same; excerpts = excerpts };
     }
-
--- the same, from what the passes gave for lists that are these
-pub made : (g : Inside) (ps qs rs us : List Parsed) (ss : List Spot) (ns : List Node) (ts : List ℕ) → AreSaid g.source.now (map block_of ps)
-    → qs ≡ ps → AreNames (map block_of qs) g.names → AddsTrees (rules_of (map block_of ps)) [] g.nodes.items [] g.roots.items
-    → rs ≡ ps → map named_at g.spots ≡ places_of (map block_of rs) → us ≡ ps → g.faults ≡ faults_of (map block_of us)
-    → ss ≡ g.spots → ArePlaced (map named_at ss) g.by_name
-    → ns ≡ g.nodes.items → ts ≡ g.roots.items → AreReaching (trees_at ns ts) g.opaque.items → IsGrammarInside g
-made g ps qs rs us ss ns ts said names_from names added places_from places faults_from faults spots_from placed nodes_from roots_from reaching =
-    kept g (map block_of ps) said (subst (λ (ps : List Parsed). AreNames (map block_of ps) g.names) names_from names) added
-    (places ∙ ap (λ (ps : List Parsed). places_of (map block_of ps)) places_from)
-    (faults ∙ ap (λ (ps : List Parsed). faults_of (map block_of ps)) faults_from)
-    (subst (λ (ss : List Spot). ArePlaced (map named_at ss) g.by_name) spots_from placed)
-    (subst (λ (ns : List Node). AreReaching (trees_at ns g.roots.items) g.opaque.items) nodes_from
-    (subst (λ (ts : List ℕ). AreReaching (trees_at ns ts) g.opaque.items) roots_from reaching))
 
 -- the names of the rules, by the passes that made them
 pub names_made : (blocks : List Block) (own unknown core : List Name) (spots : List Spot) (cores : List Core) → own ≡ defined blocks → map named_at spots ≡ places_of blocks →

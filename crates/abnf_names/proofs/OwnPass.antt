@@ -17,7 +17,10 @@ use Rattle.abnf_syntax.specs.Heads.{head_of}
 use Rattle.abnf_names.specs.Said.{Block, name_of}
 use Rattle.abnf_names.specs.Places.{Named, places_of_name}
 use Rattle.abnf_names.specs.Rules.{defined, defines, head_name}
-use Rattle.abnf_names.specs.Passes.{block_of, name_place, spot_name, members_of, if_same, is_unknown, Grouped, AreOwn, ArePlaced}
+use Rattle.abnf_names.specs.Passes.{block_of, definition, definition_of, name_place, spot_name, members_of, if_same, is_unknown, Grouped, AreOwn, ArePlaced}
+use Rattle.abnf_names.specs.Excerpts.{excerpt, excerpt_of}
+use Rattle.abnf_names.specs.declared.definition.Definition.{Definition}
+use Rattle.abnf_names.specs.declared.section.Section.{Section}
 use Rattle.abnf_parts.proofs.NameLaws.{same_sym, position_any}
 
 -- one more item that a loop has seen
@@ -40,28 +43,35 @@ defined_more blocks b n e = ap (fold with_name []) (heads_more blocks b (Some n)
 pub defined_same : (blocks : List Block) (b : Block) → head_name b ≡ None → defined (blocks ++ b ∷ []) ≡ defined blocks
 defined_same blocks b e = ap (fold with_name []) (heads_more blocks b None e ∙ append-nil (filter_map head_name blocks))
 
--- a block with a head is put under its name
-pub own_more : (old new : Grouped Parsed) (p : Parsed) (h : Head) → head_of p.block.items ≡ Some h → new.0 ≡ with_name old.0 (name_of h) →
-    ((m : Name) → members_of new m ≡ members_of old m ++ if_same (name_of h) m p) → (blocks : List Block) → AreOwn blocks old → AreOwn (blocks ++ block_of p ∷ []) new
-own_more old new p h e names members blocks own = record {
-  names = names ∙ (ap (λ ns. with_name ns (name_of h)) own.names ∙ sym (defined_more blocks (block_of p) (name_of h) (ap (option_map name_of) e)));
+under : (m : Name) (b : Block) (h : Head) → head_of b.items ≡ Some h → if_same (name_of h) m (definition h.adds b.said) ≡ map definition_of (filter (defines m) (b ∷ []))
+under m b h e =
+    ap (if_same (name_of h) m) (sym (ap (λ o. definition (option_map_or (λ (head : Head). head.adds) o false) b.said) e))
+    ∙ (sym (one_if definition_of (bytes_eq (name_of h) m) b)
+    ∙ ap (λ x. map definition_of (if x then b ∷ [] else [])) (sym (ap (λ o. option_map_or (λ (head : Head). bytes_eq (name_of head) m) o false) e)))
+
+-- what a block with a head says is put under its name
+pub own_more : (old new : Grouped Definition) (b : Block) (h : Head) → head_of b.items ≡ Some h → new.0 ≡ with_name old.0 (name_of h) →
+    ((m : Name) → members_of new m ≡ members_of old m ++ if_same (name_of h) m (definition h.adds b.said)) → (blocks : List Block) → AreOwn blocks old → AreOwn (blocks ++ b ∷ []) new
+own_more old new b h e names members blocks own = record {
+  names = names ∙ (ap (λ ns. with_name ns (name_of h)) own.names ∙ sym (defined_more blocks b (name_of h) (ap (option_map name_of) e)));
   members = λ m.
-      ap (map block_of) (members m)
-      ∙ (map-append block_of (members_of old m) (if_same (name_of h) m p)
-      ∙ (ap (λ front. front ++ map block_of (if_same (name_of h) m p)) (own.members m)
-      ∙ (ap (λ back. filter (defines m) blocks ++ back) (one_if block_of (bytes_eq (name_of h) m) p ∙ ap (λ b. if b then block_of p ∷ [] else []) (sym (ap (λ o. option_map_or (λ (head : Head). bytes_eq (name_of head) m) o false) e)))
-      ∙ sym (filter-append (defines m) blocks (block_of p ∷ [])))));
+      members m
+      ∙ (ap (λ front. front ++ if_same (name_of h) m (definition h.adds b.said)) (own.members m)
+      ∙ (ap (λ back. map definition_of (filter (defines m) blocks) ++ back) (under m b h e)
+      ∙ (sym (map-append definition_of (filter (defines m) blocks) (filter (defines m) (b ∷ [])))
+      ∙ ap (map definition_of) (sym (filter-append (defines m) blocks (b ∷ []))))));
 }
 
--- one without a head isn't
-pub own_same : (groups : Grouped Parsed) (p : Parsed) → head_of p.block.items ≡ None → (blocks : List Block) → AreOwn blocks groups → AreOwn (blocks ++ block_of p ∷ []) groups
-own_same groups p e blocks own = record {
-  names = own.names ∙ sym (defined_same blocks (block_of p) (ap (option_map name_of) e));
+-- what one without a head says isn't
+pub own_same : (groups : Grouped Definition) (b : Block) → head_of b.items ≡ None → (blocks : List Block) → AreOwn blocks groups → AreOwn (blocks ++ b ∷ []) groups
+own_same groups b e blocks own = record {
+  names = own.names ∙ sym (defined_same blocks b (ap (option_map name_of) e));
   members = λ m.
       own.members m
-      ∙ (sym (append-nil (filter (defines m) blocks))
-      ∙ (ap (λ b. filter (defines m) blocks ++ (if b then block_of p ∷ [] else [])) (sym (ap (λ o. option_map_or (λ (head : Head). bytes_eq (name_of head) m) o false) e))
-      ∙ sym (filter-append (defines m) blocks (block_of p ∷ []))));
+      ∙ ap (map definition_of)
+      (sym (append-nil (filter (defines m) blocks))
+      ∙ (ap (λ x. filter (defines m) blocks ++ (if x then b ∷ [] else [])) (sym (ap (λ o. option_map_or (λ (head : Head). bytes_eq (name_of head) m) o false) e))
+      ∙ sym (filter-append (defines m) blocks (b ∷ []))));
 }
 
 -- a place is put under its name
@@ -107,7 +117,22 @@ unknown_step own spots i spot d lt is all names now h e =
     ∙ (unknown_next (is_unknown own) names (spot_name spot) (map spot_name (drop (i + 1) spots))
     ∙ ap (λ ns. fold with_name ns (filter (is_unknown own) (map spot_name (drop (i + 1) spots)))) (sym e)))
 
-pub own_step : (all done : List Parsed) (p : Parsed) (rest : List Parsed) (old new : Grouped Parsed) → (all ≡ done ++ p ∷ rest) × AreOwn (map block_of done) old →
-    ((blocks : List Block) → AreOwn blocks old → AreOwn (blocks ++ block_of p ∷ []) new) → (all ≡ (done ++ p ∷ []) ++ rest) × AreOwn (map block_of (done ++ p ∷ [])) new
-own_step all done p rest old new h more =
-    (h.0 ∙ sym (append_assoc done (p ∷ []) rest), subst (λ blocks. AreOwn blocks new) (sym (map-append block_of done (p ∷ []))) (more (map block_of done) h.1))
+-- the names and the sections of those blocks that were seen
+pub record IsSplit (all done rest : List Parsed) (groups : Grouped Definition) (sections : List Section) : Type 0 where
+  pub whole : all ≡ done ++ rest
+  pub own : AreOwn (map block_of done) groups
+  pub excerpts : map excerpt sections ≡ map excerpt_of (map block_of done)
+
+pub split_more : (all done : List Parsed) (p : Parsed) (rest left : List Parsed) (old new : Grouped Definition) (before now : List Section) (s : Section) → IsSplit all done left old before → left ≡ p ∷ rest →
+    ((blocks : List Block) → AreOwn blocks old → AreOwn (blocks ++ block_of p ∷ []) new) → now ≡ before ++ s ∷ [] → excerpt s ≡ excerpt_of (block_of p) → IsSplit all (done ++ p ∷ []) rest new now
+split_more all done p rest left old new before now s h next more is same = record {
+  whole = h.whole ∙ (ap (λ xs. done ++ xs) next ∙ sym (append_assoc done (p ∷ []) rest));
+  own = subst (λ blocks. AreOwn blocks new) (sym (map-append block_of done (p ∷ []))) (more (map block_of done) h.own);
+  excerpts =
+      ap (map excerpt) is
+      ∙ (map-append excerpt before (s ∷ [])
+      ∙ (ap (λ front. front ++ excerpt s ∷ []) h.excerpts
+      ∙ (ap (λ x. map excerpt_of (map block_of done) ++ x ∷ []) same
+      ∙ (sym (map-append excerpt_of (map block_of done) (block_of p ∷ []))
+      ∙ ap (map excerpt_of) (sym (map-append block_of done (p ∷ [])))))));
+}

@@ -4,7 +4,7 @@ use Rattle.std.proofs.Math.Seq.{drop-cons}
 use Rattle.std.proofs.lemmas.Grind.{flat_map-append}
 use Rattle.std.specs.Prelude.{Option, flat_map, filter, not, ◌||◌, if◌then◌else◌}
 use Rattle.abnf_parts.specs.declared.node.Node.{Node}
-use Rattle.abnf_names.specs.declared.parsed.Parsed.{Parsed}
+use Rattle.abnf_names.specs.declared.definition.Definition.{Definition}
 use Rattle.abnf_parts.specs.Part.{Part, alt, subparts}
 use Rattle.abnf_parts.specs.Tree.{parts}
 use Rattle.abnf_names.specs.Said.{Block}
@@ -14,61 +14,84 @@ use Rattle.abnf_parts.specs.CoreTable.{core_of, number_in}
 use Rattle.abnf_parts.specs.declared.core_rule.Core.{Core}
 use Rattle.abnf_token.specs.declared.folded.Folded.{Folded}
 use Rattle.abnf_parts.proofs.ApartLaws.{map_both}
-use Rattle.abnf_names.specs.Passes.{block_of, members_of, Grouped, AreOwn, AreNames}
+use Rattle.abnf_names.specs.Passes.{alternatives_of, counted_among, definition_of, is_adding, members_of, Grouped, AreOwn, AreNames}
 use Rattle.abnf_parts.specs.Pushed.{Adds, AddsTrees}
 use Rattle.abnf_parts.proofs.Pushing.{trees_none, trees_both}
 
--- the alternatives of those blocks in front that count, where it is known whether one with `=` was among them
-pub record HasPushed (said : Block → List Part) (all : List Block) (is_defined : Bool) (left : List Block) (old new : List Node) (before after : List ℕ) : Type 0 where
-  pub front : List Block
-  pub whole : counted all ≡ front ++ (if is_defined then filter adds left else counted left)
+-- the alternatives of those definitions in front that count, where it is known whether one with `=` was among them
+pub record HasPushed (said : Definition → List Part) (all : List Definition) (is_defined : Bool) (left : List Definition) (old new : List Node) (before after : List ℕ) : Type 0 where
+  pub front : List Definition
+  pub whole : counted_among all ≡ front ++ (if is_defined then filter is_adding left else counted_among left)
   pub added : AddsTrees (flat_map said front) old new before after
 
-pub pushed_none : (said : Block → List Part) (all : List Block) (nodes : List Node) (before : List ℕ) → HasPushed said all false all nodes nodes before before
+pub pushed_none : (said : Definition → List Part) (all : List Definition) (nodes : List Node) (before : List ℕ) → HasPushed said all false all nodes nodes before before
 pushed_none said all nodes before = record { front = []; whole = refl; added = trees_none nodes before }
 
-abbrev if_counts : Bool → Block → List Block
-if_counts b block = if b then block ∷ [] else []
+abbrev if_counts : Bool → Definition → List Definition
+if_counts b d = if b then d ∷ [] else []
 
-one_more : (is_defined adding : Bool) (block : Block) (left : List Block) → adds block ≡ adding →
-    (if is_defined then filter adds (block ∷ left) else counted (block ∷ left)) ≡ if_counts (adding || not is_defined) block ++ (if is_defined || not adding then filter adds left else counted left)
-one_more true true block left e = ap (λ b. if b then block ∷ filter adds left else filter adds left) e
-one_more true false block left e = ap (λ b. if b then block ∷ filter adds left else filter adds left) e
-one_more false true block left e = ap (λ b. block ∷ (if b then counted left else filter adds left)) e
-one_more false false block left e = ap (λ b. block ∷ (if b then counted left else filter adds left)) e
+one_more : (is_defined adding : Bool) (d : Definition) (left : List Definition) → is_adding d ≡ adding →
+    (if is_defined then filter is_adding (d ∷ left) else counted_among (d ∷ left)) ≡ if_counts (adding || not is_defined) d ++ (if is_defined || not adding then filter is_adding left else counted_among left)
+one_more true true d left e = ap (λ b. if b then d ∷ filter is_adding left else filter is_adding left) e
+one_more true false d left e = ap (λ b. if b then d ∷ filter is_adding left else filter is_adding left) e
+one_more false true d left e = ap (λ b. d ∷ (if b then counted_among left else filter is_adding left)) e
+one_more false false d left e = ap (λ b. d ∷ (if b then counted_among left else filter is_adding left)) e
 
-if_said : (said : Block → List Part) (b : Bool) (block : Block) → flat_map said (if_counts b block) ≡ (if b then said block else [])
-if_said said true block = append-nil (said block)
-if_said said false block = refl
+if_said : (said : Definition → List Part) (b : Bool) (d : Definition) → flat_map said (if_counts b d) ≡ (if b then said d else [])
+if_said said true d = append-nil (said d)
+if_said said false d = refl
 
-pub pushed_more : (said : Block → List Part) (all : List Block) (is_defined adding : Bool) (block : Block) (left : List Block) (old mid new : List Node) (a b c : List ℕ) →
-    HasPushed said all is_defined (block ∷ left) old mid a b → adding ≡ adds block → AddsTrees (if adding || not is_defined then said block else []) mid new b c → HasPushed said all (is_defined || not adding) left old new a c
-pushed_more said all is_defined adding block left old mid new a b c h e k = record {
-  front = h.front ++ if_counts (adding || not is_defined) block;
-  whole = h.whole ∙ (ap (λ rest. h.front ++ rest) (one_more is_defined adding block left (sym e)) ∙ sym (append_assoc h.front (if_counts (adding || not is_defined) block) (if is_defined || not adding then filter adds left else counted left)));
+pub pushed_more : (said : Definition → List Part) (all : List Definition) (is_defined adding : Bool) (d : Definition) (left : List Definition) (old mid new : List Node) (a b c : List ℕ) →
+    HasPushed said all is_defined (d ∷ left) old mid a b → adding ≡ is_adding d → AddsTrees (if adding || not is_defined then said d else []) mid new b c → HasPushed said all (is_defined || not adding) left old new a c
+pushed_more said all is_defined adding d left old mid new a b c h e k = record {
+  front = h.front ++ if_counts (adding || not is_defined) d;
+  whole = h.whole ∙ (ap (λ rest. h.front ++ rest) (one_more is_defined adding d left (sym e)) ∙ sym (append_assoc h.front (if_counts (adding || not is_defined) d) (if is_defined || not adding then filter is_adding left else counted_among left)));
   added =
-      subst (λ ps. AddsTrees ps old new a c) (ap (λ ps. flat_map said h.front ++ ps) (sym (if_said said (adding || not is_defined) block)) ∙ sym (flat_map-append said h.front (if_counts (adding || not is_defined) block)))
-      (trees_both (flat_map said h.front) (if adding || not is_defined then said block else []) old mid new a b c h.added k);
+      subst (λ ps. AddsTrees ps old new a c) (ap (λ ps. flat_map said h.front ++ ps) (sym (if_said said (adding || not is_defined) d)) ∙ sym (flat_map-append said h.front (if_counts (adding || not is_defined) d)))
+      (trees_both (flat_map said h.front) (if adding || not is_defined then said d else []) old mid new a b c h.added k);
 }
 
-if_empty : (is_defined : Bool) → (if is_defined then filter adds [] else counted []) ≡ []
+if_empty : (is_defined : Bool) → (if is_defined then filter is_adding [] else counted_among []) ≡ []
 if_empty true = refl
 if_empty false = refl
 
-pub pushed_all : (said : Block → List Part) (all : List Block) (is_defined : Bool) (old new : List Node) (a c : List ℕ) → HasPushed said all is_defined [] old new a c → AddsTrees (flat_map said (counted all)) old new a c
+pub pushed_all : (said : Definition → List Part) (all : List Definition) (is_defined : Bool) (old new : List Node) (a c : List ℕ) → HasPushed said all is_defined [] old new a c → AddsTrees (flat_map said (counted_among all)) old new a c
 pushed_all said all is_defined old new a c h =
     subst (λ blocks. AddsTrees (flat_map said blocks) old new a c) (sym (h.whole ∙ (ap (λ rest. h.front ++ rest) (if_empty is_defined) ∙ append-nil h.front))) h.added
 
-pub drop_next : (xs : List Parsed) (i : ℕ) (x : Parsed) → i < length xs → x ≡ get_or xs i x → map block_of (drop i xs) ≡ block_of x ∷ map block_of (drop (i + 1) xs)
-drop_next xs i x lt is =
-    ap (map block_of) (drop-cons xs i x lt ∙ (ap (λ s. s ∷ drop (suc i) xs) (sym is) ∙ ap (λ k. x ∷ drop k xs) (let one : suc i ≡ i + 1 = omega arith in one)))
+pub drop_next : (xs : List Definition) (i : ℕ) (x : Definition) → i < length xs → x ≡ get_or xs i x → drop i xs ≡ x ∷ drop (i + 1) xs
+drop_next xs i x lt is = drop-cons xs i x lt ∙ (ap (λ d. d ∷ drop (suc i) xs) (sym is) ∙ ap (λ k. x ∷ drop k xs) (let one : suc i ≡ i + 1 = omega arith in one))
 
--- the tree of a name's rule by the blocks that stand under it
-pub rule_is : (blocks : List Block) (groups : Grouped Parsed) (names : List Name) (n : Name) (members : List Parsed) (old new : List Node) → members ≡ members_of groups n → AreOwn blocks groups → names_of blocks ≡ names →
-    Adds (subparts (alt (parts (flat_map (said_alternatives (rule_number names)) (counted (map block_of members)))))) old new → Adds (subparts (rule_tree blocks n)) old new
+-- blocks count where what they say counts
+if_adding : (a : Bool) (bs cs : List Block) (ds es : List Definition) → ds ≡ map definition_of bs → es ≡ map definition_of cs → (if a then ds else es) ≡ map definition_of (if a then bs else cs)
+if_adding true bs cs ds es p q = p
+if_adding false bs cs ds es p q = q
+
+adding_of : (bs : List Block) → filter is_adding (map definition_of bs) ≡ map definition_of (filter adds bs)
+adding_of [] = refl
+adding_of (b ∷ bs) =
+    if_adding (adds b) (b ∷ filter adds bs) (filter adds bs) (definition_of b ∷ filter is_adding (map definition_of bs)) (filter is_adding (map definition_of bs))
+    (ap (λ ds. definition_of b ∷ ds) (adding_of bs)) (adding_of bs)
+
+counted_of : (bs : List Block) → counted_among (map definition_of bs) ≡ map definition_of (counted bs)
+counted_of [] = refl
+counted_of (b ∷ bs) =
+    ap (λ ds. definition_of b ∷ ds)
+    (if_adding (adds b) (counted bs) (filter adds bs) (counted_among (map definition_of bs)) (filter is_adding (map definition_of bs)) (counted_of bs) (adding_of bs))
+
+said_of : (number : Name → Option ℕ) (bs : List Block) → flat_map (alternatives_of number) (map definition_of bs) ≡ flat_map (said_alternatives number) bs
+said_of number [] = refl
+said_of number (b ∷ bs) = ap (λ ps. said_alternatives number b ++ ps) (said_of number bs)
+
+-- the tree of a name's rule by the definitions that stand under it
+pub rule_is : (blocks : List Block) (groups : Grouped Definition) (names : List Name) (n : Name) (members : List Definition) (old new : List Node) → members ≡ members_of groups n → AreOwn blocks groups → names_of blocks ≡ names →
+    Adds (subparts (alt (parts (flat_map (alternatives_of (rule_number names)) (counted_among members))))) old new → Adds (subparts (rule_tree blocks n)) old new
 rule_is blocks groups names n members old new m own e h =
-    subst (λ ns. Adds (subparts (alt (parts (flat_map (said_alternatives (rule_number ns)) (counted (filter (defines n) blocks)))))) old new) (sym e)
-    (subst (λ bs. Adds (subparts (alt (parts (flat_map (said_alternatives (rule_number names)) (counted bs))))) old new) (ap (map block_of) m ∙ own.members n) h)
+    let bs = filter (defines n) blocks in
+    let said : flat_map (alternatives_of (rule_number names)) (counted_among members) ≡ flat_map (said_alternatives (rule_number names)) (counted bs) =
+    ap (λ ds. flat_map (alternatives_of (rule_number names)) (counted_among ds)) (m ∙ own.members n) ∙ (ap (flat_map (alternatives_of (rule_number names))) (counted_of bs) ∙ said_of (rule_number names) (counted bs)) in
+    subst (λ ns. Adds (subparts (alt (parts (flat_map (said_alternatives (rule_number ns)) (counted bs))))) old new) (sym e)
+    (subst (λ ps. Adds (subparts (alt (parts ps))) old new) said h)
 
 -- the rules of the text, and then the core rules
 pub rules_added : (blocks : List Block) (own : List Folded) (names : List Name × List Name) (cores : List Core) (first : ℕ) (old mid new : List Node) (a b c : List ℕ) → AreNames blocks names →

@@ -5,6 +5,7 @@ use Rattle.abnf_names.specs.Rules.{Grammar, IsGrammar}
 use Rattle.abnf_parts.specs.Nodes.{trees_at, AreNumbered}
 use Rattle.abnf_parts.specs.Reach.{AreReaching}
 use Rattle.abnf_names.specs.Passes.{named_at, ArePlaced}
+use Rattle.abnf_names.specs.Excerpts.{HasSections}
 use Rattle.abnf_names.specs.declared.grammar.Grammar.TheInside.{Inside}
 
 abbrev pub grammar_inside : Inside → Grammar
@@ -21,3 +22,4 @@ pub record IsGrammarInside (g : Inside) : Type 0 where
   pub is_grammar : IsGrammar (grammar_inside g)
   pub placed : ArePlaced (map named_at g.spots) g.by_name
   pub reaching : AreReaching (trees_at g.nodes.items g.roots.items) g.opaque.items
+  pub sections : HasSections (grammar_inside g) g.sections

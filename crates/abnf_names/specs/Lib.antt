@@ -5,4 +5,5 @@ pub mod GrammarCode
 pub mod Search
 pub mod Users
 pub mod Passes
+pub mod Excerpts
 pub mod Inside

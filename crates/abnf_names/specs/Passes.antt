@@ -1,20 +1,52 @@
 -- What the passes over a text's blocks hold. Only contracts of private functions speak of it.
-use Rattle.std.specs.Prelude.{◌≡◌, Bool, not, List, [], ◌∷◌, map, filter, find, Option, if◌then◌else◌}
+use Rattle.std.specs.Prelude.{◌≡◌, ℕ, Bool, not, List, [], ◌∷◌, map, filter, find, Option, Result, if◌then◌else◌}
 use Rattle.std.specs.List.{list_any}
 use Rattle.std.specs.Option.{option_or}
 use Rattle.ls_text.specs.declared.position.Place.{Place}
+use Rattle.abnf_syntax.specs.declared.item.Item.{Item}
+use Rattle.abnf_syntax.specs.declared.fault.SyntaxFault.{SyntaxFault}
+use Rattle.abnf_syntax.specs.declared.tree.Rule.{Rule}
+use Rattle.abnf_names.specs.declared.definition.Definition.{Definition}
 use Rattle.abnf_names.specs.declared.parsed.Parsed.{Parsed}
 use Rattle.abnf_names.specs.declared.place.Spot.{Spot}
 use Rattle.abnf_names.specs.declared.place.NamePlace.{NamePlace}
 use Rattle.abnf_parts.specs.Names.{folded_text, Name}
 use Rattle.std.specs.Str.{bytes_eq}
 use Rattle.abnf_names.specs.Said.{Block}
-use Rattle.abnf_names.specs.Places.{Named, holds, ends_at, places_of_name}
-use Rattle.abnf_names.specs.Rules.{defined, defines, needed}
+use Rattle.abnf_names.specs.Places.{Named, holds, ends_at, places_of, places_of_name}
+use Rattle.abnf_names.specs.Rules.{adds, alternatives_said, defined, defines, needed, rules_of}
+use Rattle.abnf_names.specs.Excerpts.{excerpt, excerpt_of}
+use Rattle.abnf_names.specs.declared.own.NamePlaces.{NamePlaces}
+use Rattle.abnf_names.specs.declared.rules.Rules.{Rules}
+use Rattle.abnf_parts.specs.Nodes.{trees_at}
+use Rattle.abnf_parts.specs.Pushed.{AddsTrees}
+use Rattle.abnf_parts.specs.Reach.{AreReaching}
+use Rattle.abnf_parts.specs.Part.{Part}
 use Rattle.abnf_parts.specs.Core.{core_name}
 
+abbrev pub block_saying : List Item → Result Rule SyntaxFault → Block
+block_saying items said = record { items = items; said = said }
+
 abbrev pub block_of : Parsed → Block
-block_of p = record { items = p.block.items; said = p.said }
+block_of p = block_saying p.block.items p.said
+
+abbrev pub definition : Bool → Result Rule SyntaxFault → Definition
+definition adding said = record { adds = adding; said = said }
+
+-- of a block whether it adds to its name, and what it says
+abbrev pub definition_of : Block → Definition
+definition_of block = definition (adds block) block.said
+
+abbrev pub is_adding : Definition → Bool
+is_adding d = d.adds
+
+-- of a name's definitions those that count: the first that doesn't add, and all that add
+abbrev pub counted_among : List Definition → List Definition
+counted_among [] = []
+counted_among (d ∷ ds) = d ∷ (if is_adding d then counted_among ds else filter is_adding ds)
+
+abbrev pub alternatives_of : (Name → Option ℕ) → Definition → List Part
+alternatives_of number d = alternatives_said number d.said
 
 abbrev pub named_at : Spot → Named
 named_at s = record { text = s.name.0.now; place = s.place; defines = s.defines }
@@ -43,10 +75,10 @@ members_of groups name = members_in groups.0 groups.1 name
 abbrev pub if_same : {T : Type 0} → Name → Name → T → List T
 if_same name other item = if bytes_eq name other then item ∷ [] else []
 
--- the names that these blocks define, and under each name its blocks
-pub record AreOwn (blocks : List Block) (groups : Grouped Parsed) : Type 0 where
+-- the names that these blocks define, and under each name what its blocks say
+pub record AreOwn (blocks : List Block) (groups : Grouped Definition) : Type 0 where
   pub names : groups.0 ≡ defined blocks
-  pub members : (name : Name) → map block_of (members_of groups name) ≡ filter (defines name) blocks
+  pub members : (name : Name) → members_of groups name ≡ map definition_of (filter (defines name) blocks)
 
 -- under each name its places
 abbrev pub ArePlaced : List Named → Grouped NamePlace → Type 0
@@ -63,3 +95,15 @@ spot_name spot = folded_text spot.name
 pub record AreNames (blocks : List Block) (names : List Name × List Name) : Type 0 where
   pub own : names.0 ≡ defined blocks
   pub core : names.1 ≡ map core_name (needed blocks)
+
+-- the places of the names of these blocks
+pub record AreNamePlaces (blocks : List Block) (found : NamePlaces) : Type 0 where
+  pub spots : map named_at found.spots ≡ places_of blocks
+  pub by_name : ArePlaced (map named_at found.spots) found.by_name
+
+-- the rules of these blocks, and the blocks without them
+pub record AreRules (blocks : List Block) (rules : Rules) : Type 0 where
+  pub names : AreNames blocks rules.names
+  pub nodes : AddsTrees (rules_of blocks) [] rules.nodes.items [] rules.roots.items
+  pub reaching : AreReaching (trees_at rules.nodes.items rules.roots.items) rules.opaque.items
+  pub sections : map excerpt rules.sections ≡ map excerpt_of blocks

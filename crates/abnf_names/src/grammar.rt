@@ -8,13 +8,14 @@ ghost use Rattle.abnf_parts.specs.Reach.{ReachesOpaque};
 ghost use Rattle.abnf_names.specs.Places.{at_offset, place_and_name, place_and_text, places_of_name};
 ghost use Rattle.abnf_names.specs.Rules.{IsGrammar};
 ghost use Rattle.abnf_names.specs.Passes.{name_place};
+ghost use Rattle.abnf_names.specs.Excerpts.{HasSections};
 
 use crate::groups::Groups;
-use crate::own::{faults_of, placed, rule_names};
+use crate::own::{faults_of, name_places};
 use crate::parsed::parsed_blocks;
-use crate::place::{NamePlace, Spot, found_at, places_of};
-use crate::reach::reaching;
-use crate::rules::numbered_rules;
+use crate::place::{NamePlace, Spot, found_at};
+use crate::rules::rules_said;
+use crate::section::Section;
 use abnf_parts::{Node, NodeNo, RuleNames, RuleNo};
 use abnf_syntax::SyntaxFault;
 use abnf_token::Folded;
@@ -43,6 +44,7 @@ pub struct Grammar<'t> {
     by_name: Groups<'t, NamePlace>,
     faults: List<(Place, SyntaxFault)>,
     opaque: Vec<bool>,
+    sections: List<Section<'t>>,
 }
 
 impl<'t> Model for Grammar<'t> {
@@ -71,21 +73,19 @@ impl<'t> Grammar<'t> {
         ensures grammar { IfOk result IsGrammar }
     {
         let parsed = parsed_blocks(alloc, snapshot)?;
-        let spots = places_of(alloc, parsed.as_slice())?;
         let faults = faults_of(alloc, parsed.as_slice())?;
-        let by_name = placed(alloc, spots.as_slice())?;
-        let (names, needed) = rule_names(alloc, parsed.as_slice(), spots.as_slice())?;
-        let (nodes, roots) = numbered_rules(alloc, &names, parsed, needed.as_slice())?;
-        let opaque = reaching(alloc, nodes.as_slice(), roots.as_slice())?;
+        let places = name_places(alloc, parsed.as_slice())?;
+        let rules = rules_said(alloc, parsed, places.spots.as_slice())?;
         Ok(Grammar {
             source: snapshot,
-            nodes,
-            roots,
-            names,
-            spots,
-            by_name,
+            nodes: rules.nodes,
+            roots: rules.roots,
+            names: rules.names,
+            spots: places.spots,
+            by_name: places.by_name,
             faults,
-            opaque,
+            opaque: rules.opaque,
+            sections: rules.sections,
         })
     }
 
@@ -102,6 +102,13 @@ impl<'t> Grammar<'t> {
         ensures { result ≡ root_number self.now.rules rule }
     {
         self.roots[rule.get()]
+    }
+
+    /// How many rules there are.
+    pub fn rule_count(&self) -> usize
+        ensures { result ≡ length self.now.rules }
+    {
+        self.roots.len()
     }
 
     /// The rule that a name stands for in the text: the text's rule, else the core rule if one is needed.
@@ -146,6 +153,13 @@ impl<'t> Grammar<'t> {
         ensures { IsTrue result ↔ ReachesOpaque self.now.rules rule }
     {
         self.opaque[rule.get()]
+    }
+
+    /// The blocks of the text in its order, each with its fault if it says no rule.
+    pub fn sections(&self) -> &[Section<'t>]
+        ensures { HasSections self.now result.now }
+    {
+        self.sections.as_slice()
     }
 
     /// The text that the grammar was made of. What is known of a grammar is that of its text.

@@ -5,6 +5,7 @@
 //! looks through all names. A text has at most one grammar ([`grammars_are_unique`]).
 #![tactic(auto)]
 
+mod definition;
 mod grammar;
 mod groups;
 mod laws;
@@ -13,8 +14,10 @@ mod parsed;
 mod place;
 mod reach;
 mod rules;
+mod section;
 
 pub use abnf_parts::{Node, NodeNo, RuleNo};
 pub use grammar::Grammar;
 pub use laws::{grammars_are_unique, grammars_exist};
 pub use place::NamePlace;
+pub use section::Section;

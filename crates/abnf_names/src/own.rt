@@ -6,13 +6,16 @@ ghost use Rattle.abnf_names.specs.Rules.{defined, needed, head_name, faults_of, 
 ghost use Rattle.abnf_parts.specs.Names.{with_name};
 ghost use Rattle.abnf_names.specs.Places.{Named, places_of};
 ghost use Rattle.abnf_names.specs.Passes as spec;
+ghost use Rattle.abnf_names.specs.Excerpts as excerpts;
 ghost use Rattle.abnf_parts.specs.CoreTable as table;
 
+use crate::definition::Definition;
 use crate::groups::Groups;
 use crate::parsed::Parsed;
-use crate::place::{NamePlace, Spot};
+use crate::place::{NamePlace, Spot, places_of};
+use crate::section::{Section, fault_shown};
 use abnf_parts::{Core, Names, RuleNames, core_names, needed_rules};
-use abnf_syntax::SyntaxFault;
+use abnf_syntax::{Block, Rule, SyntaxFault};
 use abnf_token::Folded;
 use ls_lists::List;
 use ls_text::Place;
@@ -42,32 +45,44 @@ fn own_names<'t>(alloc: Global, parsed: &[Parsed<'t>]) -> Result<Names<'t>, Allo
     Ok(names)
 }
 
-/// One more block under the name that it defines, if it defines one.
+/// What a block says under the name that it defines, if it defines one.
 fn with_block<'t>(
     alloc: Global,
-    groups: Groups<'t, Parsed<'t>>,
-    parsed: Parsed<'t>,
-) -> Result<Groups<'t, Parsed<'t>>, AllocError>
-    ensures { IfOk result (λ g. (blocks : List said.Block) → spec.AreOwn blocks groups.entry → spec.AreOwn (blocks ++ spec.block_of parsed.entry ∷ []) g) }
+    groups: Groups<'t, Definition<'t>>,
+    block: &Block<'t>,
+    rule: Result<Rule<'t>, SyntaxFault>,
+) -> Result<Groups<'t, Definition<'t>>, AllocError>
+    ensures { IfOk result (λ g. (blocks : List said.Block) → spec.AreOwn blocks groups.entry → spec.AreOwn (blocks ++ spec.block_saying block.now.items rule.entry ∷ []) g) }
 {
-    match parsed.block.head() {
-        Some(head) => groups.with(alloc, Folded(head.name.text), parsed),
+    match block.head() {
+        Some(head) => {
+            let definition = Definition {
+                adds: head.adds,
+                said: rule,
+            };
+            groups.with(alloc, Folded(head.name.text), definition)
+        }
         None => Ok(groups),
     }
 }
 
-/// The names that the blocks define, and under each its blocks.
+/// The names that the blocks define with what its blocks say under each, and the blocks without their rules.
 pub(crate) fn own_groups<'t>(
     alloc: Global,
     parsed: Vec<Parsed<'t>>,
-) -> Result<Groups<'t, Parsed<'t>>, AllocError>
-    ensures { IfOk result (λ g. spec.AreOwn (map spec.block_of parsed.entry.items) g) }
+) -> Result<(Groups<'t, Definition<'t>>, List<Section<'t>>), AllocError>
+    ensures own { IfOk result (λ r. spec.AreOwn (map spec.block_of parsed.entry.items) r.0) }
+    ensures sections { IfOk result (λ r. map excerpts.excerpt r.1 ≡ map excerpts.excerpt_of (map spec.block_of parsed.entry.items)) }
 {
     let mut groups = Groups::new(alloc);
+    let mut sections = List::new(alloc);
     for p in parsed {
-        groups = with_block(alloc, groups, p)?;
+        let Parsed { block, said } = p;
+        let fault = fault_shown(&said);
+        groups = with_block(alloc, groups, &block, said)?;
+        sections.push(Section { block, fault })?;
     }
-    Ok(groups)
+    Ok((groups, sections))
 }
 
 /// One more place under its name.
@@ -86,10 +101,7 @@ fn with_spot<'t>(
 }
 
 /// Under each name its places.
-pub(crate) fn placed<'t>(
-    alloc: Global,
-    spots: &[Spot<'t>],
-) -> Result<Groups<'t, NamePlace>, AllocError>
+fn placed<'t>(alloc: Global, spots: &[Spot<'t>]) -> Result<Groups<'t, NamePlace>, AllocError>
     ensures { IfOk result (λ g. spec.ArePlaced (map spec.named_at spots.now) g) }
 {
     let mut groups = Groups::new(alloc);
@@ -97,6 +109,25 @@ pub(crate) fn placed<'t>(
         groups = with_spot(alloc, groups, spot)?;
     }
     Ok(groups)
+}
+
+/// The places of names in a text, in its order and by name.
+#[derive(Drop)]
+pub(crate) struct NamePlaces<'t> {
+    pub spots: List<Spot<'t>>,
+    pub by_name: Groups<'t, NamePlace>,
+}
+
+/// The places of the names in these blocks.
+pub(crate) fn name_places<'t>(
+    alloc: Global,
+    parsed: &[Parsed<'t>],
+) -> Result<NamePlaces<'t>, AllocError>
+    ensures { IfOk result (λ found. spec.AreNamePlaces (map spec.block_of parsed.now) found) }
+{
+    let spots = places_of(alloc, parsed)?;
+    let by_name = placed(alloc, spots.as_slice())?;
+    Ok(NamePlaces { spots, by_name })
 }
 
 /// Adds a name that no block defines.

@@ -7,39 +7,35 @@ ghost use Rattle.abnf_parts.specs.Names.{folded_text, all_names, rule_number};
 ghost use Rattle.abnf_names.specs.Said as said;
 ghost use Rattle.abnf_names.specs.Rules as rules;
 ghost use Rattle.abnf_names.specs.Passes as spec;
+ghost use Rattle.abnf_names.specs.Excerpts as excerpts;
+ghost use Rattle.abnf_names.specs.Places.{places_of};
 ghost use Rattle.abnf_parts.specs.CoreTable as table;
 ghost use Rattle.abnf_parts.specs.Pushed.{Adds, AddsTrees};
 
+use crate::definition::Definition;
 use crate::groups::Groups;
-use crate::own::own_groups;
+use crate::own::{own_groups, rule_names};
 use crate::parsed::Parsed;
+use crate::place::Spot;
+use crate::reach::reaching;
+use crate::section::Section;
 use abnf_parts::{Core, Node, NodeNo, RuleNames, fill, push_concatenations, push_needed};
 use abnf_syntax::MAX_NESTING;
 use abnf_token::Folded;
 use ls_lists::List;
 use std::alloc::{AllocError, Global};
 
-/// Whether `=/` follows the name at a block's head.
-fn is_adding(parsed: &Parsed<'_>) -> bool
-    ensures { result ≡ rules.adds (spec.block_of parsed.now) }
-{
-    match parsed.block.head() {
-        Some(head) => head.adds,
-        None => false,
-    }
-}
-
-/// The alternatives that a block says, whose numbers are added to `numbers`.
+/// The alternatives that a definition says, whose numbers are added to `numbers`.
 fn push_alternatives<'t>(
     alloc: Global,
     names: &RuleNames<'t>,
-    parsed: &Parsed<'t>,
+    definition: &Definition<'t>,
     nodes: &mut Vec<Node<'t>>,
     numbers: &mut List<NodeNo>,
 ) -> Result<(), AllocError>
-    ensures { OnOk result (AddsTrees (rules.said_alternatives (rule_number (all_names names.now)) (spec.block_of parsed.now)) nodes.old.items nodes.new.items numbers.old numbers.new) }
+    ensures { OnOk result (AddsTrees (spec.alternatives_of (rule_number (all_names names.now)) definition.now) nodes.old.items nodes.new.items numbers.old numbers.new) }
 {
-    match &parsed.said {
+    match &definition.said {
         Ok(rule) => push_concatenations(
             alloc,
             names,
@@ -56,56 +52,56 @@ fn push_alternatives<'t>(
     }
 }
 
-/// The same if the block counts.
+/// The same if the definition counts.
 fn push_if<'t>(
     alloc: Global,
     counts: bool,
     names: &RuleNames<'t>,
-    parsed: &Parsed<'t>,
+    definition: &Definition<'t>,
     nodes: &mut Vec<Node<'t>>,
     numbers: &mut List<NodeNo>,
 ) -> Result<(), AllocError>
-    ensures { OnOk result (AddsTrees (if counts then rules.said_alternatives (rule_number (all_names names.now)) (spec.block_of parsed.now) else []) nodes.old.items nodes.new.items numbers.old numbers.new) }
+    ensures { OnOk result (AddsTrees (if counts then spec.alternatives_of (rule_number (all_names names.now)) definition.now else []) nodes.old.items nodes.new.items numbers.old numbers.new) }
 {
     if counts {
-        push_alternatives(alloc, names, parsed, nodes, numbers)
+        push_alternatives(alloc, names, definition, nodes, numbers)
     } else {
         Ok(())
     }
 }
 
-/// The alternatives that a name's blocks say which count, whose numbers are added to `numbers`.
+/// The alternatives that those of a name's definitions say which count, whose numbers are added to `numbers`.
 fn push_counted<'t>(
     alloc: Global,
     names: &RuleNames<'t>,
-    blocks: &[Parsed<'t>],
+    definitions: &[Definition<'t>],
     nodes: &mut Vec<Node<'t>>,
     numbers: &mut List<NodeNo>,
 ) -> Result<(), AllocError>
-    ensures { OnOk result (AddsTrees (flat_map (rules.said_alternatives (rule_number (all_names names.now))) (rules.counted (map spec.block_of blocks.now))) nodes.old.items nodes.new.items numbers.old numbers.new) }
+    ensures { OnOk result (AddsTrees (flat_map (spec.alternatives_of (rule_number (all_names names.now))) (spec.counted_among definitions.now)) nodes.old.items nodes.new.items numbers.old numbers.new) }
 {
     let mut is_defined = false;
-    for parsed in blocks {
-        let adds = is_adding(parsed);
-        push_if(alloc, adds | !is_defined, names, parsed, nodes, numbers)?;
-        is_defined = is_defined | !adds;
+    for definition in definitions {
+        let counts = definition.adds | !is_defined;
+        push_if(alloc, counts, names, definition, nodes, numbers)?;
+        is_defined = is_defined | !definition.adds;
     }
     Ok(())
 }
 
-/// The rule whose name has these blocks.
+/// The rule whose name has these definitions.
 fn push_rule<'t>(
     alloc: Global,
     names: &RuleNames<'t>,
-    blocks: &[Parsed<'t>],
+    definitions: &[Definition<'t>],
     nodes: &mut Vec<Node<'t>>,
 ) -> Result<(), AllocError>
-    ensures { OnOk result (Adds (subparts (alt (parts (flat_map (rules.said_alternatives (rule_number (all_names names.now))) (rules.counted (map spec.block_of blocks.now)))))) nodes.old.items nodes.new.items) }
+    ensures { OnOk result (Adds (subparts (alt (parts (flat_map (spec.alternatives_of (rule_number (all_names names.now))) (spec.counted_among definitions.now))))) nodes.old.items nodes.new.items) }
 {
     let at = nodes.len();
     let mut numbers = List::new(alloc);
     nodes.push(Node::Opaque)?;
-    push_counted(alloc, names, blocks, nodes, &mut numbers)?;
+    push_counted(alloc, names, definitions, nodes, &mut numbers)?;
     fill(nodes, at, Node::Alt(numbers));
     Ok(())
 }
@@ -114,7 +110,7 @@ fn push_rule<'t>(
 fn push_own<'t>(
     alloc: Global,
     names: &RuleNames<'t>,
-    groups: &Groups<'t, Parsed<'t>>,
+    groups: &Groups<'t, Definition<'t>>,
     own: &[Folded<'t>],
     nodes: &mut Vec<Node<'t>>,
     roots: &mut List<NodeNo>,
@@ -132,7 +128,7 @@ fn push_own<'t>(
 fn push_rules<'t>(
     alloc: Global,
     names: &RuleNames<'t>,
-    groups: &Groups<'t, Parsed<'t>>,
+    groups: &Groups<'t, Definition<'t>>,
     needed: &[Core],
     nodes: &mut Vec<Node<'t>>,
     roots: &mut List<NodeNo>,
@@ -146,19 +142,63 @@ fn push_rules<'t>(
 }
 
 /// The nodes of all rules, and the numbers of their roots.
-pub(crate) fn numbered_rules<'t>(
+fn numbered_rules<'t>(
     alloc: Global,
     names: &RuleNames<'t>,
-    parsed: Vec<Parsed<'t>>,
+    groups: &Groups<'t, Definition<'t>>,
     needed: &[Core],
 ) -> Result<(Vec<Node<'t>>, Vec<NodeNo>), AllocError>
-    requires names { spec.AreNames (map spec.block_of parsed.items) names.now }
-    requires needed { map table.core_of needed.now ≡ rules.needed (map spec.block_of parsed.items) }
-    ensures { IfOk result (λ r. AddsTrees (rules.rules_of (map spec.block_of parsed.entry.items)) [] r.0.items [] r.1.items) }
+    ensures { IfOk result (λ r. (blocks : List said.Block) → spec.AreOwn blocks groups.now → spec.AreNames blocks names.now → map table.core_of needed.now ≡ rules.needed blocks → AddsTrees (rules.rules_of blocks) [] r.0.items [] r.1.items) }
 {
-    let groups = own_groups(alloc, parsed)?;
     let mut nodes = Vec::new(alloc);
     let mut roots = List::new(alloc);
-    push_rules(alloc, names, &groups, needed, &mut nodes, &mut roots)?;
+    push_rules(alloc, names, groups, needed, &mut nodes, &mut roots)?;
     Ok((nodes, roots.into_vec()))
+}
+
+/// The nodes of the rules that these blocks say, the numbers of their roots, and the blocks without their rules.
+fn taken_apart<'t>(
+    alloc: Global,
+    parsed: Vec<Parsed<'t>>,
+    names: &RuleNames<'t>,
+    needed: &[Core],
+) -> Result<((Vec<Node<'t>>, Vec<NodeNo>), List<Section<'t>>), AllocError>
+    ensures rules { IfOk result (λ r. (blocks : List said.Block) → blocks ≡ map spec.block_of parsed.entry.items → spec.AreNames blocks names.now → map table.core_of needed.now ≡ rules.needed blocks → AddsTrees (rules.rules_of blocks) [] r.0.0.items [] r.0.1.items) }
+    ensures sections { IfOk result (λ r. map excerpts.excerpt r.1 ≡ map excerpts.excerpt_of (map spec.block_of parsed.entry.items)) }
+{
+    let (groups, sections) = own_groups(alloc, parsed)?;
+    let rules = numbered_rules(alloc, names, &groups, needed)?;
+    Ok((rules, sections))
+}
+
+/// The rules of a text: their names, nodes and roots, and for each whether it leads to prose or to a faulty block; and beside them the
+/// blocks without their rules.
+#[derive(Drop)]
+pub(crate) struct Rules<'t> {
+    pub names: RuleNames<'t>,
+    pub nodes: Vec<Node<'t>>,
+    pub roots: Vec<NodeNo>,
+    pub opaque: Vec<bool>,
+    pub sections: List<Section<'t>>,
+}
+
+/// The rules of these blocks, in which the names stand at these places.
+pub(crate) fn rules_said<'t>(
+    alloc: Global,
+    parsed: Vec<Parsed<'t>>,
+    spots: &[Spot<'t>],
+) -> Result<Rules<'t>, AllocError>
+    requires { map spec.named_at spots.now ≡ places_of (map spec.block_of parsed.items) }
+    ensures { IfOk result (λ r. spec.AreRules (map spec.block_of parsed.entry.items) r) }
+{
+    let (names, needed) = rule_names(alloc, parsed.as_slice(), spots)?;
+    let ((nodes, roots), sections) = taken_apart(alloc, parsed, &names, needed.as_slice())?;
+    let opaque = reaching(alloc, nodes.as_slice(), roots.as_slice())?;
+    Ok(Rules {
+        names,
+        nodes,
+        roots,
+        opaque,
+        sections,
+    })
 }

@@ -10,4 +10,5 @@ pub mod Tied
 pub mod Worked
 pub mod Unknown
 pub mod Nesting
+pub mod Ends
 pub mod Uncut

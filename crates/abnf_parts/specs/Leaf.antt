@@ -53,6 +53,21 @@ abbrev pub number_part : List ℕ → Part
 number_part (percent ∷ letter ∷ digits) = number_in (base_of letter) digits
 number_part _ = opaque
 
+-- the two ends of a range
+abbrev pub ends_of : Part → Option (ℕ × ℕ)
+ends_of (span low high) = Some (low, high)
+ends_of _ = None
+
+-- one more number of a range, behind those that were read: the first is its low end, the second its high end
+abbrev pub with_end : Option ℕ × Option ℕ → ℕ → Option ℕ × Option ℕ
+with_end (None, high) number = (Some number, high)
+with_end (Some low, None) number = (Some low, Some number)
+with_end (Some low, Some high) number = (Some low, Some high)
+
+abbrev pub both_ends : Option ℕ × Option ℕ → Option (ℕ × ℕ)
+both_ends (Some low, Some high) = Some (low, high)
+both_ends _ = None
+
 -- `a*b` is at least a and at most b, where a is 0 and b has no bound if they don't stand there (RFC 5234 section 3.6); n is
 -- exactly n (RFC 5234 section 3.7).
 abbrev pub bounds : List ℕ → ℕ × Option ℕ

@@ -1,6 +1,6 @@
 //! The nodes of single tokens.
 
-ghost use Rattle.std.specs.Prelude.{◌≡◌, ◌<◌, ℕ, IfOk, drop};
+ghost use Rattle.std.specs.Prelude.{◌≡◌, ◌<◌, ℕ, IfOk, None, drop, fold};
 ghost use Rattle.abnf_parts.specs.Leaf as leaf;
 ghost use Rattle.abnf_parts.specs.Nodes.{IsNode};
 
@@ -88,8 +88,68 @@ pub(crate) fn number_node<'t>(alloc: Global, token: Token<'t>) -> Result<Node<'t
     }
 }
 
-/// The least and the most of a repeat.
-pub(crate) fn repeat_bounds<'t>(token: Token<'t>) -> (u32, Option<u32>)
+/// One more number of a range, behind those that were read.
+fn with_end(ends: (Option<u32>, Option<u32>), number: u32) -> (Option<u32>, Option<u32>)
+    ensures { result ≡ leaf.with_end ends number }
+{
+    match ends {
+        (None, high) => (Some(number), high),
+        (Some(low), None) => (Some(low), Some(number)),
+        (Some(low), Some(high)) => (Some(low), Some(high)),
+    }
+}
+
+/// The first two of the numbers between `.` or `-`.
+fn first_ends(base: u32, digits: &[u8]) -> (Option<u32>, Option<u32>)
+    ensures { result ≡ fold leaf.with_end (None, None) (leaf.numbers_from base 0 digits.now) }
+{
+    let mut ends = (None, None);
+    let mut number = 0;
+    for byte in digits {
+        if *byte == b'.' || *byte == b'-' {
+            ends = with_end(ends, number);
+            number = 0;
+        } else {
+            number = with_digit(base, number, *byte);
+        }
+    }
+    with_end(ends, number)
+}
+
+/// Both ends, where both were read.
+fn both_ends(ends: (Option<u32>, Option<u32>)) -> Option<(u32, u32)>
+    ensures { result ≡ leaf.both_ends ends }
+{
+    match ends {
+        (Some(low), Some(high)) => Some((low, high)),
+        _ => None,
+    }
+}
+
+/// The two ends of a range, if these are the digits of one.
+#[tactic(auto, using(crate::proofs::Ends::ends_in, crate::proofs::Ends::no_ends))]
+fn range_in(base: u32, digits: &[u8]) -> Option<(u32, u32)>
+    ensures { result ≡ leaf.ends_of (leaf.number_in base digits.now) }
+{
+    if has(digits, b'-') {
+        both_ends(first_ends(base, digits))
+    } else {
+        None
+    }
+}
+
+/// The two ends of a range of characters, as `%x30-39`. Any other token is none.
+pub fn range_of<'t>(token: Token<'t>) -> Option<(u32, u32)>
+    ensures { result ≡ leaf.ends_of (leaf.number_part token.entry.text.now) }
+{
+    let [_, letter, digits @ ..] = token.text.as_bytes() else {
+        return None;
+    };
+    range_in(base_of(*letter), digits)
+}
+
+/// The least and the most of a repeat: as many as it says, where it has no `*`.
+pub fn repeat_bounds<'t>(token: Token<'t>) -> (u32, Option<u32>)
     ensures { result ≡ leaf.bounds token.entry.text.now }
 {
     if has(token.text.as_bytes(), b'*') {

@@ -19,6 +19,7 @@ mod tree;
 
 pub use core_rule::{Core, core_names, needed_rules};
 pub use core_tree::push_needed;
+pub use leaf::{range_of, repeat_bounds};
 pub use names::{Names, RuleNames};
 pub use node::{Node, NodeNo, RuleNo};
 pub use tree::{fill, push_concatenations};

@@ -1,11 +1,12 @@
 use Rattle.std.proofs.Common.{◌∙◌, sym}
+use Rattle.abnf_names.specs.Passes.{block_saying}
 use Rattle.abnf_names.proofs.OwnPass.{own_more, own_same, ok_both}
 use Rattle.abnf_names.proofs.own.with_block.Goals as goal
 
 pub returns-in-Some : goal.returns-in-Some
 returns-in-Some c =
-    ok_both c.with.result _ _ _ (λ g names members. own_more c.args.groups g c.args.parsed c.in-Some.head (sym c.head.ensures ∙ c.in-Some.is) names members)
+    ok_both c.with.result _ _ _ (λ g names members. own_more c.args.groups g (block_saying c.args.block.now.items c.args.rule) c.in-Some.head (sym c.head.ensures ∙ c.in-Some.is) names members)
     c.with.ensures.names c.with.ensures.members
 
 pub returns : goal.returns
-returns c = own_same c.args.groups c.args.parsed (sym c.head.ensures ∙ c.in-None.is)
+returns c = own_same c.args.groups (block_saying c.args.block.now.items c.args.rule) (sym c.head.ensures ∙ c.in-None.is)

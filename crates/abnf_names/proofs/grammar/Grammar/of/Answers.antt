@@ -1,48 +1,42 @@
-use Rattle.std.proofs.Common.{◌∙◌, sym, ap, subst, map, List, ℕ}
-use Rattle.abnf_parts.specs.CoreTable.{core_of}
-use Rattle.abnf_parts.specs.declared.node.Node.{Node}
-use Rattle.abnf_parts.specs.Nodes.{AreNumbered}
+use Rattle.std.proofs.Common.{◌≡◌, List, map, ap, subst, ◌∙◌}
 use Rattle.abnf_names.specs.declared.parsed.Parsed.{Parsed}
-use Rattle.abnf_names.specs.Rules.{needed}
-use Rattle.abnf_names.specs.Passes.{block_of, AreNames}
-use Rattle.abnf_names.proofs.Kept.{made, numbered}
+use Rattle.abnf_names.specs.declared.own.NamePlaces.{NamePlaces}
+use Rattle.abnf_names.specs.Rules.{faults_of}
+use Rattle.abnf_names.specs.Passes.{block_of, named_at, AreNamePlaces}
+use Rattle.abnf_names.proofs.Kept.{kept}
 use Rattle.abnf_names.proofs.grammar.Grammar.of.Goals as goal
 
-pub numbered_rules-requires-clause-names : goal.numbered_rules-requires-clause-names
-numbered_rules-requires-clause-names c = subst (λ (ps : List Parsed). AreNames (map block_of ps) c.in_ok-names.names) c.as_slice-4.ensures.value c.in_ok-names.ensures.names
+found_in : (ps qs : List Parsed) (places : NamePlaces) → qs ≡ ps → AreNamePlaces (map block_of qs) places → AreNamePlaces (map block_of ps) places
+found_in ps qs places read found = subst (λ (ps : List Parsed). AreNamePlaces (map block_of ps) places) read found
 
-pub numbered_rules-requires-clause-needed : goal.numbered_rules-requires-clause-needed
-numbered_rules-requires-clause-needed c =
-    ap (map core_of) c.as_slice-6.ensures ∙ (c.in_ok-names.ensures.needed ∙ ap (λ (ps : List Parsed). needed (map block_of ps)) c.as_slice-4.ensures.value)
-
-pub reaching-requires : goal.reaching-requires
-reaching-requires c =
-    let nodes = c.in_ok-nodes.nodes in
-    let roots = c.in_ok-nodes.roots in
-    let are : AreNumbered nodes.items roots.items = numbered (map block_of c.in_ok-parsed.parsed.items) nodes.items roots.items c.in_ok-nodes.ensures in
-    subst (λ (ns : List Node). AreNumbered ns c.as_slice-8.result.now) (sym c.as_slice-7.ensures.value)
-    (subst (λ (rs : List ℕ). AreNumbered nodes.items rs) (sym c.as_slice-8.ensures.value) are)
+pub rules_said-requires : goal.rules_said-requires
+rules_said-requires c =
+    let found = found_in c.in_ok-parsed.parsed.items c.as_slice-2.result.now c.in_ok-places.places c.as_slice-2.ensures.value c.in_ok-places.ensures in
+    ap (map named_at) c.as_slice-3.ensures ∙ found.spots
 
 pub invariant_of-result : goal.invariant_of-result
 invariant_of-result c =
-    made _ c.in_ok-parsed.parsed.items c.as_slice-4.result.now c.as_slice.result.now c.as_slice-2.result.now c.as_slice-3.result.now c.as_slice-7.result.now c.as_slice-8.result.now
-    c.in_ok-parsed.ensures c.as_slice-4.ensures.value c.in_ok-names.ensures.names c.in_ok-nodes.ensures c.as_slice.ensures.value c.in_ok-spots.ensures c.as_slice-2.ensures.value c.in_ok-faults.ensures
-    c.as_slice-3.ensures c.in_ok-by_name.ensures c.as_slice-7.ensures.value c.as_slice-8.ensures.value c.in_ok-opaque.ensures
+    let found = found_in c.in_ok-parsed.parsed.items c.as_slice-2.result.now c.in_ok-places.places c.as_slice-2.ensures.value c.in_ok-places.ensures in
+    kept _ (map block_of c.in_ok-parsed.parsed.items) c.in_ok-parsed.ensures c.in_ok-rules.ensures.names c.in_ok-rules.ensures.nodes found.spots
+    (c.in_ok-faults.ensures ∙ ap (λ (ps : List Parsed). faults_of (map block_of ps)) c.as_slice.ensures.value)
+    found.by_name c.in_ok-rules.ensures.reaching c.in_ok-rules.ensures.sections
 
 pub returns-clause-grammar : goal.returns-clause-grammar
 returns-clause-grammar c =
+    let found = found_in c.in_ok-parsed.parsed.items c.as_slice-2.result.now c.in_ok-places.places c.as_slice-2.ensures.value c.in_ok-places.ensures in
     let inside =
-    made (record {
+    kept (record {
       source = c.args.snapshot;
-      nodes = c.in_ok-nodes.nodes;
-      roots = c.in_ok-nodes.roots;
-      names = c.in_ok-names.names;
-      spots = c.in_ok-spots.spots;
-      by_name = c.in_ok-by_name.by_name;
+      nodes = c.in_ok-rules.rules.nodes;
+      roots = c.in_ok-rules.rules.roots;
+      names = c.in_ok-rules.rules.names;
+      spots = c.in_ok-places.places.spots;
+      by_name = c.in_ok-places.places.by_name;
       faults = c.in_ok-faults.faults;
-      opaque = c.in_ok-opaque.opaque;
+      opaque = c.in_ok-rules.rules.opaque;
+      sections = c.in_ok-rules.rules.sections;
     })
-    c.in_ok-parsed.parsed.items c.as_slice-4.result.now c.as_slice.result.now c.as_slice-2.result.now c.as_slice-3.result.now c.as_slice-7.result.now c.as_slice-8.result.now
-    c.in_ok-parsed.ensures c.as_slice-4.ensures.value c.in_ok-names.ensures.names c.in_ok-nodes.ensures c.as_slice.ensures.value c.in_ok-spots.ensures c.as_slice-2.ensures.value c.in_ok-faults.ensures
-    c.as_slice-3.ensures c.in_ok-by_name.ensures c.as_slice-7.ensures.value c.as_slice-8.ensures.value c.in_ok-opaque.ensures
+    (map block_of c.in_ok-parsed.parsed.items) c.in_ok-parsed.ensures c.in_ok-rules.ensures.names c.in_ok-rules.ensures.nodes found.spots
+    (c.in_ok-faults.ensures ∙ ap (λ (ps : List Parsed). faults_of (map block_of ps)) c.as_slice.ensures.value)
+    found.by_name c.in_ok-rules.ensures.reaching c.in_ok-rules.ensures.sections
     in inside.is_grammar

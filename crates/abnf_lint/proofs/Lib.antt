@@ -1,0 +1,5 @@
+pub mod Marks
+pub mod Behind
+pub mod OneOrder
+pub mod Whole
+pub mod OneFinding

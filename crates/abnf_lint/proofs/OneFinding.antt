@@ -1,0 +1,158 @@
+-- A text has one list of findings. What is found in a block depends on its bare items and its fault, and these are the same for all
+-- lists of blocks that a text has.
+use Rattle.std.proofs.Common.{◌≡◌, ◌∙◌, ◌<◌, ℕ, Bool, true, false, List, [], ◌∷◌, ◌++◌, length, map, Option, Some, None, option_map, Result, Ok, Err, refl, sym, ap, subst, get_or}
+use Rattle.std.specs.Prelude.{if◌then◌else◌}
+use Rattle.std.specs.Option.{option_map_or}
+use Rattle.std.specs.declared.cmp.Ordering.{Ordering}
+use Rattle.std.specs.Ordering.{nat_cmp, is_lt}
+use Rattle.std.specs.Cmp.{IsTotalOrder}
+use Rattle.std.proofs.lemmas.Cmp.{nat_cmp_total, then_total}
+use Rattle.std.proofs.lemmas.List.{ext_get_or}
+use Rattle.std.proofs.lemmas.List.Sorted.{ranks_by}
+use Rattle.abnf_token.specs.Classes.{Text}
+use Rattle.abnf_token.specs.declared.token.Kind.{Kind}
+use Rattle.abnf_syntax.specs.declared.block.Head.{Head}
+use Rattle.abnf_syntax.specs.declared.item.Item.{Item}
+use Rattle.abnf_syntax.specs.declared.fault.SyntaxFault.{SyntaxFault}
+use Rattle.abnf_syntax.specs.declared.tree.Rule.{Rule}
+use Rattle.abnf_syntax.specs.Blocks.{line_texts}
+use Rattle.abnf_syntax.specs.Grammar.{kind_of}
+use Rattle.abnf_syntax.specs.Heads.{head_of}
+use Rattle.abnf_syntax.proofs.Bare.{bare, bare_head, head_bare, one_list, same_items, same_fault, no_fault}
+use Rattle.abnf_parts.specs.Part.{Part}
+use Rattle.abnf_parts.specs.Names.{Name, with_name}
+use Rattle.abnf_names.specs.Said.{Block, Says, IsWithin, AreWithin, AreSaid, name_of}
+use Rattle.abnf_names.specs.Rules.{Grammar, grammar_of, names_of, rules_of}
+use Rattle.abnf_names.specs.Excerpts.{Excerpt, excerpt_of, fault_shown}
+use Rattle.abnf_names.proofs.OneGrammar.{one_grammar}
+use Rattle.abnf_lint.specs.declared.finding.Finding.{Finding}
+use Rattle.abnf_lint.specs.Unproductive.{AreUnproductive}
+use Rattle.abnf_lint.specs.Order.{AreOrdered, Key, key, key_cmp}
+use Rattle.abnf_lint.specs.Findings.{AreFindings, block_findings, body_findings, findings_in, fault_findings, head_findings, item_findings, items_findings}
+use Rattle.abnf_lint.specs.Passes.{findings_behind, with_base, with_head}
+use Rattle.abnf_lint.proofs.Behind.{behind_after}
+use Rattle.abnf_lint.proofs.OneOrder.{one_order}
+
+-- ---- the blocks of a text
+
+abbrev bared : Excerpt → Excerpt
+bared o = record { items = map bare o.items; fault = o.fault }
+
+abbrev plain : Block → Excerpt
+plain block = bared (excerpt_of block)
+
+same_shown : (xs ys : List Item) (r s : Result Rule SyntaxFault) → map bare xs ≡ map bare ys → Says xs r → Says ys s → fault_shown r ≡ fault_shown s
+same_shown xs ys (Ok r) (Ok s) e p q = refl
+same_shown xs ys (Ok r) (Err b) e p q = no_fault xs ys r b e p q
+same_shown xs ys (Err a) (Ok s) e p q = no_fault ys xs s a (sym e) q p
+same_shown xs ys (Err a) (Err b) e p q = ap Some (same_fault xs ys a b e p q)
+
+same_block : (ls : List Text) (at : ℕ × ℕ) (b c : Block) → IsWithin ls at b → IsWithin ls at c → plain b ≡ plain c
+same_block ls at b c p q =
+    let items_are = same_items ls at.0 at.1 b.items c.items p.items q.items in
+    let shown = same_shown b.items c.items b.said c.said items_are p.says q.says in
+    (λ i. record { items = items_are i; fault = shown i })
+
+same_within : (ls : List Text) (bounds : List (ℕ × ℕ)) (bs cs : List Block) → AreWithin ls bounds bs → AreWithin ls bounds cs → map plain bs ≡ map plain cs
+same_within ls [] [] [] p q = refl
+same_within ls [] [] (c ∷ cs) p q = absurd q
+same_within ls [] (b ∷ bs) cs p q = absurd p
+same_within ls (at ∷ bounds) [] cs p q = absurd p
+same_within ls (at ∷ bounds) (b ∷ bs) [] p q = absurd q
+same_within ls (at ∷ bounds) (b ∷ bs) (c ∷ cs) p q = (λ i. same_block ls at b c p.0 q.0 i ∷ same_within ls bounds bs cs p.1 q.1 i)
+
+same_blocks : (text : List ℕ) (bs cs : List Block) → AreSaid text bs → AreSaid text cs → map plain bs ≡ map plain cs
+same_blocks text bs cs p q =
+    let e = one_list (line_texts text) 0 p.bounds q.bounds p.all q.all in
+    same_within (line_texts text) p.bounds bs cs p.each (subst (λ bounds. AreWithin (line_texts text) bounds cs) (sym e) q.each)
+
+-- ---- what is found in bare blocks
+
+items_bare : (names : List Name) (before : Kind) (xs : List Item) → items_findings names before (map bare xs) ≡ items_findings names before xs
+items_bare names before [] = refl
+items_bare names before (x ∷ xs) = ap (λ l. item_findings names before x ++ l) (items_bare names (kind_of x) xs)
+
+body_bare : (names : List Name) (xs : List Item) → body_findings names (map bare xs) ≡ body_findings names xs
+body_bare names [] = refl
+body_bare names (x ∷ xs) = items_bare names (kind_of x) xs
+
+head_by : (marks : List Bool) (names heads bases : List Name) (o : Option Head) → option_map_or (head_findings marks names heads bases) (option_map bare_head o) [] ≡ option_map_or (head_findings marks names heads bases) o []
+head_by marks names heads bases None = refl
+head_by marks names heads bases (Some head) = refl
+
+added_by : (heads : List Name) (o : Option Head) → option_map_or (λ head. with_name heads (name_of head)) (option_map bare_head o) heads ≡ option_map_or (λ head. with_name heads (name_of head)) o heads
+added_by heads None = refl
+added_by heads (Some head) = refl
+
+head_added : (heads : List Name) (o : Excerpt) → with_head heads (bared o) ≡ with_head heads o
+head_added heads o = ap (λ h. option_map_or (λ head. with_name heads (name_of head)) h heads) (head_bare o.items) ∙ added_by heads (head_of o.items)
+
+abbrev base_of : List Name → Option Head → List Name
+base_of bases h = option_map_or (λ head. if head.adds then bases else with_name bases (name_of head)) h bases
+
+base_by : (bases : List Name) (o : Option Head) → base_of bases (option_map bare_head o) ≡ base_of bases o
+base_by bases None = refl
+base_by bases (Some head) = refl
+
+base_added : (bases : List Name) (o : Excerpt) → with_base bases (bared o) ≡ with_base bases o
+base_added bases o = ap (base_of bases) (head_bare o.items) ∙ base_by bases (head_of o.items)
+
+block_bare : (marks : List Bool) (names heads bases : List Name) (o : Excerpt) → block_findings marks names heads bases (bared o) ≡ block_findings marks names heads bases o
+block_bare marks names heads bases o =
+    let said = ap (λ fs. option_map_or fault_findings o.fault fs) (body_bare names o.items) in
+    let head = ap (λ h. option_map_or (head_findings marks names heads bases) h []) (head_bare o.items) ∙ head_by marks names heads bases (head_of o.items) in
+    (λ i. said i ++ head i)
+
+behind_bare : (marks : List Bool) (names heads bases : List Name) (blocks : List Block) → findings_behind marks names heads bases (map plain blocks) ≡ findings_behind marks names heads bases (map excerpt_of blocks)
+behind_bare marks names heads bases [] = refl
+behind_bare marks names heads bases (b ∷ bs) =
+    (λ i. block_bare marks names heads bases (excerpt_of b) i ++ findings_behind marks names (head_added heads (excerpt_of b) i) (base_added bases (excerpt_of b) i) (map plain bs))
+    ∙ ap (λ l. block_findings marks names heads bases (excerpt_of b) ++ l) (behind_bare marks names (with_head heads (excerpt_of b)) (with_base bases (excerpt_of b)) bs)
+
+in_bare : (marks : List Bool) (blocks : List Block) → findings_in marks blocks ≡ findings_behind marks (names_of blocks) [] [] (map plain blocks)
+in_bare marks blocks = sym (behind_after marks (names_of blocks) [] blocks) ∙ sym (behind_bare marks (names_of blocks) [] [] blocks)
+
+-- ---- the marks
+
+same_mark : (x y : Bool) → (x ≡ true → y ≡ true) → (y ≡ true → x ≡ true) → x ≡ y
+same_mark true y f g = sym (f refl)
+same_mark false true f g = g refl
+same_mark false false f g = refl
+
+same_marks : (rules : List Part) (xs ys : List Bool) → AreUnproductive rules xs → AreUnproductive rules ys → xs ≡ ys
+same_marks rules xs ys p q =
+    ext_get_or false xs ys (p.one_each ∙ sym q.one_each) (λ r h.
+    let k : r < length rules = subst (λ n. r < n) p.one_each h in
+    same_mark (get_or xs r false) (get_or ys r false) (λ x. (q.each r k).1 ((p.each r k).0 x)) (λ y. (p.each r k).1 ((q.each r k).0 y)))
+
+-- ---- the order
+
+first_total : IsTotalOrder (let cmp : Key → Key → Ordering = λ a b. nat_cmp a.0 b.0 in cmp)
+first_total = record { antisymm = λ x y. nat_cmp_total.antisymm x.0 y.0; trans = λ x y z. nat_cmp_total.trans x.0 y.0 z.0; congr = λ x y z. nat_cmp_total.congr x.0 y.0 z.0 }
+
+second_total : IsTotalOrder (let cmp : Key → Key → Ordering = λ a b. nat_cmp a.1 b.1 in cmp)
+second_total = record { antisymm = λ x y. nat_cmp_total.antisymm x.1 y.1; trans = λ x y z. nat_cmp_total.trans x.1 y.1 z.1; congr = λ x y z. nat_cmp_total.congr x.1 y.1 z.1 }
+
+third_total : IsTotalOrder (let cmp : Key → Key → Ordering = λ a b. nat_cmp a.2 b.2 in cmp)
+third_total = record { antisymm = λ x y. nat_cmp_total.antisymm x.2 y.2; trans = λ x y z. nat_cmp_total.trans x.2 y.2 z.2; congr = λ x y z. nat_cmp_total.congr x.2 y.2 z.2 }
+
+key_total : IsTotalOrder key_cmp
+key_total = then_total (then_total first_total second_total) third_total
+
+pub orders_unique : (given xs ys : List Finding) → AreOrdered given xs → AreOrdered given ys → xs ≡ ys
+orders_unique given xs ys p q = one_order (λ x y. is_lt (key_cmp (key x) (key y))) (ranks_by key_total key) xs ys p.sorted q.sorted (λ x. p.stable x ∙ sym (q.stable x))
+
+-- ---- the findings
+
+pub findings_unique : (text : List ℕ) (xs ys : List Finding) → AreFindings text xs → AreFindings text ys → xs ≡ ys
+findings_unique text xs ys p q =
+    let one : grammar_of text p.blocks ≡ grammar_of text q.blocks =
+    one_grammar (grammar_of text p.blocks) (grammar_of text q.blocks) (record { blocks = p.blocks; of_text = p.of_text; is = refl }) (record { blocks = q.blocks; of_text = q.of_text; is = refl }) refl in
+    let marks : p.marks ≡ q.marks = same_marks (rules_of q.blocks) p.marks q.marks (subst (λ (rs : List Part). AreUnproductive rs p.marks) (ap (λ (g : Grammar). g.rules) one) p.are_marks) q.are_marks in
+    let all : findings_in p.marks p.blocks ≡ findings_in q.marks q.blocks =
+    in_bare p.marks p.blocks
+    ∙ (ap (λ marks. findings_behind marks (names_of p.blocks) [] [] (map plain p.blocks)) marks
+    ∙ (ap (λ (ns : List Name). findings_behind q.marks ns [] [] (map plain p.blocks)) (ap (λ (g : Grammar). g.names) one)
+    ∙ (ap (λ (os : List Excerpt). findings_behind q.marks (names_of q.blocks) [] [] os) (same_blocks text p.blocks q.blocks p.of_text q.of_text)
+    ∙ sym (in_bare q.marks q.blocks)))) in
+    orders_unique (findings_in q.marks q.blocks) xs ys (subst (λ (fs : List Finding). AreOrdered fs xs) all p.ordered) q.ordered

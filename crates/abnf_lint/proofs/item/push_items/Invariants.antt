@@ -1,0 +1,8 @@
+use Rattle.std.proofs.Common.{◌≡◌, ◌++◌, drop}
+use Rattle.abnf_lint.specs.Findings.{items_findings}
+use Rattle.abnf_lint.proofs.item.push_items.Given as goal
+
+-- what is left gives the findings that are left
+abbrev pub invariant-loop-item : goal.invariant-loop-item
+invariant-loop-item l =
+    l.initial.found ++ items_findings l.grammar.names l.initial.before l.rest ≡ l.found ++ items_findings l.grammar.names l.before (drop l.item-index l.rest)

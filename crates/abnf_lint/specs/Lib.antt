@@ -1,0 +1,5 @@
+pub mod Unproductive
+pub mod Order
+pub mod Findings
+pub mod Passes
+pub mod Messages

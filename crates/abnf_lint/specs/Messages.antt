@@ -1,0 +1,54 @@
+-- What is told of a finding: how grave it is, its code, and its message.
+use Rattle.std.specs.Prelude.{ℕ, ◌++◌, List, codes}
+use Rattle.abnf_syntax.specs.declared.fault.SyntaxFault.{SyntaxFault}
+use Rattle.abnf_syntax.specs.declared.fault.SyntaxFault.TheVariants as f
+use Rattle.abnf_lint.specs.declared.finding.Code.{Code}
+use Rattle.abnf_lint.specs.declared.finding.Code.TheVariants as c
+use Rattle.abnf_lint.specs.declared.message.Severity.{Severity}
+use Rattle.abnf_lint.specs.declared.message.Severity.TheVariants.{Error, Warning}
+
+-- a text that is no rule, a name without a rule and a second definition are errors
+abbrev pub severity_of : Code → Severity
+severity_of (c.Syntax fault) = Error
+severity_of c.NumberTooLarge = Error
+severity_of c.TooDeep = Error
+severity_of c.Undefined = Error
+severity_of c.Duplicate = Error
+severity_of c.NoBase = Warning
+severity_of c.EmptyRepeat = Warning
+severity_of c.EmptyRange = Warning
+severity_of c.Unproductive = Warning
+
+abbrev pub code_text : Code → List ℕ
+code_text (c.Syntax fault) = codes "syntax"
+code_text c.NumberTooLarge = codes "number-too-large"
+code_text c.TooDeep = codes "too-deep"
+code_text c.Undefined = codes "undefined"
+code_text c.Duplicate = codes "duplicate"
+code_text c.NoBase = codes "no-base"
+code_text c.EmptyRepeat = codes "empty-repeat"
+code_text c.EmptyRange = codes "empty-range"
+code_text c.Unproductive = codes "unproductive"
+
+abbrev pub fault_text : SyntaxFault → List ℕ
+fault_text (f.NoName p) = codes "rule name expected"
+fault_text (f.NoDefinedAs p) = codes "\"=\" or \"=/\" expected"
+fault_text (f.BadToken p) = codes "bad character"
+fault_text (f.ElementExpected p) = codes "element expected"
+fault_text (f.BlankExpected p) = codes "blank expected"
+fault_text (f.Unclosed p) = codes "bracket not closed"
+fault_text (f.NumberTooLarge p) = codes "number too large"
+fault_text (f.TooDeep p) = codes "brackets nested too deep"
+fault_text f.Memory = codes "out of memory"
+
+-- the message of a code, with a name in those that tell one
+abbrev pub message_of : Code → List ℕ → List ℕ
+message_of (c.Syntax fault) name = fault_text fault
+message_of c.NumberTooLarge name = codes "number too large"
+message_of c.TooDeep name = codes "brackets nested too deep"
+message_of c.Undefined name = codes "undefined rule " ++ name
+message_of c.Duplicate name = codes "rule " ++ name ++ codes " is already defined"
+message_of c.NoBase name = codes "no earlier definition of " ++ name
+message_of c.EmptyRepeat name = codes "repeat with minimum above maximum"
+message_of c.EmptyRange name = codes "range with low above high"
+message_of c.Unproductive name = codes "rule " ++ name ++ codes " generates nothing"

@@ -1,0 +1,35 @@
+-- The order of findings: by line, by start, and by the row of the table.
+use Rattle.std.specs.Prelude.{ℕ, List}
+use Rattle.std.specs.declared.cmp.Ordering.{Ordering}
+use Rattle.std.specs.Ordering.{nat_cmp, ordering_then}
+use Rattle.std.specs.List.Sorted.{IsPermutation, IsSortedByKey, IsStableByKey}
+use Rattle.abnf_lint.specs.declared.finding.Code.{Code}
+use Rattle.abnf_lint.specs.declared.finding.Code.TheVariants as c
+use Rattle.abnf_lint.specs.declared.finding.Finding.{Finding}
+
+abbrev pub row : Code → ℕ
+row (c.Syntax fault) = 1
+row c.NumberTooLarge = 2
+row c.TooDeep = 3
+row c.Undefined = 4
+row c.Duplicate = 5
+row c.NoBase = 6
+row c.EmptyRepeat = 7
+row c.EmptyRange = 8
+row c.Unproductive = 9
+
+-- line, start and row
+abbrev pub Key : Type 0
+Key = ℕ × ℕ × ℕ
+
+abbrev pub key : Finding → Key
+key f = (f.place.line, f.place.start, row f.code)
+
+abbrev pub key_cmp : Key → Key → Ordering
+key_cmp a b = ordering_then (ordering_then (nat_cmp a.0 b.0) (nat_cmp a.1 b.1)) (nat_cmp a.2 b.2)
+
+-- These are the given findings by line, start and row; those of one line, start and row stay as they stand.
+pub record AreOrdered (given found : List Finding) : Type 0 where
+  pub all : IsPermutation given found
+  pub sorted : IsSortedByKey key key_cmp found
+  pub stable : IsStableByKey key key_cmp given found
