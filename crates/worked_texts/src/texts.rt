@@ -298,7 +298,8 @@ fn edits_that_are_large_on_the_way(alloc: Global) -> Result<Vec<Edit>, Fail> {
 fn refuses_texts_that_are_large_on_the_way(rt: HostRuntime) -> Result<(), Fail> {
     let edits = edits_that_are_large_on_the_way(rt.alloc())?;
     let text = snapshot(rt.alloc(), "b")?;
-    assert!(rt; text.apply(&edits[..1]).is_ok());
+    let first = edits.get(..1).unwrap_or(&[]);
+    assert!(rt; text.apply(first).is_ok());
     assert_eq!(rt;
         text.apply(edits.as_slice()).err(),
         Some(TextFault::TooLarge)
