@@ -1,11 +1,11 @@
-use Rattle.std.proofs.Common.{◌≡◌, ◌+◌, arith, refl, ap, subst, ◌∙◌, length, map}
+use Rattle.std.proofs.Common.{◌≡◌, ◌+◌, arith, ap, subst, ◌∙◌, length, map}
 use Rattle.std.specs.Arc.{arc_value}
 use Rattle.std.specs.Str.{encode_utf8_all}
 use Rattle.std.proofs.lemmas.Str.{length-le-encodes}
 use Rattle.ls_text.specs.Cut.{Row, end_text, line_text, text_of}
 use Rattle.std.specs.Prelude.{All}
 use Rattle.std.specs.Char.{IsScalar}
-use Rattle.ls_text.proofs.ScalarLaws.{scalars_more, chars_scalars, no_scalars}
+use Rattle.ls_text.proofs.ScalarLaws.{scalars_more, chars_scalars}
 use Rattle.ls_text.proofs.HeldLaws.{held_bytes, held_bytes_le, indexed_more}
 use Rattle.ls_text.proofs.chunk.chunk_of.Goals as goal
 

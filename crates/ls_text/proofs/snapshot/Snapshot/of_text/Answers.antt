@@ -1,6 +1,6 @@
-use Rattle.std.proofs.Common.{◌≡◌, ◌<◌, Result, Err, sym, ap, ◌∙◌, arith, length}
+use Rattle.std.proofs.Common.{sym, ap, ◌∙◌, arith, length}
 use Rattle.std.specs.Str.{chars, encode_utf8_all}
-use Rattle.std.specs.String.{string_bytes, string_len}
+use Rattle.std.specs.String.{string_bytes}
 use Rattle.std.proofs.lemmas.Str.{encodes-chars, IsUtf8-string_bytes}
 use Rattle.std.proofs.lemmas.Result.{err_from_is_err_and}
 use Rattle.ls_text.proofs.snapshot.Snapshot.of_text.Goals as goal
