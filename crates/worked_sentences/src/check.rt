@@ -10,7 +10,8 @@ use std::alloc::{AllocError, Global};
 use std::test::Fail;
 
 pub(crate) fn snapshot(alloc: Global, text: &str) -> Result<Snapshot, Fail> {
-    Ok(Snapshot::of_text(alloc, String::from_str(alloc, text)?)?)
+    let text = String::from_str(alloc, text)?;
+    Ok(Snapshot::of_text(alloc, text)?)
 }
 
 /// Whether the certificate of least lengths is accepted and has the entries by rounds, and each other one is refused that has a wrong
@@ -23,9 +24,13 @@ fn is_least(alloc: Global, grammar: &Grammar<'_>) -> Result<bool, AllocError> {
     all_refused(alloc, grammar, cert.entries())
 }
 
+fn has_least_of(alloc: Global, text: &Snapshot) -> Result<bool, AllocError> {
+    let grammar = Grammar::of(alloc, text)?;
+    is_least(alloc, &grammar)
+}
+
 /// Whether this holds of the grammar of a text.
 pub(crate) fn has_least(alloc: Global, text: &str) -> Result<bool, Fail> {
     let text = snapshot(alloc, text)?;
-    let grammar = Grammar::of(alloc, &text)?;
-    Ok(is_least(alloc, &grammar)?)
+    Ok(has_least_of(alloc, &text)?)
 }

@@ -132,29 +132,44 @@ fn given(grammar: &Grammar<'_>, pairs: &[u128], node: &Node<'_>) -> u128 {
     }
 }
 
-/// One round: the number of the node that is next, and its pair.
-fn next(grammar: &Grammar<'_>, pairs: &[u128]) -> (usize, u128) {
+/// What a node is given in this round: nothing where it has its pair.
+fn waiting(grammar: &Grammar<'_>, pairs: &[u128], number: usize) -> u128 {
+    if pair_at(pairs, number) < NONE {
+        return NONE;
+    }
+    match grammar.nodes().get(number) {
+        Some(node) => given(grammar, pairs, node),
+        None => NONE,
+    }
+}
+
+/// One round: the number of the node that is next.
+fn next(grammar: &Grammar<'_>, pairs: &[u128]) -> usize {
     let mut best = 0;
     let mut least = NONE;
-    for (number, node) in grammar.nodes().iter().enumerate() {
-        if pair_at(pairs, number) == NONE {
-            let pair = given(grammar, pairs, node);
-            if pair < least {
-                least = pair;
-                best = number;
-            }
+    for number in 0..pairs.len() {
+        let pair = waiting(grammar, pairs, number);
+        if pair < least {
+            least = pair;
+            best = number;
         }
     }
-    (best, least)
+    best
+}
+
+/// One round, in which the node that is next gets its pair.
+fn round(grammar: &Grammar<'_>, pairs: &mut [u128]) {
+    let number = next(grammar, pairs);
+    let pair = waiting(grammar, pairs, number);
+    if number < pairs.len() && pair < NONE {
+        pairs[number] = pair;
+    }
 }
 
 /// As many rounds as there are nodes.
 fn rounds(grammar: &Grammar<'_>, pairs: &mut [u128]) {
     for _ in 0..pairs.len() {
-        let (number, pair) = next(grammar, pairs);
-        if number < pairs.len() && pair < NONE {
-            pairs[number] = pair;
-        }
+        round(grammar, pairs);
     }
 }
 

@@ -1,9 +1,10 @@
 //! Texts of certificates: those that are read and accepted, and the faults of others.
 
 use super::check::snapshot;
-use abnf_cert::{Cert, CertFault, check, read_cert, write_cert};
+use abnf_cert::{CertFault, check, read_cert, write_cert};
 use abnf_least::least;
 use abnf_names::Grammar;
+use ls_text::Snapshot;
 use std::alloc::{AllocError, Global};
 use std::test::Fail;
 
@@ -28,23 +29,33 @@ fn verdict(alloc: Global, grammar: &Grammar<'_>, cert: &str) -> &'static str {
     }
 }
 
-/// Whether this is said of a certificate's text, for the grammar of a text.
-fn says(alloc: Global, text: &str, cert: &str, want: &str) -> Result<bool, Fail> {
-    let text = snapshot(alloc, text)?;
-    let grammar = Grammar::of(alloc, &text)?;
+fn says_of(alloc: Global, text: &Snapshot, cert: &str, want: &str) -> Result<bool, AllocError> {
+    let grammar = Grammar::of(alloc, text)?;
     Ok(verdict(alloc, &grammar, cert) == want)
 }
 
-fn cert_text(alloc: Global, grammar: &Grammar<'_>) -> Result<String, AllocError> {
-    let cert: Cert = least(alloc, grammar)?;
-    write_cert(alloc, &cert)
+/// Whether this is said of a certificate's text, for the grammar of a text.
+fn says(alloc: Global, text: &str, cert: &str, want: &str) -> Result<bool, Fail> {
+    let text = snapshot(alloc, text)?;
+    Ok(says_of(alloc, &text, cert, want)?)
+}
+
+/// Whether this is the text of the certificate that is found for a grammar.
+fn is_found(alloc: Global, grammar: &Grammar<'_>, want: &str) -> Result<bool, AllocError> {
+    let cert = least(alloc, grammar)?;
+    let text = write_cert(alloc, &cert)?;
+    Ok(text.as_str() == want)
+}
+
+fn finds_of(alloc: Global, text: &Snapshot, want: &str) -> Result<bool, AllocError> {
+    let grammar = Grammar::of(alloc, text)?;
+    is_found(alloc, &grammar, want)
 }
 
 /// Whether this is the text of the certificate that is found for the grammar of a text.
 fn finds(alloc: Global, text: &str, want: &str) -> Result<bool, Fail> {
     let text = snapshot(alloc, text)?;
-    let grammar = Grammar::of(alloc, &text)?;
-    Ok(cert_text(alloc, &grammar)?.as_str() == want)
+    Ok(finds_of(alloc, &text, want)?)
 }
 
 #[test]
