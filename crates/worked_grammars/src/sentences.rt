@@ -9,6 +9,7 @@ use abnf_least::least;
 use abnf_names::{Grammar, Node};
 use abnf_token::Folded;
 use ls_answers::hover_text;
+use ls_text::Snapshot;
 use std::alloc::{AllocError, Global};
 use std::test::Fail;
 
@@ -18,11 +19,21 @@ fn shown<'t>(alloc: Global, grammar: &Grammar<'t>, name: Folded<'t>) -> Result<S
     hover_text(alloc, grammar, &cert, grammar.rule_of(name))
 }
 
+fn shows_of(
+    alloc: Global,
+    text: &Snapshot,
+    name: &'static str,
+    want: &str,
+) -> Result<bool, AllocError> {
+    let grammar = Grammar::of(alloc, text)?;
+    let shown = shown(alloc, &grammar, Folded(name))?;
+    Ok(shown.as_str() == want)
+}
+
 /// Whether this is shown of the rule with a name, in the grammar of a text.
 fn shows(alloc: Global, text: &str, name: &'static str, want: &str) -> Result<bool, Fail> {
     let text = snapshot(alloc, text)?;
-    let grammar = Grammar::of(alloc, &text)?;
-    Ok(shown(alloc, &grammar, Folded(name))?.as_str() == want)
+    Ok(shows_of(alloc, &text, name, want)?)
 }
 
 fn of_times(alloc: Global, name: &'static str, want: &str) -> Result<bool, Fail> {
@@ -141,11 +152,15 @@ fn counted_in(alloc: Global, grammar: &Grammar<'_>) -> Result<(u64, u64), AllocE
     counted(alloc, grammar, &cert)
 }
 
+fn counted_of(alloc: Global, text: &Snapshot) -> Result<(u64, u64), AllocError> {
+    let grammar = Grammar::of(alloc, text)?;
+    counted_in(alloc, &grammar)
+}
+
 /// Whether no rule that is referred to lacks an example, in the grammar of a text.
 fn all_shown(alloc: Global, text: &str) -> Result<bool, Fail> {
     let text = snapshot(alloc, text)?;
-    let grammar = Grammar::of(alloc, &text)?;
-    let (shown, others) = counted_in(alloc, &grammar)?;
+    let (shown, others) = counted_of(alloc, &text)?;
     Ok(shown > 0 && others == 0)
 }
 
