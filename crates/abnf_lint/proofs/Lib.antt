@@ -3,3 +3,5 @@ pub mod Behind
 pub mod OneOrder
 pub mod Whole
 pub mod OneFinding
+pub mod InOrder
+pub mod Exist

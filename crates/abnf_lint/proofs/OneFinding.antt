@@ -136,7 +136,7 @@ second_total = record { antisymm = λ x y. nat_cmp_total.antisymm x.1 y.1; trans
 third_total : IsTotalOrder (let cmp : Key → Key → Ordering = λ a b. nat_cmp a.2 b.2 in cmp)
 third_total = record { antisymm = λ x y. nat_cmp_total.antisymm x.2 y.2; trans = λ x y z. nat_cmp_total.trans x.2 y.2 z.2; congr = λ x y z. nat_cmp_total.congr x.2 y.2 z.2 }
 
-key_total : IsTotalOrder key_cmp
+pub key_total : IsTotalOrder key_cmp
 key_total = then_total (then_total first_total second_total) third_total
 
 pub orders_unique : (given xs ys : List Finding) → AreOrdered given xs → AreOrdered given ys → xs ≡ ys
