@@ -13,7 +13,7 @@ pub mod Weight
 pub mod Complete
 pub mod WalkStep
 pub mod Draft
-pub mod RootSays
+pub mod RootShown
 pub mod One
 pub mod OneShown
 pub mod Exist

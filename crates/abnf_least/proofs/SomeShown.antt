@@ -15,7 +15,8 @@ use Rattle.abnf_least.specs.Sentence.{RuleSentence, IsSentence}
 use Rattle.abnf_least.specs.Shown.{IsKnownOf, IsKnown, IsShown}
 use Rattle.abnf_least.specs.Table.{InRange}
 use Rattle.abnf_least.proofs.Named.{Named, rule_named}
-use Rattle.abnf_least.proofs.RootSays.{root_says, root_shown}
+use Rattle.abnf_cert.proofs.RootSays.{root_says}
+use Rattle.abnf_least.proofs.RootShown.{root_shown}
 use Rattle.abnf_least.proofs.OneShown.{shown_if}
 use Rattle.abnf_least.proofs.Exist.{some_certificate}
 use Rattle.abnf_least.proofs.Reaching.{reaches_or_not}

@@ -2,7 +2,8 @@ use Rattle.std.proofs.Common.{◌≡◌, ◌<◌, ◌∙◌, ap, sym, arith}
 use Rattle.abnf_parts.specs.Part.{root_number}
 use Rattle.abnf_cert.specs.declared.entry.Entry.TheVariants.{Nothing, Least}
 use Rattle.abnf_cert.specs.Accepted.{entry_at, top}
-use Rattle.abnf_least.proofs.RootSays.{root_says, root_shown}
+use Rattle.abnf_cert.proofs.RootSays.{root_says}
+use Rattle.abnf_least.proofs.RootShown.{root_shown}
 use Rattle.abnf_least.proofs.shortest.known.Goals as goal
 
 pub returns-then-length : goal.returns-then-length
