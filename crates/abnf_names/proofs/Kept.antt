@@ -56,8 +56,8 @@ rules_made rules ps qs ns ts read names added nodes_from roots_from reaching exc
   names = subst (λ (ps : List Parsed). AreNames (map block_of ps) rules.names) read names;
   nodes = added;
   reaching =
-    subst (λ (ns : List Node). AreReaching (trees_at ns rules.roots.items) rules.opaque.items) nodes_from
-    (subst (λ (ts : List ℕ). AreReaching (trees_at ns ts) rules.opaque.items) roots_from reaching);
+      subst (λ (ns : List Node). AreReaching (trees_at ns rules.roots.items) rules.opaque.items) nodes_from
+      (subst (λ (ts : List ℕ). AreReaching (trees_at ns ts) rules.opaque.items) roots_from reaching);
   sections = excerpts;
 }
 
