@@ -44,8 +44,8 @@ fn push_named<'t>(
     }
 }
 
-/// Whether an item belongs to the misspelled thing before it.
-fn is_touched(before: Kind, item: Item<'_>) -> bool
+/// Whether an item belongs to the misspelled thing before it: it follows a bad token or a number at once. A name there is no use.
+pub fn is_touched(before: Kind, item: Item<'_>) -> bool
     ensures { result ≡ places.is_touched before item.entry }
 {
     match before {
