@@ -1,0 +1,78 @@
+//! Blocks that are no rules: one text for each fault. What they use is not looked at, and of their rules not all is known.
+
+use super::check::finds;
+use std::test::Fail;
+
+#[test]
+fn of_heads(rt: HostRuntime) -> Result<(), Fail> {
+    assert!(rt;
+        finds(
+            rt.alloc(),
+            "= \"x\"",
+            "0:0-0:1 1 syntax rule name expected\n"
+        )?
+    );
+    assert!(rt;
+        finds(
+            rt.alloc(),
+            "a \"x\"",
+            "0:2-0:5 1 syntax \"=\" or \"=/\" expected\n"
+        )?
+    );
+    Ok(())
+}
+
+#[test]
+fn of_elements(rt: HostRuntime) -> Result<(), Fail> {
+    // At the end, which is empty.
+    assert!(rt; finds(rt.alloc(), "a =", "0:3-0:3 1 syntax element expected\n")?);
+    // A repeat stands at its element.
+    assert!(rt;
+        finds(
+            rt.alloc(),
+            "a = 2 \"x\"",
+            "0:4-0:5 1 syntax element expected\n"
+        )?
+    );
+    Ok(())
+}
+
+#[test]
+fn of_blanks_and_brackets(rt: HostRuntime) -> Result<(), Fail> {
+    assert!(rt;
+        finds(
+            rt.alloc(),
+            "a = \"x\"\"y\"",
+            "0:7-0:10 1 syntax blank expected\n"
+        )?
+    );
+    assert!(rt;
+        finds(
+            rt.alloc(),
+            "a = (b",
+            "0:4-0:5 1 syntax bracket not closed\n"
+        )?
+    );
+    assert!(rt; finds(rt.alloc(), "a = ?", "0:4-0:5 1 syntax bad character\n")?);
+    Ok(())
+}
+
+#[test]
+fn of_limits(rt: HostRuntime) -> Result<(), Fail> {
+    assert!(rt;
+        finds(
+            rt.alloc(),
+            "a = %x100000000",
+            "0:4-0:15 1 number-too-large number too large\n"
+        )?
+    );
+    // The 65th bracket.
+    assert!(rt;
+        finds(
+            rt.alloc(),
+            "a = (((((((((((((((((((((((((((((((((((((((((((((((((((((((((((((((((",
+            "0:68-0:69 1 too-deep brackets nested too deep\n"
+        )?
+    );
+    Ok(())
+}
