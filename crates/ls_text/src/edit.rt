@@ -40,7 +40,7 @@ impl Edit {
 }
 
 // A place between two characters of a line.
-#[derive(Clone, Copy, Debug, PartialEq, Eq)]
+#[derive(Clone, Copy)]
 pub struct Spot {
     pub line: usize,
     // The bytes of the line before it.

@@ -35,6 +35,7 @@ impl<'t> Model for Line<'t> {
 
 impl<'t> Line<'t> {
     // The line of this text, which has so many characters and these marks.
+    #[inline]
     pub fn of(text: &'t str, end: LineEnd, char_count: usize, marks: &'t [TokenMark]) -> Line<'t>
         requires count { char_count ≡ length (chars text.now) }
         requires marks { AreMarks text.now marks.now }
@@ -49,6 +50,7 @@ impl<'t> Line<'t> {
     }
 
     // The text without its line end.
+    #[inline]
     pub fn text(&self) -> &'t str
         ensures bytes { result.now ≡ encode_utf8_all self.now.text }
         ensures characters { chars result.now ≡ self.now.text }
@@ -57,6 +59,7 @@ impl<'t> Line<'t> {
     }
 
     // The line end.
+    #[inline]
     pub fn end(&self) -> LineEnd
         ensures { result ≡ self.now.end }
     {
@@ -64,6 +67,7 @@ impl<'t> Line<'t> {
     }
 
     // How many characters the text has.
+    #[inline]
     pub fn char_count(&self) -> usize
         ensures { result ≡ length self.now.text }
     {
@@ -71,6 +75,7 @@ impl<'t> Line<'t> {
     }
 
     // Where the tokens of the text stand.
+    #[inline]
     pub fn marks(&self) -> &'t [TokenMark]
         ensures { AreMarks (encode_utf8_all self.now.text) result.now }
     {

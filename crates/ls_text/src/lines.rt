@@ -88,8 +88,9 @@ fn lines_before(
         IfOk result (λ lines. flat_map lines_behind (take front chunks.now) ++ lines
         ≡ take from (flat_map lines_behind chunks.now)) }
 {
-    let lines = with_whole(Part::new(alloc), &chunks[front..place])?;
     let chunk: &Chunk = &chunks[place];
+    let none = Part::like(alloc, &chunk.lines)?;
+    let lines = with_whole(none, &chunks[front..place])?;
     lines.with_some(&chunk.lines, 0, local)
 }
 

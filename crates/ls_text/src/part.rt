@@ -16,8 +16,11 @@ use std::marker::Model;
 // The greatest number of 32 bits.
 const MOST: usize = 0xffff_ffff;
 
+// How many bytes and marks an edit may add before the room for them grows.
+const SPARE: usize = 256;
+
 // Where the text of a line and its marks stand among those of its part.
-#[derive(Clone, Copy, Debug, PartialEq, Eq)]
+#[derive(Clone, Copy)]
 pub struct Held {
     pub text_start: u32,
     pub text_end: u32,
@@ -52,6 +55,7 @@ impl Model for Part {
 }
 
 // A number in 32 bits.
+#[inline(always)]
 fn narrow(number: usize) -> Result<u32, AllocError>
     ensures { IfOk result (λ n. n ≡ number) }
 {
@@ -62,6 +66,7 @@ fn narrow(number: usize) -> Result<u32, AllocError>
 }
 
 // The marks from one up to another.
+#[inline(always)]
 fn between(marks: &[TokenMark], from: usize, to: usize) -> &[TokenMark]
     requires order { from ≤ to }
     requires within { to ≤ length marks.now }
@@ -71,6 +76,7 @@ fn between(marks: &[TokenMark], from: usize, to: usize) -> &[TokenMark]
 }
 
 // Where a line stands.
+#[inline(always)]
 fn held_of(
     text_start: usize,
     text_end: usize,
@@ -99,6 +105,7 @@ fn held_of(
 }
 
 // The lines that stand in a text, and one more, whose marks are those from `first` on.
+#[inline(always)]
 fn with_line(
     text: String,
     marks: Vec<TokenMark>,
@@ -136,6 +143,17 @@ impl Part {
         }
     }
 
+    // No lines, with room for about as many as another part has.
+    pub fn like(alloc: Global, part: &Part) -> Result<Part, AllocError>
+        ensures { IfOk result (λ lines. lines ≡ []) }
+    {
+        Ok(Part {
+            text: String::with_capacity(alloc, part.text.len().saturating_add(SPARE))?,
+            marks: Vec::with_capacity(alloc, part.marks.len().saturating_add(SPARE))?,
+            lines: Vec::with_capacity(alloc, part.lines.len().saturating_add(2))?,
+        })
+    }
+
     // How many lines there are.
     pub fn len(&self) -> usize
         ensures { result ≡ length self.now }
@@ -144,6 +162,7 @@ impl Part {
     }
 
     // A line.
+    #[inline(always)]
     pub fn line(&self, at: usize) -> Line<'_>
         requires { at < length self.now }
         ensures { result ≡ slice_index_or self.now at result }
@@ -159,6 +178,7 @@ impl Part {
     }
 
     // These lines, and one with a copy of this text.
+    #[inline(always)]
     pub fn pushed(self, text: &str, end: LineEnd) -> Result<Part, AllocError>
         requires { length text.now < 2 ^ 32 }
         ensures { IfOk result (λ part. IsPushed self text.now end part) }
@@ -174,6 +194,7 @@ impl Part {
     }
 
     // These lines, and a copy of one, with its marks.
+    #[inline(always)]
     fn with_copy(self, line: &Line<'_>) -> Result<Part, AllocError>
         ensures { IfOk result (λ part. part ≡ self ++ line.now ∷ []) }
     {
