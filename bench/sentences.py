@@ -1,36 +1,20 @@
 #!/usr/bin/env python3
 """Times `least`, `check` and `example` beside `Grammar::of`, and the commands `example` and `check` as a user runs them.
 
-The program of the first part is sentences.rt.txt beside this file, which no gate proves. It is built in a copy of the crates, over
-what is proved there. The second part runs out/abnf_ls, or the program that is the first argument: the best of five runs.
+The program of the first part is sentences.rt.txt. The second part runs out/abnf_ls, or the program that is the first argument: the
+best of five runs.
 """
 import os
-import shutil
 import subprocess
 import sys
 import tempfile
 import time
 
-TOP = os.path.dirname(os.path.dirname(os.path.realpath(__file__)))
-NAME = "sentence_bench"
+import scratch
+
 DEPS = "abnf_least abnf_cert abnf_names abnf_parts abnf_syntax abnf_token ls_text ls_lists anyhow"
-PROGRAM = sys.argv[1] if len(sys.argv) > 1 else os.path.join(TOP, "out", "abnf_ls")
+PROGRAM = sys.argv[1] if len(sys.argv) > 1 else os.path.join(scratch.TOP, "out", "abnf_ls")
 RUNS = 5
-
-
-def calls():
-    """Builds and runs the program that times the calls."""
-    with tempfile.TemporaryDirectory() as copy:
-        shutil.copytree(os.path.join(TOP, "crates"), os.path.join(copy, "crates"))
-        shutil.copy(os.path.join(TOP, "HANDLES"), copy)
-        with open(os.path.join(TOP, "crates.txt"), encoding="utf-8") as file:
-            lines = file.read()
-        with open(os.path.join(copy, "crates.txt"), "w", encoding="utf-8") as file:
-            file.write(f"{lines}{NAME}: {DEPS}\n")
-        source = os.path.join(copy, "crates", NAME, "src")
-        os.makedirs(source)
-        shutil.copy(os.path.join(TOP, "bench", "sentences.rt.txt"), os.path.join(source, "main.rt"))
-        return subprocess.run(["rt", "run"], cwd=os.path.dirname(source), stdin=subprocess.DEVNULL, check=False).returncode
 
 
 def grammar(count, alternatives=1):
@@ -64,7 +48,7 @@ def commands(name, text, rule):
 
 
 def main():
-    status = calls()
+    status = scratch.run("sentences.rt.txt", DEPS)
     if not os.path.exists(PROGRAM):
         print(f"{PROGRAM} isn't built: the commands aren't timed", file=sys.stderr)
         return status

@@ -7,7 +7,7 @@ use Rattle.abnf_token.specs.declared.mark.TokenMark.{TokenMark}
 use Rattle.abnf_token.specs.declared.token.Kind.{Kind}
 use Rattle.abnf_token.specs.declared.token.Token.{Token}
 use Rattle.abnf_token.specs.Classes.{Text, is_in}
-use Rattle.abnf_token.specs.Marks.{mark_of, AreMarks, IsMarkOf}
+use Rattle.abnf_token.specs.Marks.{mark_of, AreMarks, AreMarksOnto, IsMarkOf}
 use Rattle.abnf_token.specs.Rest.{Rest}
 use Rattle.abnf_token.specs.Tokens.{IsNext, TokensOf, GivesToken, AreSlices}
 use Rattle.abnf_token.proofs.Cuts.{cut, first_char}
@@ -26,31 +26,31 @@ marks-renumbered : (n : ℕ) (ts : List Token) → map mark_of (map (renumber n)
 marks-renumbered n [] = refl
 marks-renumbered n (t ∷ ts) = ap (λ ms. mark_of t ∷ ms) (marks-renumbered n ts)
 
--- the marks of a front of a line have come
-pub record HasMarks (text : Text) (rest : Rest) (marks : List TokenMark) : Type 0 where
+-- the marks of a front of a line have come to the end of some marks
+pub record HasMarks (text : Text) (rest : Rest) (old marks : List TokenMark) : Type 0 where
   pub tokens : List Token
   pub whole : (ts : List Token) → TokensOf rest.line rest.start rest.text ts → TokensOf 0 0 text (tokens ++ ts)
-  pub marks_are : map mark_of tokens ≡ marks
+  pub marks_are : old ++ map mark_of tokens ≡ marks
   pub all : rest.start + length rest.text ≡ length text
 
-pub no_marks : (text : Text) → HasMarks text (record { text = text; line = 0; start = 0 }) []
-no_marks text = record { tokens = []; whole = λ ts p. p; marks_are = refl; all = omega arith }
+pub no_marks : (text : Text) (old : List TokenMark) → HasMarks text (record { text = text; line = 0; start = 0 }) old old
+no_marks text old = record { tokens = []; whole = λ ts p. p; marks_are = append-nil old; all = omega arith }
 
-pub marks_more : {text : Text} {rest behind : Rest} {marks next : List TokenMark} (t : Token) → HasMarks text rest marks → GivesToken rest (Some t) behind → next ≡ marks ++ mark_of t ∷ [] → HasMarks text behind next
-marks_more {text = text} {rest = rest} {behind = behind} t h gives pushed = record {
+pub marks_more : {text : Text} {rest behind : Rest} {old marks next : List TokenMark} (t : Token) → HasMarks text rest old marks → GivesToken rest (Some t) behind → next ≡ marks ++ mark_of t ∷ [] → HasMarks text behind old next
+marks_more {text = text} {rest = rest} {behind = behind} {old = old} t h gives pushed = record {
   tokens = h.tokens ++ t ∷ [];
   whole = λ ts are. subst (TokensOf 0 0 text) (sym (append_assoc h.tokens (t ∷ []) ts)) (h.whole (t ∷ ts) (gives.0, subst (λ (r : Rest). TokensOf r.line r.start r.text ts) gives.1 are));
-  marks_are = map-append mark_of h.tokens (t ∷ []) ∙ ap (λ ms. ms ++ mark_of t ∷ []) h.marks_are ∙ sym pushed;
+  marks_are = ap (λ ms. old ++ ms) (map-append mark_of h.tokens (t ∷ [])) ∙ sym (append_assoc old (map mark_of h.tokens) (mark_of t ∷ [])) ∙ ap (λ ms. ms ++ mark_of t ∷ []) h.marks_are ∙ sym pushed;
   all = omega (arith, h.all, ap (λ (r : Rest). r.start + length r.text) gives.1, length-drop (length t.text.now) rest.text, gives.0.next.within);
 }
 
-pub marks_done : {text : Text} {rest behind : Rest} {marks : List TokenMark} → HasMarks text rest marks → GivesToken rest None behind → AreMarks text marks
-marks_done {text = text} h gives = λ line.
+pub marks_done : {text : Text} {rest behind : Rest} {old marks : List TokenMark} → HasMarks text rest old marks → GivesToken rest None behind → AreMarksOnto text old marks
+marks_done {text = text} h gives =
     let are : TokensOf 0 0 text h.tokens = rw append-nil at (h.whole [] gives.0) in
-    (map (renumber line) h.tokens, renumbered 0 line 0 text h.tokens are, marks-renumbered line h.tokens ∙ h.marks_are)
+    (map mark_of h.tokens, (λ line. (map (renumber line) h.tokens, renumbered 0 line 0 text h.tokens are, marks-renumbered line h.tokens)), sym h.marks_are)
 
 -- a token that comes ends within the line
-pub end_within : {text : Text} {rest behind : Rest} {marks : List TokenMark} (t : Token) → HasMarks text rest marks → GivesToken rest (Some t) behind → t.start + length t.text.now ≤ length text
+pub end_within : {text : Text} {rest behind : Rest} {old marks : List TokenMark} (t : Token) → HasMarks text rest old marks → GivesToken rest (Some t) behind → t.start + length t.text.now ≤ length text
 end_within t h gives = omega (arith, h.all, gives.0.next.within, gives.0.start)
 
 -- ---- where a mark stands

@@ -1,7 +1,7 @@
 //! Where the tokens of a line stand.
 
-ghost use Rattle.std.specs.Prelude.{◌≡◌, ◌+◌, ◌<◌, ◌^◌, IfOk, length, slice_range};
-ghost use Rattle.abnf_token.specs.Marks.{AreMarks, IsMarkOf, mark_of};
+ghost use Rattle.std.specs.Prelude.{◌≡◌, ◌+◌, ◌<◌, ◌^◌, OnOk, IfOk, length, slice_range};
+ghost use Rattle.abnf_token.specs.Marks.{AreMarks, AreMarksOnto, IsMarkOf, mark_of};
 
 use crate::scan::tokens;
 use crate::token::{Kind, Token};
@@ -43,15 +43,24 @@ fn trim(marks: &mut Vec<TokenMark>)
     }
 }
 
+/// Adds the marks of the tokens of a line, from left to right. The line has less than 4 GiB.
+pub fn push_marks(marks: &mut Vec<TokenMark>, text: &str) -> Result<(), AllocError>
+    requires { length text.now < 2 ^ 32 }
+    ensures { OnOk result (AreMarksOnto text.now marks.old.items marks.new.items) }
+{
+    for token in tokens(text, 0) {
+        marks.push(mark_of(&token))?;
+    }
+    Ok(())
+}
+
 /// The marks of the tokens of a line, from left to right. The line has less than 4 GiB.
 pub fn marks_of(alloc: Global, text: &str) -> Result<Vec<TokenMark>, AllocError>
     requires { length text.now < 2 ^ 32 }
     ensures { IfOk result (λ marks. AreMarks text.now marks.items) }
 {
     let mut marks = Vec::with_capacity(alloc, text.len().div_ceil(BYTES_A_TOKEN))?;
-    for token in tokens(text, 0) {
-        marks.push(mark_of(&token))?;
-    }
+    push_marks(&mut marks, text)?;
     trim(&mut marks);
     Ok(marks)
 }

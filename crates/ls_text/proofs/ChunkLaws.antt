@@ -1,8 +1,8 @@
 -- Laws of lines in chunks. A piece may be any value that has lines.
-use Rattle.std.proofs.Common.{◌≡◌, ℕ, zero, suc, ◌+◌, ◌-◌, ◌^◌, ◌<◌, ◌≤◌, List, [], ◌∷◌, ◌++◌, length, take, drop, get_or, refl, sym, ap, subst, ◌∙◌, ⊎_elim, arith, append_assoc, length-append, map, take-append-drop, length-drop}
+use Rattle.std.proofs.Common.{◌≡◌, ℕ, zero, suc, ◌+◌, ◌-◌, ◌^◌, ◌<◌, ◌≤◌, List, [], ◌∷◌, ◌++◌, length, take, drop, get_or, refl, sym, ap, subst, ◌∙◌, ⊎_elim, arith, append_assoc, length-append, take-append-drop, length-drop}
 use Rattle.std.specs.List.{flat_map}
 use Rattle.std.specs.Str.{encode_utf8_all as encodes}
-use Rattle.std.proofs.lemmas.List.{append-nil, take-append-le, take_at, drop-append-le, get_or_append_left, get_or_push, take_all, take_more, get_or_read, get_or-append-add, take-take, drop-take, drop-drop, length-map, get_or-map, get_or-drop}
+use Rattle.std.proofs.lemmas.List.{append-nil, take-append-le, take_at, drop-append-le, get_or_append_left, get_or_push, take_all, take_more, get_or_read, get_or-append-add, take-take, drop-take, drop-drop, get_or-drop}
 use Rattle.std.proofs.lemmas.List.Concat.{flat_map-append}
 use Rattle.std.proofs.lemmas.Bool.{cases_lt}
 use Rattle.std.proofs.lemmas.Str.{encodes-append, length-le-encodes}
@@ -195,31 +195,35 @@ module _ {X : Type 0} (value : X → List Row) where
         start_is = (λ i. start_is i + found.start_is i) ∙ ap (λ n. char_length (flat_map value (take k cs)) + n) (sym (start_of-left (value x) (flat_map value (drop (k + 1) cs)) local found.in_range)) ∙ sym (start_of-append (flat_map value (take k cs)) (value x ++ flat_map value (drop (k + 1) cs)) local);
       }))
 
--- a line of lines held behind pointers
-pub line_held : {Y : Type 0} (v : Y → Row) (held : List Y) (starts : List ℕ) (len : ℕ) → IsIndex starts len (map v held) → (j : ℕ) (y : Y) (line : Row) (start : ℕ) → j < length held → y ≡ get_or held j y → line ≡ v y → start ≡ get_or starts j start → IsLineAt (map v held) j line start
-line_held v held starts len index j y line start lt item line_is start_is =
-    let lt' : j < length (map v held) = omega (arith, lt, length-map held v) in
-    record {
-      in_range = lt';
-      line_is = line_is ∙ ap v item ∙ sym (get_or-map v held j y line lt);
-      start_is = get_or_read starts j start (omega (arith, lt', index.count)) start_is 0 ∙ index.starts_are j lt';
-    }
+-- a line of lines with an index
+pub line_known : (ls : List Row) (starts : List ℕ) (len : ℕ) → IsIndex starts len ls → (j : ℕ) (line : Row) (start : ℕ) → j < length ls → line ≡ get_or ls j line → start ≡ get_or starts j start → IsLineAt ls j line start
+line_known ls starts len index j line start lt line_is start_is = record {
+  in_range = lt;
+  line_is = line_is;
+  start_is = get_or_read starts j start (omega (arith, lt, index.count)) start_is 0 ∙ index.starts_are j lt;
+}
 
 pub line_start_le : (ls : List Row) (m : ℕ) (line : Row) (start : ℕ) → IsLineAt ls m line start → start ≤ byte_length ls
 line_start_le ls m line start found = omega (arith, found.start_is, start_le ls m found.in_range, chars_le_bytes ls)
 
--- ---- the lines of a chunk, those of the next one, and those to come
-module _ (lines part next rest behind whole : List Row) (x : Row) (next_is : next ≡ part ++ x ∷ []) (rest_is : rest ≡ x ∷ behind) (before : (lines ++ part) ++ rest ≡ whole) where
-  pub part_more : (lines ++ next) ++ behind ≡ whole
-  part_more =
-      ap (λ z. (lines ++ z) ++ behind) next_is ∙ append_assoc lines (part ++ x ∷ []) behind ∙ ap (λ z. lines ++ z) (append_assoc part (x ∷ []) behind)
-      ∙ sym (append_assoc lines part (x ∷ behind)) ∙ ap (λ z. (lines ++ part) ++ z) (sym rest_is) ∙ before
+-- ---- lines from the first on, and up to the last
+pub from_none : {X : Type 0} (n : ℕ) (xs : List X) → take (n - 0) (drop 0 xs) ≡ take n xs
+from_none n xs =
+    let same : n - 0 ≡ n = omega arith in
+    ap (λ k. take k xs) same
 
-  pub part_done : (made empty : List Row) → made ≡ lines ++ next → empty ≡ [] → (made ++ empty) ++ behind ≡ whole
-  part_done made empty made_is empty_is = (λ i. (made_is i ++ empty_is i) ++ behind) ∙ ap (λ z. z ++ behind) (append-nil (lines ++ next)) ∙ part_more
+pub up_to_end : {X : Type 0} (n : ℕ) (xs : List X) (len : ℕ) → len ≡ length xs → take (len - n) (drop n xs) ≡ drop n xs
+up_to_end n xs len len_is = take_all (len - n) (drop n xs) (omega (arith, len_is, length-drop n xs))
 
-  pub part_bytes : byte_length (lines ++ next) ≤ byte_length whole
-  part_bytes = omega (arith, ap byte_length part_more, byte_length-front (lines ++ next) behind)
+-- ---- lines up to one, and those from it up to another
+pub parts_more : (init ls now next : List Row) (from to : ℕ) → from ≤ to → now ≡ init ++ take from ls → next ≡ now ++ take (to - from) (drop from ls) → next ≡ init ++ take to ls
+parts_more init ls now next from to le before more =
+    more ∙ ap (λ z. z ++ take (to - from) (drop from ls)) before ∙ append_assoc init (take from ls) (take (to - from) (drop from ls)) ∙ ap (λ z. init ++ z) (take_join ls from to le)
+
+pub parts_bytes : (init ls next : List Row) (to : ℕ) → next ≡ init ++ take to ls → byte_length next ≤ byte_length (init ++ ls)
+parts_bytes init ls next to is =
+    let all : init ++ ls ≡ (init ++ take to ls) ++ drop to ls = ap (λ z. init ++ z) (sym (take-append-drop to ls)) ∙ sym (append_assoc init (take to ls) (drop to ls)) in
+    omega (arith, ap byte_length is, ap byte_length all, byte_length-front (init ++ take to ls) (drop to ls))
 
 pub nil_of : {X : Type 0} (xs : List X) → length xs ≡ 0 → xs ≡ []
 nil_of [] e = refl
@@ -245,6 +249,13 @@ module _ {X : Type 0} (value : X → List Row) (cs : List X) (firsts starts : Li
   spine_place got got_is k at in_range le first first_is =
       let lt : k < length cs = omega (arith, in_range, ap length got_is, s.line_sums.count) in
       omega (arith, get_or_read firsts k first (omega (arith, in_range, ap length got_is)) first_is 0, s.line_sums.sums_are k lt, ap (λ z. get_or z k 0) got_is, le)
+
+  -- a place in the piece found is not past the piece's end
+  pub spine_room : (got : List ℕ) → got ≡ firsts → (k at : ℕ) → k < length got → get_or got k 0 ≤ at → (k + 1 < length got → at < get_or got (k + 1) 0) → at ≤ count → (first : ℕ) → first ≡ get_or firsts k first → length (flat_map value (take k cs)) + (at - first) ≤ length (flat_map value (take (k + 1) cs))
+  spine_room got got_is k at in_range le next within first first_is =
+      let sum : length (flat_map value (take k cs)) + (at - first) ≡ at = spine_place got got_is k at in_range le first first_is in
+      ⊎_elim (λ more. omega (arith, sum, next (omega (arith, more, ap length got_is, s.line_sums.count)), s.line_sums.sums_are (k + 1) more, ap (λ z. get_or z (k + 1) 0) got_is))
+      (λ all. omega (arith, sum, within, s.line_sums.total_is, ap (λ z. length (flat_map value z)) (take_all (k + 1) cs all))) (cases_lt (k + 1) (length cs))
 
   module _ (got : List ℕ) (got_is : got ≡ starts) (k offset : ℕ) (in_range : k < length got) (le : get_or got k 0 ≤ offset) (next : k + 1 < length got → offset < get_or got (k + 1) 0) (x : X) (item : x ≡ get_or cs k x) (first start : ℕ) (first_is : first ≡ get_or firsts k first) (start_is : start ≡ get_or starts k start) where
     k_lt : k < length cs

@@ -1,9 +1,9 @@
--- Laws of the lines that a snapshot holds behind pointers, one after another.
-use Rattle.std.proofs.Common.{◌≡◌, ℕ, ◌+◌, ◌<◌, ◌≤◌, List, [], ◌∷◌, ◌++◌, length, take, drop, get_or, refl, sym, ap, subst, ◌∙◌, arith, append_assoc, length-append, map, take-append-drop}
+-- Laws of the lines that a snapshot holds, one after another.
+use Rattle.std.proofs.Common.{◌≡◌, ℕ, ◌+◌, ◌<◌, ◌≤◌, List, [], ◌∷◌, ◌++◌, length, take, drop, get_or, refl, sym, ap, subst, ◌∙◌, arith, append_assoc, length-append, take-append-drop}
 use Rattle.std.specs.Str.{chars, IsUtf8, encode_utf8_all as encodes}
 use Rattle.std.specs.Char.{encode_utf8 as encode}
 use Rattle.std.proofs.lemmas.Str.{encodes-append, encodes-chars, chars-append, length-le-encodes}
-use Rattle.std.proofs.lemmas.List.{append-nil, take-map, map_more, map-append}
+use Rattle.std.proofs.lemmas.List.{append-nil, take_more}
 use Rattle.ls_text.specs.Cut.{end_text, line_text, text_of, IsIndex}
 use Rattle.ls_text.specs.declared.line_end.LineEnd.{LineEnd}
 use Rattle.ls_text.specs.declared.line_end.LineEnd.TheVariants.{Eof, Lf, Cr, CrLf}
@@ -45,20 +45,16 @@ line_spelled bs line end l u text_is v end_is =
     ap chars (append_assoc bs line end) ∙ chars-append bs (line ++ end) u
     ∙ ap (λ z. chars bs ++ z) (chars-append line end v ∙ (λ i. text_is i ++ (ap chars end_is ∙ chars_end l.end) i))
 
-module _ {X : Type 0} (value : X → Row) (held : List X) (i : ℕ) (x : X) (lt : i < length held) (item : x ≡ get_or held i x) where
-  pub held_more : take (i + 1) (map value held) ≡ take i (map value held) ++ value x ∷ []
-  held_more = take-map value (i + 1) held ∙ map_more value held i x lt ∙ (λ k. sym (take-map value i held) k ++ value (sym item k) ∷ [])
+module _ (ls : List Row) (i : ℕ) (x : Row) (lt : i < length ls) (item : x ≡ get_or ls i x) where
+  pub held_more : take (i + 1) ls ≡ take i ls ++ x ∷ []
+  held_more = take_more ls i x lt ∙ ap (λ z. take i ls ++ z ∷ []) (sym item)
 
-  pub shared_more : (init : List Row) (now next : List X) (y : X) → value y ≡ value x → next ≡ now ++ y ∷ [] → map value now ≡ init ++ take i (map value held) → map value next ≡ init ++ take (i + 1) (map value held)
-  shared_more init now next y same pushed before =
-      ap (map value) pushed ∙ map-append value now (y ∷ []) ∙ (λ k. before k ++ same k ∷ []) ∙ append_assoc init (take i (map value held)) (value x ∷ []) ∙ ap (λ z. init ++ z) (sym held_more)
-
-  pub indexed_more : (starts next : List ℕ) (len count ends : ℕ) → IsIndex starts len (take i (map value held)) → next ≡ starts ++ len ∷ [] → count ≡ length (line_text (value x)) → ends ≡ length (end_text (value x).end) → IsIndex next (len + (count + ends)) (take (i + 1) (map value held))
+  pub indexed_more : (starts next : List ℕ) (len count ends : ℕ) → IsIndex starts len (take i ls) → next ≡ starts ++ len ∷ [] → count ≡ length (line_text x) → ends ≡ length (end_text x.end) → IsIndex next (len + (count + ends)) (take (i + 1) ls)
   indexed_more starts next len count ends index next_is count_is ends_is =
-      subst (λ z. IsIndex next (len + (count + ends)) z) (sym held_more) (subst (λ z. IsIndex z (len + (count + ends)) (take i (map value held) ++ value x ∷ [])) (sym next_is) (index_push starts len (take i (map value held)) (value x) (count + ends) index (omega (arith, count_is, ends_is))))
+      subst (λ z. IsIndex next (len + (count + ends)) z) (sym held_more) (subst (λ z. IsIndex z (len + (count + ends)) (take i ls ++ x ∷ [])) (sym next_is) (index_push starts len (take i ls) x (count + ends) index (omega (arith, count_is, ends_is))))
 
-  pub held_bytes : length (encodes (text_of (take (i + 1) (map value held)))) ≡ length (encodes (text_of (take i (map value held)))) + (length (encodes (line_text (value x))) + length (end_text (value x).end))
-  held_bytes = ap (λ z. length (encodes (text_of z))) held_more ∙ bytes_push (take i (map value held)) (value x)
+  pub held_bytes : length (encodes (text_of (take (i + 1) ls))) ≡ length (encodes (text_of (take i ls))) + (length (encodes (line_text x)) + length (end_text x.end))
+  held_bytes = ap (λ z. length (encodes (text_of z))) held_more ∙ bytes_push (take i ls) x
 
-  pub held_bytes_le : length (encodes (text_of (take (i + 1) (map value held)))) ≤ length (encodes (text_of (map value held)))
-  held_bytes_le = subst (λ z. length (encodes (text_of (take (i + 1) (map value held)))) ≤ length (encodes (text_of z))) (take-append-drop (i + 1) (map value held)) (bytes_front (take (i + 1) (map value held)) (drop (i + 1) (map value held)))
+  pub held_bytes_le : length (encodes (text_of (take (i + 1) ls))) ≤ length (encodes (text_of ls))
+  held_bytes_le = subst (λ z. length (encodes (text_of (take (i + 1) ls))) ≤ length (encodes (text_of z))) (take-append-drop (i + 1) ls) (bytes_front (take (i + 1) ls) (drop (i + 1) ls))

@@ -11,3 +11,4 @@ pub mod EditLaws
 pub mod PlaceLaws
 pub mod ChunkLaws
 pub mod ScalarLaws
+pub mod PartLaws

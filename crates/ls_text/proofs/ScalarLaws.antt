@@ -1,5 +1,5 @@
 -- The characters of lines are Unicode scalar values.
-use Rattle.std.proofs.Common.{◌≡◌, ℕ, ◌+◌, ◌<◌, true, List, [], ◌∷◌, ◌++◌, length, map, take, get_or, refl, sym, ap, subst, ◌∙◌}
+use Rattle.std.proofs.Common.{◌≡◌, ℕ, ◌+◌, ◌<◌, true, List, [], ◌∷◌, ◌++◌, length, take, get_or, refl, sym, ap, subst, ◌∙◌}
 use Rattle.std.specs.Prelude.{All, ◌&&◌}
 use Rattle.std.specs.Arc.{arc_value}
 use Rattle.std.specs.declared.sync.Arc.{Arc}
@@ -36,12 +36,12 @@ no_scalars = AllPass-from_list_all scalar [] refl
 line_scalars : (l : Row) → All IsScalar (line_text l) → All IsScalar (line_text l ++ end_text l.end)
 line_scalars l h = All-append IsScalar (line_text l) (end_text l.end) h (AllPass-from_list_all scalar (end_text l.end) (end_scalars l.end))
 
--- one more of the lines behind pointers
-pub scalars_more : {X : Type 0} (value : X → Row) (held : List X) (i : ℕ) (x : X) → i < length held → x ≡ get_or held i x → All IsScalar (line_text (value x)) → All IsScalar (text_of (take i (map value held))) → All IsScalar (text_of (take (i + 1) (map value held)))
-scalars_more value held i x lt item line before =
-    subst (λ z. All IsScalar (text_of z)) (sym (held_more value held i x lt item))
-    (subst (All IsScalar) (sym (text_of-one (take i (map value held)) (value x)))
-    (All-append IsScalar (text_of (take i (map value held))) (line_text (value x) ++ end_text (value x).end) before (line_scalars (value x) line)))
+-- one more of the lines
+pub scalars_more : (ls : List Row) (i : ℕ) (x : Row) → i < length ls → x ≡ get_or ls i x → All IsScalar (line_text x) → All IsScalar (text_of (take i ls)) → All IsScalar (text_of (take (i + 1) ls))
+scalars_more ls i x lt item line before =
+    subst (λ z. All IsScalar (text_of z)) (sym (held_more ls i x lt item))
+    (subst (All IsScalar) (sym (text_of-one (take i ls) x))
+    (All-append IsScalar (text_of (take i ls)) (line_text x ++ end_text x.end) before (line_scalars x line)))
 
 pub chunk_scalars : {Z : Type 0} (cs : List (Arc Chunk Z)) → All IsScalar (text_of (flat_map lines_behind cs))
 chunk_scalars [] = no_scalars

@@ -1,5 +1,5 @@
 -- Lines in chunks, as a list of lines holds them. No public contract cites this.
-use Rattle.std.specs.Prelude.{◌≡◌, ℕ, ◌<◌, ◌≤◌, ◌^◌, List, length, take, map, slice_index, slice_index_or}
+use Rattle.std.specs.Prelude.{◌≡◌, ℕ, ◌<◌, ◌≤◌, ◌^◌, List, length, take, slice_index, slice_index_or}
 use Rattle.std.specs.Arc.{arc_value}
 use Rattle.std.specs.declared.sync.Arc.{Arc}
 use Rattle.std.specs.List.{flat_map}
@@ -9,7 +9,7 @@ use Rattle.ls_text.specs.declared.chunk.Chunk.{Chunk}
 
 -- the lines of a chunk behind a pointer
 abbrev pub lines_behind : {Z : Type 0} → Arc Chunk Z → List Row
-lines_behind c = map arc_value (arc_value c).lines.items
+lines_behind c = (arc_value c).lines
 
 abbrev pub char_length : List Row → ℕ
 char_length ls = length (text_of ls)

@@ -1,5 +1,6 @@
 pub mod Lines
 pub mod Cut
+pub mod Parts
 pub mod Chunks
 pub mod Positions
 pub mod Spots

@@ -1,14 +1,12 @@
-ghost use Rattle.std.specs.Prelude.{◌≡◌, ℕ, ◌<◌, ◌≤◌, ◌^◌, ◌++◌, ◌∷◌, [], length, map, true, false, OnOk, IfOk, slice_index};
-ghost use Rattle.std.specs.Arc.{arc_value};
+ghost use Rattle.std.specs.Prelude.{◌≡◌, ℕ, ◌<◌, ◌≤◌, ◌^◌, length, true, false, IfOk, slice_index};
 ghost use Rattle.std.specs.Str.{chars};
 ghost use Rattle.ls_text.specs.Lines.{is_break};
-ghost use Rattle.ls_text.specs.Cut.{IsCutFrom, IsPushed, IsPlain, IsCutOnto};
+ghost use Rattle.ls_text.specs.Cut.{IsCutFrom, IsPlain, IsCutOnto};
 
-use crate::line::Line;
 use crate::line_end::{LineEnd, first_end};
+use crate::part::Part;
 use memchr::memchr2;
-use std::alloc::{AllocError, Global};
-use std::sync::Arc;
+use std::alloc::AllocError;
 
 // Where the first LF or CR stands, or the length.
 fn first_break(bytes: &[u8]) -> usize
@@ -34,41 +32,21 @@ pub fn first_line(text: &str) -> (&str, LineEnd, &str)
     (line, end, rest)
 }
 
-// Adds a line with a copy of this text.
-pub fn push_line(
-    alloc: Global,
-    lines: &mut Vec<Arc<Line>>,
-    text: &str,
-    end: LineEnd,
-) -> Result<(), AllocError>
+// These lines, those of a text that have a line end, and what follows them.
+pub fn with_lines<'a>(lines: Part, text: &'a str) -> Result<(Part, &'a str), AllocError>
     requires { length text.now < 2 ^ 32 }
-    ensures { OnOk result
-        (IsPushed (map arc_value lines.old.items) text.now end (map arc_value lines.new.items)) }
+    ensures cut { IfOk result (λ r. IsCutOnto lines text.now r.1.now r.0) }
+    ensures plain { IfOk result (λ r. IsPlain (chars r.1.now)) }
+    ensures small { IfOk result (λ r. length r.1.now ≤ length text.now) }
 {
-    let line = Line::new(alloc, text, end)?;
-    lines.push(Arc::new(alloc, line)?)?;
-    Ok(())
-}
-
-// Adds the lines of a text that have a line end, and gives what follows them.
-pub fn push_lines<'a>(
-    alloc: Global,
-    lines: &mut Vec<Arc<Line>>,
-    text: &'a str,
-) -> Result<&'a str, AllocError>
-    requires { length text.now < 2 ^ 32 }
-    ensures cut { IfOk result (λ rest.
-        IsCutOnto (map arc_value lines.old.items) text.now rest.now (map arc_value lines.new.items)) }
-    ensures plain { IfOk result (λ rest. IsPlain (chars rest.now)) }
-    ensures small { IfOk result (λ rest. length rest.now ≤ length text.now) }
-{
+    let mut lines = lines;
     let mut rest = text;
     'lines: loop {
         let (line, end, after) = first_line(rest);
         if let LineEnd::Eof = end {
-            return Ok(line);
+            return Ok((lines, line));
         }
-        push_line(alloc, lines, line, end)?;
+        lines = lines.pushed(line, end)?;
         rest = after;
     }
 }

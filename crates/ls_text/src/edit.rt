@@ -1,5 +1,4 @@
-ghost use Rattle.std.specs.Prelude.{◌≡◌, ◌-◌, ◌<◌, ◌≤◌, ◌++◌, length, map, take, drop, OnOk, IfOk, IfErr};
-ghost use Rattle.std.specs.Arc.{arc_value};
+ghost use Rattle.std.specs.Prelude.{◌≡◌, ◌-◌, ◌<◌, ◌≤◌, ◌++◌, length, take, drop, OnOk, IfOk, IfErr};
 ghost use Rattle.std.specs.Str.{chars, encode_utf8_all};
 ghost use Rattle.std.specs.String.{string_bytes};
 ghost use Rattle.ls_text.specs.Lines.{utf16_len, offset_of};
@@ -7,17 +6,17 @@ ghost use Rattle.ls_text.specs.Cut.{end_text, line_text, end_at, text_of, IsCut,
 ghost use Rattle.ls_text.specs.Spots.{IsSpot, front_of, back_of};
 
 use crate::chunk::MOST_LINES;
-use crate::cut::{first_line, push_line, push_lines};
+use crate::cut::{first_line, with_lines};
 use crate::fault::TextFault;
 use crate::line::Line;
 use crate::line_end::LineEnd;
 use crate::lines::Lines;
+use crate::part::Part;
 use crate::position::{Position, Range};
 use crate::snapshot::MAX_BYTES;
 use crate::units::{Units, fitting};
 use ls_lists::Text;
 use std::alloc::{AllocError, Global};
-use std::sync::Arc;
 
 /// A change of a text (LSP 3.17, "TextDocumentContentChangeEvent").
 #[derive(Drop)]
@@ -41,7 +40,7 @@ impl Edit {
 }
 
 // A place between two characters of a line.
-#[derive(Clone, Copy, Debug, PartialEq, Eq)]
+#[derive(Clone, Copy)]
 pub struct Spot {
     pub line: usize,
     // The bytes of the line before it.
@@ -81,19 +80,8 @@ pub fn spot_of(lines: &Lines, at: Position) -> Spot
     }
 }
 
-// Adds these lines, without a copy of their texts.
-pub fn push_shared(shared: &mut Vec<Arc<Line>>, lines: &[Arc<Line>]) -> Result<(), AllocError>
-    ensures { OnOk result
-        (map arc_value shared.new.items ≡ map arc_value shared.old.items ++ map arc_value lines.now) }
-{
-    for line in lines {
-        shared.push(Arc::try_clone(line)?)?;
-    }
-    Ok(())
-}
-
 // Adds the text of a line with its line end.
-fn push_line_text(text: &mut String, line: &Line) -> Result<(), AllocError>
+fn push_line_text(text: &mut String, line: &Line<'_>) -> Result<(), AllocError>
     ensures { OnOk result (chars (string_bytes text.new)
         ≡ chars (string_bytes text.old) ++ (line_text line.now ++ end_text line.now.end)) }
 {
@@ -111,7 +99,7 @@ pub fn push_text(text: &mut String, lines: &Lines, from: usize, to: usize) -> Re
 {
     for i in from..to {
         let (line, _) = lines.line(i);
-        push_line_text(text, line)?;
+        push_line_text(text, &line)?;
     }
     Ok(())
 }
@@ -157,17 +145,17 @@ pub fn whole(alloc: Global, text: &str) -> Result<Lines, TextFault>
         return Err(TextFault::TooLarge);
     }
     let mut lines = Lines::with_room(alloc, 0)?;
-    let mut part = Vec::with_capacity(alloc, MOST_LINES)?;
+    let mut part = Part::new(alloc);
     let mut rest = text;
     'lines: loop {
         let (line, end, after) = first_line(rest);
-        push_line(alloc, &mut part, line, end)?;
+        part = part.pushed(line, end)?;
         if let LineEnd::Eof = end {
             return lines.with_part(alloc, part);
         }
         if part.len() >= MOST_LINES {
             lines = lines.with_part(alloc, part)?;
-            part = Vec::with_capacity(alloc, MOST_LINES)?;
+            part = Part::new(alloc);
         }
         rest = after;
     }
@@ -197,11 +185,10 @@ pub fn spliced(
     if part.len() > MAX_BYTES {
         return Err(TextFault::TooLarge);
     }
-    let mut cut = Vec::new(alloc);
-    let rest = push_lines(alloc, &mut cut, part.as_str())?;
+    let (mut cut, rest) = with_lines(Part::new(alloc), part.as_str())?;
     let (last, _) = lines.line(to.line);
     if let LineEnd::Eof = last.end() {
-        push_line(alloc, &mut cut, rest, LineEnd::Eof)?;
+        cut = cut.pushed(rest, LineEnd::Eof)?;
     }
     lines.replaced(alloc, kept, to.line + 1, &cut)
 }

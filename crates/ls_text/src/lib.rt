@@ -17,6 +17,7 @@ mod fault;
 mod line;
 mod line_end;
 mod lines;
+mod part;
 mod position;
 mod shared;
 mod snapshot;

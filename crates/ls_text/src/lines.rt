@@ -1,4 +1,4 @@
-ghost use Rattle.std.specs.Prelude.{◌≡◌, ◌+◌, ◌<◌, ◌≤◌, ◌++◌, ◌∷◌, [], length, map, take, drop, All, OnOk, IfOk, IfErr};
+ghost use Rattle.std.specs.Prelude.{◌≡◌, ◌+◌, ◌<◌, ◌≤◌, ◌++◌, ◌∷◌, [], length, take, drop, All, OnOk, IfOk, IfErr};
 ghost use Rattle.std.specs.Arc.{arc_value};
 ghost use Rattle.std.specs.Char.{IsScalar};
 ghost use Rattle.std.specs.List.{flat_map};
@@ -7,9 +7,9 @@ ghost use Rattle.ls_text.specs.Cut.{text_of, start_of};
 ghost use Rattle.ls_text.specs.Chunks.{lines_behind, IsLineAt};
 
 use crate::chunk::{Chunk, MOST_LINES, chunk_of, push_number, start_before};
-use crate::edit::push_shared;
 use crate::fault::TextFault;
 use crate::line::Line;
+use crate::part::Part;
 use crate::snapshot::MAX_BYTES;
 use std::alloc::{AllocError, Global};
 use std::marker::Model;
@@ -60,25 +60,16 @@ fn shared_chunk(alloc: Global, chunk: Chunk) -> Result<Arc<Chunk>, AllocError>
     Ok(Arc::new(alloc, chunk)?)
 }
 
-// Adds a line.
-fn push_line(lines: &mut Vec<Arc<Line>>, line: Arc<Line>) -> Result<(), AllocError>
-    ensures lines { OnOk result
-        (map arc_value lines.new.items ≡ map arc_value lines.old.items ++ arc_value line ∷ []) }
-    ensures count { OnOk result (length lines.new.items ≡ length lines.old.items + 1) }
+// These lines, and those of some chunks.
+fn with_whole(lines: Part, chunks: &[Arc<Chunk>]) -> Result<Part, AllocError>
+    ensures { IfOk result (λ all. all ≡ lines ++ flat_map lines_behind chunks.now) }
 {
-    lines.push(line)?;
-    Ok(())
-}
-
-// Adds the lines of these chunks.
-fn push_whole(lines: &mut Vec<Arc<Line>>, chunks: &[Arc<Chunk>]) -> Result<(), AllocError>
-    ensures { OnOk result
-        (map arc_value lines.new.items ≡ map arc_value lines.old.items ++ flat_map lines_behind chunks.now) }
-{
+    let mut all = lines;
     for chunk in chunks {
-        push_shared(lines, &chunk.lines)?;
+        let chunk: &Chunk = chunk;
+        all = all.with_some(&chunk.lines, 0, chunk.lines.len())?;
     }
-    Ok(())
+    Ok(all)
 }
 
 // The lines from a chunk at the front up to a line in another, of which so many lines come before its first.
@@ -88,39 +79,40 @@ fn lines_before(
     front: usize,
     place: usize,
     local: usize,
-) -> Result<Vec<Arc<Line>>, AllocError>
+) -> Result<Part, AllocError>
     requires place { place < length chunks.now }
     requires front { front ≤ place }
     requires local { length (flat_map lines_behind (take place chunks.now)) + local
         ≤ length (flat_map lines_behind (take (place + 1) chunks.now)) }
     ensures { let from = length (flat_map lines_behind (take place chunks.now)) + local in
-        IfOk result (λ v. flat_map lines_behind (take front chunks.now) ++ map arc_value v.items
+        IfOk result (λ lines. flat_map lines_behind (take front chunks.now) ++ lines
         ≡ take from (flat_map lines_behind chunks.now)) }
 {
-    let mut lines = Vec::with_capacity(alloc, MOST_LINES)?;
-    push_whole(&mut lines, &chunks[front..place])?;
-    push_shared(&mut lines, &chunks[place].lines[..local])?;
-    Ok(lines)
+    let chunk: &Chunk = &chunks[place];
+    let none = Part::like(alloc, &chunk.lines)?;
+    let lines = with_whole(none, &chunks[front..place])?;
+    lines.with_some(&chunk.lines, 0, local)
 }
 
-// Adds the lines from one in a chunk, which comes after so many of that chunk, up to another chunk.
-fn push_after(
-    lines: &mut Vec<Arc<Line>>,
+// These lines, and those from one in a chunk, which comes after so many of that chunk, up to another chunk.
+fn with_after(
+    lines: Part,
     chunks: &[Arc<Chunk>],
     place: usize,
     local: usize,
     back: usize,
-) -> Result<(), AllocError>
+) -> Result<Part, AllocError>
     requires place { place < back }
     requires back { back ≤ length chunks.now }
     requires local { length (flat_map lines_behind (take place chunks.now)) + local
         ≤ length (flat_map lines_behind (take (place + 1) chunks.now)) }
     ensures { let to = length (flat_map lines_behind (take place chunks.now)) + local in
-        OnOk result (map arc_value lines.new.items ++ flat_map lines_behind (drop back chunks.now)
-        ≡ map arc_value lines.old.items ++ drop to (flat_map lines_behind chunks.now)) }
+        IfOk result (λ all. all ++ flat_map lines_behind (drop back chunks.now)
+        ≡ lines ++ drop to (flat_map lines_behind chunks.now)) }
 {
-    push_shared(lines, &chunks[place].lines[local..])?;
-    push_whole(lines, &chunks[place + 1..back])
+    let chunk: &Chunk = &chunks[place];
+    let more = lines.with_some(&chunk.lines, local, chunk.lines.len())?;
+    with_whole(more, &chunks[place + 1..back])
 }
 
 // The chunk from which lines are cut anew: the one before, where the piece has few lines.
@@ -145,10 +137,11 @@ fn back_of(few: bool, place: usize, count: usize) -> usize
 
 // How many of so many lines come into the next chunk, so that all chunks have about as many.
 fn part_of(count: usize) -> usize
-    ensures { result ≤ MOST_LINES }
+    ensures some { 0 < result }
+    ensures few { result ≤ MOST_LINES }
 {
     let parts = count.div_ceil(MOST_LINES).max(1);
-    count.div_ceil(parts).min(MOST_LINES)
+    count.div_ceil(parts).clamp(1, MOST_LINES)
 }
 
 impl Lines {
@@ -216,13 +209,13 @@ impl Lines {
     }
 
     // These lines, and some more, which come into one chunk.
-    pub fn with_part(self, alloc: Global, part: Vec<Arc<Line>>) -> Result<Lines, TextFault>
-        requires { length part.items ≤ MOST_LINES }
-        ensures ok { IfOk result (λ lines. lines ≡ self ++ map arc_value part.items) }
+    pub fn with_part(self, alloc: Global, part: Part) -> Result<Lines, TextFault>
+        requires { length part ≤ MOST_LINES }
+        ensures ok { IfOk result (λ lines. lines ≡ self ++ part) }
         ensures too_large { IfErr result (λ e. e ≡ TextFault.TooLarge →
-            MAX_BYTES < length (encode_utf8_all (text_of (self ++ map arc_value part.items)))) }
+            MAX_BYTES < length (encode_utf8_all (text_of (self ++ part)))) }
     {
-        if part.is_empty() {
+        if part.len() == 0 {
             return Ok(self);
         }
         let chunk = chunk_of(alloc, part)?;
@@ -230,25 +223,33 @@ impl Lines {
     }
 
     // These lines, and some more, cut into chunks.
-    fn with_lines(self, alloc: Global, new: Vec<Arc<Line>>) -> Result<Lines, TextFault>
-        ensures ok { IfOk result (λ lines. lines ≡ self ++ map arc_value new.items) }
+    fn with_lines(self, alloc: Global, new: Part) -> Result<Lines, TextFault>
+        ensures ok { IfOk result (λ lines. lines ≡ self ++ new) }
         ensures too_large { IfErr result (λ e. e ≡ TextFault.TooLarge →
-            MAX_BYTES < length (encode_utf8_all (text_of (self ++ map arc_value new.items)))) }
+            MAX_BYTES < length (encode_utf8_all (text_of (self ++ new)))) }
+    {
+        if new.len() <= MOST_LINES {
+            return self.with_part(alloc, new);
+        }
+        self.with_copies(alloc, &new)
+    }
+
+    // These lines, and copies of some more, cut into chunks.
+    fn with_copies(self, alloc: Global, new: &Part) -> Result<Lines, TextFault>
+        ensures ok { IfOk result (λ lines. lines ≡ self ++ new.now) }
+        ensures too_large { IfErr result (λ e. e ≡ TextFault.TooLarge →
+            MAX_BYTES < length (encode_utf8_all (text_of (self ++ new.now)))) }
     {
         let mut lines = self;
-        let mut left = new.len();
-        let mut room = part_of(left);
-        let mut part = Vec::with_capacity(alloc, room)?;
-        for line in new {
-            push_line(&mut part, line)?;
-            if part.len() >= room {
-                lines = lines.with_part(alloc, part)?;
-                left = left.saturating_sub(room);
-                room = part_of(left);
-                part = Vec::with_capacity(alloc, room)?;
-            }
+        let mut from = 0;
+        'parts: while from < new.len() {
+            let left = new.len() - from;
+            let to = from + part_of(left).min(left);
+            let part = Part::new(alloc).with_some(new, from, to)?;
+            lines = lines.with_part(alloc, part)?;
+            from = to;
         }
-        lines.with_part(alloc, part)
+        Ok(lines)
     }
 
     // These lines again. It shares all chunks.
@@ -265,12 +266,12 @@ impl Lines {
     fn joined(
         alloc: Global,
         front: &[Arc<Chunk>],
-        new: Vec<Arc<Line>>,
+        new: Part,
         back: &[Arc<Chunk>],
     ) -> Result<Lines, TextFault>
         ensures ok { IfOk result (λ lines. lines
-            ≡ (flat_map lines_behind front.now ++ map arc_value new.items) ++ flat_map lines_behind back.now) }
-        ensures too_large { let lines = (flat_map lines_behind front.now ++ map arc_value new.items) ++ flat_map lines_behind back.now in
+            ≡ (flat_map lines_behind front.now ++ new) ++ flat_map lines_behind back.now) }
+        ensures too_large { let lines = (flat_map lines_behind front.now ++ new) ++ flat_map lines_behind back.now in
             IfErr result (λ e. e ≡ TextFault.TooLarge → MAX_BYTES < length (encode_utf8_all (text_of lines))) }
     {
         let room = front.len().saturating_add(back.len()).saturating_add(2);
@@ -295,21 +296,21 @@ impl Lines {
     }
 
     // A line, and where it starts.
-    pub fn line(&self, at: usize) -> (&Line, usize)
+    pub fn line(&self, at: usize) -> (Line<'_>, usize)
         requires { at < length self.now }
-        ensures { IsLineAt self.now at result.0.now result.1 }
+        ensures { IsLineAt self.now at result.0 result.1 }
     {
         let place = start_before(&self.first_lines, at);
         let chunk: &Chunk = &self.chunks[place];
         let local = at - self.first_lines[place];
-        let line: &Line = &chunk.lines[local];
+        let line = chunk.lines.line(local);
         (line, self.starts[place] + chunk.starts[local])
     }
 
     // The last line that starts at the offset or before it: its number, itself, and where it starts.
-    pub fn line_before(&self, offset: usize) -> (usize, &Line, usize)
+    pub fn line_before(&self, offset: usize) -> (usize, Line<'_>, usize)
         requires { 0 < length self.now }
-        ensures line { IsLineAt self.now result.0 result.1.now result.2 }
+        ensures line { IsLineAt self.now result.0 result.1 result.2 }
         ensures starts { result.2 ≤ offset }
         ensures last { result.0 + 1 < length self.now → offset < start_of self.now (result.0 + 1) }
     {
@@ -317,7 +318,7 @@ impl Lines {
         let chunk: &Chunk = &self.chunks[place];
         let start = self.starts[place];
         let local = start_before(&chunk.starts, offset - start);
-        let line: &Line = &chunk.lines[local];
+        let line = chunk.lines.line(local);
         (
             self.first_lines[place] + local,
             line,
@@ -331,13 +332,13 @@ impl Lines {
         alloc: Global,
         from: usize,
         to: usize,
-        new: &[Arc<Line>],
+        new: &Part,
     ) -> Result<Lines, TextFault>
         requires some { 0 < length self.now }
         requires from { from ≤ length self.now }
         requires to { to ≤ length self.now }
-        ensures ok { IfOk result (λ lines. lines ≡ take from self.now ++ (map arc_value new.now ++ drop to self.now)) }
-        ensures too_large { let lines = take from self.now ++ (map arc_value new.now ++ drop to self.now) in
+        ensures ok { IfOk result (λ lines. lines ≡ take from self.now ++ (new.now ++ drop to self.now)) }
+        ensures too_large { let lines = take from self.now ++ (new.now ++ drop to self.now) in
             IfErr result (λ e. e ≡ TextFault.TooLarge → MAX_BYTES < length (encode_utf8_all (text_of lines))) }
     {
         let first = start_before(&self.first_lines, from);
@@ -348,9 +349,9 @@ impl Lines {
         let few = before.saturating_add(new.len()).saturating_add(left) < FEW_LINES;
         let front = front_of(few, first);
         let back = back_of(few && front == first, last, self.chunks.len());
-        let mut lines = lines_before(alloc, &self.chunks, front, first, before)?;
-        push_shared(&mut lines, new)?;
-        push_after(&mut lines, &self.chunks, last, after, back)?;
+        let lines = lines_before(alloc, &self.chunks, front, first, before)?;
+        let lines = lines.with_some(new, 0, new.len())?;
+        let lines = with_after(lines, &self.chunks, last, after, back)?;
         Lines::joined(alloc, &self.chunks[..front], lines, &self.chunks[back..])
     }
 }

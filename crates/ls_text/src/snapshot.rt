@@ -54,7 +54,7 @@ fn kept(alloc: Global, lines: Lines) -> Snapshot
 }
 
 // Whether two lines have the same text and line end.
-fn same_line(a: &Line, b: &Line) -> bool
+fn same_line(a: &Line<'_>, b: &Line<'_>) -> bool
     ensures { IsTrue result ↔ (a.now ≡ b.now) }
 {
     a.end() == b.end() && a.text() == b.text()
@@ -72,7 +72,7 @@ fn same_lines(a: &Lines, b: &Lines) -> bool
     for i in 0..a.len() {
         let (ours, _) = a.line(i);
         let (theirs, _) = b.line(i);
-        if !same_line(ours, theirs) {
+        if !same_line(&ours, &theirs) {
             return false;
         }
     }

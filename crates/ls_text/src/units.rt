@@ -6,14 +6,14 @@ ghost use Rattle.ls_text.specs.Cut.{width_of};
 use crate::snapshot::MAX_BYTES;
 
 // What a place or a position counts within its line.
-#[derive(Clone, Copy, Debug, PartialEq, Eq)]
+#[derive(Clone, Copy)]
 pub enum Units {
     Utf8,
     Utf16,
 }
 
 // The characters at the front of a text that have at most so many units.
-#[derive(Clone, Copy, Debug, PartialEq, Eq)]
+#[derive(Clone, Copy)]
 pub struct Fit {
     pub count: usize,
     // The bytes of these characters.

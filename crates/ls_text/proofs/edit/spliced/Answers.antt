@@ -1,6 +1,4 @@
-use Rattle.std.proofs.Common.{◌≡◌, ◌<◌, ◌+◌, ◌-◌, ◌∙◌, ◌++◌, ap, sym, arith, subst, length, map, take, drop, List, [], Vec, Global}
-use Rattle.std.specs.declared.sync.Arc.{Arc}
-use Rattle.std.specs.Arc.{arc_value}
+use Rattle.std.proofs.Common.{◌≡◌, ◌<◌, ◌+◌, ◌-◌, ◌∙◌, ◌++◌, ap, sym, arith, subst, length, take, drop, List, []}
 use Rattle.std.specs.Str.{chars, encode_utf8_all}
 use Rattle.std.specs.String.{string_bytes}
 use Rattle.std.proofs.lemmas.Str.{encodes-chars, IsUtf8-string_bytes}
@@ -13,7 +11,7 @@ use Rattle.ls_text.proofs.PositionLaws.{line_small}
 use Rattle.ls_text.proofs.SpliceLaws.{spliced_eof, spliced_rest, wanted_text, middle_bytes}
 use Rattle.ls_text.proofs.SpotLaws.{end_found}
 use Rattle.ls_text.proofs.edit.spliced.Goals as goal
-use Rattle.ls_text.proofs.edit.spliced.Goals.{in-Eof+in_ok-push_line, in_default}
+use Rattle.ls_text.proofs.edit.spliced.Goals.{in-Eof+in_ok-cut-2, in_default}
 
 pub overflow_add-to : goal.overflow_add-to
 overflow_add-to c = omega (arith, line_small c.args.lines.now c.requires.lines c.args.to.line c.requires.to.line_in_range)
@@ -30,27 +28,24 @@ returns-then-len-gt-MAX_BYTES-clause-too_large c = λ e.
       middle_bytes c.args.lines.now c.requires.lines.lines c.args.from c.args.to c.requires.from c.requires.to c.saturating_sub-kept.result (omega (arith, c.saturating_sub-kept.ensures)) (chars c.args.new.now),
     )
 
-cut_is : (c : goal.After-drop-part-2) → IsCut (wanted_text c.args.lines.now c.args.from c.args.to (chars c.args.new.now)) (take c.saturating_sub-kept.result c.args.lines.now ++ (map arc_value c.match-end.cut.items ++ drop (c.args.to.line + 1) c.args.lines.now))
+cut_is : (c : goal.After-drop-part-2) → IsCut (wanted_text c.args.lines.now c.args.from c.args.to (chars c.args.new.now)) (take c.saturating_sub-kept.result c.args.lines.now ++ (c.match-end.cut ++ drop (c.args.to.line + 1) c.args.lines.now))
 cut_is c =
-    let end_is : end_at c.args.lines.now c.args.to.line ≡ c.line.result.0.now.end = end_found c.args.lines.now c.args.to.line c.line.result.0.now c.line.ensures.in_range c.line.ensures.line_is in
+    let end_is : end_at c.args.lines.now c.args.to.line ≡ c.line-last.result.0.end = end_found c.args.lines.now c.args.to.line c.line-last.result.0 c.line-last.ensures.in_range c.line-last.ensures.line_is in
     let kept_is : c.saturating_sub-kept.result ≡ c.args.from.line - 1 = omega (arith, c.saturating_sub-kept.ensures) in
     let text_is = ap chars c.as_str.ensures.value ∙ c.in_ok-part.ensures in
-    let onto : IsCutOnto [] c.as_str.result.now c.in_ok-rest.rest.now (map arc_value c.push_lines.new.lines.items) = subst (λ z. IsCutOnto z c.as_str.result.now c.in_ok-rest.rest.now (map arc_value c.push_lines.new.lines.items)) (ap (map arc_value) c.new-cut.ensures.items) c.in_ok-rest.ensures.cut in
+    let onto : IsCutOnto [] c.as_str.result.now c.in_ok-cut.rest.now c.in_ok-cut.cut = subst (λ z. IsCutOnto z c.as_str.result.now c.in_ok-cut.rest.now c.in_ok-cut.cut) c.new.ensures c.in_ok-cut.ensures.cut in
     elim c.match-end.branch [
-      | in-Eof+in_ok-push_line w ↦
-          subst (λ (v : Vec (Arc Row Global) Global). IsCut (wanted_text c.args.lines.now c.args.from c.args.to (chars c.args.new.now)) (take c.saturating_sub-kept.result c.args.lines.now ++ (map arc_value v.items ++ drop (c.args.to.line + 1) c.args.lines.now))) (sym w.cut-is)
-          (spliced_eof c.args.lines.now c.requires.lines.lines c.args.from c.args.to c.requires.from c.requires.to c.saturating_sub-kept.result kept_is (chars c.args.new.now) onto c.in_ok-rest.ensures.plain text_is w.in_ok-push_line.ensures (end_is ∙ sym c.end.ensures ∙ w.in-Eof.is))
+      | in-Eof+in_ok-cut-2 w ↦
+          subst (λ (v : List Row). IsCut (wanted_text c.args.lines.now c.args.from c.args.to (chars c.args.new.now)) (take c.saturating_sub-kept.result c.args.lines.now ++ (v ++ drop (c.args.to.line + 1) c.args.lines.now))) (sym w.cut-is)
+          (spliced_eof c.args.lines.now c.requires.lines.lines c.args.from c.args.to c.requires.from c.requires.to c.saturating_sub-kept.result kept_is (chars c.args.new.now) onto c.in_ok-cut.ensures.plain text_is w.in_ok-cut-2.ensures (end_is ∙ sym c.end.ensures ∙ w.in-Eof.is))
       | in_default w ↦
-          subst (λ (v : Vec (Arc Row Global) Global). IsCut (wanted_text c.args.lines.now c.args.from c.args.to (chars c.args.new.now)) (take c.saturating_sub-kept.result c.args.lines.now ++ (map arc_value v.items ++ drop (c.args.to.line + 1) c.args.lines.now))) (sym w.cut-is)
-          (spliced_rest c.args.lines.now c.requires.lines.lines c.args.from c.args.to c.requires.from c.requires.to c.saturating_sub-kept.result kept_is (chars c.args.new.now) onto c.in_ok-rest.ensures.plain text_is (λ e. w.in_default.not-Eof (c.end.ensures ∙ sym end_is ∙ e)))
+          subst (λ (v : List Row). IsCut (wanted_text c.args.lines.now c.args.from c.args.to (chars c.args.new.now)) (take c.saturating_sub-kept.result c.args.lines.now ++ (v ++ drop (c.args.to.line + 1) c.args.lines.now))) (sym w.cut-is)
+          (spliced_rest c.args.lines.now c.requires.lines.lines c.args.from c.args.to c.requires.from c.requires.to c.saturating_sub-kept.result kept_is (chars c.args.new.now) onto c.in_ok-cut.ensures.plain text_is (λ e. w.in_default.not-Eof (c.end.ensures ∙ sym end_is ∙ e)))
     ]
 
-passed : (c : goal.After-drop-part-2) → IsCut (wanted_text c.args.lines.now c.args.from c.args.to (chars c.args.new.now)) (take c.saturating_sub-kept.result c.args.lines.now ++ (map arc_value c.deref.result.now ++ drop (c.args.to.line + 1) c.args.lines.now))
-passed c = subst (λ z. IsCut (wanted_text c.args.lines.now c.args.from c.args.to (chars c.args.new.now)) (take c.saturating_sub-kept.result c.args.lines.now ++ (map arc_value z ++ drop (c.args.to.line + 1) c.args.lines.now))) (sym c.deref.ensures.value) (cut_is c)
-
 pub returns-clause-ok : goal.returns-clause-ok
-returns-clause-ok c = IfOk-weaker c.replaced.result _ (λ (cut : List Row). IsCut (wanted_text c.args.lines.now c.args.from c.args.to (chars c.args.new.now)) cut) (λ cut is. subst (IsCut (wanted_text c.args.lines.now c.args.from c.args.to (chars c.args.new.now))) (sym is) (passed c)) c.replaced.ensures.ok
+returns-clause-ok c = IfOk-weaker c.replaced.result _ (λ (cut : List Row). IsCut (wanted_text c.args.lines.now c.args.from c.args.to (chars c.args.new.now)) cut) (λ cut is. subst (IsCut (wanted_text c.args.lines.now c.args.from c.args.to (chars c.args.new.now))) (sym is) (cut_is c)) c.replaced.ensures.ok
 
 pub returns-clause-too_large : goal.returns-clause-too_large
 returns-clause-too_large c =
-    IfErr-weaker c.replaced.result _ (λ e. e ≡ TooLarge → MAX_BYTES < length (encode_utf8_all (wanted_text c.args.lines.now c.args.from c.args.to (chars c.args.new.now)))) (λ e before is. omega (arith, before is, ap (λ z. length (encode_utf8_all z)) (passed c).1)) c.replaced.ensures.too_large
+    IfErr-weaker c.replaced.result _ (λ e. e ≡ TooLarge → MAX_BYTES < length (encode_utf8_all (wanted_text c.args.lines.now c.args.from c.args.to (chars c.args.new.now)))) (λ e before is. omega (arith, before is, ap (λ z. length (encode_utf8_all z)) (cut_is c).1)) c.replaced.ensures.too_large

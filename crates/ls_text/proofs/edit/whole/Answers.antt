@@ -1,5 +1,4 @@
-use Rattle.std.proofs.Common.{◌≡◌, ◌++◌, ◌<◌, [], List, ap, sym, subst, refl, ◌∙◌, arith, length, map}
-use Rattle.std.specs.Arc.{arc_value}
+use Rattle.std.proofs.Common.{◌≡◌, ◌++◌, ◌<◌, [], List, ap, sym, subst, refl, ◌∙◌, arith, length}
 use Rattle.std.specs.Str.{chars, encode_utf8_all}
 use Rattle.std.proofs.lemmas.List.{append-nil}
 use Rattle.std.proofs.lemmas.Result.{err_from_is_err_and, IfOk-weaker, IfErr-weaker}
@@ -14,10 +13,10 @@ pub returns-then-text-gt-MAX_BYTES-clause-too_large : goal.returns-then-text-gt-
 returns-then-text-gt-MAX_BYTES-clause-too_large c = λ e. omega (arith, c.if-text-gt-MAX_BYTES.true, ap length (encodes-chars c.args.text.now c.utf8.text))
 
 -- all lines, at the last one
-all_cut : (c : goal.After-with_part) → IsCut (chars c.args.text.now) (c.lines.lines ++ map arc_value c.push_line.new.lines.items)
+all_cut : (c : goal.After-with_part) → IsCut (chars c.args.text.now) (c.lines.lines ++ c.in_ok-part.part)
 all_cut c =
     lines_of_cut (onto_last c.lines.invariant.cut c.first_line-end.ensures c.in-Eof.is) (onto_plain c.first_line-end.ensures)
-    (pushed_last c.in-Eof.is (pushed_behind c.lines.lines c.in_ok-push_line.ensures)) refl
+    (pushed_last c.in-Eof.is (pushed_behind c.lines.lines c.in_ok-part.ensures)) refl
 
 pub returns-in-Eof-clause-ok : goal.returns-in-Eof-clause-ok
 returns-in-Eof-clause-ok c =
@@ -33,21 +32,21 @@ returns-in_err-lines-2-clause-too_large c =
     rw p.1 (λ e. omega (
       arith,
       c.in_err-lines-2.ensures.too_large (sym p.2 ∙ e),
-      cut_bytes (onto_more c.lines.invariant.cut c.first_line-end.ensures (pushed_behind c.lines.lines c.in_ok-push_line.ensures) c.in_default.not-Eof),
+      cut_bytes (onto_more c.lines.invariant.cut c.first_line-end.ensures (pushed_behind c.lines.lines c.in_ok-part.ensures) c.in_default.not-Eof),
     ))
 
-pub lines-preserved-in_ok-part-2 : goal.lines-preserved-in_ok-part-2
-lines-preserved-in_ok-part-2 c = record {
+pub lines-preserved-in_ok-lines-2 : goal.lines-preserved-in_ok-lines-2
+lines-preserved-in_ok-lines-2 c = record {
   cut = subst (λ z. IsCutOnto [] c.args.text.now c.first_line-end.result.2.now z)
-      (sym ((λ i. c.in_ok-lines-2.ensures.ok i ++ map arc_value (c.in_ok-part-2.ensures.items i)) ∙ append-nil _))
-      (onto_more c.lines.invariant.cut c.first_line-end.ensures (pushed_behind c.lines.lines c.in_ok-push_line.ensures) c.in_default.not-Eof);
-  few = omega (arith, ap length c.in_ok-part-2.ensures.items);
+      (sym ((λ i. c.in_ok-lines-2.ensures.ok i ++ c.new-part-then-len-ge-MOST_LINES.ensures i) ∙ append-nil _))
+      (onto_more c.lines.invariant.cut c.first_line-end.ensures (pushed_behind c.lines.lines c.in_ok-part.ensures) c.in_default.not-Eof);
+  few = omega (arith, ap length c.new-part-then-len-ge-MOST_LINES.ensures);
   small = omega (arith, c.lines.invariant.small, (parts_le _ _ _ _ c.first_line-end.ensures).1);
 }
 
 pub lines-preserved : goal.lines-preserved
 lines-preserved c = record {
-  cut = onto_more c.lines.invariant.cut c.first_line-end.ensures (pushed_behind c.lines.lines c.in_ok-push_line.ensures) c.in_default.not-Eof;
+  cut = onto_more c.lines.invariant.cut c.first_line-end.ensures (pushed_behind c.lines.lines c.in_ok-part.ensures) c.in_default.not-Eof;
   few = omega (arith, c.if-len-ge-MOST_LINES.false, c.len.ensures);
   small = omega (arith, c.lines.invariant.small, (parts_le _ _ _ _ c.first_line-end.ensures).1);
 }

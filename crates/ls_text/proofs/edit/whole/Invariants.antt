@@ -1,13 +1,12 @@
-use Rattle.std.proofs.Common.{◌<◌, ◌≤◌, ◌++◌, [], length, map}
-use Rattle.std.specs.Arc.{arc_value}
+use Rattle.std.proofs.Common.{◌<◌, ◌≤◌, ◌++◌, [], length}
 use Rattle.ls_text.specs.Cut.{IsCutOnto}
 use Rattle.ls_text.proofs.edit.whole.Given as goal
 
 -- the lines in chunks, and those of the next chunk
 abbrev pub invariant-lines : goal.invariant-lines
 invariant-lines l = record {
-  cut : IsCutOnto [] l.text l.rest (l.lines ++ map arc_value l.part.items);
-  few : length l.part.items < 512;
+  cut : IsCutOnto [] l.text l.rest (l.lines ++ l.part);
+  few : length l.part < 512;
   small : length l.rest ≤ length l.text;
 }
 

@@ -11,12 +11,12 @@ returns-then-len c = (
 pub loop-i-preserved : goal.loop-i-preserved
 loop-i-preserved c =
     let same = c.if-not-same_line.ensures.0 refl in
-    below_more _ _ c.loop-i.invariant (same_held c.args.a.now c.args.b.now c.loop-i.i _ _ _ _ c.line.ensures c.line-in-loop-i.ensures same)
+    below_more _ _ c.loop-i.invariant (same_held c.args.a.now c.args.b.now c.loop-i.i _ _ _ _ c.line-ours.ensures c.line-theirs.ensures same)
 
 pub returns-then-not-same_line : goal.returns-then-not-same_line
 returns-then-not-same_line c = (
   λ f. cc,
-  λ e. c.if-not-same_line.ensures.1 (held_same c.args.a.now c.args.b.now c.loop-i.i _ _ _ _ c.line.ensures c.line-in-loop-i.ensures (same_at _ _ c.requires.a c.requires.b e c.loop-i.i c.line.ensures.in_range)),
+  λ e. c.if-not-same_line.ensures.1 (held_same c.args.a.now c.args.b.now c.loop-i.i _ _ _ _ c.line-ours.ensures c.line-theirs.ensures (same_at _ _ c.requires.a c.requires.b e c.loop-i.i c.line-ours.ensures.in_range)),
 )
 
 pub returns : goal.returns

@@ -1,5 +1,4 @@
-use Rattle.std.proofs.Common.{◌≡◌, ◌<◌, ◌++◌, ◌∙◌, ap, sym, arith, map, List}
-use Rattle.std.specs.Arc.{arc_value}
+use Rattle.std.proofs.Common.{◌≡◌, ◌<◌, ◌++◌, ◌∙◌, ap, sym, arith, List}
 use Rattle.std.specs.List.{flat_map}
 use Rattle.std.proofs.lemmas.Result.{err_from_is_err_and, IfOk-weaker, IfErr-weaker}
 use Rattle.ls_text.specs.Chunks.{lines_behind, byte_length}
@@ -16,8 +15,8 @@ returns-in_err-start-clause-too_large c =
       arith,
       c.in_err-start.ensures.too_large (sym p.2 ∙ e),
       ap (λ z. byte_length (z ++ flat_map lines_behind c.args.front.now)) c.in_ok-with_room.ensures,
-      byte_length-append (flat_map lines_behind c.args.front.now) (map arc_value c.args.new.items),
-      byte_length-append (flat_map lines_behind c.args.front.now ++ map arc_value c.args.new.items) (flat_map lines_behind c.args.back.now),
+      byte_length-append (flat_map lines_behind c.args.front.now) (c.args.new),
+      byte_length-append (flat_map lines_behind c.args.front.now ++ c.args.new) (flat_map lines_behind c.args.back.now),
     ))
 
 pub returns-in_err-with_lines-clause-too_large : goal.returns-in_err-with_lines-clause-too_large
@@ -26,17 +25,17 @@ returns-in_err-with_lines-clause-too_large c =
     rw p.1 (λ e. omega (
       arith,
       c.in_err-with_lines.ensures.too_large (sym p.2 ∙ e),
-      ap (λ z. byte_length (z ++ map arc_value c.args.new.items)) (c.in_ok-start.ensures.ok ∙ ap (λ z. z ++ flat_map lines_behind c.args.front.now) c.in_ok-with_room.ensures),
-      byte_length-append (flat_map lines_behind c.args.front.now ++ map arc_value c.args.new.items) (flat_map lines_behind c.args.back.now),
+      ap (λ z. byte_length (z ++ c.args.new)) (c.in_ok-start.ensures.ok ∙ ap (λ z. z ++ flat_map lines_behind c.args.front.now) c.in_ok-with_room.ensures),
+      byte_length-append (flat_map lines_behind c.args.front.now ++ c.args.new) (flat_map lines_behind c.args.back.now),
     ))
 
-whole : (c : goal.After-with_chunks-2) → c.in_ok-with_lines.field-0 ++ flat_map lines_behind c.args.back.now ≡ flat_map lines_behind c.args.front.now ++ map arc_value c.args.new.items ++ flat_map lines_behind c.args.back.now
+whole : (c : goal.After-with_chunks-2) → c.in_ok-with_lines.field-0 ++ flat_map lines_behind c.args.back.now ≡ flat_map lines_behind c.args.front.now ++ c.args.new ++ flat_map lines_behind c.args.back.now
 whole c =
-    ap (λ z. z ++ flat_map lines_behind c.args.back.now) (c.in_ok-with_lines.ensures.ok ∙ ap (λ z. z ++ map arc_value c.args.new.items) (c.in_ok-start.ensures.ok ∙ ap (λ z. z ++ flat_map lines_behind c.args.front.now) c.in_ok-with_room.ensures))
+    ap (λ z. z ++ flat_map lines_behind c.args.back.now) (c.in_ok-with_lines.ensures.ok ∙ ap (λ z. z ++ c.args.new) (c.in_ok-start.ensures.ok ∙ ap (λ z. z ++ flat_map lines_behind c.args.front.now) c.in_ok-with_room.ensures))
 
 pub returns-clause-ok : goal.returns-clause-ok
-returns-clause-ok c = IfOk-weaker c.with_chunks-2.result _ (λ (lines : List Row). lines ≡ flat_map lines_behind c.args.front.now ++ map arc_value c.args.new.items ++ flat_map lines_behind c.args.back.now) (λ lines is. is ∙ whole c) c.with_chunks-2.ensures.ok
+returns-clause-ok c = IfOk-weaker c.with_chunks-2.result _ (λ (lines : List Row). lines ≡ flat_map lines_behind c.args.front.now ++ c.args.new ++ flat_map lines_behind c.args.back.now) (λ lines is. is ∙ whole c) c.with_chunks-2.ensures.ok
 
 pub returns-clause-too_large : goal.returns-clause-too_large
 returns-clause-too_large c =
-    IfErr-weaker c.with_chunks-2.result _ (λ e. e ≡ TooLarge → MAX_BYTES < byte_length (flat_map lines_behind c.args.front.now ++ map arc_value c.args.new.items ++ flat_map lines_behind c.args.back.now)) (λ e before is. omega (arith, before is, ap byte_length (whole c))) c.with_chunks-2.ensures.too_large
+    IfErr-weaker c.with_chunks-2.result _ (λ e. e ≡ TooLarge → MAX_BYTES < byte_length (flat_map lines_behind c.args.front.now ++ c.args.new ++ flat_map lines_behind c.args.back.now)) (λ e before is. omega (arith, before is, ap byte_length (whole c))) c.with_chunks-2.ensures.too_large

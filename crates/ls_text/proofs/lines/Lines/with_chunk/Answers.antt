@@ -1,10 +1,8 @@
 use Rattle.std.proofs.Common.{◌≡◌, ◌+◌, ◌≤◌, ap, ◌∙◌, sym, subst, arith, length}
 use Rattle.std.specs.Arc.{arc_value}
 use Rattle.std.specs.List.{flat_map}
-use Rattle.std.proofs.lemmas.List.{length-map}
 use Rattle.ls_text.specs.Chunks.{lines_behind, char_length, byte_length, IsSpine}
 use Rattle.ls_text.specs.declared.chunk.Chunk.{Chunk}
-use Rattle.ls_text.specs.Cut.{Row}
 use Rattle.ls_text.proofs.ChunkLaws.{spine_push, byte_length-append, chars_le_bytes}
 use Rattle.ls_text.proofs.lines.Lines.with_chunk.Goals as goal
 
@@ -36,7 +34,7 @@ overflow_add-result c =
 
 pub invariant_of-result : goal.invariant_of-result
 invariant_of-result c =
-    let lines_are : c.len-lines_more.result ≡ length (lines_behind c.args.chunk) = omega (arith, c.len-lines_more.ensures, c.deref.result.now.lines.ok.0, ap (λ (k : Chunk). length k.lines.items) c.deref.ensures, length-map (arc_value c.args.chunk).lines.items (arc_value {X = Row})) in
+    let lines_are : c.len-lines_more.result ≡ length (lines_behind c.args.chunk) = c.len-lines_more.ensures ∙ ap (λ (k : Chunk). length k.lines) c.deref.ensures in
     let chars_are : c.deref-2.result.now.char_count ≡ char_length (lines_behind c.args.chunk) = ap (λ (k : Chunk). k.char_count) c.deref-2.ensures ∙ (arc_value c.args.chunk).index.len_is in
     let bytes_are : c.deref-3.result.now.byte_count ≡ byte_length (lines_behind c.args.chunk) = ap (λ (k : Chunk). k.byte_count) c.deref-3.ensures ∙ (arc_value c.args.chunk).bytes_are in
     let small : c.self.inside.byte_count + c.deref-3.result.now.byte_count ≤ 4_194_304 = omega (arith, c.if-bytes_more-byte_count.false, c.self.invariant.small) in

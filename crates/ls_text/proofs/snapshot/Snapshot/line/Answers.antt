@@ -9,7 +9,7 @@ use Rattle.ls_text.proofs.snapshot.Snapshot.line.Goals as goal
 
 pub returns-then-at-len : goal.returns-then-at-len
 returns-then-at-len c =
-    let found : Some (chars c.text.result.now) ≡ slice_get (lines c.args.self.now) c.args.at = line_some c.self.inside.lines _ _ c.self.invariant.lines c.self.view_is c.line.result.0.now _ c.line.ensures.in_range c.line.ensures.line_is c.text.ensures.characters in
+    let found : Some (chars c.text.result.now) ≡ slice_get (lines c.args.self.now) c.args.at = line_some c.self.inside.lines _ _ c.self.invariant.lines c.self.view_is c.line-line.result.0 _ c.line-line.ensures.in_range c.line-line.ensures.line_is c.text.ensures.characters in
     record { characters = found; bytes = bytes_some _ c.text.utf8 found; utf8 = c.text.utf8 }
 
 pub returns-else-at-len : goal.returns-else-at-len

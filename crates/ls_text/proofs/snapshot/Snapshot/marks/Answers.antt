@@ -6,7 +6,7 @@ use Rattle.ls_text.proofs.snapshot.Snapshot.marks.Goals as goal
 
 pub returns-then-at-len : goal.returns-then-at-len
 returns-then-at-len c =
-    subst (λ (o : Option (List ℕ)). AreMarksOf o (Some c.marks.result.now)) (text_some c.self.inside.lines _ _ c.self.invariant.lines c.self.view_is c.line.result.0.now c.line.ensures.in_range c.line.ensures.line_is) c.marks.ensures
+    subst (λ (o : Option (List ℕ)). AreMarksOf o (Some c.marks.result.now)) (text_some c.self.inside.lines _ _ c.self.invariant.lines c.self.view_is c.line-line.result.0 c.line-line.ensures.in_range c.line-line.ensures.line_is) c.marks.ensures
 
 pub returns-else-at-len : goal.returns-else-at-len
 returns-else-at-len c =

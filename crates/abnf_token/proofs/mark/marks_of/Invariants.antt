@@ -1,5 +1,0 @@
-use Rattle.abnf_token.proofs.MarkLaws.{HasMarks}
-use Rattle.abnf_token.proofs.mark.marks_of.Given as goal
-
-abbrev pub invariant-loop-token : goal.invariant-loop-token
-invariant-loop-token l = HasMarks l.text l.token-iterator l.marks.items
