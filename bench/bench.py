@@ -129,33 +129,40 @@ class Server:
         self.process.wait()
 
 
-def edited(text, name, line, character):
-    """1,000 insertions of one character at a place of a text, each a message of its own."""
+def typed(line, character):
+    """One character typed at a place."""
+    at = {"line": line, "character": character}
+    return notice("textDocument/didChange", textDocument={"uri": "file:///g", "version": 2},
+                  contentChanges=[{"range": {"start": at, "end": at}, "text": "x"}])
+
+
+def edited(text, name, line, character, count):
+    """So many characters typed at a place of a text, each a message of its own; the findings come after each."""
     server = Server()
     server.until_answered(INITIALIZE + opened(text))
     before = server.memory()
-    at = {"line": line, "character": character}
-    change = notice("textDocument/didChange", textDocument={"uri": "file:///g", "version": 2},
-                    contentChanges=[{"range": {"start": at, "end": at}, "text": "x"}])
-    seconds = server.until_answered(change * 1000)
+    seconds = server.until_answered(typed(line, character) * count)
     more = server.memory() - before
     server.end()
-    print(f"{'1,000 edits ' + name:<46} {seconds * 1e3:9.1f} ms   {seconds * 1e3:9.1f} us an edit"
-          f"   {seconds / 1000 / copied(text.encode()):6.2f} x one copy of the text   {more} KiB more memory in all")
+    print(f"{f'{count} edits {name}':<46} {seconds * 1e3:9.1f} ms   {seconds * 1e3 / count:9.2f} ms an edit   {more} KiB more memory in all")
 
 
 def asked(name, text):
-    """Opens a grammar, asks for its outline, and for the definition of the last name in its first line."""
+    """Opens a grammar, asks for its outline, for the definition of the last name in its first line and for what is shown of it,
+    and types one character behind it. Opening and typing end with the findings."""
     at = {"line": 0, "character": len(text.split("\n", 1)[0])}
-    definition = request(3, "textDocument/definition", textDocument={"uri": "file:///g"}, position=at)
+    definition, hover = (request(number, f"textDocument/{method}", textDocument={"uri": "file:///g"}, position=at)
+                         for number, method in ((3, "definition"), (4, "hover")))
     times = []
     for _ in range(RUNS):
         server = Server()
         server.until_answered(INITIALIZE)
-        times.append([server.until_answered(given) for given in (opened(text), SYMBOLS, definition)])
+        steps = (opened(text), SYMBOLS, definition, hover, typed(**at))
+        times.append([server.until_answered(given) for given in steps])
         server.end()
-    opening, outline, jump = (min(column) * 1e3 for column in zip(*times))
-    print(f"{name:<46} {opening:9.1f} ms   outline {outline:8.1f} ms   definition {jump:8.1f} ms   {len(text):>10} bytes")
+    opening, outline, jump, shown, key = (min(column) * 1e3 for column in zip(*times))
+    print(f"{name:<46} {opening:9.2f} ms   outline {outline:8.2f} ms   definition {jump:8.2f} ms"
+          f"   hover {shown:8.2f} ms   keystroke {key:8.2f} ms   {len(text):>10} bytes")
 
 
 def grammar(count, alternatives=1):
@@ -168,7 +175,9 @@ def grammar(count, alternatives=1):
 
 def main():
     first_reply()
+    asked("open of 100 rules", grammar(100))
     asked("open of 1,000 rules", grammar(1_000))
+    asked("open of 10,000 rules", grammar(10_000))
     asked("open of 100,000 rules", grammar(100_000))
     asked("open of 4 MB, 4,000 rules with 85 names each", grammar(4_000, 85))
     big = b'{"jsonrpc":"2.0","method":"$/nothing","params":"' + b"x" * (16777216 - 60) + b'"}'
@@ -184,9 +193,11 @@ def main():
     print(f"{'':<46} {seconds / copied(text.encode()):9.1f} x one copy of its bytes in memory")
     row("the same and its outline", INITIALIZE + opened(text) + SYMBOLS + END)
     short = "".join(line.format(number) for number in range(100_000))
-    edited(short, "at the start of 4 MB", 0, 0)
-    edited(short, "in the middle", 50_000, 10)
-    edited(short, "at the end", 100_000, 0)
+    edited(short, "at the start of 4 MB", 0, 0, 5)
+    edited(short, "in the middle", 50_000, 10, 5)
+    edited(short, "at the end", 100_000, 0, 5)
+    small = "".join(line.format(number) for number in range(750))
+    edited(small, "in the middle of 30 kB", 375, 10, 200)
 
 
 if __name__ == "__main__":

@@ -1,4 +1,5 @@
--- Neovim 0.7 or later: goes into init.lua. gd goes from a name to its definition, gO shows the outline.
+-- Neovim 0.7 or later: goes into init.lua. gd goes from a name to its definition, gO shows the outline, K
+-- what a rule generates at the shortest.
 vim.api.nvim_create_autocmd({ "BufRead", "BufNewFile" }, { pattern = "*.abnf", command = "setfiletype abnf" })
 local started = {}
 vim.api.nvim_create_autocmd("FileType", {
@@ -17,5 +18,6 @@ vim.api.nvim_create_autocmd("FileType", {
     end
     vim.keymap.set("n", "gd", vim.lsp.buf.definition, { buffer = args.buf })
     vim.keymap.set("n", "gO", vim.lsp.buf.document_symbol, { buffer = args.buf })
+    vim.keymap.set("n", "K", vim.lsp.buf.hover, { buffer = args.buf })
   end,
 })

@@ -78,10 +78,25 @@ def frames(bodies):
     return b"".join(frame(body if isinstance(body, bytes) else body.encode()) for body in bodies)
 
 
+def replies(wrote):
+    """The bodies that are written, without what is published, and how many are."""
+    bodies = []
+    while wrote:
+        head, _, wrote = wrote.partition(b"\r\n\r\n")
+        size = int(head.removeprefix(b"Content-Length: "))
+        bodies.append(wrote[:size])
+        wrote = wrote[size:]
+    kept = [body for body in bodies if b'"method":"textDocument/publishDiagnostics"' not in body]
+    return frames(kept), len(bodies) - len(kept)
+
+
 def session_cases(program):
     """What is written in each session, and how it ends; and streams whose frames are broken behind a whole one."""
     for what, said, answered, status in session_rows.SESSIONS:
         yield what, ended(program, frames(said)), (status, b"", frames(answered))
+    for what, said, answered, versions in session_rows.REPLIES:
+        status, line, wrote = ended(program, frames(said))
+        yield what, (status, line, *replies(wrote)), (1, b"", frames(answered), versions)
     before, answered = frames([session_rows.INITIALIZE]), frames([session_rows.CAPABILITIES])
     for stream, fault in session_rows.FRAMES:
         line = f"framing fault {fault}\n".encode()

@@ -6,10 +6,10 @@ import json
 
 INITIALIZE = '{"jsonrpc":"2.0","id":1,"method":"initialize","params":{"capabilities":{}}}'
 INITIALIZED = '{"jsonrpc":"2.0","method":"initialized","params":{}}'
-# 217 bytes
+# 238 bytes
 CAPABILITIES = (
     '{"id":1,"jsonrpc":"2.0","result":{"capabilities":{"definitionProvider":true,"documentSymbolProvider":true,'
-    '"positionEncoding":"utf-16","textDocumentSync":{"change":2,"openClose":true}},"serverInfo":{"name":"abnf_ls"}}}'
+    '"hoverProvider":true,"positionEncoding":"utf-16","textDocumentSync":{"change":2,"openClose":true}},"serverInfo":{"name":"abnf_ls"}}}'
 )
 SHUTDOWN = '{"jsonrpc":"2.0","id":3,"method":"shutdown"}'
 DOWN = '{"id":3,"jsonrpc":"2.0","result":null}'
@@ -53,15 +53,32 @@ def edit(start, end, text):
     return f'{{"range":{{"start":{at[0]},"end":{at[1]}}},"text":{json.dumps(text, ensure_ascii=False)}}}'
 
 
+def span(line, start, end):
+    return f'{{"end":{{"character":{end},"line":{line}}},"start":{{"character":{start},"line":{line}}}}}'
+
+
+def published(*findings, label=1, uri="file:///g"):
+    """What is published of a version: for each finding its line, its two ends in it, severity, code and message."""
+    diagnostics = ",".join(
+        f'{{"code":"{code}","message":{json.dumps(message)},"range":{span(line, start, end)},"severity":{severity},"source":"abnf"}}'
+        for line, start, end, severity, code, message in findings
+    )
+    params = f'{{"diagnostics":[{diagnostics}],"uri":"{uri}","version":{label}}}'
+    return f'{{"jsonrpc":"2.0","method":"textDocument/publishDiagnostics","params":{params}}}'
+
+
 OPEN = opened('a = "x"')
-assert (len(CAPABILITIES), len(OUTLINE), len(NOT_OPEN), len(INVALID_REQUEST)) == (217, 215, 78, 79)
+CLEAN = published()  # 118 bytes
+assert (len(CAPABILITIES), len(OUTLINE), len(NOT_OPEN), len(INVALID_REQUEST), len(CLEAN)) == (238, 215, 78, 79, 118)
 
 LIVES = (
-    ("no exit", [INITIALIZE, INITIALIZED, OPEN, SYMBOLS], [CAPABILITIES, OUTLINE], 1),
-    ("an exit", [INITIALIZE, INITIALIZED, OPEN, SYMBOLS, SHUTDOWN, EXIT, SYMBOLS], [CAPABILITIES, OUTLINE, DOWN], 0),
-    ("a document closed and opened", [INITIALIZE, OPEN, closed(), SYMBOLS, OPEN, SYMBOLS, EXIT], [CAPABILITIES, NOT_OPEN, OUTLINE], 1),
+    ("no exit", [INITIALIZE, INITIALIZED, OPEN, SYMBOLS], [CAPABILITIES, CLEAN, OUTLINE], 1),
+    ("an exit", [INITIALIZE, INITIALIZED, OPEN, SYMBOLS, SHUTDOWN, EXIT, SYMBOLS], [CAPABILITIES, CLEAN, OUTLINE, DOWN], 0),
+    # nothing is published when a document is closed
+    ("a document closed and opened", [INITIALIZE, OPEN, closed(), SYMBOLS, OPEN, SYMBOLS, EXIT], [CAPABILITIES, CLEAN, NOT_OPEN, CLEAN, OUTLINE], 1),
+    ("a document opened twice", [INITIALIZE, OPEN, opened("b"), SYMBOLS], [CAPABILITIES, CLEAN, OUTLINE], 1),
     ("before initialize", [OPEN, SYMBOLS, EXIT], [refused(-32002, "not initialized")], 1),
-    ("after shutdown", [INITIALIZE, OPEN, SHUTDOWN, SYMBOLS, closed(), EXIT], [CAPABILITIES, DOWN, refused(-32600, "invalid request")], 0),
+    ("after shutdown", [INITIALIZE, OPEN, SHUTDOWN, SYMBOLS, closed(), EXIT], [CAPABILITIES, CLEAN, DOWN, refused(-32600, "invalid request")], 0),
     ("a second initialize", [INITIALIZE, INITIALIZE], [CAPABILITIES, refused(-32600, "invalid request", "1")], 1),
     (
         "an unknown request, and an unknown notice",
@@ -75,7 +92,7 @@ LIVES = (
     (
         "bodies that are no message",
         [INITIALIZE, "[" * 128 + "]" * 128, "[" * 127 + "]" * 127, "", '{"id":2}', '{"id":2,"method":5}', OPEN, SYMBOLS],
-        [CAPABILITIES, PARSE_ERROR, INVALID_REQUEST, PARSE_ERROR] + [refused(-32600, "invalid request")] * 2 + [OUTLINE],
+        [CAPABILITIES, PARSE_ERROR, INVALID_REQUEST, PARSE_ERROR] + [refused(-32600, "invalid request")] * 2 + [CLEAN, OUTLINE],
         1,
     ),
     ("a method that isn't UTF-8", [INITIALIZE, b'{"id":1,"method":"\xff"}'], [CAPABILITIES, PARSE_ERROR], 1),
@@ -83,7 +100,7 @@ LIVES = (
     (
         "the 257th document",
         [INITIALIZE, *(opened("", f"file:///{number}") for number in range(256)), OPEN, SYMBOLS, closed("file:///9"), OPEN, SYMBOLS],
-        [CAPABILITIES, NOT_OPEN, OUTLINE],
+        [CAPABILITIES, *(published(uri=f"file:///{number}") for number in range(256)), NOT_OPEN, CLEAN, OUTLINE],
         1,
     ),
 )
@@ -97,7 +114,7 @@ def symbol(name, line, end):
 
 def outline_after(text, changes, symbols):
     wanted = f'{{"id":2,"jsonrpc":"2.0","result":[{",".join(symbols)}]}}'
-    return f"{changes[:80]} of {text!r}", [INITIALIZE, opened(text), changed(changes), SYMBOLS], [CAPABILITIES, wanted], 1
+    return f"{changes[:80]} of {text!r}", [INITIALIZE, opened(text), changed(changes), SYMBOLS], [CAPABILITIES, wanted], 2
 
 
 def closed_by(changes):
@@ -172,7 +189,105 @@ DEFINITIONS = (
     ),
 )
 
-SESSIONS = LIVES + EDITS + DEFINITIONS
+
+
+def found(text, *findings):
+    """What is published of a text that is opened."""
+    return f"findings of {text!r}", [INITIALIZE, opened(text)], [CAPABILITIES, published(*findings)], 1
+
+
+def unproductive(line, name):
+    return line, 0, len(name), 2, "unproductive", f"rule {name} generates nothing"
+
+
+def undefined(line, start, end, name):
+    return line, start, end, 1, "undefined", f"undefined rule {name}"
+
+
+def syntax(start, end, message):
+    return 0, start, end, 1, "syntax", message
+
+
+FINDINGS = (
+    found('a = b "x"\nb = a', unproductive(0, "a"), unproductive(1, "b")),
+    found('a = 0nope *nope [nope] "k"', *(undefined(0, start, start + 4, "nope") for start in (5, 11, 17))),
+    found(
+        'a = 3*2"x" / %x39-30',
+        unproductive(0, "a"),
+        (0, 4, 7, 2, "empty-repeat", "repeat with minimum above maximum"),
+        (0, 13, 20, 2, "empty-range", "range with low above high"),
+    ),
+    found('A = "yy"\na = "z"\na =/ "x"', (1, 0, 1, 1, "duplicate", "rule a is already defined")),
+    found('a =/ "x"', (0, 0, 1, 2, "no-base", "no earlier definition of a")),
+    found("a = b", unproductive(0, "a"), undefined(0, 4, 5, "b")),
+    found('= "x"', syntax(0, 1, "rule name expected")),
+    found('a "x"', syntax(2, 5, '"=" or "=/" expected')),
+    found("a =", syntax(3, 3, "element expected")),
+    found('a = 2 "x"', syntax(4, 5, "element expected")),
+    found('a = "x""y"', syntax(7, 10, "blank expected")),
+    found("a = (b", syntax(4, 5, "bracket not closed")),
+    found("a = ?", syntax(4, 5, "bad character")),
+    found("a = %x100000000", (0, 4, 15, 1, "number-too-large", "number too large")),
+    # of brackets nested 65 deep the innermost
+    found("a = " + "(" * 65 + '"x"' + ")" * 65, (0, 68, 69, 1, "too-deep", "brackets nested too deep")),
+    found('a = <text> / "x"\nb = "y"'),
+    # characters outside the first plane are two units of UTF-16 each
+    found("a = <\U0001f600> / b", undefined(0, 11, 12, "b")),
+    # the findings of each version, with the version that the client named; a change that closes publishes nothing
+    (
+        "findings of each version",
+        [INITIALIZE, opened('a = b\n  "x"'), changed(f"[{edit((1, 0), (1, 2), 'b = ')}]"), changed(f"[{edit((0, 4), (0, 4), '(')}]"), changed("7")],
+        [
+            CAPABILITIES,
+            published(unproductive(0, "a"), undefined(0, 4, 5, "b")),
+            published(label=2),
+            published(syntax(4, 5, "bracket not closed"), label=2),
+        ],
+        1,
+    ),
+)
+
+
+def hovered(text, line, character, shown, answer):
+    request = f'{{"id":2,"method":"textDocument/hover","params":{{"textDocument":{{"uri":"file:///g"}},"position":{{"line":{line},"character":{character}}}}}}}'
+    result = "null" if shown is None else f'{{"contents":{{"kind":"plaintext","value":{json.dumps(shown)}}},"range":{span(*answer)}}}'
+    wanted = f'{{"id":2,"jsonrpc":"2.0","result":{result}}}'
+    return f"hover at {line}:{character} of {text[:60]!r}", [INITIALIZE, opened(text), request], [CAPABILITIES, wanted], 1
+
+
+def length(number, example):
+    return f"shortest length {number}\nexample {example}"
+
+
+CORE = 'LF = "n"\na = CRLF HEXDIG'
+NESTED = 'r0 = "x"\n' + "".join(f"r{number} = 2r{number - 1}\n" for number in range(1, 65))
+
+HOVERS = (
+    hovered('a = "x"', 0, 0, length(1, "x"), (0, 0, 1)),
+    # behind the name's last letter too, and nowhere else
+    hovered('a = "x"', 0, 1, length(1, "x"), (0, 0, 1)),
+    hovered('a = "x"', 0, 2, None, None),
+    hovered('a = "x"', 0, 5, None, None),
+    hovered('a = a / ""', 0, 4, length(0, ""), (0, 4, 5)),
+    hovered('a = b "x"\nb = a', 1, 4, "generates nothing", (1, 4, 5)),
+    hovered('a = <text> / "x"\nb = "y"', 0, 0, "not known", (0, 0, 1)),
+    hovered('a = <text> / "x"\nb = "y"', 1, 0, length(1, "y"), (1, 0, 1)),
+    hovered("a = nope", 0, 5, "undefined", (0, 4, 8)),
+    # names are read without case
+    hovered('a = B\nb = "\\"', 0, 4, length(1, "\\\\"), (0, 4, 5)),
+    # the text's own LF, and the core rule's in CRLF
+    hovered(CORE, 0, 0, length(1, "n"), (0, 0, 2)),
+    hovered(CORE, 1, 0, length(3, "\\x{D}\\x{A}A"), (1, 0, 1)),
+    hovered(CORE, 1, 5, length(2, "\\x{D}\\x{A}"), (1, 4, 8)),
+    hovered(NESTED, 13, 0, "shortest length 8192\nexample not shown", (13, 0, 3)),
+    hovered(NESTED, 64, 0, "shortest length 18446744073709551615 or more", (64, 0, 3)),
+)
+# a body of 180 bytes
+assert len(HOVERS[0][2][1]) == 180, len(HOVERS[0][2][1])
+
+SESSIONS = LIVES + FINDINGS
+# What these are answered with beside what is published; the last number counts the versions of the document
+REPLIES = EDITS + DEFINITIONS + HOVERS
 
 # What stands in the stream behind a whole frame, and the line that names its fault
 FRAMES = (

@@ -1,7 +1,7 @@
 #!/usr/bin/env bash
 # Runs a real Emacs (28 with the package eglot, or 29 and later) in batch mode against the language server, by the set-up that
-# editors/emacs-eglot.el gives: opens a grammar, asks for its outline and a definition, edits, asks again, opens a CRLF file, and
-# shuts down. Usage: emacs.sh PROGRAM. EMACS names the editor (emacs if left out). Status 0: all right, 1: a wrong answer, 2: it
+# editors/emacs-eglot.el gives: opens a grammar, asks for its outline, a definition and a hover, looks at its diagnostics, edits, asks
+# again, opens a CRLF file, and shuts down. Usage: emacs.sh PROGRAM. EMACS names the editor (emacs if left out). Status 0: all right, 1: a wrong answer, 2: it
 # could not be tried. Of the snippet the program's path is another, and eglot-ensure is left out: it waits for a command, and
 # none comes in batch mode.
 set -euo pipefail
@@ -50,6 +50,17 @@ cat > "$folder/try.el" <<'EL'
   (sort (mapcar (lambda (item) (line-number-at-pos (xref-location-marker (xref-item-location item))))
                 (xref-backend-definitions 'eglot (xref-backend-identifier-at-point 'eglot)))
         #'<))
+(defun hover (line word)
+  (told)
+  (goto-char (point-min)) (forward-line (1- line)) (search-forward word) (goto-char (match-beginning 0))
+  (plist-get (plist-get (jsonrpc-request (eglot-current-server) :textDocument/hover (eglot--TextDocumentPositionParams)) :contents) :value))
+(defun diagnostics (count)
+  "What flymake shows, once it is so much or three seconds have passed."
+  (told)
+  (flymake-start)
+  (with-timeout (3) (while (/= (length (flymake-diagnostics)) count) (accept-process-output nil 0.05)))
+  (sort (mapcar (lambda (it) (list (line-number-at-pos (flymake-diagnostic-beg it)) (flymake-diagnostic-text it))) (flymake-diagnostics))
+        #'car-less-than-car))
 (defun start (file)
   (find-file (expand-file-name file (getenv "TRY_FOLDER")))
   (unless (and (fboundp 'eglot-managed-p) (eglot-managed-p)) (apply #'eglot (eglot--guess-contact)))
@@ -62,6 +73,12 @@ cat > "$folder/try.el" <<'EL'
       (is "definition" (definition 3 "hello") '(4))
       (is "definition in two places" (definition 3 "name") '(5 6))
       (is "definition at the end of a name behind an emoji" (definition 6 "/name") '(4))
+      (is "hover" (hover 4 "hello") "shortest length 2\nexample hi")
+      (is "diagnostics" (diagnostics 1) '((6 "abnf [syntax]: bad character")))
+      (goto-char (point-max)) (insert "broken = (hello\n")
+      (is "one fault more while it stands" (diagnostics 2) '((6 "abnf [syntax]: bad character") (7 "abnf [syntax]: bracket not closed")))
+      (forward-line -1) (kill-whole-line)
+      (is "and once it is mended" (diagnostics 1) '((6 "abnf [syntax]: bad character")))
       (buffer-enable-undo)
       (goto-char (point-min)) (insert "first = \"😀\" / hello ; 漢\n\n") (undo-boundary)
       (is "outline after an insertion" (outline) '((1 . "first") (5 . "greeting") (6 . "hello") (7 . "NAME") (8 . "name")))

@@ -1,6 +1,7 @@
 #!/usr/bin/env bash
 # Runs a real Neovim (0.7 or later) headless against the language server, by the set-up that editors/neovim.lua gives: opens
-# a grammar, asks for its outline and a definition, edits, asks again, reloads, opens a CRLF file, and ends.
+# a grammar, asks for its outline, a definition and a hover, looks at its diagnostics, edits, asks again, reloads, opens a CRLF file,
+# and ends.
 # Usage: neovim.sh PROGRAM. NVIM names the editor (nvim if left out). Status 0: all right, 1: a wrong answer, 2: it could not be
 # tried. The snippet is taken as it stands, but for the path of the program.
 set -euo pipefail
@@ -59,6 +60,19 @@ local function definition(row, word)
   end
   return table.concat(places, " ")
 end
+-- what is shown of a word in a line
+local function hover(row, word)
+  local at = vim.fn.getline(row):find(word, 1, true)
+  vim.api.nvim_win_set_cursor(0, { row, at - 1 })
+  return ask("textDocument/hover", vim.lsp.util.make_position_params(0, "utf-16")).contents.value
+end
+local function diagnostics()
+  local found = {}
+  for _, it in ipairs(vim.diagnostic.get(0)) do
+    found[#found + 1] = ("%d:%d-%d %d %s %s"):format(it.lnum, it.col, it.end_col, it.severity, it.code or it.user_data.lsp.code, it.message)
+  end
+  return table.concat(found, ", ")
+end
 local ok, err = pcall(function()
   is("file type", vim.bo.filetype, "abnf")
   is("attached", tostring(ready()), "true")
@@ -66,6 +80,8 @@ local ok, err = pcall(function()
   is("definition", definition(3, "hello"), "3:0-5")
   is("definition in two places", definition(3, "name"), "4:0-4 5:0-4")
   is("definition at the end of a name behind an emoji", definition(6, "/name"), "3:0-5")
+  is("diagnostics", diagnostics(), "5:11-12 1 syntax bad character")
+  is("hover", hover(4, "hello"), "shortest length 2\nexample hi")
   vim.api.nvim_win_set_cursor(0, { 3, 11 })
   vim.cmd("normal gd")
   vim.wait(3000, function() return vim.fn.line(".") == 4 end, 10)
@@ -84,6 +100,12 @@ local ok, err = pcall(function()
   vim.cmd("%yank | $put")
   is("outline after a paste", outline(), "greeting@2 hello@3 NAME@4 name@5 greeting@8 hello@9 NAME@10 name@11")
   vim.cmd("silent! undo")
+  vim.api.nvim_buf_set_lines(0, -1, -1, false, { "broken = (hello" })
+  vim.wait(3000, function() return #vim.diagnostic.get(0) == 2 end, 10)
+  is("one fault more while it stands", diagnostics(), "5:11-12 1 syntax bad character, 6:9-10 1 syntax bracket not closed")
+  vim.cmd("silent! undo")
+  vim.wait(3000, function() return #vim.diagnostic.get(0) == 1 end, 10)
+  is("and once it is mended", diagnostics(), "5:11-12 1 syntax bad character")
   for i = 1, 200 do vim.api.nvim_buf_set_text(0, 2, 0, 2, 0, i % 2 == 1 and { "x" .. i .. " = %x41", "" } or { "é😀" }) if i % 2 == 0 then vim.api.nvim_buf_set_text(0, 2, 0, 2, #"é😀", { "" }) end end
   is("symbols after 300 quick edits", tostring(select(2, outline():gsub("@", ""))), "104")
   vim.cmd("edit!")

@@ -1,5 +1,6 @@
 -- The places that define a name, as the grammar hands them out.
 use Rattle.std.proofs.Common.{◌≡◌, ℕ, Bool, true, false, List, [], ◌∷◌, map, filter, Option, None, Some, option_map, Result, Ok, Err, IfOk, refl, sym, ◌∙◌, ap}
+use Rattle.std.specs.Option.{option_map_or}
 use Rattle.abnf_token.specs.Folded.{lowercase}
 use Rattle.ls_text.specs.Lines.{utf16_len, offset_of}
 use Rattle.ls_text.specs.Positions.{place_range}
@@ -10,7 +11,7 @@ use Rattle.abnf_names.specs.declared.place.NamePlace.{NamePlace}
 use Rattle.abnf_names.specs.Passes.{name_place}
 use Rattle.abnf_names.specs.Places.{Named, at_offset, place_and_text, places_of_name}
 use Rattle.abnf_names.specs.Rules.{Grammar, IsGrammar}
-use Rattle.ls_answers.specs.Places.{AreDefinitions, defining_ranges, name_at}
+use Rattle.ls_answers.specs.Places.{AreDefinitions, HasPlacesAt, defining, defining_ranges, name_at}
 
 -- the ranges of those places that define
 abbrev ranges_of : List ℕ → List Named → List Range
@@ -26,36 +27,42 @@ same_ranges : (text : List ℕ) (places : List Named) → defining_ranges text (
 same_ranges text [] = refl
 same_ranges text (n ∷ ns) = one_more text n ns n.defines refl (same_ranges text ns)
 
-found : (o : Option Named) (s : Place × List ℕ) → Some s ≡ option_map place_and_text o → (n : Named) × (o ≡ Some n) × (n.text ≡ s.1)
+-- the name that is found there
+pub found : (o : Option Named) (s : Place × List ℕ) → Some s ≡ option_map place_and_text o → (n : Named) × (o ≡ Some n) × (n.text ≡ s.1) × (n.place ≡ s.0)
 found None s e = absurd (cc)
-found (Some n) s e = (n, refl, cc)
+found (Some n) s e = (n, refl, cc, cc)
 
-none : (o : Option Named) → None ≡ option_map place_and_text o → o ≡ None
+pub none : (o : Option Named) → None ≡ option_map place_and_text o → o ≡ None
 none None e = refl
 none (Some n) e = absurd (cc)
 
-defined-there : (text : List ℕ) (at : Position) (g : Grammar) (offset : ℕ) (s : Place × List ℕ) (places : List NamePlace) (ranges : List Range)
-    → IsGrammar g → g.text ≡ text → offset ≡ offset_of utf16_len g.text at.line at.character
-    → Some s ≡ option_map place_and_text (at_offset g.text g.places offset) → places ≡ map name_place (places_of_name (lowercase s.1) g.places)
-    → ranges ≡ defining_ranges text places → AreDefinitions text at ranges
-defined-there text at g offset s places ranges right of_text is_offset is_found are is =
+-- ---- the places of the name
+
+pub places-some : (g : Grammar) (at : Position) (offset : ℕ) (s : Place × List ℕ) (places : List NamePlace)
+    → offset ≡ offset_of utf16_len g.text at.line at.character → Some s ≡ option_map place_and_text (at_offset g.text g.places offset)
+    → places ≡ map name_place (places_of_name (lowercase s.1) g.places) → HasPlacesAt g at places
+places-some g at offset s places is_offset is_found are =
     let n = found (at_offset g.text g.places offset) s is_found in
     let here : name_at g at ≡ Some n.0 = ap (λ o. at_offset g.text g.places o) (sym is_offset) ∙ n.1 in
-    let same : ranges ≡ ranges_of text (places_of_name (lowercase s.1) g.places) = is ∙ (ap (defining_ranges text) are ∙ same_ranges text (places_of_name (lowercase s.1) g.places)) in
-    record { grammar = g; of_text = of_text; right = right; ranges_are = rw (here, n.2) same }
+    rw (here, n.2) are
 
--- with a name at the position
-pub with-name : {E : Type 0} (text : List ℕ) (at : Position) (g : Grammar) (offset : ℕ) (s : Place × List ℕ) (places : List NamePlace) (given : Result (List Range) E)
-    → IsGrammar g → g.text ≡ text → offset ≡ offset_of utf16_len g.text at.line at.character
-    → Some s ≡ option_map place_and_text (at_offset g.text g.places offset) → places ≡ map name_place (places_of_name (lowercase s.1) g.places)
-    → IfOk given (λ ranges. ranges ≡ defining_ranges text places) → IfOk given (λ ranges. AreDefinitions text at ranges)
-with-name text at g offset s places (Ok ranges) right of_text is_offset is_found are is = defined-there text at g offset s places ranges right of_text is_offset is_found are is
-with-name text at g offset s places (Err e) right of_text is_offset is_found are is = is
-
--- without one
-pub with-none : (text : List ℕ) (at : Position) (g : Grammar) (offset : ℕ) (ranges : List Range)
-    → IsGrammar g → g.text ≡ text → offset ≡ offset_of utf16_len g.text at.line at.character
-    → None ≡ option_map place_and_text (at_offset g.text g.places offset) → ranges ≡ [] → AreDefinitions text at ranges
-with-none text at g offset ranges right of_text is_offset is_none is =
+pub places-none : (g : Grammar) (at : Position) (offset : ℕ) (places : List NamePlace)
+    → offset ≡ offset_of utf16_len g.text at.line at.character → None ≡ option_map place_and_text (at_offset g.text g.places offset)
+    → places ≡ [] → HasPlacesAt g at places
+places-none g at offset places is_offset is_none are =
     let here : name_at g at ≡ None = ap (λ o. at_offset g.text g.places o) (sym is_offset) ∙ none (at_offset g.text g.places offset) is_none in
-    record { grammar = g; of_text = of_text; right = right; ranges_are = rw (here) is }
+    rw (here) are
+
+-- ---- the definitions among them
+
+of_name : (g : Grammar) (text : List ℕ) (o : Option Named)
+    → defining_ranges text (map name_place (option_map_or (λ named. places_of_name (lowercase named.text) g.places) o [])) ≡ map (λ n. place_range utf16_len text n.place) (defining g o)
+of_name g text None = refl
+of_name g text (Some n) = same_ranges text (places_of_name (lowercase n.text) g.places)
+
+pub defined : {E : Type 0} (g : Grammar) (at : Position) (text : List ℕ) (places : List NamePlace) (given : Result (List Range) E)
+    → IsGrammar g → text ≡ g.text → HasPlacesAt g at places
+    → IfOk given (λ ranges. ranges ≡ defining_ranges text places) → IfOk given (λ ranges. AreDefinitions g.text at ranges)
+defined g at text places (Ok ranges) right of_text are is =
+    record { grammar = g; of_text = refl; right = right; ranges_are = is ∙ ((λ i. defining_ranges (of_text i) (are i)) ∙ of_name g g.text (name_at g at)) }
+defined g at text places (Err e) right of_text are is = is

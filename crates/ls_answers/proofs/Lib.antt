@@ -1,5 +1,6 @@
 pub mod Outlines
 pub mod Definitions
+pub mod HoverLaws
 pub mod OneAnswer
 pub mod Exist
-pub mod Hovers
+pub mod HoverTexts

@@ -1,14 +1,30 @@
 -- What the answer to a question about a text is.
-use Rattle.std.specs.Prelude.{ℕ, List}
+use Rattle.std.specs.Prelude.{ℕ, List, [], option_map}
+use Rattle.ls_answers.specs.Diagnostics.{AreDiagnostics}
+use Rattle.ls_answers.specs.Hovers.{IsHover}
 use Rattle.ls_answers.specs.Outline.{IsOutline}
 use Rattle.ls_answers.specs.Places.{AreDefinitions}
 use Rattle.ls_answers.specs.declared.ask.Ask.{Ask}
 use Rattle.ls_answers.specs.declared.ask.Ask.TheVariants as ask
 use Rattle.ls_answers.specs.declared.answer.Answer.{Answer}
 use Rattle.ls_answers.specs.declared.answer.Answer.TheVariants as answer
+use Rattle.ls_answers.specs.declared.answer.HoverText.{HoverText}
 
 -- the answer to the question about the text with these characters
 abbrev pub IsAnswer : List ℕ → Ask → Answer → Type 0
-IsAnswer text ask.Symbols (answer.Symbols symbols) = IsOutline text symbols
+IsAnswer text (ask.Hover at) (answer.Hover hover) = IsHover text at hover
 IsAnswer text (ask.Definition at) (answer.Places ranges) = AreDefinitions text at ranges
+IsAnswer text ask.Symbols (answer.Symbols symbols) = IsOutline text symbols
+IsAnswer text ask.Diagnose (answer.Findings diagnostics) = AreDiagnostics text diagnostics
 IsAnswer text _ _ = ⊥
+
+-- the same with an empty certificate beside the example
+abbrev pub hover_without_cert : HoverText → HoverText
+hover_without_cert hover = record hover { example = option_map (λ example. (example.0, [])) hover.example }
+
+-- an answer but for its certificate
+abbrev pub without_cert : Answer → Answer
+without_cert (answer.Hover hover) = answer.Hover (option_map hover_without_cert hover)
+without_cert (answer.Places ranges) = answer.Places ranges
+without_cert (answer.Symbols symbols) = answer.Symbols symbols
+without_cert (answer.Findings diagnostics) = answer.Findings diagnostics

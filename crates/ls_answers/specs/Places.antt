@@ -1,11 +1,13 @@
 -- The places of the name at a position (LSP 3.17, "Goto Definition Request").
 use Rattle.std.specs.Prelude.{◌≡◌, ℕ, List, [], map, filter, Option, Some, None}
+use Rattle.std.specs.Option.{option_map_or}
 use Rattle.abnf_token.specs.Folded.{lowercase}
 use Rattle.ls_text.specs.Lines.{utf16_len, offset_of}
 use Rattle.ls_text.specs.Positions.{place_range}
 use Rattle.ls_text.specs.declared.position.Position.{Position}
 use Rattle.ls_text.specs.declared.position.Range.{Range}
 use Rattle.abnf_names.specs.declared.place.NamePlace.{NamePlace}
+use Rattle.abnf_names.specs.Passes.{name_place}
 use Rattle.abnf_names.specs.Places.{Named, at_offset, places_of_name}
 use Rattle.abnf_names.specs.Rules.{Grammar, IsGrammar}
 
@@ -28,3 +30,7 @@ pub record AreDefinitions (text : List ℕ) (at : Position) (ranges : List Range
 -- the ranges of those of the places that define their name
 abbrev pub defining_ranges : List ℕ → List NamePlace → List Range
 defining_ranges text places = map (λ p. place_range utf16_len text p.place) (filter (λ p. p.defines) places)
+
+-- These are the places of the name at the position, as the grammar hands them out.
+abbrev pub HasPlacesAt : Grammar → Position → List NamePlace → Type 0
+HasPlacesAt g at places = places ≡ map name_place (option_map_or (λ named. places_of_name (lowercase named.text) g.places) (name_at g at) [])

@@ -30,7 +30,7 @@ fn with_length(alloc: Global, length: u64, said: &str) -> Result<String, Memory>
 }
 
 /// What is known of the shortest strings of a rule, as a text.
-fn shown_text(alloc: Global, shown: &Shortest) -> Result<String, Memory>
+pub(crate) fn shown_text(alloc: Global, shown: &Shortest) -> Result<String, Memory>
     ensures { IfOk result (λ text. string_bytes text ≡ shown_text shown.now) }
 {
     match shown {

@@ -5,8 +5,11 @@ ghost use Rattle.ls_answers.specs.Answers.{IsAnswer};
 
 use crate::answer::Answer;
 use crate::ask::Ask;
+use crate::diagnostics::diagnostics;
+use crate::hovers::hover;
 use crate::outline::symbols;
 use crate::places::definitions;
+use abnf_names::Grammar;
 use ls_text::Snapshot;
 use std::alloc::{AllocError as Memory, Global};
 use std::marker::Model;
@@ -78,12 +81,35 @@ impl Done {
     }
 }
 
+/// The answer to a question about a text. All but its outline is asked of its grammar.
 fn answer_of(alloc: Global, snapshot: &Snapshot, ask: &Ask) -> Result<Answer, Memory>
     ensures { IfOk result (λ answer. IsAnswer snapshot.now ask.now answer) }
 {
     match ask {
         Ask::Symbols => Ok(Answer::Symbols(symbols(alloc, snapshot)?)),
-        Ask::Definition(at) => Ok(Answer::Places(definitions(alloc, snapshot, *at)?)),
+        _ => by_grammar(alloc, snapshot, ask),
+    }
+}
+
+/// The answer by the grammar of the text, which is made once and let go here.
+fn by_grammar(alloc: Global, snapshot: &Snapshot, ask: &Ask) -> Result<Answer, Memory>
+    ensures { IfOk result (λ answer. IsAnswer snapshot.now ask.now answer) }
+{
+    let grammar = Grammar::of(alloc, snapshot)?;
+    let answer = answer_in(alloc, &grammar, ask);
+    drop(grammar);
+    answer
+}
+
+/// The answer to a question about the text of a grammar.
+fn answer_in(alloc: Global, grammar: &Grammar, ask: &Ask) -> Result<Answer, Memory>
+    ensures { IfOk result (λ answer. IsAnswer grammar.now.text ask.now answer) }
+{
+    match ask {
+        Ask::Hover(at) => Ok(Answer::Hover(hover(alloc, grammar, *at)?)),
+        Ask::Definition(at) => Ok(Answer::Places(definitions(alloc, grammar, *at)?)),
+        Ask::Symbols => Ok(Answer::Symbols(symbols(alloc, grammar.source())?)),
+        Ask::Diagnose => Ok(Answer::Findings(diagnostics(alloc, grammar)?)),
     }
 }
 

@@ -1,13 +1,14 @@
 //! Laws of answers.
 ghost use Rattle.std.specs.Prelude.{◌≡◌, ◌<◌, ◌^◌, List, ℕ, length};
-ghost use Rattle.ls_answers.specs.Answers.{IsAnswer};
+ghost use Rattle.ls_answers.specs.Answers.{IsAnswer, without_cert};
 ghost use Rattle.ls_answers.specs.Hover.{AtMostOneHoverText, HoverTextsExist};
 ghost use Rattle.ls_answers.specs.declared.answer.Answer.{Answer};
 ghost use Rattle.ls_answers.specs.declared.ask.Ask.{Ask};
 
-/// A question about a text has at most one answer.
+/// A question about a text has at most one answer, but for the certificate beside an example.
 pub fn answers_are_unique()
-    ensures { (text : List ℕ) (question : Ask) (a b : Answer) → IsAnswer text question a → IsAnswer text question b → a ≡ b }
+    ensures { (text : List ℕ) (question : Ask) (a b : Answer) → IsAnswer text question a → IsAnswer text question b
+        → without_cert a ≡ without_cert b }
 {}
 
 /// Each question about a text of fewer than 2^62 characters has an answer.

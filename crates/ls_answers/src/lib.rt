@@ -1,21 +1,23 @@
 //! Answers to questions about a text, each with its text and its question.
 //!
 //! A [`Job`] is a question about a snapshot; [`run`] gives a [`Done`], whose type keeps that its answer is the definition's for
-//! its own text and question, or that memory was refused. A question about a text has at most one answer
-//! ([`answers_are_unique`]).
+//! its own text and question, or that memory was refused. A question about a text has an answer ([`answers_exist`]), and at most
+//! one, but for the certificate beside an example ([`answers_are_unique`]).
 //!
 //! [`hover_text`] says in one or two lines what is known of the shortest strings of a rule.
 #![tactic(auto)]
 
 mod answer;
 mod ask;
+mod diagnostics;
 mod hover;
+mod hovers;
 mod job;
 mod laws;
 mod outline;
 mod places;
 
-pub use answer::{Answer, Symbol};
+pub use answer::{Answer, Diagnostic, HoverText, Symbol};
 pub use ask::Ask;
 pub use hover::hover_text;
 pub use job::{Done, Job, run};

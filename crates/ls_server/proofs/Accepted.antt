@@ -22,7 +22,7 @@ use Rattle.abnf_least.specs.declared.shortest.Shortest.TheVariants.{Shown, Long,
 use Rattle.abnf_least.specs.Rendered.{rendered, rendered_text}
 use Rattle.abnf_least.proofs.SomeShown.{certificate_of}
 use Rattle.ls_answers.specs.Hover.{IsHoverText, shown_text}
-use Rattle.ls_answers.proofs.Hovers.{some_hover_text}
+use Rattle.ls_answers.proofs.HoverTexts.{some_hover_text}
 use Rattle.ls_server.specs.Commands.{behind_empty_line, cert_part, IsExampleText, IsChecked, IsOf64Bits}
 
 pub some_example : (text name : List ℕ) → length text < 2 ^ 62 → (bytes : List ℕ) × IsExampleText text name bytes

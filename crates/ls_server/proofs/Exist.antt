@@ -1,6 +1,6 @@
 -- On each list of messages something is said.
 use Rattle.std.proofs.Common.{◌≡◌, ℕ, zero, suc, ◌+◌, ◌-◌, ◌*◌, ◌^◌, ◌<◌, ◌≤◌, ⊎_elim, Bool, true, false, ◌||◌, List, [], ◌∷◌, ◌++◌, length, take, drop, Option, Some, None, inl, inr, refl, sym, ap, subst, ◌∙◌, append_assoc, arith}
-use Rattle.std.specs.Prelude.{All, find, remove, slice_get, slice_set, if◌then◌else◌, is_some, nat_le, nat_lt, ℤ}
+use Rattle.std.specs.Prelude.{All, option_map, find, remove, slice_get, slice_set, if◌then◌else◌, is_some, nat_le, nat_lt, ℤ}
 use Rattle.std.specs.Str.{chars, chars_after, continuation_len, lead_bits, encode_utf8_all}
 use Rattle.std.proofs.lemmas.Bool.{cases_lt, lt-ltb, false≢true}
 use Rattle.std.proofs.lemmas.Str.{length-le-encodes}
@@ -11,7 +11,8 @@ use Rattle.ls_text.specs.Lines.{utf16_len}
 use Rattle.ls_text.specs.declared.edit.Edit.{Edit}
 use Rattle.ls_answers.specs.declared.ask.Ask.{Ask}
 use Rattle.ls_answers.proofs.Exist.{some_answer}
-use Rattle.ls_session.specs.Bodies.{reply_body, refusal_of}
+use Rattle.ls_answers.specs.declared.ask.Ask.TheVariants.{Diagnose}
+use Rattle.ls_session.specs.Bodies.{findings_body, reply_body, refusal_of}
 use Rattle.ls_session.specs.declared.answer.DeskFault.TheVariants.{NotOpen}
 use Rattle.ls_session.specs.declared.event.ClientEvent.{ClientEvent}
 use Rattle.ls_session.specs.declared.event.ClientEvent.TheVariants.{DidOpen, DidChange, DidClose, Request, Say}
@@ -20,7 +21,7 @@ use Rattle.ls_session.specs.declared.event.Turn.{Turn}
 use Rattle.ls_session.specs.declared.event.Turn.TheVariants as turn
 use Rattle.ls_server.specs.declared.keeper.Document.{Document}
 use Rattle.ls_server.specs.Kept as kept
-use Rattle.ls_server.specs.Kept.{Kept, IsReplied, IsRepliedOn, document_at, place_of, is_named, is_refused, next_version, document_of, opened, closed, changed, changed_to, changed_in, changed_at, asked, counted, without}
+use Rattle.ls_server.specs.Kept.{Kept, IsReplied, IsRepliedOn, document_at, place_of, is_named, is_refused, next_ticket, next_version, document_of, changed_document, edited_at, edited_document, opened, opened_document, IsAnsweredChange, IsAnsweredOpening, IsPublished, IsPublishedOf, closed, changed, changed_to, changed_in, changed_at, asked, counted, without}
 use Rattle.ls_server.specs.Talk.{Talk, start, kept_after, kept_on, IsAnswered, IsAnsweredOn, IsReply, turn_on, exit_of, after}
 use Rattle.ls_server.specs.Runs.{Says, frames_for, last_status, AppendsFront, IsOutput, RunIs, ServedIs}
 use Rattle.ls_server.specs.declared.serve.ServeFault.{ServeFault}
@@ -121,18 +122,22 @@ short_edited t (e ∷ es) small = by (is_too_large (edited utf16_len t e)) (λ s
         let few = at_most 4_194_304 (length (encode_utf8_all (edited utf16_len t e))) large in
         rw large (later (omega (arith, few, length-le-encodes (edited utf16_len t e))))
 
+-- a text that is opened
+short_accepted : (uri text : List ℕ) (k : Kept) → is_refused uri text k ≡ false → IsShort (chars text)
+short_accepted uri text k e =
+    let few = at_most 4194304 (length text) (or_last (nat_le 256 (length k.documents)) _ (or_last (is_some (place_of uri k.documents)) _ e)) in
+    omega (arith, few, chars_short text)
+
 short_opened : (uri : List ℕ) (label : ℤ) (text : List ℕ) (k : Kept) → AreShort k.documents → AreShort (opened uri label text k).documents
 unfolding opened
 short_opened uri label text k p = by (is_refused uri text k) refl
   where
     new : Kept
-    new = record { documents = k.documents ++ document_of uri label (next_version k) (chars text) ∷ []; versions = next_version k; tickets = k.tickets }
+    new = record { documents = k.documents ++ document_of uri label (next_version k) (chars text) ∷ []; versions = next_version k; tickets = next_ticket k }
 
     by : (b : Bool) → is_refused uri text k ≡ b → AreShort (opened uri label text k).documents
     by true e = rw e p
-    by false e =
-        let few = at_most 4194304 (length text) (or_last (nat_le 256 (length k.documents)) _ (or_last (is_some (place_of uri k.documents)) _ e)) in
-        rw e (short_append k.documents (document_of uri label (next_version k) (chars text) ∷ []) p (omega (arith, few, chars_short text), tt))
+    by false e = rw e (short_append k.documents (document_of uri label (next_version k) (chars text) ∷ []) p (short_accepted uri text k e, tt))
 
 short_without : (ds : List Document) (o : Option ℕ) → AreShort ds → AreShort (without ds o)
 short_without ds None p = p
@@ -182,9 +187,34 @@ some_reply_to : (id : Id) (uri : List ℕ) (ask : Ask) (k : Kept) → AreShort k
 unfolding IsReplied
 some_reply_to id uri ask k p = some_reply_on id ask (document_at uri k.documents) (short_find (is_named uri) k.documents p)
 
+some_published : (o : Option Document) → ShortAt o → (reply : Option (List ℕ)) × IsPublishedOf o reply
+unfolding IsPublished
+some_published None s = (None, refl)
+some_published (Some d) s = let a = some_answer d.snapshot Diagnose s in (Some (findings_body d.uri d.label a.0), (a.0, a.1, refl))
+
+short_made : (uri : List ℕ) (label : ℤ) (version : ℕ) (o : Option (List ℕ)) → ShortText o → ShortAt (option_map (document_of uri label version) o)
+short_made uri label version None s = tt
+short_made uri label version (Some text) s = s
+
+short_version : (label : ℤ) (edits : List Edit) (k : Kept) (o : Option Document) → ShortAt o → ShortAt (edited_document label edits k o)
+short_version label edits k None s = tt
+short_version label edits k (Some d) s = short_made d.uri label (next_version k) (edited_all utf16_len d.snapshot edits) (short_edited d.snapshot edits s)
+
+short_edited_at : (label : ℤ) (edits : List Edit) (k : Kept) (o : Option ℕ) → AreShort k.documents → ShortAt (edited_at label edits k o)
+short_edited_at label edits k None p = tt
+short_edited_at label edits k (Some at) p = short_version label edits k (slice_get k.documents at) (short_get k.documents at p)
+
+short_new : (uri : List ℕ) (label : ℤ) (text : List ℕ) (k : Kept) → ShortAt (opened_document uri label text k)
+short_new uri label text k = by (is_refused uri text k) refl
+  where
+    by : (b : Bool) → is_refused uri text k ≡ b → ShortAt (opened_document uri label text k)
+    by true e = rw e tt
+    by false e = rw e (short_accepted uri text k e)
+
 some_event : (event : ClientEvent) (k : Kept) → AreShort k.documents → (reply : Option (List ℕ)) × IsAnswered event k reply
-some_event (DidOpen uri label text) k p = (None, refl)
-some_event (DidChange uri label edits) k p = (None, refl)
+unfolding IsAnsweredOpening IsAnsweredChange
+some_event (DidOpen uri label text) k p = some_published (opened_document uri label text k) (short_new uri label text k)
+some_event (DidChange uri label edits) k p = some_published (changed_document uri label edits k) (short_edited_at label edits k (place_of uri k.documents) p)
 some_event (DidClose uri) k p = (None, refl)
 some_event (Request id uri ask links) k p = some_reply_to id uri ask k p
 some_event (Say body) k p = (Some body, refl)

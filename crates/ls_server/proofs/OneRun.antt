@@ -3,7 +3,9 @@ use Rattle.std.proofs.Common.{◌≡◌, ℕ, List, [], ◌∷◌, ◌++◌, Opt
 use Rattle.ls_rpc.specs.declared.message.Id.{Id}
 use Rattle.ls_answers.specs.declared.ask.Ask.{Ask}
 use Rattle.ls_answers.proofs.OneAnswer.{one_answer}
+use Rattle.ls_answers.specs.declared.ask.Ask.TheVariants.{Diagnose}
 use Rattle.ls_session.specs.Bodies.{reply_body}
+use Rattle.ls_session.proofs.WithoutCert.{same_findings, same_reply}
 use Rattle.ls_session.specs.declared.event.ClientEvent.{ClientEvent}
 use Rattle.ls_session.specs.declared.event.ClientEvent.TheVariants.{DidOpen, DidChange, DidClose, Request, Say}
 use Rattle.ls_session.specs.declared.event.Status.{Status}
@@ -11,14 +13,24 @@ use Rattle.ls_session.specs.declared.event.Turn.{Turn}
 use Rattle.ls_session.specs.declared.event.Turn.TheVariants as turn
 use Rattle.ls_server.specs.declared.keeper.Document.{Document}
 use Rattle.ls_server.specs.Kept as kept
-use Rattle.ls_server.specs.Kept.{Kept, IsReplied, IsRepliedOn, document_at}
+use Rattle.ls_server.specs.Kept.{Kept, IsAnsweredChange, IsAnsweredOpening, IsPublished, IsPublishedOf, IsReplied, IsRepliedOn, changed_document, document_at, opened_document}
 use Rattle.ls_server.specs.Talk.{Talk, IsAnswered, IsAnsweredOn, IsReply, turn_on, exit_of, after}
 use Rattle.ls_server.specs.Runs.{Says, frames_for}
 use Rattle.ls_server.proofs.Known.{append-nil}
 
 one_body : (id : Id) (uri text : List ℕ) (ask : Ask) (a b : List ℕ) → kept.IsReply id uri text ask a → kept.IsReply id uri text ask b → a ≡ b
 unfolding kept.IsReply
-one_body id uri text ask a b p q = p.2 ∙ (ap (reply_body id uri) (one_answer text ask p.0 q.0 p.1 q.1) ∙ sym q.2)
+one_body id uri text ask a b p q = p.2 ∙ (same_reply id uri p.0 q.0 (one_answer text ask p.0 q.0 p.1 q.1) ∙ sym q.2)
+
+one_publication : (document : Document) (a b : List ℕ) → IsPublished document a → IsPublished document b → a ≡ b
+unfolding IsPublished
+one_publication document a b p q = p.2 ∙ (same_findings document.uri document.label p.0 q.0 (one_answer document.snapshot Diagnose p.0 q.0 p.1 q.1) ∙ sym q.2)
+
+one_published : (o : Option Document) (a b : Option (List ℕ)) → IsPublishedOf o a → IsPublishedOf o b → a ≡ b
+one_published None a b p q = p ∙ sym q
+one_published (Some document) None b p q = absurd p
+one_published (Some document) (Some a) None p q = absurd q
+one_published (Some document) (Some a) (Some b) p q = ap Some (one_publication document a b p q)
 
 one_reply_on : (id : Id) (ask : Ask) (o : Option Document) (a b : Option (List ℕ)) → IsRepliedOn id ask o a → IsRepliedOn id ask o b → a ≡ b
 one_reply_on id ask None a b p q = p ∙ sym q
@@ -31,8 +43,9 @@ unfolding IsReplied
 one_reply_to id uri ask k a b p q = one_reply_on id ask (document_at uri k.documents) a b p q
 
 one_answer_to : (event : ClientEvent) (k : Kept) (a b : Option (List ℕ)) → IsAnswered event k a → IsAnswered event k b → a ≡ b
-one_answer_to (DidOpen uri label text) k a b p q = p ∙ sym q
-one_answer_to (DidChange uri label edits) k a b p q = p ∙ sym q
+unfolding IsAnsweredOpening IsAnsweredChange
+one_answer_to (DidOpen uri label text) k a b p q = one_published (opened_document uri label text k) a b p q
+one_answer_to (DidChange uri label edits) k a b p q = one_published (changed_document uri label edits k) a b p q
 one_answer_to (DidClose uri) k a b p q = p ∙ sym q
 one_answer_to (Request id uri ask links) k a b p q = one_reply_to id uri ask k a b p q
 one_answer_to (Say body) k a b p q = p ∙ sym q

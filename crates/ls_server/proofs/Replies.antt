@@ -1,5 +1,5 @@
 -- The body that replies with what a job gave.
-use Rattle.std.proofs.Common.{◌≡◌, ℕ, List, Option, None, Some, Result, Ok, Err, option_map, refl, sym, ◌∙◌, subst}
+use Rattle.std.proofs.Common.{◌≡◌, ℕ, ℤ, List, Option, None, Some, Result, Ok, Err, option_map, refl, sym, ◌∙◌, subst}
 use Rattle.std.specs.Borrow.{Bor}
 use Rattle.std.specs.Prelude.{MatchResult, IfOk}
 use Rattle.ls_rpc.specs.declared.message.Id.{Id}
@@ -7,9 +7,12 @@ use Rattle.ls_answers.specs.Answers.{IsAnswer}
 use Rattle.ls_answers.specs.Told.{Told}
 use Rattle.ls_answers.specs.declared.ask.Ask.{Ask}
 use Rattle.ls_answers.specs.declared.answer.Answer.{Answer}
-use Rattle.ls_session.specs.Bodies.{body_of, reply_body}
+use Rattle.ls_session.specs.Bodies.{body_of, findings_body, reply_body}
 use Rattle.ls_session.specs.declared.answer.Out.TheVariants.{Replied}
-use Rattle.ls_server.specs.Kept.{IsReply}
+use Rattle.ls_answers.specs.declared.ask.Ask.TheVariants.{Diagnose}
+use Rattle.ls_session.specs.declared.answer.Out.TheVariants.{Findings}
+use Rattle.ls_server.specs.declared.keeper.Document.{Document}
+use Rattle.ls_server.specs.Kept.{IsPublished, IsReply}
 
 some-same : (a b : Answer) → Some a ≡ Some b → a ≡ b
 some-same a b e = cc
@@ -33,3 +36,13 @@ told-reply id uri text ask told body t a right e =
     let P : List ℕ → Type 0 = λ l. IsAnswer l told.ask parts.0 in
     let Q : Ask → Type 0 = λ q. IsAnswer text q parts.0 in
     (parts.0, subst Q a (subst P t (right parts.0 parts.1)), parts.2)
+
+-- the body of a job that looked for a document's findings publishes them
+pub told-findings : (document : Document) (uri : List ℕ) (label : ℤ) (told : Told) (body : List ℕ) → uri ≡ document.uri → label ≡ document.label → told.text ≡ document.snapshot → told.ask ≡ Diagnose
+    → ((answer : Answer) → told.answer ≡ Some answer → IsAnswer told.text told.ask answer) → Some body ≡ body_of (Findings uri label told) → IsPublished document body
+unfolding IsPublished body_of
+told-findings document uri label told body u l t a right e =
+    let parts = body-some (findings_body uri label) told.answer body e in
+    let P : List ℕ → Type 0 = λ text. IsAnswer text told.ask parts.0 in
+    let Q : Ask → Type 0 = λ q. IsAnswer document.snapshot q parts.0 in
+    (parts.0, subst Q a (subst P t (right parts.0 parts.1)), parts.2 ∙ (λ i. findings_body (u i) (l i) parts.0))

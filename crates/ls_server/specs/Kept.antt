@@ -1,13 +1,14 @@
 -- The documents that a client has open (LSP 3.17, "Text Document Synchronization"), and the answers on them.
-use Rattle.std.specs.Prelude.{◌≡◌, ℕ, ℤ, ◌+◌, ◌-◌, ◌^◌, min, List, [], ◌∷◌, ◌++◌, length, find, position, remove, slice_get, slice_set, Bool, ◌||◌, nat_le, nat_lt, is_some, Option, None, Some, if◌then◌else◌, bytes_eq}
+use Rattle.std.specs.Prelude.{◌≡◌, ℕ, ℤ, ◌+◌, ◌-◌, ◌^◌, min, List, [], ◌∷◌, ◌++◌, length, find, position, remove, slice_get, slice_set, Bool, ◌||◌, nat_le, nat_lt, is_some, Option, None, Some, option_map, if◌then◌else◌, bytes_eq}
 use Rattle.std.specs.Str.{chars}
 use Rattle.ls_rpc.specs.declared.message.Id.{Id}
 use Rattle.ls_text.specs.Edits.{edited_all}
 use Rattle.ls_text.specs.Lines.{utf16_len}
 use Rattle.ls_text.specs.declared.edit.Edit.{Edit}
-use Rattle.ls_session.specs.Bodies.{reply_body, refusal_of}
+use Rattle.ls_session.specs.Bodies.{findings_body, reply_body, refusal_of}
 use Rattle.ls_answers.specs.Answers.{IsAnswer}
 use Rattle.ls_answers.specs.declared.ask.Ask.{Ask}
+use Rattle.ls_answers.specs.declared.ask.Ask.TheVariants.{Diagnose}
 use Rattle.ls_answers.specs.declared.answer.Answer.{Answer}
 use Rattle.ls_session.specs.declared.answer.DeskFault.TheVariants.{NotOpen}
 use Rattle.ls_server.specs.declared.keeper.Document.{Document}
@@ -40,18 +41,22 @@ is_refused uri text kept =
 abbrev pub next_version : Kept → ℕ
 next_version kept = min (kept.versions + 1) (2 ^ 64 - 1)
 
+-- the ticket's number of a job, counted in the same way
+abbrev pub next_ticket : Kept → ℕ
+next_ticket kept = min (kept.tickets + 1) (2 ^ 64 - 1)
+
 -- a document whose text has these characters
 abbrev pub document_of : List ℕ → ℤ → ℕ → List ℕ → Document
 document_of uri label version text = record { uri = uri; label = label; version = version; snapshot = text }
 
--- what is kept once a document has been opened
+-- what is kept once a document has been opened: its findings have a ticket
 unfoldable pub opened : List ℕ → ℤ → List ℕ → Kept → Kept
 opened uri label text kept =
     if is_refused uri text kept then kept
     else (record {
       documents = kept.documents ++ document_of uri label (next_version kept) (chars text) ∷ [];
       versions = next_version kept;
-      tickets = kept.tickets;
+      tickets = next_ticket kept;
     })
 
 abbrev pub without : List Document → Option ℕ → List Document
@@ -62,13 +67,13 @@ without documents (Some at) = remove documents at
 unfoldable pub closed : List ℕ → Kept → Kept
 closed uri kept = record kept { documents = without kept.documents (place_of uri kept.documents) }
 
--- what is kept once the document at a place has this text, or none that isn't too large
+-- what is kept once the document at a place has this text, whose findings have a ticket, or none that isn't too large
 abbrev pub changed_to : ℤ → Kept → ℕ → Document → Option (List ℕ) → Kept
 changed_to label kept at document None = record kept { documents = remove kept.documents at }
 changed_to label kept at document (Some text) = record {
   documents = slice_set kept.documents at (document_of document.uri label (next_version kept) text);
   versions = next_version kept;
-  tickets = kept.tickets;
+  tickets = next_ticket kept;
 }
 
 abbrev pub changed_in : ℤ → List Edit → Kept → ℕ → Option Document → Kept
@@ -82,6 +87,45 @@ changed_at label edits kept (Some at) = changed_in label edits kept at (slice_ge
 -- what is kept once a document has been changed
 unfoldable pub changed : List ℕ → ℤ → List Edit → Kept → Kept
 changed uri label edits kept = changed_at label edits kept (place_of uri kept.documents)
+
+-- ---- what is published
+
+-- the body publishes what is found in this document
+unfoldable pub IsPublished : Document → List ℕ → Type 0
+IsPublished document body = (answer : Answer) × IsAnswer document.snapshot Diagnose answer × (body ≡ findings_body document.uri document.label answer)
+
+-- what follows an event that makes this document, if it makes one
+abbrev pub IsPublishedOf : Option Document → Option (List ℕ) → Type 0
+IsPublishedOf None reply = reply ≡ None
+IsPublishedOf (Some document) None = ⊥
+IsPublishedOf (Some document) (Some body) = IsPublished document body
+
+-- the document that an opening makes, if it isn't refused
+abbrev pub opened_document : List ℕ → ℤ → List ℕ → Kept → Option Document
+opened_document uri label text kept = if is_refused uri text kept then None else Some (document_of uri label (next_version kept) (chars text))
+
+-- the next version of a document, if its text doesn't grow too large
+abbrev pub edited_document : ℤ → List Edit → Kept → Option Document → Option Document
+edited_document label edits kept None = None
+edited_document label edits kept (Some document) = option_map (document_of document.uri label (next_version kept)) (edited_all utf16_len document.snapshot edits)
+
+abbrev pub edited_at : ℤ → List Edit → Kept → Option ℕ → Option Document
+edited_at label edits kept None = None
+edited_at label edits kept (Some at) = edited_document label edits kept (slice_get kept.documents at)
+
+-- the document that a change makes, if it is open and its text doesn't grow too large
+abbrev pub changed_document : List ℕ → ℤ → List Edit → Kept → Option Document
+changed_document uri label edits kept = edited_at label edits kept (place_of uri kept.documents)
+
+-- what an opening is answered with: the findings of the document that it makes
+unfoldable pub IsAnsweredOpening : List ℕ → ℤ → List ℕ → Kept → Option (List ℕ) → Type 0
+IsAnsweredOpening uri label text kept reply = IsPublishedOf (opened_document uri label text kept) reply
+
+-- what a change is answered with: the findings of the document that it makes
+unfoldable pub IsAnsweredChange : List ℕ → ℤ → List Edit → Kept → Option (List ℕ) → Type 0
+IsAnsweredChange uri label edits kept reply = IsPublishedOf (changed_document uri label edits kept) reply
+
+-- ---- answers
 
 -- the body replies with an answer to the question about the document of this name, which has this text
 unfoldable pub IsReply : Id → List ℕ → List ℕ → Ask → List ℕ → Type 0
@@ -98,7 +142,7 @@ IsReplied id uri ask kept reply = IsRepliedOn id ask (document_at uri kept.docum
 
 abbrev pub counted : Kept → Option Document → Kept
 counted kept None = kept
-counted kept (Some document) = record kept { tickets = min (kept.tickets + 1) (2 ^ 64 - 1) }
+counted kept (Some document) = record kept { tickets = next_ticket kept }
 
 -- what is kept once a request has been answered: it has a ticket where its document is open
 unfoldable pub asked : List ℕ → Kept → Kept

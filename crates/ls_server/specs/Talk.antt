@@ -9,7 +9,7 @@ use Rattle.ls_session.specs.declared.event.Turn.{Turn}
 use Rattle.ls_session.specs.declared.event.Turn.TheVariants as turn
 use Rattle.ls_session.specs.declared.session.Stage.{Stage}
 use Rattle.ls_session.specs.declared.session.Stage.TheVariants.{BeforeInitialize}
-use Rattle.ls_server.specs.Kept.{Kept, nothing_kept, opened, changed, closed, asked, IsReplied}
+use Rattle.ls_server.specs.Kept.{Kept, nothing_kept, opened, changed, closed, asked, IsAnsweredChange, IsAnsweredOpening, IsReplied}
 use Rattle.ls_server.specs.declared.conversation.Reply.{Reply}
 use Rattle.ls_server.specs.declared.conversation.Reply.TheVariants as reply
 
@@ -31,8 +31,8 @@ kept_after (Say body) kept = kept
 
 -- what an event is answered with: a body, or nothing
 abbrev pub IsAnswered : ClientEvent → Kept → Option (List ℕ) → Type 0
-IsAnswered (DidOpen uri label text) kept reply = reply ≡ None
-IsAnswered (DidChange uri label edits) kept reply = reply ≡ None
+IsAnswered (DidOpen uri label text) kept reply = IsAnsweredOpening uri label text kept reply
+IsAnswered (DidChange uri label edits) kept reply = IsAnsweredChange uri label edits kept reply
 IsAnswered (DidClose uri) kept reply = reply ≡ None
 IsAnswered (Request id uri ask links) kept reply = IsReplied id uri ask kept reply
 IsAnswered (Say body) kept reply = reply ≡ Some body

@@ -1,6 +1,6 @@
 //! A client's messages, one after the other.
-ghost use Rattle.std.specs.Prelude.{◌≡◌, IfOk};
-ghost use Rattle.ls_server.specs.Talk.{ActIs, TurnIs, start};
+ghost use Rattle.std.specs.Prelude.{◌≡◌, IfOk, OnOk, option_map};
+ghost use Rattle.ls_server.specs.Talk.{ActIs, IsAnswered, TurnIs, kept_after, start};
 
 use crate::keeper::Keeper;
 use ls_session::{ClientEvent, Session, Status, Turn};
@@ -58,23 +58,27 @@ impl Conversation {
 fn act(keeper: &mut Keeper, event: ClientEvent) -> Result<Reply, AllocError>
     ensures { IfOk result (λ reply. ActIs event keeper.old reply keeper.new) }
 {
+    match answered(keeper, event)? {
+        Some(body) => Ok(Reply::Body(body)),
+        None => Ok(Reply::Nothing),
+    }
+}
+
+/// Does what a message asks for, and gives the body that answers it.
+fn answered(keeper: &mut Keeper, event: ClientEvent) -> Result<Option<Vec<u8>>, AllocError>
+    ensures answered { IfOk result (λ body. IsAnswered event keeper.old (option_map (λ bytes. bytes.items) body)) }
+    ensures kept { OnOk result (keeper.new ≡ kept_after event keeper.old) }
+{
     match event {
-        ClientEvent::DidOpen(uri, label, text) => {
-            keeper.open(uri, label, text)?;
-            Ok(Reply::Nothing)
-        }
+        ClientEvent::DidOpen(uri, label, text) => keeper.open(uri, label, text),
         ClientEvent::DidChange(uri, label, edits) => {
-            keeper.change(uri.as_str(), label, edits.as_slice())?;
-            Ok(Reply::Nothing)
+            keeper.change(uri.as_str(), label, edits.as_slice())
         }
         ClientEvent::DidClose(uri) => {
             keeper.close(uri.as_str());
-            Ok(Reply::Nothing)
+            Ok(None)
         }
-        ClientEvent::Request(id, uri, ask, _) => match keeper.answer(id, uri.as_str(), ask)? {
-            Some(body) => Ok(Reply::Body(body)),
-            None => Ok(Reply::Nothing),
-        },
-        ClientEvent::Say(body) => Ok(Reply::Body(body.into_vec())),
+        ClientEvent::Request(id, uri, ask, _) => keeper.answer(id, uri.as_str(), ask),
+        ClientEvent::Say(body) => Ok(Some(body.into_vec())),
     }
 }

@@ -1,7 +1,7 @@
 //! The documents that a client has open.
 ghost use Rattle.std.specs.Prelude.{◌≡◌, [], IfOk, OnOk, option_map};
 ghost use Rattle.std.specs.Arc.{arc_value};
-ghost use Rattle.ls_server.specs.Kept.{IsReplied, IsReply, asked, changed, closed, document_at, is_named, next_version, nothing_kept, opened, place_of};
+ghost use Rattle.ls_server.specs.Kept.{IsAnsweredChange, IsAnsweredOpening, IsPublished, IsReplied, IsReply, asked, changed, closed, document_at, is_named, next_ticket, next_version, nothing_kept, opened, place_of};
 ghost use Rattle.ls_session.specs.Bodies.{body_of, refusal_of};
 
 use ls_answers::{Ask, Job, run};
@@ -27,7 +27,7 @@ pub struct Document {
     pub snapshot: SharedSnapshot,
 }
 
-/// Keeps the open documents, and answers a request as soon as it comes.
+/// Keeps the open documents, and answers a request or a new version as soon as it comes.
 #[derive(Drop)]
 pub struct Keeper {
     alloc: Global,
@@ -56,66 +56,74 @@ impl Keeper {
         }
     }
 
-    /// Opens a document. Nothing happens where it is open, where too many are, or where its text is too large.
-    #[tactic(auto, unfolding(crate::specs::Kept::opened))]
-    pub fn open(&mut self, uri: Text, label: i64, text: Text) -> Result<(), AllocError>
-        ensures { OnOk result (self.new ≡ opened uri label text self.old) }
+    /// Opens a document, and gives the body that publishes its findings. Nothing happens where it is open, where too many are, or
+    /// where its text is too large.
+    #[tactic(auto, unfolding(crate::specs::Kept::opened, crate::specs::Kept::IsAnsweredOpening))]
+    pub fn open(&mut self, uri: Text, label: i64, text: Text) -> Result<Option<Vec<u8>>, AllocError>
+        ensures kept { OnOk result (self.new ≡ opened uri label text self.old) }
+        ensures findings { IfOk result (λ body.
+            IsAnsweredOpening uri label text self.old (option_map (λ bytes. bytes.items) body)) }
     {
         if place_of(self.documents.as_slice(), uri.as_str()).is_some() {
-            return Ok(());
+            return Ok(None);
         }
         if self.documents.len() >= DOCUMENTS_MOST {
-            return Ok(());
+            return Ok(None);
         }
         let snapshot = match Snapshot::of_text(self.alloc, text.into_string()) {
             Ok(snapshot) => snapshot,
-            Err(TextFault::TooLarge) => return Ok(()),
+            Err(TextFault::TooLarge) => return Ok(None),
             Err(TextFault::Memory) => return Err(AllocError),
         };
-        let snapshot = SharedSnapshot::new(self.alloc, snapshot)?;
-        let version = self.next_version();
-        self.documents.push(Document {
+        let document = Document {
             uri,
             label,
-            version,
-            snapshot,
-        })?;
-        self.versions = version;
-        Ok(())
+            version: self.next_version(),
+            snapshot: SharedSnapshot::new(self.alloc, snapshot)?,
+        };
+        let body = published(self.alloc, self.next_ticket(), &document)?;
+        self.documents.push(document)?;
+        self.count_version();
+        Ok(Some(body))
     }
 
-    /// Changes a document by edits, each on the text that the ones before it left. It is closed where one of these
-    /// texts is too large. Nothing happens where it isn't open.
-    #[tactic(auto, unfolding(crate::specs::Kept::changed))]
-    pub fn change(&mut self, uri: &str, label: i64, edits: &[Edit]) -> Result<(), AllocError>
-        ensures { OnOk result (self.new ≡ changed uri.now label edits.now self.old) }
+    /// Changes a document by edits, each on the text that the ones before it left, and gives the body that publishes its findings.
+    /// It is closed where one of these texts is too large. Nothing happens where it isn't open.
+    #[tactic(auto, unfolding(crate::specs::Kept::changed, crate::specs::Kept::IsAnsweredChange))]
+    pub fn change(
+        &mut self,
+        uri: &str,
+        label: i64,
+        edits: &[Edit],
+    ) -> Result<Option<Vec<u8>>, AllocError>
+        ensures kept { OnOk result (self.new ≡ changed uri.now label edits.now self.old) }
+        ensures findings { IfOk result (λ body.
+            IsAnsweredChange uri.now label edits.now self.old (option_map (λ bytes. bytes.items) body)) }
     {
         let Some(at) = place_of(self.documents.as_slice(), uri) else {
-            return Ok(());
+            return Ok(None);
         };
         let Some(document) = self.documents.get(at) else {
-            return Ok(());
+            return Ok(None);
         };
         let snapshot = match document.snapshot.get().apply(edits) {
             Ok(snapshot) => snapshot,
             Err(TextFault::TooLarge) => {
                 self.documents.remove(at);
-                return Ok(());
+                return Ok(None);
             }
             Err(TextFault::Memory) => return Err(AllocError),
         };
-        let uri = document.uri.copy()?;
-        let snapshot = SharedSnapshot::new(self.alloc, snapshot)?;
-        let version = self.next_version();
         let changed = Document {
-            uri,
+            uri: document.uri.copy()?,
             label,
-            version,
-            snapshot,
+            version: self.next_version(),
+            snapshot: SharedSnapshot::new(self.alloc, snapshot)?,
         };
+        let body = published(self.alloc, self.next_ticket(), &changed)?;
         self.documents.set(at, changed);
-        self.versions = version;
-        Ok(())
+        self.count_version();
+        Ok(Some(body))
     }
 
     /// Closes a document, if it is open.
@@ -134,6 +142,20 @@ impl Keeper {
         self.versions.saturating_add(1)
     }
 
+    fn next_ticket(&self) -> u64
+        ensures { result ≡ next_ticket self.now }
+    {
+        self.tickets.saturating_add(1)
+    }
+
+    /// Counts a version, and the job that finds what is wrong in it.
+    fn count_version(&mut self)
+        ensures { self.new ≡ record self.old { versions = next_version self.old; tickets = next_ticket self.old } }
+    {
+        self.versions = self.next_version();
+        self.tickets = self.next_ticket();
+    }
+
     /// The body that answers a request, which has the next ticket where its document is open.
     #[tactic(auto, unfolding(crate::specs::Kept::IsReplied, crate::specs::Kept::asked))]
     pub fn answer(&mut self, id: Id, uri: &str, ask: Ask) -> Result<Option<Vec<u8>>, AllocError>
@@ -144,7 +166,7 @@ impl Keeper {
         let Some(document) = document_at(self.documents.as_slice(), uri) else {
             return refusal_body(self.alloc, &id, DeskFault::NotOpen);
         };
-        let ticket = self.tickets.saturating_add(1);
+        let ticket = self.next_ticket();
         let snapshot = document.snapshot.arc()?;
         let job = Job {
             ticket,
@@ -166,6 +188,25 @@ fn replied(alloc: Global, id: Id, uri: Text, job: Job) -> Result<Vec<u8>, AllocE
         return Err(AllocError);
     }
     let body = body_of(alloc, &Out::Replied { id, uri, done })?;
+    Ok(body)
+}
+
+/// The body that publishes what is found in a document.
+fn published(alloc: Global, ticket: u64, document: &Document) -> Result<Vec<u8>, AllocError>
+    ensures { IfOk result (λ body. IsPublished document.now body.items) }
+{
+    let job = Job {
+        ticket,
+        snapshot: document.snapshot.arc()?,
+        ask: Ask::Diagnose,
+    };
+    let done = run(alloc, job);
+    if done.answer().is_err() {
+        return Err(AllocError);
+    }
+    let uri = document.uri.copy()?;
+    let label = document.label;
+    let body = body_of(alloc, &Out::Findings { uri, label, done })?;
     Ok(body)
 }
 

@@ -1,2 +1,3 @@
 pub mod NoFloats
 pub mod Changes
+pub mod WithoutCert

@@ -1,14 +1,20 @@
 -- The bodies of what is said. Members of their JSON stand in the order of their keys.
-use Rattle.std.specs.Prelude.{ℕ, List, map, codes, Option, Some, None, option_map}
-use Rattle.serde_json.specs.Data.{Data, number, string, array, object, unsigned, member, no_members}
+use Rattle.std.specs.Prelude.{ℕ, ℤ, List, map, codes, Option, Some, None, option_map}
+use Rattle.serde_json.specs.Data.{Data, Members, null, number, string, array, object, unsigned, member, no_members}
+use Rattle.serde_json.specs.Find.{of_integer}
 use Rattle.serde_json.specs.View.{items_of}
 use Rattle.serde_json.specs.Written.{compact_text}
 use Rattle.ls_text.specs.declared.position.Position.{Position}
 use Rattle.ls_text.specs.declared.position.Range.{Range}
 use Rattle.ls_rpc.specs.declared.message.Id.{Id}
-use Rattle.ls_rpc.specs.Reply.{result_json}
+use Rattle.ls_rpc.specs.Reply.{notice_json, result_json}
 use Rattle.ls_session.specs.Refusal.{error_body}
+use Rattle.abnf_lint.specs.Messages.{code_text, severity_of}
+use Rattle.abnf_lint.specs.declared.message.Severity.{Severity}
+use Rattle.abnf_lint.specs.declared.message.Severity.TheVariants.{Error, Warning}
 use Rattle.ls_answers.specs.declared.answer.Symbol.{Symbol}
+use Rattle.ls_answers.specs.declared.answer.HoverText.{HoverText}
+use Rattle.ls_answers.specs.declared.answer.Diagnostic.{Diagnostic}
 use Rattle.ls_answers.specs.declared.answer.Answer.{Answer}
 use Rattle.ls_answers.specs.declared.answer.Answer.TheVariants as answer
 use Rattle.ls_session.specs.declared.answer.Out.{Out}
@@ -47,19 +53,70 @@ location_json uri range =
 abbrev pub locations_json : List ℕ → List Range → Data
 locations_json uri ranges = array (items_of (map (location_json uri) ranges))
 
+-- a text that isn't marked up (LSP 3.17, "MarkupContent")
+abbrev pub plain_text_json : List ℕ → Data
+plain_text_json text =
+    object (member (codes "kind") (string (codes "plaintext"))
+    (member (codes "value") (string text) no_members))
+
+-- what is shown of a name (LSP 3.17, "Hover Request")
+abbrev pub hover_json : HoverText → Data
+hover_json hover =
+    object (member (codes "contents") (plain_text_json hover.text)
+    (member (codes "range") (range_json hover.range) no_members))
+
+abbrev pub hover_or_null : Option HoverText → Data
+hover_or_null None = null
+hover_or_null (Some hover) = hover_json hover
+
+-- `DiagnosticSeverity` (LSP 3.17, "Diagnostic")
+abbrev pub severity_number : Severity → ℕ
+severity_number Error = 1
+severity_number Warning = 2
+
+-- the code and the message, and no more
+abbrev pub described : Diagnostic → Members
+described diagnostic = member (codes "code") (string (code_text diagnostic.code)) (member (codes "message") (string diagnostic.message) no_members)
+
+-- what is wrong or doubtful at a place (LSP 3.17, "Diagnostic")
+abbrev pub diagnostic_json : Diagnostic → Data
+diagnostic_json diagnostic =
+    object (member (codes "code") (string (code_text diagnostic.code))
+    (member (codes "message") (string diagnostic.message)
+    (member (codes "range") (range_json diagnostic.range)
+    (member (codes "severity") (number (unsigned (severity_number (severity_of diagnostic.code))))
+    (member (codes "source") (string (codes "abnf")) no_members)))))
+
+abbrev pub diagnostics_json : List Diagnostic → Data
+diagnostics_json diagnostics = array (items_of (map diagnostic_json diagnostics))
+
 -- the result that an answer about a document is
 abbrev pub answer_json : List ℕ → Answer → Data
-answer_json uri (answer.Symbols symbols) = symbols_json symbols
+answer_json uri (answer.Hover hover) = hover_or_null hover
 answer_json uri (answer.Places ranges) = locations_json uri ranges
+answer_json uri (answer.Symbols symbols) = symbols_json symbols
+answer_json uri (answer.Findings diagnostics) = diagnostics_json diagnostics
+
+-- what is published of the document's version with this label (LSP 3.17, "PublishDiagnostics Notification")
+abbrev pub findings_json : List ℕ → ℤ → Answer → Data
+findings_json uri label answer =
+    object (member (codes "diagnostics") (answer_json uri answer)
+    (member (codes "uri") (string uri)
+    (member (codes "version") (number (of_integer label)) no_members)))
 
 -- the body that replies to a request about a document with an answer
 unfoldable pub reply_body : Id → List ℕ → Answer → List ℕ
 reply_body id uri answer = compact_text (result_json id (answer_json uri answer))
 
+-- the body that publishes what was found in a document
+unfoldable pub findings_body : List ℕ → ℤ → Answer → List ℕ
+findings_body uri label answer = compact_text (notice_json (codes "textDocument/publishDiagnostics") (findings_json uri label answer))
+
 -- the body of what waits to be said; there is none of a job that was refused memory
 unfoldable pub body_of : Out → Option (List ℕ)
 body_of (out.Said body) = Some body
 body_of (out.Replied id uri done) = option_map (reply_body id uri) done.answer
+body_of (out.Findings uri label done) = option_map (findings_body uri label) done.answer
 
 -- the body that answers a refused request, where there is one
 unfoldable pub refusal_of : Id → DeskFault → Option (List ℕ)

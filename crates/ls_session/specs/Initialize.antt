@@ -12,8 +12,9 @@ abbrev pub capabilities_json : Data
 capabilities_json =
     object (member (codes "definitionProvider") (boolean true)
     (member (codes "documentSymbolProvider") (boolean true)
+    (member (codes "hoverProvider") (boolean true)
     (member (codes "positionEncoding") (string (codes "utf-16"))
-    (member (codes "textDocumentSync") sync_json no_members))))
+    (member (codes "textDocumentSync") sync_json no_members)))))
 
 abbrev pub initialize_json : Data
 initialize_json =

@@ -14,8 +14,9 @@ abbrev pub requests : List (List ℕ × RequestKind)
 requests =
     (codes "initialize", request.Initialize) ∷
     (codes "shutdown", request.Shutdown) ∷
-    (codes "textDocument/documentSymbol", request.DocumentSymbol) ∷
-    (codes "textDocument/definition", request.Definition) ∷ []
+    (codes "textDocument/hover", request.Hover) ∷
+    (codes "textDocument/definition", request.Definition) ∷
+    (codes "textDocument/documentSymbol", request.DocumentSymbol) ∷ []
 
 abbrev pub notices : List (List ℕ × NoticeKind)
 notices =

@@ -102,8 +102,9 @@ event_of notice.Unknown params = None
 abbrev pub ask_of : RequestKind → Data → Option Ask
 ask_of request.Initialize params = None
 ask_of request.Shutdown params = None
-ask_of request.DocumentSymbol params = Some ask.Symbols
+ask_of request.Hover params = option_map ask.Hover (get (codes "position") params >>= position_of)
 ask_of request.Definition params = option_map ask.Definition (get (codes "position") params >>= position_of)
+ask_of request.DocumentSymbol params = Some ask.Symbols
 ask_of request.Unknown params = None
 
 -- the document and the question of a request

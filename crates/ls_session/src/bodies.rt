@@ -1,12 +1,13 @@
 ghost use Rattle.std.specs.Prelude.{◌≡◌, IfOk, Some, None, Ok, option_map, false};
 ghost use Rattle.serde_json.specs.View.{view};
 ghost use Rattle.serde_json.specs.Written.{has_float};
-ghost use Rattle.ls_session.specs.Bodies.{position_json, range_json, symbol_json, symbols_json, answer_json, body_of, location_json, locations_json, refusal_of, reply_body};
+ghost use Rattle.ls_session.specs.Bodies.{answer_json, body_of, findings_body, findings_json, hover_json, location_json, locations_json, plain_text_json, position_json, range_json, refusal_of, reply_body, symbol_json, symbols_json};
 
 use crate::answer::{DeskFault, Out};
+use crate::diagnostics::diagnostics_value;
 use crate::refusal::Refusal;
-use ls_answers::{Answer, Symbol};
-use ls_rpc::{Id, result_text};
+use ls_answers::{Answer, HoverText, Symbol};
+use ls_rpc::{Id, notice_text, result_text};
 use ls_text::{Position, Range};
 use serde_json::{Map, Value, put};
 use std::alloc::{AllocError as Memory, Global};
@@ -24,6 +25,9 @@ pub fn body_of(alloc: Global, out: &Out) -> Result<Vec<u8>, Memory>
     match out {
         Out::Said(body) => Vec::from_slice(alloc, body.as_slice()),
         Out::Replied { id, uri, done } => reply_body(alloc, id, uri.as_str(), done.answer()?),
+        Out::Findings { uri, label, done } => {
+            findings_body(alloc, uri.as_str(), *label, done.answer()?)
+        }
     }
 }
 
@@ -33,6 +37,14 @@ fn reply_body(alloc: Global, id: &Id, uri: &str, answer: &Answer) -> Result<Vec<
 {
     let value = answer_value(alloc, uri, answer)?;
     result_text(alloc, id, value)
+}
+
+#[tactic(auto, using(crate::proofs::NoFloats::findings_have_no_float), unfolding(crate::specs::Bodies::findings_body))]
+fn findings_body(alloc: Global, uri: &str, label: i64, answer: &Answer) -> Result<Vec<u8>, Memory>
+    ensures { IfOk result (λ body. body.items ≡ findings_body uri.now label answer.now) }
+{
+    let value = findings_value(alloc, uri, label, answer)?;
+    notice_text(alloc, "textDocument/publishDiagnostics", value)
 }
 
 /// The body that answers a request which the keeper of the documents refused. None where there is nothing to
@@ -57,9 +69,51 @@ fn answer_value(alloc: Global, uri: &str, answer: &Answer) -> Result<Value, Memo
     ensures { IfOk result (λ value. view value ≡ answer_json uri.now answer.now) }
 {
     match answer {
-        Answer::Symbols(symbols) => symbols_value(alloc, symbols.as_slice()),
+        Answer::Hover(Some(hover)) => hover_value(alloc, hover),
+        Answer::Hover(None) => Ok(Value::Null),
         Answer::Places(ranges) => locations_value(alloc, uri, ranges.as_slice()),
+        Answer::Symbols(symbols) => symbols_value(alloc, symbols.as_slice()),
+        Answer::Findings(diagnostics) => diagnostics_value(alloc, diagnostics.as_slice()),
     }
+}
+
+fn findings_value(alloc: Global, uri: &str, label: i64, answer: &Answer) -> Result<Value, Memory>
+    ensures { IfOk result (λ value. view value ≡ findings_json uri.now label answer.now) }
+{
+    let found = answer_value(alloc, uri, answer)?;
+    let uri = Value::try_from_str(alloc, uri)?;
+    let mut members = Map::new(alloc);
+    put(&mut members, alloc, "diagnostics", found)?;
+    put(&mut members, alloc, "uri", uri)?;
+    put(&mut members, alloc, "version", Value::from(label))?;
+    Ok(Value::Object(members))
+}
+
+fn hover_value(alloc: Global, hover: &HoverText) -> Result<Value, Memory>
+    ensures { IfOk result (λ value. view value ≡ hover_json hover.now) }
+{
+    let contents = plain_text_value(alloc, hover.text.as_str())?;
+    let mut members = Map::new(alloc);
+    put(&mut members, alloc, "contents", contents)?;
+    put(
+        &mut members,
+        alloc,
+        "range",
+        range_value(alloc, hover.range)?,
+    )?;
+    Ok(Value::Object(members))
+}
+
+/// `MarkupContent` of the kind `plaintext`.
+fn plain_text_value(alloc: Global, text: &str) -> Result<Value, Memory>
+    ensures { IfOk result (λ value. view value ≡ plain_text_json text.now) }
+{
+    let kind = Value::try_from_str(alloc, "plaintext")?;
+    let text = Value::try_from_str(alloc, text)?;
+    let mut members = Map::new(alloc);
+    put(&mut members, alloc, "kind", kind)?;
+    put(&mut members, alloc, "value", text)?;
+    Ok(Value::Object(members))
 }
 
 fn locations_value(alloc: Global, uri: &str, ranges: &[Range]) -> Result<Value, Memory>
@@ -106,7 +160,7 @@ fn symbol_value(alloc: Global, symbol: &Symbol) -> Result<Value, Memory>
     Ok(Value::Object(members))
 }
 
-fn range_value(alloc: Global, range: Range) -> Result<Value, Memory>
+pub(crate) fn range_value(alloc: Global, range: Range) -> Result<Value, Memory>
     ensures { IfOk result (λ value. view value ≡ range_json range) }
 {
     let mut members = Map::new(alloc);

@@ -36,6 +36,7 @@ fn capabilities_value(alloc: Global) -> Result<Value, Memory>
         "documentSymbolProvider",
         Value::from(true),
     )?;
+    put(&mut members, alloc, "hoverProvider", Value::from(true))?;
     put(&mut members, alloc, "positionEncoding", encoding)?;
     put(&mut members, alloc, "textDocumentSync", sync)?;
     Ok(Value::Object(members))

@@ -6,8 +6,9 @@ ghost use Rattle.ls_session.specs.Kind.{request_named, notice_named};
 pub enum RequestKind {
     Initialize,
     Shutdown,
-    DocumentSymbol,
+    Hover,
     Definition,
+    DocumentSymbol,
     Unknown,
 }
 
@@ -28,10 +29,12 @@ pub(crate) fn request_kind(method: &str) -> RequestKind
         RequestKind::Initialize
     } else if method == "shutdown" {
         RequestKind::Shutdown
-    } else if method == "textDocument/documentSymbol" {
-        RequestKind::DocumentSymbol
+    } else if method == "textDocument/hover" {
+        RequestKind::Hover
     } else if method == "textDocument/definition" {
         RequestKind::Definition
+    } else if method == "textDocument/documentSymbol" {
+        RequestKind::DocumentSymbol
     } else {
         RequestKind::Unknown
     }

@@ -7,6 +7,7 @@
 
 mod answer;
 mod bodies;
+mod diagnostics;
 mod event;
 mod initialize;
 mod kind;

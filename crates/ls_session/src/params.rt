@@ -164,8 +164,9 @@ fn ask(kind: RequestKind, params: &Value) -> Option<Ask>
     ensures { result ≡ ask_of kind (view params.now) }
 {
     match kind {
-        RequestKind::DocumentSymbol => Some(Ask::Symbols),
+        RequestKind::Hover => Some(Ask::Hover(position(params.get("position")?)?)),
         RequestKind::Definition => Some(Ask::Definition(position(params.get("position")?)?)),
+        RequestKind::DocumentSymbol => Some(Ask::Symbols),
         RequestKind::Initialize | RequestKind::Shutdown | RequestKind::Unknown => None,
     }
 }

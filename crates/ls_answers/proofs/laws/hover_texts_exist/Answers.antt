@@ -1,4 +1,4 @@
-use Rattle.ls_answers.proofs.Hovers.{some_hover_text}
+use Rattle.ls_answers.proofs.HoverTexts.{some_hover_text}
 use Rattle.ls_answers.proofs.laws.hover_texts_exist.Goals as goal
 
 pub returns : goal.returns

@@ -1,0 +1,53 @@
+//! What is wrong or doubtful in a text, as a client is told.
+ghost use Rattle.std.specs.Prelude.{◌≡◌, IfOk, map};
+ghost use Rattle.abnf_lint.specs.Findings.{AreFindings};
+ghost use Rattle.ls_answers.specs.Diagnostics.{AreDiagnostics, diagnostic_of};
+
+use crate::answer::Diagnostic;
+use abnf_least::least;
+use abnf_lint::{Finding, findings};
+use abnf_names::Grammar;
+use ls_lists::List;
+use ls_text::Snapshot;
+use std::alloc::{AllocError as Memory, Global};
+
+/// What is found in a text, in its order.
+///
+/// `Memory` says that an allocation was refused.
+pub fn diagnostics(alloc: Global, grammar: &Grammar) -> Result<List<Diagnostic>, Memory>
+    ensures { IfOk result (λ diagnostics. AreDiagnostics grammar.now.text diagnostics) }
+{
+    let found = found_in(alloc, grammar)?;
+    told(alloc, grammar.source(), found.as_slice())
+}
+
+/// The findings of a grammar's text.
+fn found_in(alloc: Global, grammar: &Grammar) -> Result<List<Finding>, Memory>
+    ensures { IfOk result (λ found. AreFindings grammar.now.text found) }
+{
+    let cert = least(alloc, grammar)?;
+    findings(alloc, grammar, &cert)
+}
+
+/// Findings with their ranges and messages.
+fn told(alloc: Global, snapshot: &Snapshot, found: &[Finding]) -> Result<List<Diagnostic>, Memory>
+    ensures { IfOk result (λ diagnostics. diagnostics ≡ map (diagnostic_of snapshot.now) found.now) }
+{
+    let mut diagnostics = List::new(alloc);
+    for finding in found {
+        diagnostics.push(diagnostic(alloc, snapshot, finding)?)?;
+    }
+    Ok(diagnostics)
+}
+
+/// A finding with its range and its message.
+fn diagnostic(alloc: Global, snapshot: &Snapshot, finding: &Finding) -> Result<Diagnostic, Memory>
+    ensures { IfOk result (λ diagnostic. diagnostic ≡ diagnostic_of snapshot.now finding.now) }
+{
+    let message = finding.message(alloc)?;
+    Ok(Diagnostic {
+        range: snapshot.range_of(&finding.place),
+        code: finding.code,
+        message,
+    })
+}
