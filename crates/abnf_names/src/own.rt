@@ -7,6 +7,7 @@ ghost use Rattle.abnf_parts.specs.Names.{with_name};
 ghost use Rattle.abnf_names.specs.Places.{Named, places_of};
 ghost use Rattle.abnf_names.specs.Passes as spec;
 ghost use Rattle.abnf_names.specs.Excerpts as excerpts;
+ghost use Rattle.abnf_parts.specs.Core.{core_rules, is_needed};
 ghost use Rattle.abnf_parts.specs.CoreTable as table;
 
 use crate::definition::Definition;
@@ -162,6 +163,18 @@ fn unknown_names<'t>(
     Ok(names)
 }
 
+/// The core rules that are needed for the names that stand in the text and that no block defines.
+fn needed_for<'t>(
+    alloc: Global,
+    own: &Names<'t>,
+    spots: &[Spot<'t>],
+) -> Result<List<Core>, AllocError>
+    ensures { IfOk result (λ needed. map table.core_of needed ≡ filter (is_needed (fold with_name [] (filter (spec.is_unknown own.now) (map spec.spot_name spots.now)))) core_rules) }
+{
+    let unknown = unknown_names(alloc, own, spots)?;
+    needed_rules(alloc, &unknown)
+}
+
 /// The names of the rules of the text and of the core rules that it needs, and these core rules.
 pub(crate) fn rule_names<'t>(
     alloc: Global,
@@ -173,8 +186,7 @@ pub(crate) fn rule_names<'t>(
     ensures needed { IfOk result (λ r. map table.core_of r.1 ≡ needed (map spec.block_of parsed.now)) }
 {
     let own = own_names(alloc, parsed)?;
-    let unknown = unknown_names(alloc, &own, spots)?;
-    let needed = needed_rules(alloc, &unknown)?;
+    let needed = needed_for(alloc, &own, spots)?;
     let core = core_names(alloc, needed.as_slice())?;
     Ok((RuleNames::new(own, core), needed))
 }

@@ -1,223 +1,250 @@
 //! Texts with their blocks and faults, written out by hand.
 
-use abnf_syntax::{Block, SyntaxFault, blocks, parse_block};
-use ls_text::{Place, Snapshot};
-use std::alloc::Global;
-use std::test::Fail;
+ghost use Rattle.std.specs.Prelude.{◌<◌, length};
 
-fn snapshot(alloc: Global, text: &str) -> Result<Snapshot, Fail> {
-    Ok(Snapshot::of_text(alloc, String::from_str(alloc, text)?)?)
+use super::texts::snapshot;
+use abnf_syntax::{Block, Item, SyntaxFault, blocks, parse_block};
+use ls_text::{Place, TextFault};
+use std::alloc::{AllocError, Global};
+
+/// An item: its text, its line, where it starts there, and whether something stands between it and the one before.
+type Row = (&'static str, usize, usize, bool);
+
+/// What is wanted of the first block of a text.
+#[derive(Clone, Copy)]
+enum Want {
+    /// It has the fault with this name, in the first line from one byte up to another.
+    Fault(&'static str, usize, usize),
+    /// It has no fault.
+    NoFault,
+    /// It has these items.
+    Items(&'static [Row]),
+    /// At its head stands this name, and whether `=/` follows it; `None` where there is no head.
+    Head(Option<(&'static str, bool)>),
 }
 
-/// A place in the first line.
-fn place(start: usize, end: usize) -> Place {
-    Place {
-        line: 0,
-        start,
-        end,
+fn is_fault(fault: SyntaxFault, name: &str, place: Place) -> bool {
+    match fault {
+        SyntaxFault::NoName(at) => name == "NoName" && at == place,
+        SyntaxFault::NoDefinedAs(at) => name == "NoDefinedAs" && at == place,
+        SyntaxFault::BadToken(at) => name == "BadToken" && at == place,
+        SyntaxFault::ElementExpected(at) => name == "ElementExpected" && at == place,
+        SyntaxFault::BlankExpected(at) => name == "BlankExpected" && at == place,
+        SyntaxFault::Unclosed(at) => name == "Unclosed" && at == place,
+        SyntaxFault::NumberTooLarge(at) => name == "NumberTooLarge" && at == place,
+        SyntaxFault::TooDeep(at) => name == "TooDeep" && at == place,
+        SyntaxFault::Memory => false,
     }
 }
 
-/// The fault of a text's first block.
-fn fault_of(alloc: Global, text: &str) -> Result<Option<SyntaxFault>, Fail> {
-    let snapshot = snapshot(alloc, text)?;
-    let found = blocks(alloc, &snapshot)?;
+fn fault_of(alloc: Global, block: &Block<'_>) -> Option<SyntaxFault>
+    requires { 0 < length block.now.items }
+{
+    parse_block(alloc, block).err()
+}
+
+fn has_fault(alloc: Global, block: &Block<'_>, name: &str, place: Place) -> bool
+    requires { 0 < length block.now.items }
+{
+    match fault_of(alloc, block) {
+        Some(fault) => is_fault(fault, name, place),
+        None => false,
+    }
+}
+
+fn is_item(item: &Item<'_>, row: Row) -> bool {
+    let token = item.token;
+    (token.text, token.line, token.start, item.apart) == row
+}
+
+fn are_items(items: &[Item<'_>], rows: &[Row]) -> bool {
+    let mut count = 0;
+    for row in rows {
+        match items.get(count) {
+            Some(item) if is_item(item, *row) => count += 1,
+            _ => return false,
+        }
+    }
+    count == items.len()
+}
+
+fn has_head(block: &Block<'_>, want: Option<(&str, bool)>) -> bool {
+    match (block.head(), want) {
+        (Some(head), Some((name, adds))) => head.name.text == name && head.adds == adds,
+        (None, None) => true,
+        _ => false,
+    }
+}
+
+/// Whether a block is so.
+fn is_so(alloc: Global, block: &Block<'_>, want: Want) -> bool
+    requires { 0 < length block.now.items }
+{
+    match want {
+        Want::Fault(name, start, end) => has_fault(
+            alloc,
+            block,
+            name,
+            Place {
+                line: 0,
+                start,
+                end,
+            },
+        ),
+        Want::NoFault => fault_of(alloc, block).is_none(),
+        Want::Items(rows) => are_items(block.items.as_slice(), rows),
+        Want::Head(head) => has_head(block, head),
+    }
+}
+
+/// Whether this is so of the first block of a text.
+fn holds(alloc: Global, text: &str, want: Want) -> Result<bool, TextFault> {
+    let text = snapshot(alloc, text)?;
+    let found = blocks(alloc, &text)?;
     match found.first() {
-        None => Ok(None),
-        Some(block) => match parse_block(alloc, block) {
-            Ok(_) => Ok(None),
-            Err(fault) => Ok(Some(fault)),
-        },
+        Some(block) => Ok(is_so(alloc, block, want)),
+        None => Ok(false),
     }
 }
 
+/// Texts, and what is wanted of the first block of each.
+const TEXTS: &[(&str, Want)] = &[
+    ("= \"x\"", Want::Fault("NoName", 0, 1)),
+    ("a \"x\"", Want::Fault("NoDefinedAs", 2, 5)),
+    ("a =", Want::Fault("ElementExpected", 3, 3)),
+    ("a = 2 \"x\"", Want::Fault("ElementExpected", 4, 5)),
+    ("a = \"x\"\"y\"", Want::Fault("BlankExpected", 7, 10)),
+    ("a = (b", Want::Fault("Unclosed", 4, 5)),
+    ("a = %x100000000", Want::Fault("NumberTooLarge", 4, 15)),
+    ("a = ?", Want::Fault("BadToken", 4, 5)),
+    ("a = 2(b", Want::Fault("Unclosed", 5, 6)),
+    ("a = 2]", Want::Fault("ElementExpected", 4, 5)),
+    // an end after blanks and comments
+    ("a", Want::Fault("NoDefinedAs", 1, 1)),
+    ("a = ; c", Want::Fault("ElementExpected", 3, 3)),
+    ("a = \"x\" / ", Want::Fault("ElementExpected", 9, 9)),
+    // brackets
+    ("a = (", Want::Fault("ElementExpected", 5, 5)),
+    ("a = ()", Want::Fault("ElementExpected", 5, 6)),
+    ("a = (b]", Want::Fault("Unclosed", 4, 5)),
+    ("a = b)", Want::Fault("ElementExpected", 5, 6)),
+    ("a = b = c", Want::Fault("ElementExpected", 6, 7)),
+    // the least of two faults
+    ("? = \"x\"", Want::Fault("NoName", 0, 1)),
+    ("a ? \"x\"", Want::Fault("NoDefinedAs", 2, 3)),
+    ("a = 2?", Want::Fault("ElementExpected", 4, 5)),
+    ("a = \"x\"2?", Want::Fault("ElementExpected", 7, 8)),
+    ("a = 4294967296?", Want::Fault("ElementExpected", 4, 14)),
+    ("a = \"x\"%x100000000", Want::Fault("BlankExpected", 7, 18)),
+    ("a = 4294967296\"x\"", Want::Fault("NumberTooLarge", 4, 14)),
+    ("a = %d1.2.4294967296", Want::Fault("NumberTooLarge", 4, 20)),
+    // items know what stands before them
+    (
+        " a=b;c\n \t2( d\n  );e\n",
+        Want::Items(&[
+            ("a", 0, 1, false),
+            ("=", 0, 2, false),
+            ("b", 0, 3, false),
+            ("2", 1, 2, true),
+            ("(", 1, 3, false),
+            ("d", 1, 5, true),
+            (")", 2, 2, true),
+        ]),
+    ),
+    ("a = \"x\"", Want::Head(Some(("a", false)))),
+    ("a\n  =/ ?", Want::Head(Some(("a", true)))),
+    ("a", Want::Head(None)),
+    ("a \"x\"", Want::Head(None)),
+    ("= \"x\"", Want::Head(None)),
+    ("\"a\" = \"x\"", Want::Head(None)),
+];
+
 #[test]
-fn each_fault(rt: HostRuntime) -> Result<(), Fail> {
-    let rows = [
-        ("= \"x\"", SyntaxFault::NoName(place(0, 1))),
-        ("a \"x\"", SyntaxFault::NoDefinedAs(place(2, 5))),
-        ("a =", SyntaxFault::ElementExpected(place(3, 3))),
-        ("a = 2 \"x\"", SyntaxFault::ElementExpected(place(4, 5))),
-        ("a = \"x\"\"y\"", SyntaxFault::BlankExpected(place(7, 10))),
-        ("a = (b", SyntaxFault::Unclosed(place(4, 5))),
-        ("a = %x100000000", SyntaxFault::NumberTooLarge(place(4, 15))),
-        ("a = ?", SyntaxFault::BadToken(place(4, 5))),
-        ("a = 2(b", SyntaxFault::Unclosed(place(5, 6))),
-        ("a = 2]", SyntaxFault::ElementExpected(place(4, 5))),
-        // an end after blanks and comments
-        ("a", SyntaxFault::NoDefinedAs(place(1, 1))),
-        ("a = ; c", SyntaxFault::ElementExpected(place(3, 3))),
-        ("a = \"x\" / ", SyntaxFault::ElementExpected(place(9, 9))),
-        // brackets
-        ("a = (", SyntaxFault::ElementExpected(place(5, 5))),
-        ("a = ()", SyntaxFault::ElementExpected(place(5, 6))),
-        ("a = (b]", SyntaxFault::Unclosed(place(4, 5))),
-        ("a = b)", SyntaxFault::ElementExpected(place(5, 6))),
-        ("a = b = c", SyntaxFault::ElementExpected(place(6, 7))),
-    ];
-    for (text, want) in rows {
-        assert_eq!(rt; fault_of(rt.alloc(), text)?, Some(want), "{text}");
+fn blocks_of_texts(rt: HostRuntime) -> Result<(), TextFault> {
+    for (text, want) in TEXTS {
+        assert!(rt; holds(rt.alloc(), text, *want)?, "{text}");
     }
     Ok(())
 }
 
+/// Whether these are the first lines of blocks, and the lines after their last ones.
+fn are_bounds(found: &[Block<'_>], rows: &[(usize, usize)]) -> bool {
+    let mut count = 0;
+    for row in rows {
+        match found.get(count) {
+            Some(block) if (block.first, block.end) == *row => count += 1,
+            _ => return false,
+        }
+    }
+    count == found.len()
+}
+
+fn has_bounds(alloc: Global, text: &str, rows: &[(usize, usize)]) -> Result<bool, TextFault> {
+    let text = snapshot(alloc, text)?;
+    Ok(are_bounds(blocks(alloc, &text)?.as_slice(), rows))
+}
+
+/// Texts that are cut at the indent of the first rule.
+const CUTS: &[(&str, &[(usize, usize)])] = &[
+    (
+        "   a = \"x\"\n     / \"y\"\n  b = \"z\"\n   c = \"w\"",
+        &[(0, 2), (2, 3), (3, 4)],
+    ),
+    // blanks and comments set no indent, and belong to the block before
+    ("; c\n\n a = \"x\"\n; d\n\n b = \"y\"\n", &[(2, 5), (5, 7)]),
+    // a tab counts as one
+    ("\ta = \"x\"\n  / \"y\"\n b = \"z\"", &[(0, 2), (2, 3)]),
+    ("", &[]),
+    (" ; c\n \n", &[]),
+    (" a=b;c\n \t2( d\n  );e\n", &[(0, 4)]),
+];
+
 #[test]
-fn the_least_of_two_faults(rt: HostRuntime) -> Result<(), Fail> {
-    let rows = [
-        ("? = \"x\"", SyntaxFault::NoName(place(0, 1))),
-        ("a ? \"x\"", SyntaxFault::NoDefinedAs(place(2, 3))),
-        ("a = 2?", SyntaxFault::ElementExpected(place(4, 5))),
-        ("a = \"x\"2?", SyntaxFault::ElementExpected(place(7, 8))),
-        (
-            "a = 4294967296?",
-            SyntaxFault::ElementExpected(place(4, 14)),
-        ),
-        (
-            "a = \"x\"%x100000000",
-            SyntaxFault::BlankExpected(place(7, 18)),
-        ),
-        (
-            "a = 4294967296\"x\"",
-            SyntaxFault::NumberTooLarge(place(4, 14)),
-        ),
-        (
-            "a = %d1.2.4294967296",
-            SyntaxFault::NumberTooLarge(place(4, 20)),
-        ),
-    ];
-    for (text, want) in rows {
-        assert_eq!(rt; fault_of(rt.alloc(), text)?, Some(want), "{text}");
+fn cuts_of_texts(rt: HostRuntime) -> Result<(), TextFault> {
+    for (text, rows) in CUTS {
+        assert!(rt; has_bounds(rt.alloc(), text, rows)?, "{text}");
     }
     Ok(())
 }
 
-/// `a = `, and a text so many times, and what is put between, and another text so many times.
-fn nested(
-    alloc: Global,
-    open: &str,
-    times: usize,
-    between: &str,
-    close: &str,
-) -> Result<String, Fail> {
+/// Adds a text so many times.
+fn push_times(text: &mut String, piece: &str, times: usize) -> Result<(), AllocError> {
+    for _ in 0..times {
+        text.push_str(piece)?;
+    }
+    Ok(())
+}
+
+/// A text so many times, what is put between, and another text so many times.
+type Nested = (&'static str, usize, &'static str, &'static str);
+
+/// `a = `, and nested brackets.
+fn nested(alloc: Global, row: Nested) -> Result<String, AllocError> {
+    let (open, times, between, close) = row;
     let mut text = String::from_str(alloc, "a = ")?;
-    for _ in 0..times {
-        text.push_str(open)?;
-    }
+    push_times(&mut text, open, times)?;
     text.push_str(between)?;
-    for _ in 0..times {
-        text.push_str(close)?;
-    }
+    push_times(&mut text, close, times)?;
     Ok(text)
 }
 
-/// The fault of such a text.
-fn nested_fault(
-    alloc: Global,
-    open: &str,
-    times: usize,
-    between: &str,
-    close: &str,
-) -> Result<Option<SyntaxFault>, Fail> {
-    fault_of(alloc, nested(alloc, open, times, between, close)?.as_str())
-}
+/// Brackets nest 64 deep and no deeper.
+const NESTED: &[(Nested, Want)] = &[
+    (("(", 64, "\"x\"", ")"), Want::NoFault),
+    (("([", 32, "\"x\"", "])"), Want::NoFault),
+    (("(", 65, "", ""), Want::Fault("TooDeep", 68, 69)),
+    (("([", 32, "(", ""), Want::Fault("TooDeep", 68, 69)),
+    (
+        ("(", 64, "\"x\"(", ""),
+        Want::Fault("BlankExpected", 71, 72),
+    ),
+];
 
 #[test]
-fn nests_64_deep(rt: HostRuntime) -> Result<(), Fail> {
-    let a = rt.alloc();
-    assert!(rt; nested_fault(a, "(", 64, "\"x\"", ")")?.is_none());
-    assert!(rt; nested_fault(a, "([", 32, "\"x\"", "])")?.is_none());
-    Ok(())
-}
-
-#[test]
-fn nests_no_deeper(rt: HostRuntime) -> Result<(), Fail> {
-    let a = rt.alloc();
-    let too_deep = Some(SyntaxFault::TooDeep(place(68, 69)));
-    assert_eq!(rt; nested_fault(a, "(", 65, "", "")?, too_deep);
-    assert_eq!(rt; nested_fault(a, "([", 32, "(", "")?, too_deep);
-    let joined = Some(SyntaxFault::BlankExpected(place(71, 72)));
-    assert_eq!(rt; nested_fault(a, "(", 64, "\"x\"(", "")?, joined);
-    Ok(())
-}
-
-/// The first lines and ends of these blocks.
-fn bounds(alloc: Global, found: &[Block<'_>]) -> Result<Vec<(usize, usize)>, Fail> {
-    let mut bounds = Vec::new(alloc);
-    for block in found {
-        bounds.push((block.first, block.end))?;
-    }
-    Ok(bounds)
-}
-
-#[test]
-fn cuts_at_the_indent_of_the_first_rule(rt: HostRuntime) -> Result<(), Fail> {
-    let rows = [
-        (
-            "   a = \"x\"\n     / \"y\"\n  b = \"z\"\n   c = \"w\"",
-            &[(0, 2), (2, 3), (3, 4)][..],
-        ),
-        // blanks and comments set no indent, and belong to the block before
-        ("; c\n\n a = \"x\"\n; d\n\n b = \"y\"\n", &[(2, 5), (5, 7)]),
-        // a tab counts as one
-        ("\ta = \"x\"\n  / \"y\"\n b = \"z\"", &[(0, 2), (2, 3)]),
-        ("", &[]),
-        (" ; c\n \n", &[]),
-    ];
-    for (text, want) in rows {
-        let snapshot = snapshot(rt.alloc(), text)?;
-        let found = blocks(rt.alloc(), &snapshot)?;
-        assert_eq!(rt; bounds(rt.alloc(), &found)?.as_slice(), want, "{text}");
-    }
-    Ok(())
-}
-
-#[test]
-fn items_know_what_stands_before(rt: HostRuntime) -> Result<(), Fail> {
-    let text = snapshot(rt.alloc(), " a=b;c\n \t2( d\n  );e\n")?;
-    let found = blocks(rt.alloc(), &text)?;
-    let want = [
-        ("a", 0, 1, false),
-        ("=", 0, 2, false),
-        ("b", 0, 3, false),
-        ("2", 1, 2, true),
-        ("(", 1, 3, false),
-        ("d", 1, 5, true),
-        (")", 2, 2, true),
-    ];
-    assert_eq!(rt; found.len(), 1);
-    for block in &found {
-        assert_eq!(rt; block.items.len(), want.len());
-        for (item, row) in block.items.as_slice().iter().zip(want.iter()) {
-            let token = item.token;
-            let seen = (token.text, token.line, token.start, item.apart);
-            assert_eq!(rt; seen, *row);
-        }
-    }
-    Ok(())
-}
-
-/// The name at the head of a text's first block, and whether `=/` follows it.
-fn head_of<'t>(alloc: Global, snapshot: &'t Snapshot) -> Result<Option<(&'t str, bool)>, Fail> {
-    let found = blocks(alloc, snapshot)?;
-    match found.first() {
-        None => Ok(None),
-        Some(block) => Ok(block.head().map(|head| (head.name.text, head.adds))),
-    }
-}
-
-#[test]
-fn finds_heads(rt: HostRuntime) -> Result<(), Fail> {
-    let rows = [
-        ("a = \"x\"", Some(("a", false))),
-        ("a\n  =/ ?", Some(("a", true))),
-        ("a", None),
-        ("a \"x\"", None),
-        ("= \"x\"", None),
-        ("\"a\" = \"x\"", None),
-    ];
-    for (text, want) in rows {
-        let snapshot = snapshot(rt.alloc(), text)?;
-        assert_eq!(rt; head_of(rt.alloc(), &snapshot)?, want, "{text}");
+fn nested_brackets(rt: HostRuntime) -> Result<(), TextFault> {
+    for (row, want) in NESTED {
+        let text = nested(rt.alloc(), *row)?;
+        assert!(rt; holds(rt.alloc(), text.as_str(), *want)?, "{text}");
     }
     Ok(())
 }

@@ -1,7 +1,7 @@
 //! Frames as bytes, and that calls succeed with ample memory.
 
 use ls_frame::{FrameFault, Framer, write_frame};
-use std::test::Fail;
+use std::alloc::{AllocError, Global};
 
 /// Takes a piece, and once more where memory was refused, which leaves all as it was.
 fn feed(framer: &mut Framer, piece: &[u8], out: &mut Vec<Vec<u8>>) -> Result<usize, FrameFault> {
@@ -11,114 +11,167 @@ fn feed(framer: &mut Framer, piece: &[u8], out: &mut Vec<Vec<u8>>) -> Result<usi
     }
 }
 
+/// A piece, what it gives, and whether the stream may end behind it.
+type Step<'b> = (&'b [u8], Result<usize, FrameFault>, Result<(), FrameFault>);
+
+/// Whether these are the contents of frames.
+fn are_contents(out: &[Vec<u8>], contents: &[&[u8]]) -> bool {
+    let mut count = 0;
+    for content in contents {
+        match out.get(count) {
+            Some(one) if one.as_slice() == *content => count += 1,
+            _ => return false,
+        }
+    }
+    out.len() == count
+}
+
+fn takes_step(framer: &mut Framer, out: &mut Vec<Vec<u8>>, step: Step<'_>) -> bool {
+    let (piece, given, end) = step;
+    feed(framer, piece, out) == given && framer.end() == end
+}
+
+/// Whether a stream gives what stands beside each of its pieces, and all in all frames with these contents.
+fn takes(alloc: Global, steps: &[Step<'_>], contents: &[&[u8]]) -> bool {
+    let mut framer = Framer::new(alloc);
+    let mut out = Vec::new(alloc);
+    if framer.end() != Ok(()) {
+        return false;
+    }
+    for step in steps {
+        if !takes_step(&mut framer, &mut out, *step) {
+            return false;
+        }
+    }
+    are_contents(out.as_slice(), contents)
+}
+
+/// Streams, and the contents of their frames.
+const STREAMS: &[(&[Step<'static>], &[&[u8]])] = &[
+    // a frame in pieces
+    (
+        &[
+            (b"", Ok(0), Ok(())),
+            (b"Content-Length: 0", Ok(0), Err(FrameFault::Truncated)),
+            (b"2\r\n\r\n{", Ok(0), Err(FrameFault::Truncated)),
+            (b"}", Ok(1), Ok(())),
+        ],
+        &[b"{}"],
+    ),
+    // other forms of header parts
+    (
+        &[(
+            b"content-length:  002 \r\n\r\nabX-Other: y\r\nContent-Length:0\r\n\r\n",
+            Ok(2),
+            Ok(()),
+        )],
+        &[b"ab", b""],
+    ),
+    // the largest content
+    (
+        &[(
+            b"Content-Length: 16777216\r\n\r\n",
+            Ok(0),
+            Err(FrameFault::Truncated),
+        )],
+        &[],
+    ),
+    // frames before a fault, which stays
+    (
+        &[
+            (
+                b"Content-Length: 1\r\n\r\naContent-Length: 0\r\n\r\nContent-Type: x\r\n\r\n",
+                Err(FrameFault::NoLength),
+                Err(FrameFault::NoLength),
+            ),
+            (
+                b"Content-Length: 0\r\n\r\n",
+                Err(FrameFault::NoLength),
+                Err(FrameFault::NoLength),
+            ),
+        ],
+        &[b"a", b""],
+    ),
+];
+
 #[test]
-fn takes_a_frame_in_pieces(rt: HostRuntime) -> Result<(), Fail> {
-    let mut framer = Framer::new(rt.alloc());
-    let mut out = Vec::new(rt.alloc());
-    assert_eq!(rt; framer.end(), Ok(()));
-    assert_eq!(rt; feed(&mut framer, b"Content-Length: 0", &mut out), Ok(0));
-    assert_eq!(rt; feed(&mut framer, b"2\r\n\r\n{", &mut out), Ok(0));
-    assert_eq!(rt; framer.end(), Err(FrameFault::Truncated));
-    assert_eq!(rt; feed(&mut framer, b"}", &mut out), Ok(1));
-    assert_eq!(rt; out.len(), 1);
-    assert!(rt; out[0].as_slice() == b"{}".as_slice());
-    assert_eq!(rt; framer.end(), Ok(()));
-    Ok(())
+fn streams(rt: HostRuntime) {
+    for (steps, contents) in STREAMS {
+        assert!(rt; takes(rt.alloc(), steps, contents));
+    }
+}
+
+/// Header parts of these bytes alone, and their faults.
+const FAULTS: &[(&str, FrameFault)] = &[
+    ("Content-Type: x\r\n\r\n", FrameFault::NoLength),
+    ("Content-Length: -1\r\n\r\n", FrameFault::BadLength),
+    ("Content-Length: 16777217\r\n\r\n", FrameFault::TooLarge),
+    ("Content-Length 2\r\n\r\n", FrameFault::BadHeader),
+    ("Content-Length: 2\n\r\n", FrameFault::BadHeader),
+    (
+        "Content-Length: 2\r\nContent-Length: 2\r\n\r\n",
+        FrameFault::TwoLengths,
+    ),
+];
+
+/// Whether a stream that begins so has a fault, and no frame.
+fn has_fault(alloc: Global, piece: &[u8], fault: FrameFault) -> bool {
+    takes(alloc, &[(piece, Err(fault), Err(fault))], &[])
 }
 
 #[test]
-fn accepts_other_forms(rt: HostRuntime) -> Result<(), Fail> {
-    let mut framer = Framer::new(rt.alloc());
-    let mut out = Vec::new(rt.alloc());
-    let piece = b"content-length:  002 \r\n\r\nabX-Other: y\r\nContent-Length:0\r\n\r\n";
-    assert_eq!(rt; feed(&mut framer, piece, &mut out), Ok(2));
-    assert_eq!(rt; out.len(), 2);
-    assert!(rt; out[0].as_slice() == b"ab".as_slice());
-    assert!(rt; out[1].is_empty());
-    Ok(())
+fn faults(rt: HostRuntime) {
+    for (piece, fault) in FAULTS {
+        assert!(rt; has_fault(rt.alloc(), piece.as_bytes(), *fault), "{piece}");
+    }
 }
 
-#[test]
-fn takes_the_largest(rt: HostRuntime) -> Result<(), Fail> {
-    // 4,096 bytes of header part: 19 and 2 around a field of 4,075
-    let mut header = Vec::from_slice(rt.alloc(), b"Content-Length: 0\r\na:")?;
-    header.extend_from_slice([b' '; 4071].as_slice())?;
+/// The start of a header part, and so many more bytes.
+fn long(alloc: Global, start: &[u8], byte: u8, count: usize) -> Result<Vec<u8>, AllocError> {
+    let mut bytes = Vec::from_slice(alloc, start)?;
+    for _ in 0..count {
+        bytes.push(byte)?;
+    }
+    Ok(bytes)
+}
+
+/// Whether the largest header part is taken: 4,096 bytes, of which 19 and 2 stand around a field of 4,075.
+fn takes_the_largest(alloc: Global) -> Result<bool, AllocError> {
+    let mut header = long(alloc, b"Content-Length: 0\r\na:", b' ', 4_071)?;
     header.extend_from_slice(b"\r\n\r\n")?;
-    assert_eq!(rt; header.len(), 4096);
-    let mut framer = Framer::new(rt.alloc());
-    let mut out = Vec::new(rt.alloc());
-    assert_eq!(rt; feed(&mut framer, &header, &mut out), Ok(1));
-    assert_eq!(rt;
-        feed(&mut framer, b"Content-Length: 16777216\r\n\r\n", &mut out),
-        Ok(0)
-    );
-    assert_eq!(rt; framer.end(), Err(FrameFault::Truncated));
-    Ok(())
+    Ok(header.len() == 4_096 && gives_one(alloc, &header))
+}
+
+/// Whether a stream is one frame without content.
+fn gives_one(alloc: Global, bytes: &[u8]) -> bool {
+    takes(alloc, &[(bytes, Ok(1), Ok(()))], &[b""])
+}
+
+/// Whether a header part that doesn't end is refused after so many bytes.
+fn refuses_long(alloc: Global) -> Result<bool, AllocError> {
+    let header = long(alloc, b"a", b'a', 4_095)?;
+    Ok(has_fault(alloc, &header, FrameFault::HeaderTooLong))
 }
 
 #[test]
-fn names_faults(rt: HostRuntime) -> Result<(), Fail> {
-    let rows = [
-        (b"Content-Type: x\r\n\r\n".as_slice(), FrameFault::NoLength),
-        (
-            b"Content-Length: -1\r\n\r\n".as_slice(),
-            FrameFault::BadLength,
-        ),
-        (
-            b"Content-Length: 16777217\r\n\r\n".as_slice(),
-            FrameFault::TooLarge,
-        ),
-        (
-            b"Content-Length 2\r\n\r\n".as_slice(),
-            FrameFault::BadHeader,
-        ),
-        (b"Content-Length: 2\n\r\n".as_slice(), FrameFault::BadHeader),
-        (
-            b"Content-Length: 2\r\nContent-Length: 2\r\n\r\n".as_slice(),
-            FrameFault::TwoLengths,
-        ),
-        ([b'a'; 4096].as_slice(), FrameFault::HeaderTooLong),
-    ];
-    for (piece, fault) in rows {
-        let mut framer = Framer::new(rt.alloc());
-        let mut out = Vec::new(rt.alloc());
-        assert_eq!(rt; feed(&mut framer, piece, &mut out), Err(fault));
-        assert!(rt; out.is_empty());
-        assert_eq!(rt; framer.end(), Err(fault));
+fn long_header_parts(rt: HostRuntime) -> Result<(), AllocError> {
+    assert!(rt; takes_the_largest(rt.alloc())?);
+    assert!(rt; refuses_long(rt.alloc())?);
+    Ok(())
+}
+
+/// Writes a frame behind other bytes, and once more where memory was refused, which leaves them as they were.
+fn written(alloc: Global, out: &mut Vec<u8>) -> bool {
+    if write_frame(alloc, b"{}", out).is_ok() {
+        return true;
     }
-    Ok(())
+    out.as_slice() == b"x".as_slice() && write_frame(alloc, b"{}", out).is_ok()
 }
 
 #[test]
-fn gives_the_frames_before_a_fault(rt: HostRuntime) -> Result<(), Fail> {
-    let mut framer = Framer::new(rt.alloc());
-    let mut out = Vec::new(rt.alloc());
-    let piece = b"Content-Length: 1\r\n\r\naContent-Length: 0\r\n\r\nContent-Type: x\r\n\r\n";
-    assert_eq!(rt;
-        feed(&mut framer, piece, &mut out),
-        Err(FrameFault::NoLength)
-    );
-    assert_eq!(rt; out.len(), 2);
-    assert!(rt; out[0].as_slice() == b"a".as_slice());
-    assert!(rt; out[1].is_empty());
-    assert_eq!(rt;
-        feed(&mut framer, b"Content-Length: 0\r\n\r\n", &mut out),
-        Err(FrameFault::NoLength)
-    );
-    assert_eq!(rt; framer.end(), Err(FrameFault::NoLength));
-    assert_eq!(rt; out.len(), 2);
-    Ok(())
-}
-
-#[test]
-fn writes_a_frame(rt: HostRuntime) -> Result<(), Fail> {
+fn writes_a_frame(rt: HostRuntime) -> Result<(), AllocError> {
     let mut out = Vec::from_slice(rt.alloc(), b"x")?;
-    let mut written = write_frame(rt.alloc(), b"{}", &mut out);
-    if written == Err(FrameFault::Memory) {
-        assert!(rt; out.as_slice() == b"x".as_slice());
-        written = write_frame(rt.alloc(), b"{}", &mut out);
-    }
-    assert_eq!(rt; written, Ok(()));
+    assert!(rt; written(rt.alloc(), &mut out));
     assert!(rt; out.as_slice() == b"xContent-Length: 2\r\n\r\n{}".as_slice());
     Ok(())
 }

@@ -1,31 +1,61 @@
 use ls_lists::{List, Text};
-use std::test::Fail;
+use std::alloc::{AllocError, Global};
 
-#[test]
-fn texts(rt: HostRuntime) -> Result<(), Fail> {
-    let text = Text::from_str(rt.alloc(), "abc")?;
-    assert_eq!(rt; text.len(), 3);
-    assert!(rt; !text.is_empty());
-    assert_eq!(rt; text.copy()?.as_str(), "abc");
-    let again = Text::new(text.into_string());
-    assert_eq!(rt; again.as_str(), "abc");
-    Ok(())
+/// Whether a text is this one, of three bytes.
+fn is_text(text: &Text, want: &str) -> bool {
+    text.as_str() == want && text.len() == 3 && !text.is_empty()
 }
 
 #[test]
-fn lists(rt: HostRuntime) -> Result<(), Fail> {
-    let mut list = List::from_slice(rt.alloc(), &[1u8, 2, 3])?;
+fn texts(rt: HostRuntime) -> Result<(), AllocError> {
+    let text = Text::from_str(rt.alloc(), "abc")?;
+    assert!(rt; is_text(&text, "abc"));
+    assert!(rt; is_text(&text.copy()?, "abc"));
+    assert!(rt; is_text(&Text::new(text.into_string()), "abc"));
+    Ok(())
+}
+
+/// A list of four numbers.
+fn four(alloc: Global) -> Result<List<u8>, AllocError> {
+    let mut list = List::from_slice(alloc, &[1u8, 2, 3])?;
     list.push(4)?;
-    assert_eq!(rt; list.len(), 4);
-    assert_eq!(rt; list.get(1).copied(), Some(2));
+    Ok(list)
+}
+
+/// Takes the first number and the last one of four, and writes the one behind the first.
+fn is_cut(list: &mut List<u8>) -> bool {
+    if list.len() != 4 {
+        return false;
+    }
+    let second = list.get(1).copied();
     list.set(1, 7);
-    assert_eq!(rt; list.remove(0), 1);
-    assert_eq!(rt; list.pop(), Some(4));
-    assert_eq!(rt; list.copy()?.as_slice(), [7u8, 3].as_slice());
-    assert!(rt; list.new_alike().is_empty());
-    let vec = list.into_vec();
-    assert_eq!(rt; List::from_vec(vec).len(), 2);
-    let none: List<u8> = List::new(rt.alloc());
-    assert!(rt; none.is_empty());
+    second == Some(2) && list.remove(0) == 1 && list.pop() == Some(4)
+}
+
+fn has_copy(list: &List<u8>, want: &[u8]) -> Result<bool, AllocError> {
+    Ok(list.copy()?.as_slice() == want)
+}
+
+fn is_new_empty(list: &List<u8>) -> bool {
+    list.new_alike().is_empty()
+}
+
+/// The same numbers, by way of a vector.
+fn by_vec(list: List<u8>) -> List<u8> {
+    List::from_vec(list.into_vec())
+}
+
+/// An empty list.
+fn none(alloc: Global) -> List<u8> {
+    List::new(alloc)
+}
+
+#[test]
+fn lists(rt: HostRuntime) -> Result<(), AllocError> {
+    let mut list = four(rt.alloc())?;
+    assert!(rt; is_cut(&mut list) && is_new_empty(&list));
+    assert!(rt; has_copy(&list, &[7, 3])?);
+    assert!(rt; by_vec(list).len() == 2);
+    assert!(rt; none(rt.alloc()).is_empty());
     Ok(())
 }

@@ -3,7 +3,6 @@ use ls_rpc::{
 };
 use serde_json::{Map, Value, json};
 use std::alloc::{AllocError as Memory, Global};
-use std::test::Fail;
 
 fn is_request(message: &Message) -> bool {
     match message {
@@ -23,77 +22,105 @@ fn is_notice(message: &Message) -> bool {
     }
 }
 
-#[test]
-fn a_request(rt: HostRuntime) -> Result<(), Memory> {
-    let body = b"{\"id\":\"x\",\"method\":\"m\",\"params\":true}";
-    assert!(rt; is_request(&read_message(rt.alloc(), body)?));
-    Ok(())
-}
-
-#[test]
-fn a_notice(rt: HostRuntime) -> Result<(), Memory> {
-    assert!(rt; is_notice(&read_message(rt.alloc(), b"{\"method\":\"m\"}")?));
-    Ok(())
-}
-
-#[test]
-fn a_response(rt: HostRuntime) -> Result<(), Memory> {
-    let response = read_message(rt.alloc(), b"{\"id\":1,\"error\":{}}")?;
-    assert!(rt; matches!(&response, Message::Response));
-    Ok(())
-}
-
-#[test]
-fn a_bad_body(rt: HostRuntime) -> Result<(), Memory> {
-    let bad = read_message(rt.alloc(), b"")?;
-    assert!(rt;
-        matches!(
-            &bad,
-            Message::Bad {
-                id: None,
-                code: PARSE_ERROR
-            }
-        )
-    );
-    Ok(())
-}
-
-#[test]
-fn texts(rt: HostRuntime) -> Result<(), Fail> {
-    let alloc = rt.alloc();
-    let params = json!(in alloc; {"diagnostics": [], "uri": "file:///g", "version": 1})?;
-    let notice = notice_text(alloc, "textDocument/publishDiagnostics", params)?;
-    assert_eq!(rt; notice.len(), 118);
-    assert!(rt;
-        notice.as_slice()
-            == b"{\"jsonrpc\":\"2.0\",\"method\":\"textDocument/publishDiagnostics\",\"params\":{\"diagnostics\":[],\"uri\":\"file:///g\",\"version\":1}}".as_slice()
-    );
-    let result = result_text(alloc, &Id::Number(-5), Value::Null)?;
-    assert!(rt; result.as_slice() == b"{\"id\":-5,\"jsonrpc\":\"2.0\",\"result\":null}".as_slice());
-    let error = error_text(alloc, None, PARSE_ERROR, "parse error")?;
-    assert!(rt;
-        error.as_slice()
-            == b"{\"error\":{\"code\":-32700,\"message\":\"parse error\"},\"id\":null,\"jsonrpc\":\"2.0\"}".as_slice()
-    );
-    Ok(())
-}
-
-#[test]
-fn ids(rt: HostRuntime) -> Result<(), Fail> {
-    let alloc = rt.alloc();
-    let text = read_id(alloc, &Value::try_from_str(alloc, "1")?)?;
-    match text {
-        Some(id) => {
-            let reply = result_text(alloc, &id.copy()?, Value::Null)?;
-            assert!(rt;
-                reply.as_slice() == b"{\"id\":\"1\",\"jsonrpc\":\"2.0\",\"result\":null}".as_slice()
-            );
-        }
-        None => panic!(rt; "no id"),
+/// The kind of a message, if it is one of those below.
+fn kind_of(message: &Message) -> &'static str {
+    match message {
+        Message::Response => "response",
+        Message::Bad {
+            id: None,
+            code: PARSE_ERROR,
+        } => "parse error",
+        _ if is_request(message) => "request",
+        _ if is_notice(message) => "notice",
+        _ => "",
     }
-    let number = read_id(alloc, &Value::from(7i64))?;
-    assert!(rt; matches!(&number, Some(Id::Number(7))));
-    let none = read_id(alloc, &Value::Object(Map::new(alloc)))?;
-    assert!(rt; none.is_none());
+}
+
+/// Bodies, and the kinds of their messages.
+const BODIES: &[(&str, &str)] = &[
+    ("{\"id\":\"x\",\"method\":\"m\",\"params\":true}", "request"),
+    ("{\"method\":\"m\"}", "notice"),
+    ("{\"id\":1,\"error\":{}}", "response"),
+    ("", "parse error"),
+];
+
+fn has_kind(alloc: Global, body: &str, kind: &str) -> Result<bool, Memory> {
+    Ok(kind_of(&read_message(alloc, body.as_bytes())?) == kind)
+}
+
+#[test]
+fn bodies(rt: HostRuntime) -> Result<(), Memory> {
+    for (body, kind) in BODIES {
+        assert!(rt; has_kind(rt.alloc(), body, kind)?, "{body}");
+    }
+    Ok(())
+}
+
+fn notice(alloc: Global) -> Result<Vec<u8>, Memory> {
+    let params = json!(in alloc; {"diagnostics": [], "uri": "file:///g", "version": 1})?;
+    notice_text(alloc, "textDocument/publishDiagnostics", params)
+}
+
+fn is_text(text: &[u8], want: &str) -> bool {
+    text == want.as_bytes()
+}
+
+fn gives_notice(alloc: Global, want: &str) -> Result<bool, Memory> {
+    Ok(is_text(&notice(alloc)?, want))
+}
+
+fn gives_error(alloc: Global, want: &str) -> Result<bool, Memory> {
+    let error = error_text(alloc, None, PARSE_ERROR, "parse error")?;
+    Ok(is_text(&error, want))
+}
+
+/// Whether the reply without a value to the copy of an id is this.
+fn replies(alloc: Global, id: &Id, want: &str) -> Result<bool, Memory> {
+    let reply = result_text(alloc, &id.copy()?, Value::Null)?;
+    Ok(is_text(&reply, want))
+}
+
+const NOTICE: &str =
+    "{\"jsonrpc\":\"2.0\",\"method\":\"textDocument/publishDiagnostics\",\"params\":{\"diagnostics\":[],\"uri\":\"file:///g\",\"version\":1}}";
+
+const ERROR: &str =
+    "{\"error\":{\"code\":-32700,\"message\":\"parse error\"},\"id\":null,\"jsonrpc\":\"2.0\"}";
+
+#[test]
+fn texts(rt: HostRuntime) -> Result<(), Memory> {
+    assert!(rt; gives_notice(rt.alloc(), NOTICE)?);
+    assert!(rt; gives_error(rt.alloc(), ERROR)?);
+    let reply = "{\"id\":-5,\"jsonrpc\":\"2.0\",\"result\":null}";
+    assert!(rt; replies(rt.alloc(), &Id::Number(-5), reply)?);
+    Ok(())
+}
+
+/// Whether a value is an id to which the reply is this; it is none where that is empty.
+fn is_id(alloc: Global, value: &Value, want: &str) -> Result<bool, Memory> {
+    match read_id(alloc, value)? {
+        Some(id) => replies(alloc, &id, want),
+        None => Ok(want.is_empty()),
+    }
+}
+
+fn text_is_id(alloc: Global, want: &str) -> Result<bool, Memory> {
+    is_id(alloc, &Value::try_from_str(alloc, "1")?, want)
+}
+
+fn number_is_id(alloc: Global, want: &str) -> Result<bool, Memory> {
+    is_id(alloc, &Value::from(7i64), want)
+}
+
+fn object_is_id(alloc: Global, want: &str) -> Result<bool, Memory> {
+    is_id(alloc, &Value::Object(Map::new(alloc)), want)
+}
+
+#[test]
+fn ids(rt: HostRuntime) -> Result<(), Memory> {
+    let text = "{\"id\":\"1\",\"jsonrpc\":\"2.0\",\"result\":null}";
+    assert!(rt; text_is_id(rt.alloc(), text)?);
+    let number = "{\"id\":7,\"jsonrpc\":\"2.0\",\"result\":null}";
+    assert!(rt; number_is_id(rt.alloc(), number)?);
+    assert!(rt; object_is_id(rt.alloc(), "")?);
     Ok(())
 }

@@ -2,24 +2,29 @@
 
 ghost use Rattle.std.specs.Prelude.{◌<◌, ◌≤◌, length};
 
-use ls_lists::Text;
-use ls_text::{Edit, Position, Range, Snapshot};
+use super::texts::{Span, applied, range_of};
+use ls_text::{Position, Range, Snapshot, TextFault};
 use std::alloc::{AllocError, Global};
 use std::process::Abort;
-use std::test::Fail;
 
 // How many lines a chunk has at most, and all chunks but the last of a text that was just opened.
 const MOST_LINES: u32 = 512;
 // About how many lines the texts have.
 const LINES: u32 = 3_072;
+// What the texts consist of.
+const PIECES: &[&str] = &["\r", "\n", "\n", "a\r\n", "b", "b"];
 
-// Numbers of a linear congruential generator.
-#[derive(Drop)]
-struct Dice(u64);
+/// Numbers of a linear congruential generator.
+#[derive(Clone, Copy)]
+pub struct Dice(u64);
 
 impl Dice {
-    // A number below the bound.
-    fn below(&mut self, bound: u32) -> u32
+    pub fn new() -> Dice {
+        Dice(1)
+    }
+
+    /// A number below the bound.
+    pub fn below(&mut self, bound: u32) -> u32
         requires { 0 < bound }
         ensures { result < bound }
     {
@@ -28,6 +33,22 @@ impl Dice {
             .wrapping_mul(6_364_136_223_846_793_005)
             .wrapping_add(1_442_695_040_888_963_407);
         ((self.0 >> 33) % u64::from(bound)) as u32
+    }
+
+    /// A text of so many pieces, each of which is one of six.
+    pub fn text(
+        &mut self,
+        alloc: Global,
+        pieces: &[&str],
+        count: u32,
+    ) -> Result<String, AllocError> {
+        let mut text = String::new(alloc);
+        for _ in 0..count {
+            if let Some(piece) = pieces.get(self.below(6) as usize) {
+                text.push_str(piece)?;
+            }
+        }
+        Ok(text)
     }
 
     // A line near a place where two chunks of a text meet that was just opened, or else any line up to one past the last.
@@ -40,39 +61,28 @@ impl Dice {
         seam.saturating_add(self.below(5)).saturating_sub(2)
     }
 
-    // Some line ends and letters.
-    fn text(&mut self, alloc: Global, pieces: u32) -> Result<String, AllocError> {
-        let mut text = String::new(alloc);
-        for _ in 0..pieces {
-            text.push_str(match self.below(6) {
-                0 => "\r",
-                1 | 2 => "\n",
-                3 => "a\r\n",
-                _ => "b",
-            })?;
-        }
-        Ok(text)
+    // The range of an edit of a text of so many lines, over up to so many lines.
+    fn span(&mut self, count: u32, lines: u32) -> Span
+        requires { 0 < lines }
+    {
+        let line = self.line(count);
+        let end = line.saturating_add(self.below(lines));
+        ((line, self.below(4)), (end, self.below(4)))
     }
 
-    // An edit of a text of so many lines. A large one of 32 brings the lines back to about `LINES`.
-    fn edit(&mut self, alloc: Global, count: u32) -> Result<Edit, AllocError> {
-        let large = self.below(32) == 0;
-        let pieces = if large && count < LINES { 3_000 } else { 4 };
-        let lines = if large && count >= LINES { 2_000 } else { 3 };
-        let line = self.line(count);
-        let start = Position {
-            line,
-            character: self.below(4),
-        };
-        let end = Position {
-            line: line.saturating_add(self.below(lines)),
-            character: self.below(4),
-        };
-        let pieces = self.below(pieces);
-        Ok(Edit {
-            range: Some(Range { start, end }),
-            text: Text::new(self.text(alloc, pieces)?),
-        })
+    // How many lines an edit of a text of so many lines goes over at the most, and how many pieces it puts there. A large one of 32
+    // brings the lines back to about `LINES`.
+    fn sizes(&mut self, count: u32) -> (u32, u32)
+        ensures { 0 < result.0 }
+    {
+        if self.below(32) != 0 {
+            return (3, self.below(4));
+        }
+        if count < LINES {
+            (3, self.below(3_000))
+        } else {
+            (2_000, self.below(4))
+        }
     }
 }
 
@@ -110,36 +120,26 @@ fn byte_at(bytes: &[u8], at: Position) -> usize
     bytes.len()
 }
 
-// The bytes after an edit.
-fn plain_after(alloc: Global, bytes: &[u8], edit: &Edit) -> Result<Vec<u8>, AllocError> {
-    let (start, end) = match edit.range {
-        Some(range) => (byte_at(bytes, range.start), byte_at(bytes, range.end)),
-        None => (0, bytes.len()),
-    };
-    let mut after = Vec::from_slice(alloc, &bytes[..start.min(end)])?;
-    after.extend_from_slice(edit.text.as_str().as_bytes())?;
-    after.extend_from_slice(&bytes[start.max(end)..])?;
+// The part of a text from a byte up to another, which are those of ASCII.
+fn part(text: &str, from: usize, end: usize) -> &str {
+    text.get(from..end).unwrap_or("")
+}
+
+// The plain text after a range of it is replaced.
+fn plain_after(alloc: Global, plain: &str, range: Range, new: &str) -> Result<String, AllocError> {
+    let start = byte_at(plain.as_bytes(), range.start);
+    let end = byte_at(plain.as_bytes(), range.end);
+    let mut after = String::from_str(alloc, part(plain, 0, start.min(end)))?;
+    after.push_str(new)?;
+    after.push_str(part(plain, start.max(end), plain.len()))?;
     Ok(after)
 }
 
-// The text of these bytes, cut plainly.
-fn opened(alloc: Global, bytes: &[u8]) -> Result<Snapshot, Fail> {
-    let text = String::from_utf8(Vec::from_slice(alloc, bytes)?)?;
-    Ok(Snapshot::of_text(alloc, text)?)
-}
-
-// The text after an edit.
-fn text_after(alloc: Global, text: &Snapshot, edit: Edit) -> Result<Snapshot, Fail> {
-    let mut edits = Vec::new(alloc);
-    edits.push(edit)?;
-    Ok(text.apply(edits.as_slice())?)
-}
-
-// The first line that two texts don't share, or that doesn't begin at the same offset.
-fn first_other_line(one: &Snapshot, other: &Snapshot) -> Option<usize> {
-    for line in 0..one.line_count().max(other.line_count()) {
+/// The first line that two texts don't share, or that doesn't begin at the same offset, up to the second one past the last.
+pub fn first_other_line(one: &Snapshot, other: &Snapshot) -> Option<usize> {
+    for line in 0..one.line_count().max(other.line_count()).saturating_add(2) {
         let start = Position {
-            line: line.min(4_194_305) as u32,
+            line: line.min(4_194_307) as u32,
             character: 0,
         };
         let same_text = one.line(line) == other.line(line);
@@ -150,67 +150,82 @@ fn first_other_line(one: &Snapshot, other: &Snapshot) -> Option<usize> {
     None
 }
 
-// Whether a text is that of these bytes, with the lines of a plain cut.
-fn is_cut(alloc: Global, text: &Snapshot, bytes: &[u8]) -> Result<bool, Fail> {
-    let whole = opened(alloc, bytes)?;
-    Ok(text.same_text(&whole) && first_other_line(text, &whole).is_none())
-}
-
-// A text and its bytes.
+// A text, and the same as plain characters.
 #[derive(Drop)]
 struct Both {
+    dice: Dice,
     text: Snapshot,
-    bytes: Vec<u8>,
+    plain: String,
 }
 
-// A random text of about so many lines, and its bytes.
-fn random_both(alloc: Global, dice: &mut Dice) -> Result<Both, Fail> {
-    let bytes = dice.text(alloc, 5_000)?.into_bytes();
-    Ok(Both {
-        text: opened(alloc, &bytes)?,
-        bytes,
-    })
-}
+impl Both {
+    // A random text of about so many lines.
+    fn new(alloc: Global) -> Result<Both, TextFault> {
+        let mut dice = Dice::new();
+        let plain = dice.text(alloc, PIECES, 5_000)?;
+        let text = Snapshot::of_text(alloc, plain.clone()?)?;
+        Ok(Both { dice, text, plain })
+    }
 
-// Both after a random edit.
-fn edited(alloc: Global, both: &Both, dice: &mut Dice) -> Result<Both, Fail> {
-    let count = u32::try_from(both.text.line_count()).unwrap_or(LINES);
-    let edit = dice.edit(alloc, count)?;
-    let bytes = plain_after(alloc, &both.bytes, &edit)?;
-    let text = text_after(alloc, &both.text, edit)?;
-    Ok(Both { text, bytes })
-}
+    // Replaces a range in both.
+    fn replace(&mut self, alloc: Global, span: Span, new: &str) -> Result<(), TextFault> {
+        self.plain = plain_after(alloc, self.plain.as_str(), range_of(span), new)?;
+        self.text = applied(alloc, &self.text, &[(Some(span), new)])?;
+        Ok(())
+    }
 
-// Whether the text has just these bytes.
-fn is_same(both: &Both) -> Result<bool, AllocError> {
-    Ok(both.text.to_text()?.as_bytes() == both.bytes.as_slice())
-}
+    // Makes a random edit of both.
+    fn edit(&mut self, alloc: Global) -> Result<(), TextFault> {
+        let count = u32::try_from(self.text.line_count()).unwrap_or(LINES);
+        let (lines, pieces) = self.dice.sizes(count);
+        let span = self.dice.span(count, lines);
+        let new = self.dice.text(alloc, PIECES, pieces)?;
+        self.replace(alloc, span, new.as_str())
+    }
 
-// Five thousand edits in turn. Each eighth time the lines are compared, and from there the text may go on as it is cut plainly.
-fn agree(rt: &impl Abort, alloc: Global, reopens: bool) -> Result<(), Fail> {
-    let mut dice = Dice(1);
-    let mut both = random_both(alloc, &mut dice)?;
-    for round in 0..5_000u32 {
-        both = edited(alloc, &both, &mut dice)?;
-        assert!(rt; is_same(&both)?, "edit {round}");
-        if round % 8 == 0 {
-            assert!(rt; is_cut(alloc, &both.text, &both.bytes)?, "edit {round}");
-            if reopens {
-                both.text = opened(alloc, &both.bytes)?;
-            }
+    // Whether both are the same.
+    fn is_same(&self) -> Result<bool, AllocError> {
+        Ok(self.text.to_text()?.as_str() == self.plain.as_str())
+    }
+
+    // Whether the text has the lines of a plain cut. From there it may go on as it is cut plainly.
+    fn is_cut(&mut self, alloc: Global, reopens: bool) -> Result<bool, TextFault> {
+        let whole = Snapshot::of_text(alloc, self.plain.clone()?)?;
+        let is_cut = self.text.same_text(&whole) && first_other_line(&self.text, &whole).is_none();
+        if reopens {
+            self.text = whole;
         }
+        Ok(is_cut)
+    }
+
+    // Whether both are the same after one more edit. Each eighth time the lines are compared too.
+    fn agrees(&mut self, alloc: Global, round: u32, reopens: bool) -> Result<bool, TextFault> {
+        self.edit(alloc)?;
+        let is_same = self.is_same()?;
+        if round % 8 == 0 {
+            return Ok(is_same && self.is_cut(alloc, reopens)?);
+        }
+        Ok(is_same)
+    }
+}
+
+// Five thousand edits in turn.
+fn agree(rt: &impl Abort, alloc: Global, reopens: bool) -> Result<(), TextFault> {
+    let mut both = Both::new(alloc)?;
+    for round in 0..5_000u32 {
+        assert!(rt; both.agrees(alloc, round, reopens)?, "edit {round}");
     }
     Ok(())
 }
 
 // Edits where the chunks meet that a plain cut makes.
 #[test]
-fn edits_at_seams(rt: HostRuntime) -> Result<(), Fail> {
+fn edits_at_seams(rt: HostRuntime) -> Result<(), TextFault> {
     agree(&rt, rt.alloc(), true)
 }
 
 // Edits of chunks that thousands of edits have made.
 #[test]
-fn edits_of_edited_chunks(rt: HostRuntime) -> Result<(), Fail> {
+fn edits_of_edited_chunks(rt: HostRuntime) -> Result<(), TextFault> {
     agree(&rt, rt.alloc(), false)
 }

@@ -1,147 +1,183 @@
-ghost use Rattle.std.specs.Prelude.{◌<◌};
-
+use super::seams::{Dice, first_other_line};
 use ls_lists::Text;
 use ls_text::{Edit, Place, Position, Range, Snapshot, TextFault};
 use std::alloc::{AllocError, Global};
-use std::process::Abort;
-use std::test::Fail;
 
 pub fn snapshot(alloc: Global, text: &str) -> Result<Snapshot, TextFault> {
     Snapshot::of_text(alloc, String::from_str(alloc, text)?)
 }
 
+/// Texts, and how many lines they have.
+const LINE_COUNTS: &[(&str, usize)] = &[
+    ("", 1),
+    ("a", 1),
+    ("a\n", 2),
+    ("a\r", 2),
+    ("a\r\n", 2),
+    ("a\n\r", 3),
+    ("a\r\r\n\nb", 4),
+    ("a\u{B}b\u{C}c\u{85}d\u{2028}e\u{2029}f", 1),
+];
+
 #[test]
-fn counts_lines(rt: HostRuntime) -> Result<(), Fail> {
-    let texts = [
-        ("", 1),
-        ("a", 1),
-        ("a\n", 2),
-        ("a\r", 2),
-        ("a\r\n", 2),
-        ("a\n\r", 3),
-        ("a\r\r\n\nb", 4),
-        ("a\u{B}b\u{C}c\u{85}d\u{2028}e\u{2029}f", 1),
-    ];
-    for (text, lines) in texts {
-        let text = snapshot(rt.alloc(), text)?;
-        assert_eq!(rt; text.line_count(), lines);
+fn counts_lines(rt: HostRuntime) -> Result<(), TextFault> {
+    for (text, lines) in LINE_COUNTS {
+        assert!(rt;
+            snapshot(rt.alloc(), text)?.line_count() == *lines,
+            "{text}"
+        );
     }
     Ok(())
 }
 
+/// Whether a text has these lines, by number.
+fn has_lines(text: &Snapshot, lines: &[(usize, Option<&str>)]) -> bool {
+    for (at, line) in lines {
+        if text.line(*at) != *line {
+            return false;
+        }
+    }
+    true
+}
+
+const LINES: &[(usize, Option<&str>)] = &[
+    (0, Some("a")),
+    (1, Some("")),
+    (2, Some("b\u{1F600}")),
+    (3, Some("c")),
+    (4, Some("")),
+    (5, None),
+];
+
 #[test]
-fn gives_lines(rt: HostRuntime) -> Result<(), Fail> {
+fn gives_lines(rt: HostRuntime) -> Result<(), TextFault> {
     let text = snapshot(rt.alloc(), "a\r\n\nb\u{1F600}\rc\r\n")?;
-    let lines = [
-        Some("a"),
-        Some(""),
-        Some("b\u{1F600}"),
-        Some("c"),
-        Some(""),
-        None,
-    ];
-    for (at, line) in lines.iter().enumerate() {
-        assert_eq!(rt; text.line(at), *line, "line {at}");
-    }
-    assert_eq!(rt; text.to_text()?.as_str(), "a\r\n\nb\u{1F600}\rc\r\n");
+    assert!(rt; has_lines(&text, LINES));
+    assert!(rt; text.to_text()?.as_str() == "a\r\n\nb\u{1F600}\rc\r\n");
     Ok(())
 }
 
-// The bytes of `;`, U+1F600 and `z` are 1, 4 and 1; their UTF-16 units are 1, 2 and 1.
-#[test]
-fn finds_ranges(rt: HostRuntime) -> Result<(), Fail> {
-    let text = snapshot(rt.alloc(), "\n;\u{1F600}z\n")?;
-    let ranges = [
-        ((0, 1), (0, 1)),
-        ((1, 5), (1, 3)),
-        ((5, 6), (3, 4)),
-        ((0, 6), (0, 4)),
-        ((6, 6), (4, 4)),
-    ];
-    for ((start, end), (from, to)) in ranges {
-        let range = text.range_of(&Place {
-            line: 1,
-            start,
-            end,
-        });
-        let start = Position {
-            line: 1,
-            character: from,
-        };
-        let end = Position {
-            line: 1,
-            character: to,
-        };
-        assert_eq!(rt; range, Range { start, end });
+/// Whether the characters of line 1 between two bytes are those between two positions.
+fn has_range(text: &Snapshot, bytes: (usize, usize), characters: (u32, u32)) -> bool {
+    let place = Place {
+        line: 1,
+        start: bytes.0,
+        end: bytes.1,
+    };
+    let range = Range {
+        start: position((1, characters.0)),
+        end: position((1, characters.1)),
+    };
+    text.range_of(&place) == range
+}
+
+/// The bytes of `;`, U+1F600 and `z` are 1, 4 and 1; their UTF-16 units are 1, 2 and 1.
+const RANGES: &[((usize, usize), (u32, u32))] = &[
+    ((0, 1), (0, 1)),
+    ((1, 5), (1, 3)),
+    ((5, 6), (3, 4)),
+    ((0, 6), (0, 4)),
+    ((6, 6), (4, 4)),
+];
+
+fn has_ranges(text: &Snapshot) -> bool {
+    for (bytes, characters) in RANGES {
+        if !has_range(text, *bytes, *characters) {
+            return false;
+        }
     }
-    Ok(())
+    true
 }
 
 #[test]
-fn finds_offsets_and_positions(rt: HostRuntime) -> Result<(), Fail> {
+fn finds_ranges(rt: HostRuntime) -> Result<(), TextFault> {
+    assert!(rt; has_ranges(&snapshot(rt.alloc(), "\n;\u{1F600}z\n")?));
+    Ok(())
+}
+
+/// Positions, and the characters of the text before each.
+const OFFSETS: &[((u32, u32), usize)] = &[
+    ((0, 0), 0),
+    ((0, 1), 1),
+    ((0, 999), 1),
+    ((1, 0), 3),
+    ((1, 1), 4),
+    ((1, 2), 4),
+    ((1, 3), 5),
+    ((1, 4), 6),
+    ((1, 5), 6),
+    ((2, 0), 7),
+    ((99, 0), 7),
+];
+
+/// Offsets, and the position of each.
+const POSITIONS: &[(usize, (u32, u32))] = &[
+    (0, (0, 0)),
+    (1, (0, 1)),
+    (2, (0, 1)),
+    (3, (1, 0)),
+    (5, (1, 3)),
+    (6, (1, 4)),
+    (7, (2, 0)),
+    (8, (2, 0)),
+];
+
+fn has_offsets(text: &Snapshot) -> bool {
+    for (at, offset) in OFFSETS {
+        if text.offset_of(position(*at)) != *offset {
+            return false;
+        }
+    }
+    true
+}
+
+fn has_positions(text: &Snapshot) -> bool {
+    for (offset, at) in POSITIONS {
+        if text.position_of(*offset) != position(*at) {
+            return false;
+        }
+    }
+    true
+}
+
+#[test]
+fn finds_offsets_and_positions(rt: HostRuntime) -> Result<(), TextFault> {
     let text = snapshot(rt.alloc(), "a\r\n;\u{1F600}z\n")?;
-    let offsets = [
-        ((0, 0), 0),
-        ((0, 1), 1),
-        ((0, 999), 1),
-        ((1, 0), 3),
-        ((1, 1), 4),
-        ((1, 2), 4),
-        ((1, 3), 5),
-        ((1, 4), 6),
-        ((1, 5), 6),
-        ((2, 0), 7),
-        ((99, 0), 7),
-    ];
-    for ((line, character), offset) in offsets {
-        assert_eq!(rt;
-            text.offset_of(Position { line, character }),
-            offset,
-            "{line}:{character}"
-        );
-    }
-    let positions = [
-        (0, (0, 0)),
-        (1, (0, 1)),
-        (2, (0, 1)),
-        (3, (1, 0)),
-        (5, (1, 3)),
-        (6, (1, 4)),
-        (7, (2, 0)),
-        (8, (2, 0)),
-    ];
-    for (offset, (line, character)) in positions {
-        assert_eq!(rt;
-            text.position_of(offset),
-            Position { line, character },
-            "{offset}"
-        );
-    }
+    assert!(rt; has_offsets(&text) && has_positions(&text));
     Ok(())
 }
 
-#[test]
-fn finds_places(rt: HostRuntime) -> Result<(), Fail> {
-    let text = snapshot(rt.alloc(), "a\u{E9}\r\n\u{20AC}\u{1F600}z")?;
-    let places = [
-        (0, (0, 0)),
-        (1, (0, 1)),
-        (2, (0, 3)),
-        (3, (0, 3)),
-        (4, (1, 0)),
-        (5, (1, 3)),
-        (6, (1, 7)),
-        (7, (1, 8)),
-        (8, (1, 8)),
-    ];
-    for (offset, (line, bytes)) in places {
-        let want = Place {
-            line,
-            start: bytes,
-            end: bytes,
-        };
-        assert_eq!(rt; text.place_at(offset), want, "{offset}");
+/// Whether the empty place at an offset is behind so many bytes of a line.
+fn has_place(text: &Snapshot, offset: usize, line: usize, bytes: usize) -> bool {
+    let place = text.place_at(offset);
+    place.line == line && place.start == bytes && place.end == bytes
+}
+
+/// Offsets, and the line and the bytes of it before each.
+const PLACES: &[(usize, usize, usize)] = &[
+    (0, 0, 0),
+    (1, 0, 1),
+    (2, 0, 3),
+    (3, 0, 3),
+    (4, 1, 0),
+    (5, 1, 3),
+    (6, 1, 7),
+    (7, 1, 8),
+    (8, 1, 8),
+];
+
+fn has_places(text: &Snapshot) -> bool {
+    for (offset, line, bytes) in PLACES {
+        if !has_place(text, *offset, *line, *bytes) {
+            return false;
+        }
     }
+    true
+}
+
+#[test]
+fn finds_places(rt: HostRuntime) -> Result<(), TextFault> {
+    assert!(rt; has_places(&snapshot(rt.alloc(), "a\u{E9}\r\n\u{20AC}\u{1F600}z")?));
     Ok(())
 }
 
@@ -161,30 +197,24 @@ fn opening_fault(alloc: Global, text: String) -> Option<TextFault> {
 }
 
 #[test]
-fn refuses_large_texts(rt: HostRuntime) -> Result<(), Fail> {
+fn refuses_large_texts(rt: HostRuntime) -> Result<(), AllocError> {
     let text = large_text(rt.alloc())?;
-    assert_eq!(rt; text.len(), 4_194_304);
-    let larger = format!(in rt.alloc(); "{text}b")?;
-    assert_eq!(rt; opening_fault(rt.alloc(), text), None);
-    assert_eq!(rt;
-        opening_fault(rt.alloc(), larger),
-        Some(TextFault::TooLarge)
-    );
+    assert!(rt; text.len() == 4_194_304);
+    let mut larger = text.clone()?;
+    larger.push('b')?;
+    assert!(rt; opening_fault(rt.alloc(), text) == None);
+    assert!(rt; opening_fault(rt.alloc(), larger) == Some(TextFault::TooLarge));
     Ok(())
 }
 
-fn edit(
-    alloc: Global,
-    range: Option<((u32, u32), (u32, u32))>,
-    text: &str,
-) -> Result<Edit, AllocError> {
-    Ok(Edit {
-        range: range.map(|(start, end)| Range {
-            start: position(start),
-            end: position(end),
-        }),
-        text: Text::from_str(alloc, text)?,
-    })
+/// Two positions, each a line and a character.
+pub type Span = ((u32, u32), (u32, u32));
+
+pub fn range_of(span: Span) -> Range {
+    Range {
+        start: position(span.0),
+        end: position(span.1),
+    }
 }
 
 fn position(at: (u32, u32)) -> Position {
@@ -194,231 +224,239 @@ fn position(at: (u32, u32)) -> Position {
     }
 }
 
-/// What one edit makes of a text.
-pub fn changed(
+/// The copy of an edit of a range, or of the whole text where there is none.
+fn edit(alloc: Global, span: Option<Span>, text: &str) -> Result<Edit, AllocError> {
+    let range = match span {
+        Some(span) => Some(range_of(span)),
+        None => None,
+    };
+    let text = Text::from_str(alloc, text)?;
+    Edit { range, text }.copy()
+}
+
+fn push_edit(
     alloc: Global,
-    before: &str,
-    range: ((u32, u32), (u32, u32)),
-    new: &str,
-) -> Result<Snapshot, Fail> {
+    edits: &mut Vec<Edit>,
+    span: Option<Span>,
+    text: &str,
+) -> Result<(), AllocError> {
+    Ok(edits.push(edit(alloc, span, text)?)?)
+}
+
+/// Edits, each of a range or of the whole text.
+fn edits_of(alloc: Global, rows: &[(Option<Span>, &str)]) -> Result<Vec<Edit>, AllocError> {
     let mut edits = Vec::new(alloc);
-    edits.push(edit(alloc, Some(range), new)?)?;
-    Ok(snapshot(alloc, before)?.apply(edits.as_slice())?)
+    for (span, text) in rows {
+        push_edit(alloc, &mut edits, *span, text)?;
+    }
+    Ok(edits)
+}
+
+/// What edits make of a text.
+pub fn applied(
+    alloc: Global,
+    text: &Snapshot,
+    rows: &[(Option<Span>, &str)],
+) -> Result<Snapshot, TextFault> {
+    let edits = edits_of(alloc, rows)?;
+    text.apply(edits.as_slice())
+}
+
+/// What one edit makes of a text.
+pub fn changed(alloc: Global, before: &str, span: Span, new: &str) -> Result<Snapshot, TextFault> {
+    applied(alloc, &snapshot(alloc, before)?, &[(Some(span), new)])
 }
 
 /// Whether a text is this one, in so many lines.
-fn is_cut(alloc: Global, text: &Snapshot, wanted: &str, lines: usize) -> Result<bool, Fail> {
-    let is_same = text.to_text()?.as_str() == wanted && text.line_count() == lines;
-    Ok(is_same && text.same_text(&snapshot(alloc, wanted)?))
+fn is_cut(alloc: Global, text: &Snapshot, wanted: &str, lines: usize) -> Result<bool, TextFault> {
+    if text.to_text()?.as_str() != wanted || text.line_count() != lines {
+        return Ok(false);
+    }
+    Ok(text.same_text(&snapshot(alloc, wanted)?))
 }
 
-/// Whether one edit makes this text of another, in so many lines.
-fn becomes(
-    alloc: Global,
-    before: &str,
-    range: ((u32, u32), (u32, u32)),
-    new: &str,
-    after: &str,
-    lines: usize,
-) -> Result<bool, Fail> {
-    is_cut(alloc, &changed(alloc, before, range, new)?, after, lines)
-}
+/// A text, a range, what is put there, and the text and its count of lines after that.
+type Row = (&'static str, Span, &'static str, &'static str, usize);
 
-#[test]
-fn applies_edits(rt: HostRuntime) -> Result<(), Fail> {
-    let a = rt.alloc();
+const EDITS: &[Row] = &[
     // Inside a surrogate pair is before it.
-    let face = ";\u{1F600}z";
-    assert!(rt; becomes(a, face, ((0, 2), (0, 2)), "a", ";a\u{1F600}z", 1)?);
-    let face = ";a\u{1F600}z";
-    assert!(rt; becomes(a, face, ((0, 4), (0, 4)), "b", ";a\u{1F600}bz", 1)?);
-    assert!(rt; becomes(a, "abc", ((0, 1), (0, 1)), "XY", "aXYbc", 1)?);
-    assert!(rt; becomes(a, "aXYbc", ((0, 2), (0, 4)), "-", "aX-c", 1)?);
+    (";\u{1F600}z", ((0, 2), (0, 2)), "a", ";a\u{1F600}z", 1),
+    (";a\u{1F600}z", ((0, 4), (0, 4)), "b", ";a\u{1F600}bz", 1),
+    ("abc", ((0, 1), (0, 1)), "XY", "aXYbc", 1),
+    ("aXYbc", ((0, 2), (0, 4)), "-", "aX-c", 1),
     // A range whose start is after its end.
-    assert!(rt; becomes(a, "abcd", ((0, 3), (0, 1)), "", "ad", 1)?);
+    ("abcd", ((0, 3), (0, 1)), "", "ad", 1),
     // A line past the last, and a character past the line's end.
-    assert!(rt; becomes(a, "ab\n", ((9, 5), (9, 5)), "!", "ab\n!", 2)?);
-    assert!(rt; becomes(a, "ab\ncd", ((0, 9), (1, 0)), "", "abcd", 1)?);
-    assert!(rt; becomes(a, "", ((0, 0), (0, 0)), "a\nb", "a\nb", 2)?);
+    ("ab\n", ((9, 5), (9, 5)), "!", "ab\n!", 2),
+    ("ab\ncd", ((0, 9), (1, 0)), "", "abcd", 1),
+    ("", ((0, 0), (0, 0)), "a\nb", "a\nb", 2),
+    // Line ends that an edit joins, makes and splits.
+    ("a\r", ((1, 0), (1, 0)), "\n", "a\r\n", 2),
+    ("a\r\nb", ((0, 1), (1, 0)), "", "ab", 1),
+    ("a\rb\n", ((1, 0), (1, 1)), "", "a\r\n", 2),
+    ("a\n", ((0, 1), (0, 1)), "\r", "a\r\n", 2),
+    ("a\nb", ((0, 0), (0, 1)), "x\r\ny\r", "x\r\ny\r\nb", 3),
+];
+
+fn becomes(alloc: Global, row: &Row) -> Result<bool, TextFault> {
+    let (before, span, new, after, lines) = *row;
+    is_cut(alloc, &changed(alloc, before, span, new)?, after, lines)
+}
+
+#[test]
+fn applies_edits(rt: HostRuntime) -> Result<(), TextFault> {
+    for row in EDITS {
+        assert!(rt; becomes(rt.alloc(), row)?, "{}", row.3);
+    }
     Ok(())
 }
 
-/// Line ends that an edit joins, makes and splits.
-#[test]
-fn edits_cut_lines_anew(rt: HostRuntime) -> Result<(), Fail> {
-    let a = rt.alloc();
-    assert!(rt; becomes(a, "a\r", ((1, 0), (1, 0)), "\n", "a\r\n", 2)?);
-    assert!(rt; becomes(a, "a\r\nb", ((0, 1), (1, 0)), "", "ab", 1)?);
-    assert!(rt; becomes(a, "a\rb\n", ((1, 0), (1, 1)), "", "a\r\n", 2)?);
-    assert!(rt; becomes(a, "a\n", ((0, 1), (0, 1)), "\r", "a\r\n", 2)?);
-    let pasted = "x\r\ny\r";
-    assert!(rt; becomes(a, "a\nb", ((0, 0), (0, 1)), pasted, "x\r\ny\r\nb", 3)?);
-    Ok(())
+/// Whether edits make this text of another, in so many lines.
+fn gives(
+    alloc: Global,
+    rows: &[(Option<Span>, &str)],
+    wanted: &str,
+    lines: usize,
+) -> Result<bool, TextFault> {
+    let text = snapshot(alloc, "old\ntext")?;
+    is_cut(alloc, &applied(alloc, &text, rows)?, wanted, lines)
 }
 
 /// The whole text, and then two edits of it.
-fn edits_in_turn(alloc: Global) -> Result<Vec<Edit>, Fail> {
-    let mut edits = Vec::new(alloc);
-    edits.push(edit(alloc, None, "abc")?)?;
-    edits.push(edit(alloc, Some(((0, 1), (0, 1))), "XY")?)?;
-    edits.push(edit(alloc, Some(((0, 2), (0, 4))), "-")?.copy()?)?;
-    Ok(edits)
-}
-
-/// A text after edits.
-fn after_edits(alloc: Global, text: &str, edits: &[Edit]) -> Result<Snapshot, Fail> {
-    Ok(snapshot(alloc, text)?.apply(edits)?)
-}
+const IN_TURN: &[(Option<Span>, &str)] = &[
+    (None, "abc"),
+    (Some(((0, 1), (0, 1))), "XY"),
+    (Some(((0, 2), (0, 4))), "-"),
+];
 
 #[test]
-fn applies_edits_in_turn(rt: HostRuntime) -> Result<(), Fail> {
-    let edits = edits_in_turn(rt.alloc())?;
-    let changed = after_edits(rt.alloc(), "old\ntext", edits.as_slice())?;
-    assert!(rt; is_cut(rt.alloc(), &changed, "aX-c", 1)?);
+fn applies_edits_in_turn(rt: HostRuntime) -> Result<(), TextFault> {
+    assert!(rt; gives(rt.alloc(), IN_TURN, "aX-c", 1)?);
+    assert!(rt; gives(rt.alloc(), &[], "old\ntext", 2)?);
     Ok(())
 }
 
-#[test]
-fn no_edits_change_nothing(rt: HostRuntime) -> Result<(), Fail> {
-    let text = after_edits(rt.alloc(), "old\ntext", &[])?;
-    assert!(rt; is_cut(rt.alloc(), &text, "old\ntext", 2)?);
-    Ok(())
-}
-
-/// A text of the greatest size, one more letter, and a short text.
-fn edits_that_are_large_on_the_way(alloc: Global) -> Result<Vec<Edit>, Fail> {
-    let mut edits = Vec::new(alloc);
-    edits.push(edit(alloc, None, large_text(alloc)?.as_str())?)?;
-    edits.push(edit(alloc, Some(((0, 0), (0, 0))), "b")?)?;
-    edits.push(edit(alloc, None, "c")?)?;
-    Ok(edits)
-}
-
-#[test]
-fn refuses_texts_that_are_large_on_the_way(rt: HostRuntime) -> Result<(), Fail> {
-    let edits = edits_that_are_large_on_the_way(rt.alloc())?;
-    let text = snapshot(rt.alloc(), "b")?;
-    let first = edits.get(..1).unwrap_or(&[]);
-    assert!(rt; text.apply(first).is_ok());
-    assert_eq!(rt;
-        text.apply(edits.as_slice()).err(),
-        Some(TextFault::TooLarge)
-    );
-    Ok(())
-}
-
-// A number below `below`, by a linear congruential generator.
-fn below(state: &mut u64, below: u64) -> u64
-    requires { 0 < below }
-    ensures { result < below }
-{
-    *state = state
-        .wrapping_mul(6_364_136_223_846_793_005)
-        .wrapping_add(1_442_695_040_888_963_407);
-    (*state >> 33) % below
-}
-
-fn random_text(alloc: Global, state: &mut u64) -> Result<String, AllocError> {
-    let mut text = String::new(alloc);
-    for _ in 0..below(state, 10) {
-        text.push_str(match below(state, 6) {
-            0 | 1 => "\r",
-            2 | 3 => "\n",
-            4 => "\u{1F600}",
-            _ => "a",
-        })?;
-    }
-    Ok(text)
-}
-
-fn random_position(state: &mut u64) -> (u32, u32) {
-    (below(state, 6) as u32, below(state, 5) as u32)
-}
-
-// The text with the characters between two offsets replaced.
-fn replaced(
+/// The fault of a text of the greatest size that replaces another, and of that with one more letter and then a short text.
+fn large_faults(
     alloc: Global,
-    text: &str,
-    from: usize,
-    to: usize,
-    new: &str,
-) -> Result<String, AllocError> {
-    let mut result = String::new(alloc);
-    for c in text.chars().take(from) {
-        result.push(c)?;
-    }
-    result.push_str(new)?;
-    for c in text.chars().skip(to) {
-        result.push(c)?;
-    }
-    Ok(result)
+    text: &Snapshot,
+    large: &str,
+) -> (Option<TextFault>, Option<TextFault>) {
+    let first = applied(alloc, text, &[(None, large)]).err();
+    let rows = [(None, large), (Some(((0, 0), (0, 0))), "b"), (None, "c")];
+    (first, applied(alloc, text, &rows).err())
 }
 
-// A random edit, and what a plain cut makes of the text by it.
-fn random_edit(alloc: Global, state: &mut u64, plain: &str) -> Result<(Edit, String), Fail> {
-    let (start, end) = (random_position(state), random_position(state));
-    let new = random_text(alloc, state)?;
-    let before = snapshot(alloc, plain)?;
-    let from = before.offset_of(Position {
-        line: start.0,
-        character: start.1,
-    });
-    let to = before.offset_of(Position {
-        line: end.0,
-        character: end.1,
-    });
-    let cut = replaced(alloc, plain, from.min(to), from.max(to), new.as_str())?;
-    Ok((edit(alloc, Some((start, end)), new.as_str())?, cut))
+#[test]
+fn refuses_texts_that_are_large_on_the_way(rt: HostRuntime) -> Result<(), TextFault> {
+    let text = snapshot(rt.alloc(), "b")?;
+    let large = large_text(rt.alloc())?;
+    let faults = large_faults(rt.alloc(), &text, large.as_str());
+    assert!(rt; faults == (None, Some(TextFault::TooLarge)));
+    Ok(())
 }
 
-// The first line that two texts don't share, or that doesn't begin at the same offset.
-fn first_other_line(one: &Snapshot, other: &Snapshot) -> Option<u32> {
-    for line in 0..64u32 {
-        let start = Position { line, character: 0 };
-        let same_text = one.line(line as usize) == other.line(line as usize);
-        if !same_text || one.offset_of(start) != other.offset_of(start) {
-            return Some(line);
+/// What the texts of random edits consist of: half of it is line ends.
+const PIECES: &[&str] = &["\r", "\r", "\n", "\n", "\u{1F600}", "a"];
+
+fn random_text(alloc: Global, dice: &mut Dice) -> Result<String, AllocError> {
+    let count = dice.below(10);
+    dice.text(alloc, PIECES, count)
+}
+
+fn random_position(dice: &mut Dice) -> (u32, u32) {
+    (dice.below(6), dice.below(5))
+}
+
+/// Adds the characters of a text from a number up to another.
+fn push_part(to: &mut String, text: &str, from: usize, end: usize) -> Result<(), AllocError> {
+    for (at, c) in text.chars().enumerate() {
+        if from <= at && at < end {
+            to.push(c)?;
         }
     }
-    None
+    Ok(())
 }
 
-// Random edits of a text, and what a plain cut makes of it by them.
-fn random_edits(alloc: Global, state: &mut u64, text: &str) -> Result<(Vec<Edit>, String), Fail> {
-    let mut edits = Vec::new(alloc);
-    let mut plain = String::from_str(alloc, text)?;
-    for _ in 0..below(state, 4) {
-        let (edit, cut) = random_edit(alloc, state, plain.as_str())?;
-        edits.push(edit)?;
-        plain = cut;
+/// A text, by a plain cut, and edits that have made it of another.
+#[derive(Drop)]
+struct Plain {
+    text: String,
+    edits: Vec<Edit>,
+}
+
+impl Plain {
+    fn new(alloc: Global, text: &str) -> Result<Plain, AllocError> {
+        Ok(Plain {
+            text: String::from_str(alloc, text)?,
+            edits: Vec::new(alloc),
+        })
     }
-    Ok((edits, plain))
+
+    /// Where a range starts and ends in the text, in characters.
+    fn offsets(&self, alloc: Global, span: Span) -> Result<(usize, usize), TextFault> {
+        let text = snapshot(alloc, self.text.as_str())?;
+        let from = text.offset_of(position(span.0));
+        let to = text.offset_of(position(span.1));
+        Ok((from.min(to), from.max(to)))
+    }
+
+    /// Replaces the characters between two offsets.
+    fn replace(
+        &mut self,
+        alloc: Global,
+        ends: (usize, usize),
+        new: &str,
+    ) -> Result<(), AllocError> {
+        let mut after = String::new(alloc);
+        push_part(&mut after, self.text.as_str(), 0, ends.0)?;
+        after.push_str(new)?;
+        push_part(&mut after, self.text.as_str(), ends.1, usize::MAX)?;
+        self.text = after;
+        Ok(())
+    }
+
+    /// Makes a random edit.
+    fn edit(&mut self, alloc: Global, dice: &mut Dice) -> Result<(), TextFault> {
+        let span = (random_position(dice), random_position(dice));
+        let new = random_text(alloc, dice)?;
+        let ends = self.offsets(alloc, span)?;
+        push_edit(alloc, &mut self.edits, Some(span), new.as_str())?;
+        Ok(self.replace(alloc, ends, new.as_str())?)
+    }
+
+    /// Makes up to three random edits.
+    fn edit_some(&mut self, alloc: Global, dice: &mut Dice) -> Result<(), TextFault> {
+        for _ in 0..dice.below(4) {
+            self.edit(alloc, dice)?;
+        }
+        Ok(())
+    }
+
+    /// Whether the edits make this text of the one before them, with the same lines.
+    fn agrees(&self, alloc: Global, before: &str) -> Result<bool, TextFault> {
+        let changed = snapshot(alloc, before)?.apply(self.edits.as_slice())?;
+        let whole = snapshot(alloc, self.text.as_str())?;
+        if first_other_line(&changed, &whole).is_some() {
+            return Ok(false);
+        }
+        is_cut(alloc, &changed, self.text.as_str(), whole.line_count())
+    }
 }
 
-// Whether edits make of a text this one, with the same lines.
-fn agrees(alloc: Global, before: &str, edits: &[Edit], after: &str) -> Result<bool, Fail> {
-    let changed = after_edits(alloc, before, edits)?;
-    let whole = snapshot(alloc, after)?;
-    Ok(
-        first_other_line(&changed, &whole).is_none()
-            && is_cut(alloc, &changed, after, whole.line_count())?,
-    )
+/// Whether random edits of a random text give the text, and the lines, of a plain cut of the whole result.
+fn is_plain(alloc: Global, dice: &mut Dice) -> Result<bool, TextFault> {
+    let before = random_text(alloc, dice)?;
+    let mut plain = Plain::new(alloc, before.as_str())?;
+    plain.edit_some(alloc, dice)?;
+    plain.agrees(alloc, before.as_str())
 }
 
-// Random lists of edits give the text, and the lines, of a plain cut of the whole result.
 #[test]
-fn agrees_with_a_plain_cut(rt: HostRuntime) -> Result<(), Fail> {
-    let mut state = 1u64;
+fn agrees_with_a_plain_cut(rt: HostRuntime) -> Result<(), TextFault> {
+    let mut dice = Dice::new();
     for round in 0..500u32 {
-        let before = random_text(rt.alloc(), &mut state)?;
-        let (edits, after) = random_edits(rt.alloc(), &mut state, before.as_str())?;
-        let agrees = agrees(
-            rt.alloc(),
-            before.as_str(),
-            edits.as_slice(),
-            after.as_str(),
-        )?;
-        assert!(rt; agrees, "round {round}");
+        assert!(rt; is_plain(rt.alloc(), &mut dice)?, "round {round}");
     }
     Ok(())
 }

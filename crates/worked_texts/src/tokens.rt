@@ -1,27 +1,14 @@
 //! Lines with their tokens, written out by hand.
 
-use abnf_token::{Folded, Kind, number_of, tokens};
+use abnf_token::{Folded, Kind, Token, number_of, tokens};
 use std::hash::{DefaultHasher, Hash, Hasher};
-use std::process::Abort;
 
-/// Checks the kinds, starts and ends of a line's tokens.
-fn has_tokens(rt: &impl Abort, line: &str, want: &[(Kind, usize, usize)]) {
-    let mut count = 0;
-    for token in tokens(line, 7) {
-        assert!(rt; count < want.len(), "{line}");
-        let (kind, start, end) = want[count];
-        assert_eq!(rt; (token.kind, token.start), (kind, start), "{line}");
-        assert_eq!(rt; Some(token.text), line.get(start..end), "{line}");
-        assert_eq!(rt; token.line, 7);
-        count += 1;
-    }
-    assert_eq!(rt; count, want.len(), "{line}");
-}
+/// A token: its kind, and where it starts and ends in its line.
+type Row = (Kind, usize, usize);
 
-#[test]
-fn all_classes(rt: HostRuntime) {
-    has_tokens(
-        &rt,
+const LINES: &[(&str, &[Row])] = &[
+    ("", &[]),
+    (
         "a=/%s\"x\"2*b%x41-5A.<p>;c",
         &[
             (Kind::Name, 0, 1),
@@ -34,14 +21,9 @@ fn all_classes(rt: HostRuntime) {
             (Kind::Prose, 19, 22),
             (Kind::Comment, 22, 24),
         ],
-    );
-}
-
-#[test]
-fn signs(rt: HostRuntime) {
-    has_tokens(&rt, "", &[]);
-    has_tokens(
-        &rt,
+    ),
+    // signs
+    (
         " \t( )[]/=",
         &[
             (Kind::Blank, 0, 2),
@@ -53,49 +35,35 @@ fn signs(rt: HostRuntime) {
             (Kind::Slash, 7, 8),
             (Kind::Defines, 8, 9),
         ],
-    );
-    has_tokens(
-        &rt,
+    ),
+    (
         "\"x\"=/y",
         &[(Kind::Quoted, 0, 3), (Kind::Adds, 3, 5), (Kind::Name, 5, 6)],
-    );
-    has_tokens(&rt, "1*2*3", &[(Kind::Repeat, 0, 3), (Kind::Repeat, 3, 5)]);
-}
-
-#[test]
-fn numbers(rt: HostRuntime) {
-    has_tokens(&rt, "%x", &[(Kind::Bad, 0, 1), (Kind::Name, 1, 2)]);
-    has_tokens(&rt, "%d300b", &[(Kind::Number, 0, 5), (Kind::Name, 5, 6)]);
-    has_tokens(&rt, "%x41-", &[(Kind::Number, 0, 4), (Kind::Bad, 4, 5)]);
-    has_tokens(
-        &rt,
+    ),
+    ("1*2*3", &[(Kind::Repeat, 0, 3), (Kind::Repeat, 3, 5)]),
+    // numbers
+    ("%x", &[(Kind::Bad, 0, 1), (Kind::Name, 1, 2)]),
+    ("%d300b", &[(Kind::Number, 0, 5), (Kind::Name, 5, 6)]),
+    ("%x41-", &[(Kind::Number, 0, 4), (Kind::Bad, 4, 5)]),
+    (
         "%x41.42-43",
         &[
             (Kind::Number, 0, 7),
             (Kind::Bad, 7, 8),
             (Kind::Repeat, 8, 10),
         ],
-    );
-    has_tokens(&rt, "%b2", &[(Kind::Bad, 0, 1), (Kind::Name, 1, 3)]);
-    has_tokens(&rt, "%D13.10", &[(Kind::Number, 0, 7)]);
-}
-
-#[test]
-fn closing_signs(rt: HostRuntime) {
-    has_tokens(&rt, "%s", &[(Kind::Bad, 0, 1), (Kind::Name, 1, 2)]);
-    has_tokens(
-        &rt,
-        "%I\"x\"\"\"",
-        &[(Kind::Quoted, 0, 5), (Kind::Quoted, 5, 7)],
-    );
-    has_tokens(
-        &rt,
+    ),
+    ("%b2", &[(Kind::Bad, 0, 1), (Kind::Name, 1, 3)]),
+    ("%D13.10", &[(Kind::Number, 0, 7)]),
+    // signs that close
+    ("%s", &[(Kind::Bad, 0, 1), (Kind::Name, 1, 2)]),
+    ("%I\"x\"\"\"", &[(Kind::Quoted, 0, 5), (Kind::Quoted, 5, 7)]),
+    (
         "\"\t\"",
         &[(Kind::Bad, 0, 1), (Kind::Blank, 1, 2), (Kind::Bad, 2, 3)],
-    );
-    has_tokens(&rt, "<p", &[(Kind::Bad, 0, 1), (Kind::Name, 1, 2)]);
-    has_tokens(
-        &rt,
+    ),
+    ("<p", &[(Kind::Bad, 0, 1), (Kind::Name, 1, 2)]),
+    (
         "<<p><p<",
         &[
             (Kind::Prose, 0, 4),
@@ -103,13 +71,9 @@ fn closing_signs(rt: HostRuntime) {
             (Kind::Name, 5, 6),
             (Kind::Bad, 6, 7),
         ],
-    );
-}
-
-#[test]
-fn characters_of_several_bytes(rt: HostRuntime) {
-    has_tokens(
-        &rt,
+    ),
+    // characters of several bytes
+    (
         "<\u{e9}>\u{20ac}\u{1f600}a;\u{e9}",
         &[
             (Kind::Prose, 0, 4),
@@ -118,19 +82,54 @@ fn characters_of_several_bytes(rt: HostRuntime) {
             (Kind::Name, 11, 12),
             (Kind::Comment, 12, 15),
         ],
-    );
+    ),
+];
+
+/// Whether a token of line 7 is this one.
+fn is_token(token: Token<'_>, line: &str, row: Row) -> bool {
+    let (kind, start, end) = row;
+    token.kind == kind
+        && token.start == start
+        && Some(token.text) == line.get(start..end)
+        && token.line == 7
+}
+
+/// Whether these are the tokens of a line.
+fn has_tokens(line: &str, rows: &[Row]) -> bool {
+    let mut count = 0;
+    for token in tokens(line, 7) {
+        match rows.get(count) {
+            Some(row) if is_token(token, line, *row) => count += 1,
+            _ => return false,
+        }
+    }
+    count == rows.len()
 }
 
 #[test]
+fn lines(rt: HostRuntime) {
+    for (line, rows) in LINES {
+        assert!(rt; has_tokens(line, rows), "{line}");
+    }
+}
+
+/// Digits, their base, and the number that they are.
+const NUMBERS: &[(&str, u32, Option<u32>)] = &[
+    ("4294967295", 10, Some(4294967295)),
+    ("4294967296", 10, None),
+    ("000000000000fF", 16, Some(255)),
+    ("101", 2, Some(5)),
+    ("102", 2, None),
+    ("", 10, None),
+    ("12", 3, None),
+    ("1 2", 10, None),
+];
+
+#[test]
 fn values(rt: HostRuntime) {
-    assert_eq!(rt; number_of("4294967295", 10), Some(4294967295));
-    assert_eq!(rt; number_of("4294967296", 10), None);
-    assert_eq!(rt; number_of("000000000000fF", 16), Some(255));
-    assert_eq!(rt; number_of("101", 2), Some(5));
-    assert_eq!(rt; number_of("102", 2), None);
-    assert_eq!(rt; number_of("", 10), None);
-    assert_eq!(rt; number_of("12", 3), None);
-    assert_eq!(rt; number_of("1 2", 10), None);
+    for (digits, base, value) in NUMBERS {
+        assert!(rt; number_of(digits, *base) == *value, "{digits}");
+    }
 }
 
 fn hash_of(name: &str) -> u64 {
@@ -139,11 +138,17 @@ fn hash_of(name: &str) -> u64 {
     hasher.finish()
 }
 
+fn is_same(name: &str, other: &str) -> bool {
+    Folded(name) == Folded(other)
+}
+
+fn is_before(name: &str, other: &str) -> bool {
+    Folded(name) < Folded(other)
+}
+
 #[test]
 fn names_without_case(rt: HostRuntime) {
-    assert_eq!(rt; Folded("Ab"), Folded("aB"));
-    assert_eq!(rt; hash_of("Ab"), hash_of("aB"));
-    assert!(rt; Folded("a") < Folded("B"));
-    assert!(rt; Folded("A-") != Folded("a"));
-    assert!(rt; Folded("\u{c9}") != Folded("\u{e9}"));
+    assert!(rt; is_same("Ab", "aB") && hash_of("Ab") == hash_of("aB"));
+    assert!(rt; is_before("a", "B"));
+    assert!(rt; !is_same("A-", "a") && !is_same("\u{c9}", "\u{e9}"));
 }
