@@ -5,3 +5,8 @@ pub mod Whole
 pub mod OneFinding
 pub mod InOrder
 pub mod Exist
+pub mod Member
+pub mod Heads
+pub mod FoundItems
+pub mod FoundBlock
+pub mod Stands

@@ -3,3 +3,4 @@ pub mod Order
 pub mod Findings
 pub mod Passes
 pub mod Messages
+pub mod Rows

@@ -6,7 +6,7 @@ ghost use Rattle.abnf_syntax.specs.Faults as faults;
 ghost use Rattle.abnf_lint.specs.Findings as spec;
 
 use crate::finding::{Code, Finding};
-use abnf_names::Grammar;
+use abnf_names::{Grammar, is_touched};
 use abnf_parts::{range_of, repeat_bounds};
 use abnf_syntax::{Item, SyntaxFault, place_of};
 use abnf_token::{Folded, Kind, Token};
@@ -102,16 +102,6 @@ fn push_number(alloc: Global, token: Token<'_>, found: &mut List<Finding>) -> Re
             push_if(alloc, holds, Code::EmptyRange, place_of(token), "", found)
         }
         _ => Ok(()),
-    }
-}
-
-/// Whether an item belongs to the misspelled thing before it.
-fn is_touched(before: Kind, item: Item<'_>) -> bool
-    ensures { result ≡ places.is_touched before item.entry }
-{
-    match before {
-        Kind::Bad | Kind::Number => !item.apart,
-        _ => false,
     }
 }
 

@@ -1,6 +1,9 @@
 //! Blocks that are no rules: one text for each fault. What they use is not looked at, and of their rules not all is known.
 
 use super::check::finds;
+use abnf_syntax::SyntaxFault;
+use ls_text::Place;
+use std::alloc::Global;
 use std::test::Fail;
 
 #[test]
@@ -72,6 +75,66 @@ fn of_limits(rt: HostRuntime) -> Result<(), Fail> {
             rt.alloc(),
             "a = (((((((((((((((((((((((((((((((((((((((((((((((((((((((((((((((((",
             "0:68-0:69 1 too-deep brackets nested too deep\n"
+        )?
+    );
+    Ok(())
+}
+
+/// Whether a fault says this of itself, as its finding does.
+fn says(alloc: Global, fault: SyntaxFault, want: &str) -> Result<bool, Fail> {
+    let said = format!(in alloc; "{fault}")?;
+    Ok(said.as_str() == want)
+}
+
+#[test]
+fn say_what_their_findings_say(rt: HostRuntime) -> Result<(), Fail> {
+    let place = Place {
+        line: 0,
+        start: 0,
+        end: 1,
+    };
+    assert!(rt; says(rt.alloc(), SyntaxFault::NoName(place), "rule name expected")?);
+    assert!(rt;
+        says(
+            rt.alloc(),
+            SyntaxFault::NoDefinedAs(place),
+            "\"=\" or \"=/\" expected"
+        )?
+    );
+    assert!(rt; says(rt.alloc(), SyntaxFault::BadToken(place), "bad character")?);
+    assert!(rt;
+        says(
+            rt.alloc(),
+            SyntaxFault::ElementExpected(place),
+            "element expected"
+        )?
+    );
+    assert!(rt;
+        says(
+            rt.alloc(),
+            SyntaxFault::BlankExpected(place),
+            "blank expected"
+        )?
+    );
+    assert!(rt;
+        says(
+            rt.alloc(),
+            SyntaxFault::Unclosed(place),
+            "bracket not closed"
+        )?
+    );
+    assert!(rt;
+        says(
+            rt.alloc(),
+            SyntaxFault::NumberTooLarge(place),
+            "number too large"
+        )?
+    );
+    assert!(rt;
+        says(
+            rt.alloc(),
+            SyntaxFault::TooDeep(place),
+            "brackets nested too deep"
         )?
     );
     Ok(())
