@@ -31,6 +31,7 @@ pub struct Chunk {
 }
 
 // Adds a number.
+#[inline(always)]
 pub fn push_number(numbers: &mut Vec<usize>, number: usize) -> Result<(), AllocError>
     ensures { OnOk result (numbers.new.items ≡ numbers.old.items ++ number ∷ []) }
 {

@@ -162,7 +162,7 @@ pub fn whole(alloc: Global, text: &str) -> Result<Lines, TextFault>
 }
 
 // The lines with what stands between two spots replaced. The lines before the one before the first spot, and those after the
-// second spot's, are shared. The line before is cut anew, since its CR and a new LF are one line end.
+// second spot's, are taken over with their marks. The line before is cut anew, since its CR and a new LF are one line end.
 pub fn spliced(
     alloc: Global,
     lines: &Lines,

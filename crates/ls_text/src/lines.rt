@@ -46,6 +46,7 @@ impl Model for Lines {
 }
 
 // Adds a chunk.
+#[inline(always)]
 fn push_chunk(chunks: &mut Vec<Arc<Chunk>>, chunk: Arc<Chunk>) -> Result<(), AllocError>
     ensures { OnOk result (chunks.new.items ≡ chunks.old.items ++ chunk ∷ []) }
 {
@@ -160,6 +161,7 @@ impl Lines {
     }
 
     // These lines, and those of a chunk.
+    #[inline(always)]
     fn with_chunk(self, chunk: Arc<Chunk>) -> Result<Lines, TextFault>
         ensures ok { IfOk result (λ lines. lines ≡ self ++ lines_behind chunk) }
         ensures too_large { IfErr result (λ e. e ≡ TextFault.TooLarge →

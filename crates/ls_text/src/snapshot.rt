@@ -301,7 +301,7 @@ impl Snapshot {
 
     /// The text after these edits, each on the text that the ones before it left. This text stays as it is.
     ///
-    /// Lines that no edit comes near are shared and not copied.
+    /// Chunks of lines that no edit comes near are shared and not copied.
     ///
     /// # Errors
     ///
