@@ -1,28 +1,11 @@
 //! Texts with their rules, nodes and places, written out by hand.
 
-use super::check::holds;
+use super::check::{At, Check, Want, holds};
 use abnf_names::{Grammar, NamePlace, Node, NodeNo, RuleNo};
 use abnf_syntax::SyntaxFault;
 use abnf_token::Folded;
-use ls_text::Place;
-use std::alloc::Global;
-use std::test::Fail;
-
-/// Whether a node refers to this name and rule.
-fn refers(node: Option<&Node<'_>>, want: &str, number: Option<usize>) -> bool {
-    match node {
-        Some(Node::Ref { name, rule }) => name.0 == want && *rule == number.map(|n| RuleNo::new(n)),
-        _ => false,
-    }
-}
-
-/// Whether a node is a text in quotes.
-fn quotes(node: Option<&Node<'_>>, want: &str, is_exact: bool) -> bool {
-    match node {
-        Some(Node::Quoted { text, exact }) => *text == want && *exact == is_exact,
-        _ => false,
-    }
-}
+use ls_text::{Place, TextFault};
+use std::alloc::{AllocError, Global};
 
 /// Whether these are the numbers of nodes.
 fn are_numbers(nodes: &[NodeNo], want: &[usize]) -> bool {
@@ -34,341 +17,315 @@ fn are_numbers(nodes: &[NodeNo], want: &[usize]) -> bool {
     nodes.len() == want.len()
 }
 
-/// Whether a node is a choice among the nodes with these numbers.
-fn chooses(node: Option<&Node<'_>>, want: &[usize]) -> bool {
-    match node {
-        Some(Node::Alt(parts)) => are_numbers(parts.as_slice(), want),
+/// The number of a rule.
+fn number_of(rule: Option<RuleNo>) -> Option<usize> {
+    match rule {
+        Some(rule) => Some(rule.get()),
+        None => None,
+    }
+}
+
+fn is_node(node: &Node<'_>, want: Want) -> bool {
+    match (node, want) {
+        (Node::Ref { name, rule }, Want::Ref(other, number)) => {
+            name.0 == other && number_of(*rule) == number
+        }
+        (Node::Quoted { text, exact }, Want::Quoted(other, is_exact)) => {
+            *text == other && *exact == is_exact
+        }
+        (Node::Series(characters), Want::Series(others)) => characters.as_slice() == others,
+        (Node::Span { low, high }, Want::Span(first, last)) => *low == first && *high == last,
+        (Node::Alt(parts), Want::Alt(numbers)) => are_numbers(parts.as_slice(), numbers),
+        (Node::Rep { least, most, body }, Want::Rep(from, to, number)) => {
+            *least == from && *most == to && body.get() == number
+        }
+        (Node::Opaque, Want::Opaque) => true,
         _ => false,
     }
 }
 
-/// Whether names stand for the rules with the numbers 0, 1 and so on.
-fn are_numbered<'t>(grammar: &Grammar<'t>, names: &[&'t str]) -> bool {
+pub(crate) fn has_nodes(nodes: &[Node<'_>], rows: &[(usize, Want)]) -> bool {
+    for (number, want) in rows {
+        match nodes.get(*number) {
+            Some(node) if is_node(node, *want) => {}
+            _ => return false,
+        }
+    }
+    true
+}
+
+/// Whether the names stand for the rules 0, 1 and so on.
+pub(crate) fn are_numbered(grammar: &Grammar<'_>, names: &[&'static str]) -> bool {
     for (number, name) in names.iter().enumerate() {
-        if grammar.rule_of(Folded(name)) != Some(RuleNo::new(number)) {
+        if number_of(grammar.rule_of(Folded(name))) != Some(number) {
             return false;
         }
     }
     true
 }
 
-/// Whether names stand for no rule.
-fn are_unknown<'t>(grammar: &Grammar<'t>, names: &[&'t str]) -> bool {
+/// Whether the rule of a name leads to prose or to a faulty block, if there is such a rule.
+fn reaches(grammar: &Grammar<'_>, name: &'static str) -> Option<bool> {
+    match grammar.rule_of(Folded(name)) {
+        Some(rule) => Some(grammar.reaches_opaque(rule)),
+        None => None,
+    }
+}
+
+/// Whether that is so of each of these names.
+pub(crate) fn all_reach(grammar: &Grammar<'_>, names: &[&'static str], want: Option<bool>) -> bool {
     for name in names {
-        if grammar.rule_of(Folded(name)).is_some() {
+        if reaches(grammar, name) != want {
             return false;
         }
     }
     true
-}
-
-fn has_core_nodes(grammar: &Grammar<'_>) -> bool {
-    let nodes = grammar.nodes();
-    nodes.len() == 24
-        && refers(nodes.get(4), "CRLF", Some(3))
-        && refers(nodes.get(11), "LF", Some(6))
-        && refers(nodes.get(15), "DIGIT", Some(4))
-        && quotes(nodes.get(21), "F", false)
-}
-
-#[test]
-fn numbers_core_rules(rt: HostRuntime) -> Result<(), Fail> {
-    let text = "LF = \"n\"\na = CRLF HEXDIG";
-    let names = ["lf", "A", "cr", "crlf", "Digit", "HEXDIG"];
-    assert!(rt;
-        holds(
-            rt.alloc(),
-            text,
-            |grammar| are_numbered(grammar, names.as_slice())
-        )?
-    );
-    assert!(rt;
-        holds(
-            rt.alloc(),
-            text,
-            |grammar| are_unknown(grammar, &["ALPHA", "n"])
-        )?
-    );
-    assert!(rt; holds(rt.alloc(), text, has_core_nodes)?);
-    Ok(())
 }
 
 /// Whether the root of a name's rule is the node with this number.
-fn is_root<'t>(grammar: &Grammar<'t>, name: Folded<'t>, number: usize) -> bool {
-    match grammar.rule_of(name) {
+pub(crate) fn is_root(grammar: &Grammar<'_>, name: &'static str, number: usize) -> bool {
+    match grammar.rule_of(Folded(name)) {
         Some(rule) => grammar.root_of(rule).get() == number,
         None => false,
     }
 }
 
-#[test]
-fn finds_roots(rt: HostRuntime) -> Result<(), Fail> {
-    let text = "LF = \"n\"\na = CRLF HEXDIG";
-    let parts = [15, 16, 17, 18, 19, 20, 21];
-    assert!(rt;
-        holds(
-            rt.alloc(),
-            text,
-            |grammar| is_root(grammar, Folded("HEXDIG"), 14)
-        )?
-    );
-    assert!(rt;
-        holds(
-            rt.alloc(),
-            text,
-            |grammar| chooses(grammar.nodes().get(14), parts.as_slice())
-        )?
-    );
-    Ok(())
-}
-
-fn has_two_rules(grammar: &Grammar<'_>) -> bool {
-    let nodes = grammar.nodes();
-    nodes.len() == 5
-        && chooses(nodes.get(0), &[1, 2])
-        && refers(nodes.get(1), "b", Some(1))
-        && quotes(nodes.get(2), "x", false)
-        && chooses(nodes.get(3), &[4])
-        && refers(nodes.get(4), "a", Some(0))
-}
-
-#[test]
-fn numbers_nodes(rt: HostRuntime) -> Result<(), Fail> {
-    assert!(rt; holds(rt.alloc(), "a = b / \"x\"\nb = a", has_two_rules)?);
-    Ok(())
-}
-
-fn has_joined_nodes(grammar: &Grammar<'_>) -> bool {
-    let nodes = grammar.nodes();
-    nodes.len() == 5
-        && chooses(nodes.get(0), &[1, 2])
-        && quotes(nodes.get(1), "yy", false)
-        && quotes(nodes.get(2), "x", true)
-        && chooses(nodes.get(3), &[4])
-        && matches!(nodes.get(4), Some(Node::Opaque))
-}
-
 /// Whether the only fault is a bad token at this place.
-fn has_bad_token(grammar: &Grammar<'_>, place: Place) -> bool {
-    grammar.faults() == [(place, SyntaxFault::BadToken(place))].as_slice()
-}
-
-#[test]
-fn joins_blocks(rt: HostRuntime) -> Result<(), Fail> {
-    let text = "A = \"yy\"\na = \"z\"\na =/ %s\"x\"\nb = ?";
-    let place = Place {
-        line: 3,
-        start: 4,
-        end: 5,
-    };
-    assert!(rt; holds(rt.alloc(), text, has_joined_nodes)?);
-    assert!(rt; holds(rt.alloc(), text, |grammar| has_bad_token(grammar, place))?);
-    Ok(())
-}
-
-/// Whether these are the places of a name.
-fn has_places<'t>(grammar: &Grammar<'t>, name: Folded<'t>, want: &[NamePlace]) -> bool {
-    grammar.places(name) == want
-}
-
-/// A place in a line, and whether it defines its name.
-fn name_place(line: usize, start: usize, end: usize, defines: bool) -> NamePlace {
-    NamePlace {
-        place: Place { line, start, end },
-        defines,
+pub(crate) fn has_bad_token(grammar: &Grammar<'_>, place: Place) -> bool {
+    match grammar.faults() {
+        [(at, SyntaxFault::BadToken(bad))] => *at == place && *bad == place,
+        _ => false,
     }
 }
 
-#[test]
-fn finds_places(rt: HostRuntime) -> Result<(), Fail> {
-    let text = "a = %item Item\nitem = \"i\"";
-    let places = [name_place(0, 10, 14, false), name_place(1, 0, 4, true)];
-    assert!(rt;
-        holds(
-            rt.alloc(),
-            text,
-            |grammar| has_places(grammar, Folded("ITEM"), places.as_slice())
-        )?
-    );
-    assert!(rt;
-        holds(
-            rt.alloc(),
-            text,
-            |grammar| has_places(grammar, Folded("i"), &[])
-        )?
-    );
-    assert!(rt;
-        holds(
-            rt.alloc(),
-            text,
-            |grammar| grammar.source().line_count() == 2
-        )?
-    );
-    Ok(())
+fn is_place(name: &NamePlace, want: (usize, usize, usize, bool)) -> bool {
+    let (line, start, end, defines) = want;
+    name.place == Place { line, start, end } && name.defines == defines
 }
 
-/// The line, the first byte and the end of the place at an offset, and the name there; an empty one where there is none.
-fn name_at<'t>(grammar: &Grammar<'t>, offset: usize) -> (usize, usize, usize, &'t str) {
+pub(crate) fn are_places(names: &[NamePlace], rows: &[(usize, usize, usize, bool)]) -> bool {
+    for (name, row) in names.iter().zip(rows) {
+        if !is_place(name, *row) {
+            return false;
+        }
+    }
+    names.len() == rows.len()
+}
+
+/// Whether this name stands at an offset.
+fn is_at(grammar: &Grammar<'_>, offset: usize, want: At) -> bool {
     match grammar.name_at(offset) {
-        Some((place, name)) => (place.line, place.start, place.end, name.0),
-        None => (0, 0, 0, ""),
+        Some((place, name)) => (place.line, place.start, place.end, name.0) == want,
+        None => want.3.is_empty(),
     }
 }
 
-/// Offsets, and what stands at each.
-type Row<'r> = (usize, (usize, usize, usize, &'r str));
-
-/// Whether these names stand at these offsets.
-fn has_names(grammar: &Grammar<'_>, rows: &[Row<'_>]) -> bool {
+pub(crate) fn are_at(grammar: &Grammar<'_>, rows: &[(usize, At)]) -> bool {
     for (offset, want) in rows {
-        if name_at(grammar, *offset) != *want {
+        if !is_at(grammar, *offset, *want) {
             return false;
         }
     }
     true
 }
 
-#[test]
-fn finds_names_at_offsets(rt: HostRuntime) -> Result<(), Fail> {
-    let (a, b, c) = ((0, 0, 1, "a"), (0, 4, 5, "b"), (0, 6, 7, "c"));
-    let none = (0, 0, 0, "");
-    let rows = [
-        (0, a),
-        (1, a),
-        (2, none),
-        (3, none),
-        (4, b),
-        (5, b),
-        (6, c),
-        (7, c),
-        // Past the text's end is its end.
-        (8, c),
-        (1000, c),
-    ];
-    assert!(rt;
-        holds(
-            rt.alloc(),
-            "a = b c",
-            |grammar| has_names(grammar, rows.as_slice())
-        )?
-    );
-    Ok(())
-}
-
-#[test]
-fn finds_names_beside_an_equals_sign(rt: HostRuntime) -> Result<(), Fail> {
-    let (a, b) = ((0, 0, 1, "a"), (0, 2, 4, "Bc"));
-    let rows = [(0, a), (1, a), (2, b), (3, b), (4, b)];
-    assert!(rt;
-        holds(
-            rt.alloc(),
-            "a=Bc",
-            |grammar| has_names(grammar, rows.as_slice())
-        )?
-    );
-    Ok(())
-}
-
-#[test]
-fn finds_names_behind_wide_characters(rt: HostRuntime) -> Result<(), Fail> {
-    let text = "x = y ; \u{20AC}\u{1F600} z\r\na = \"\u{E9}\" b\r\n";
-    let (a, b) = ((1, 0, 1, "a"), (1, 9, 10, "b"));
-    let none = (0, 0, 0, "");
-    let rows = [
-        (5, (0, 4, 5, "y")),
-        // in the comment, and at its end
-        (11, none),
-        (12, none),
-        (13, none),
-        (14, a),
-        (15, a),
-        (21, none),
-        (22, b),
-        (23, b),
-        // between CR and LF
-        (24, b),
-        (25, none),
-    ];
-    assert!(rt;
-        holds(
-            rt.alloc(),
-            text,
-            |grammar| has_names(grammar, rows.as_slice())
-        )?
-    );
-    Ok(())
-}
-
-#[test]
-fn finds_no_name_in_a_misspelled_number(rt: HostRuntime) -> Result<(), Fail> {
-    let item = (1, 0, 4, "item");
-    let none = (0, 0, 0, "");
-    let rows = [
-        (4, none),
-        (5, none),
-        (9, none),
-        (10, item),
-        (14, item),
-        (20, none),
-        (100, none),
-    ];
-    let text = "a = %item\nitem = \"i\"";
-    assert!(rt;
-        holds(
-            rt.alloc(),
-            text,
-            |grammar| has_names(grammar, rows.as_slice())
-        )?
-    );
-    Ok(())
-}
-
-/// Whether a node is a repetition with these bounds.
-fn repeats(node: Option<&Node<'_>>, bounds: (u32, Option<u32>), at: usize) -> bool {
-    match node {
-        Some(Node::Rep { least, most, body }) => (*least, *most) == bounds && body.get() == at,
-        _ => false,
+/// Whether each name that is used stands for a rule.
+fn are_known(nodes: &[Node<'_>]) -> bool {
+    for node in nodes {
+        if let Node::Ref { rule: None, .. } = node {
+            return false;
+        }
     }
+    true
 }
 
-/// Whether a node is a range of characters.
-fn spans(node: Option<&Node<'_>>, first: u32, last: u32) -> bool {
-    match node {
-        Some(Node::Span { low, high }) => *low == first && *high == last,
-        _ => false,
-    }
+/// Whether a grammar has no fault, its last rule has this number, and all names stand for its rules or core rules.
+pub(crate) fn has_rules(grammar: &Grammar<'_>, last: &'static str, number: usize) -> bool {
+    number_of(grammar.rule_of(Folded(last))) == Some(number)
+        && grammar.faults().is_empty()
+        && are_known(grammar.nodes())
 }
 
-/// Whether a node is these characters.
-fn spells(node: Option<&Node<'_>>, want: &[u32]) -> bool {
-    match node {
-        Some(Node::Series(characters)) => characters.as_slice() == want,
-        _ => false,
-    }
-}
+const CORE: &str = "LF = \"n\"\na = CRLF HEXDIG";
 
-fn has_leaves(grammar: &Grammar<'_>) -> bool {
-    let nodes = grammar.nodes();
-    nodes.len() == 11
-        && repeats(nodes.get(2), (2, Some(3)), 3)
-        && spans(nodes.get(3), 0x41, 0x5A)
-        && repeats(nodes.get(4), (0, Some(1)), 5)
-        && spells(nodes.get(5), &[13, 10])
-        && repeats(nodes.get(6), (0, None), 7)
-        && repeats(nodes.get(8), (4, Some(4)), 9)
-        && quotes(nodes.get(9), "q", false)
-        && spells(nodes.get(10), &[1])
-}
+const REACH: &str = "a = b\nb = c\nc = <prose>\nd = \"x\"\ne = d\nf = nope / ALPHA / LWSP";
+
+const NONE: At = (0, 0, 0, "");
+
+/// Texts, and what holds of the grammar of each.
+const ROWS: &[(&str, &[Check])] = &[
+    // core rules have their numbers behind the rules of the text, and their nodes behind those
+    (
+        CORE,
+        &[
+            Check::Names(
+                &["lf", "A", "cr", "crlf", "Digit", "HEXDIG"],
+                &["ALPHA", "n"],
+            ),
+            Check::Nodes(
+                24,
+                &[
+                    (4, Want::Ref("CRLF", Some(3))),
+                    (11, Want::Ref("LF", Some(6))),
+                    (14, Want::Alt(&[15, 16, 17, 18, 19, 20, 21])),
+                    (15, Want::Ref("DIGIT", Some(4))),
+                    (21, Want::Quoted("F", false)),
+                ],
+            ),
+            Check::Root("HEXDIG", 14),
+        ],
+    ),
+    (
+        "a = b / \"x\"\nb = a",
+        &[Check::Nodes(
+            5,
+            &[
+                (0, Want::Alt(&[1, 2])),
+                (1, Want::Ref("b", Some(1))),
+                (2, Want::Quoted("x", false)),
+                (3, Want::Alt(&[4])),
+                (4, Want::Ref("a", Some(0))),
+            ],
+        )],
+    ),
+    // blocks of one name are joined, a second `=` doesn't count, and a faulty one is opaque
+    (
+        "A = \"yy\"\na = \"z\"\na =/ %s\"x\"\nb = ?",
+        &[
+            Check::Nodes(
+                5,
+                &[
+                    (0, Want::Alt(&[1, 2])),
+                    (1, Want::Quoted("yy", false)),
+                    (2, Want::Quoted("x", true)),
+                    (3, Want::Alt(&[4])),
+                    (4, Want::Opaque),
+                ],
+            ),
+            Check::BadToken(3, 4, 5),
+        ],
+    ),
+    (
+        "a = %item Item\nitem = \"i\"",
+        &[
+            Check::Places("ITEM", &[(0, 10, 14, false), (1, 0, 4, true)]),
+            Check::Places("i", &[]),
+            Check::Lines(2),
+        ],
+    ),
+    (
+        "a = 2*3%x41-5a [%d13.10] *<p> 4((\"q\")) %b1",
+        &[Check::Nodes(
+            11,
+            &[
+                (2, Want::Rep(2, Some(3), 3)),
+                (3, Want::Span(0x41, 0x5A)),
+                (4, Want::Rep(0, Some(1), 5)),
+                (5, Want::Series(&[13, 10])),
+                (6, Want::Rep(0, None, 7)),
+                (8, Want::Rep(4, Some(4), 9)),
+                (9, Want::Quoted("q", false)),
+                (10, Want::Series(&[1])),
+            ],
+        )],
+    ),
+    // prose is reached by uses
+    (
+        REACH,
+        &[
+            Check::Reach(&["a", "b", "c"], Some(true)),
+            Check::Reach(&["d", "e", "f", "ALPHA", "LWSP", "WSP"], Some(false)),
+            Check::Reach(&["nope"], None),
+        ],
+    ),
+    // and against uses alone
+    (
+        "a = b\nb = a\nc = b / <p>",
+        &[
+            Check::Reach(&["a", "b"], Some(false)),
+            Check::Reach(&["c"], Some(true)),
+        ],
+    ),
+    // a faulty block is as prose
+    (
+        "a = b\nb = (\nc = \"x\" 2(\"y\" [b])\nd = c\ne = \"x\"",
+        &[
+            Check::Reach(&["a", "b", "c", "d"], Some(true)),
+            Check::Reach(&["e"], Some(false)),
+        ],
+    ),
+    // names at offsets
+    (
+        "a = b c",
+        &[Check::Offsets(&[
+            (0, (0, 0, 1, "a")),
+            (1, (0, 0, 1, "a")),
+            (2, NONE),
+            (3, NONE),
+            (4, (0, 4, 5, "b")),
+            (5, (0, 4, 5, "b")),
+            (6, (0, 6, 7, "c")),
+            (7, (0, 6, 7, "c")),
+            // Past the text's end is its end.
+            (8, (0, 6, 7, "c")),
+            (1000, (0, 6, 7, "c")),
+        ])],
+    ),
+    // beside an equals sign
+    (
+        "a=Bc",
+        &[Check::Offsets(&[
+            (0, (0, 0, 1, "a")),
+            (1, (0, 0, 1, "a")),
+            (2, (0, 2, 4, "Bc")),
+            (3, (0, 2, 4, "Bc")),
+            (4, (0, 2, 4, "Bc")),
+        ])],
+    ),
+    // behind wide characters
+    (
+        "x = y ; \u{20AC}\u{1F600} z\r\na = \"\u{E9}\" b\r\n",
+        &[Check::Offsets(&[
+            (5, (0, 4, 5, "y")),
+            // in the comment, and at its end
+            (11, NONE),
+            (12, NONE),
+            (13, NONE),
+            (14, (1, 0, 1, "a")),
+            (15, (1, 0, 1, "a")),
+            (21, NONE),
+            (22, (1, 9, 10, "b")),
+            (23, (1, 9, 10, "b")),
+            // between CR and LF
+            (24, (1, 9, 10, "b")),
+            (25, NONE),
+        ])],
+    ),
+    // none in a misspelled number
+    (
+        "a = %item\nitem = \"i\"",
+        &[Check::Offsets(&[
+            (4, NONE),
+            (5, NONE),
+            (9, NONE),
+            (10, (1, 0, 4, "item")),
+            (14, (1, 0, 4, "item")),
+            (20, NONE),
+            (100, NONE),
+        ])],
+    ),
+];
 
 #[test]
-fn reads_leaves(rt: HostRuntime) -> Result<(), Fail> {
-    let text = "a = 2*3%x41-5a [%d13.10] *<p> 4((\"q\")) %b1";
-    assert!(rt; holds(rt.alloc(), text, has_leaves)?);
+fn grammars_of_texts(rt: HostRuntime) -> Result<(), TextFault> {
+    for (text, checks) in ROWS {
+        assert!(rt; holds(rt.alloc(), text, checks)?, "{text}");
+    }
     Ok(())
 }
 
 /// 100,000 rules, each of which uses the next.
-fn each_uses_the_next(alloc: Global) -> Result<String, Fail> {
+fn each_uses_the_next(alloc: Global) -> Result<String, AllocError> {
     let mut text = String::new(alloc);
     for n in 0..100_000 {
         text.push_str(format!(in alloc; "r{n} = r{}\n", n + 1)?.as_str())?;
@@ -376,107 +333,17 @@ fn each_uses_the_next(alloc: Global) -> Result<String, Fail> {
     Ok(text)
 }
 
-fn has_many_nodes(grammar: &Grammar<'_>) -> bool {
-    let nodes = grammar.nodes();
-    nodes.len() == 200_000 && refers(nodes.get(199_999), "r100000", None)
-}
+const MANY: &[Check] = &[Check::Nodes(200_000, &[(199_999, Want::Ref("r100000", None))])];
 
 #[test]
-fn reads_many_rules(rt: HostRuntime) -> Result<(), Fail> {
+fn reads_many_rules(rt: HostRuntime) -> Result<(), TextFault> {
     let text = each_uses_the_next(rt.alloc())?;
-    assert!(rt; holds(rt.alloc(), text.as_str(), has_many_nodes)?);
-    Ok(())
-}
-
-/// Whether the rule of a name leads to prose or to a faulty block, if there is such a rule.
-fn reaches<'t>(grammar: &Grammar<'t>, name: Folded<'t>) -> Option<bool> {
-    match grammar.rule_of(name) {
-        Some(rule) => Some(grammar.reaches_opaque(rule)),
-        None => None,
-    }
-}
-
-/// Whether that is so of each of these names.
-fn all_reach<'t>(grammar: &Grammar<'t>, names: &[&'t str], want: Option<bool>) -> bool {
-    for name in names {
-        if reaches(grammar, Folded(name)) != want {
-            return false;
-        }
-    }
-    true
-}
-
-#[test]
-fn reaches_prose_by_uses(rt: HostRuntime) -> Result<(), Fail> {
-    let text = "a = b\nb = c\nc = <prose>\nd = \"x\"\ne = d\nf = nope / ALPHA / LWSP";
-    assert!(rt;
-        holds(
-            rt.alloc(),
-            text,
-            |grammar| all_reach(grammar, &["a", "b", "c"], Some(true))
-        )?
-    );
-    let others = ["d", "e", "f", "ALPHA", "LWSP", "WSP"];
-    assert!(rt;
-        holds(
-            rt.alloc(),
-            text,
-            |grammar| all_reach(grammar, others.as_slice(), Some(false))
-        )?
-    );
-    assert!(rt;
-        holds(
-            rt.alloc(),
-            text,
-            |grammar| all_reach(grammar, &["nope"], None)
-        )?
-    );
-    Ok(())
-}
-
-#[test]
-fn reaches_against_uses_alone(rt: HostRuntime) -> Result<(), Fail> {
-    let text = "a = b\nb = a\nc = b / <p>";
-    assert!(rt;
-        holds(
-            rt.alloc(),
-            text,
-            |grammar| all_reach(grammar, &["a", "b"], Some(false))
-        )?
-    );
-    assert!(rt;
-        holds(
-            rt.alloc(),
-            text,
-            |grammar| all_reach(grammar, &["c"], Some(true))
-        )?
-    );
-    Ok(())
-}
-
-#[test]
-fn reaches_faulty_blocks(rt: HostRuntime) -> Result<(), Fail> {
-    let text = "a = b\nb = (\nc = \"x\" 2(\"y\" [b])\nd = c\ne = \"x\"";
-    let faulty = ["a", "b", "c", "d"];
-    assert!(rt;
-        holds(
-            rt.alloc(),
-            text,
-            |grammar| all_reach(grammar, faulty.as_slice(), Some(true))
-        )?
-    );
-    assert!(rt;
-        holds(
-            rt.alloc(),
-            text,
-            |grammar| all_reach(grammar, &["e"], Some(false))
-        )?
-    );
+    assert!(rt; holds(rt.alloc(), text.as_str(), MANY)?);
     Ok(())
 }
 
 /// 100,000 rules, each of which uses the one before, and the first is prose.
-fn each_uses_the_last(alloc: Global) -> Result<String, Fail> {
+fn each_uses_the_last(alloc: Global) -> Result<String, AllocError> {
     let mut text = String::from_str(alloc, "r0 = <p>\n")?;
     for n in 0..99_999 {
         text.push_str(format!(in alloc; "r{} = r{n}\n", n + 1)?.as_str())?;
@@ -484,16 +351,11 @@ fn each_uses_the_last(alloc: Global) -> Result<String, Fail> {
     Ok(text)
 }
 
+const ALL_REACH: &[Check] = &[Check::Reach(&["r0", "r50000", "r99999"], Some(true))];
+
 #[test]
-fn reaches_along_many_rules(rt: HostRuntime) -> Result<(), Fail> {
+fn reaches_along_many_rules(rt: HostRuntime) -> Result<(), TextFault> {
     let text = each_uses_the_last(rt.alloc())?;
-    let names = ["r0", "r50000", "r99999"];
-    assert!(rt;
-        holds(
-            rt.alloc(),
-            text.as_str(),
-            |grammar| all_reach(grammar, names.as_slice(), Some(true))
-        )?
-    );
+    assert!(rt; holds(rt.alloc(), text.as_str(), ALL_REACH)?);
     Ok(())
 }
