@@ -1,7 +1,7 @@
 //! The grammars of `examples/`: their rules, what their names stand for, and where these are defined.
 
 use super::check::{Check, holds, snapshot};
-use super::grammars::{RFC_3339, RFC_3986, RFC_5234, RFC_8259};
+use example_grammars::{RFC_3339, RFC_3986, RFC_5234, RFC_8259};
 use ls_answers::{Answer, Ask, Job, run};
 use ls_text::{Position, Range, Snapshot, TextFault};
 use std::alloc::{AllocError, Global};

@@ -8,8 +8,6 @@ mod check;
 #[cfg(test)]
 mod examples;
 #[cfg(test)]
-mod grammars;
-#[cfg(test)]
 mod names;
 #[cfg(test)]
 mod sentences;

@@ -3,11 +3,11 @@
 ghost use Rattle.abnf_cert.specs.Accepted.{IsAccepted};
 
 use super::check::{Check, holds};
-use super::grammars::{RFC_3339, RFC_3986, RFC_5234, RFC_8259};
 use abnf_cert::Cert;
 use abnf_least::least;
 use abnf_names::{Grammar, Node};
 use abnf_token::Folded;
+use example_grammars::{RFC_3339, RFC_3986, RFC_5234, RFC_8259};
 use ls_answers::hover_text;
 use ls_text::TextFault;
 use std::alloc::{AllocError, Global};
