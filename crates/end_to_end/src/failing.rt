@@ -11,9 +11,9 @@ const SHUTDOWN: &str = r#"{"jsonrpc":"2.0","id":3,"method":"shutdown"}"#;
 
 const EXIT: &str = r#"{"jsonrpc":"2.0","method":"exit"}"#;
 
-/// The answer to `initialize` with id 1: 217 bytes.
+/// The answer to `initialize` with id 1: 238 bytes.
 const CAPABILITIES: &str =
-    r#"{"id":1,"jsonrpc":"2.0","result":{"capabilities":{"definitionProvider":true,"documentSymbolProvider":true,"positionEncoding":"utf-16","textDocumentSync":{"change":2,"openClose":true}},"serverInfo":{"name":"abnf_ls"}}}"#;
+    r#"{"id":1,"jsonrpc":"2.0","result":{"capabilities":{"definitionProvider":true,"documentSymbolProvider":true,"hoverProvider":true,"positionEncoding":"utf-16","textDocumentSync":{"change":2,"openClose":true}},"serverInfo":{"name":"abnf_ls"}}}"#;
 
 const DOWN: &str = r#"{"id":3,"jsonrpc":"2.0","result":null}"#;
 
