@@ -13,11 +13,11 @@ use Rattle.abnf_parts.specs.Core.{core_rules, core_name, is_needed}
 use Rattle.abnf_parts.specs.CoreTable.{core_of}
 use Rattle.abnf_names.specs.Said.{Block, AreSaid}
 use Rattle.abnf_parts.specs.Names.{Name, all_names, with_name}
-use Rattle.abnf_names.specs.Places.{Named, places_of}
+use Rattle.abnf_names.specs.Places.{Named, named_at, places_of}
 use Rattle.abnf_parts.specs.Nodes.{trees_at, AreNumbered}
 use Rattle.abnf_parts.specs.Reach.{AreReaching}
 use Rattle.abnf_names.specs.Rules.{defined, needed, undefined, names_of, rules_of, faults_of, Grammar}
-use Rattle.abnf_names.specs.Passes.{block_of, named_at, spot_name, is_unknown, AreNames, ArePlaced, AreRules}
+use Rattle.abnf_names.specs.Passes.{block_of, spot_name, is_unknown, AreNames, ArePlaced, AreRules}
 use Rattle.abnf_names.specs.declared.rules.Rules.{Rules}
 use Rattle.abnf_names.specs.Excerpts.{excerpt, excerpt_of}
 use Rattle.abnf_names.specs.Inside.{IsGrammarInside}
@@ -26,6 +26,7 @@ use Rattle.abnf_parts.proofs.ApartLaws.{map_both, needed_names}
 use Rattle.abnf_names.proofs.NeededPass.{needed_all}
 use Rattle.abnf_names.proofs.RulePass.{names_are}
 use Rattle.abnf_names.proofs.Closed.{rules_closed}
+use Rattle.abnf_names.proofs.OneGrammar.{one_defined}
 use Rattle.abnf_parts.proofs.Tied.{tied, IsTied}
 
 pub same_grammar : (text : List ℕ) (names ns : List Name) (rules rs : List Part) (places ps : List Named) (faults fs : List (Place × SyntaxFault)) → names ≡ ns → rules ≡ rs → places ≡ ps → faults ≡ fs →
@@ -70,6 +71,7 @@ kept g blocks said are added places faults placed reaching excerpts =
     record {
       numbered = t.numbered;
       is_grammar = record { blocks = blocks; of_text = said; is = same };
+      own = λ others said_too. are.own ∙ one_defined g.source.now blocks others said said_too;
       placed = placed;
       reaching = reaching;
       sections = record { blocks = blocks; of_text = said; is = same; excerpts = excerpts };

@@ -12,3 +12,5 @@ pub mod Kept
 pub mod Within
 pub mod OneGrammar
 pub mod Exist
+pub mod Ascending
+pub mod DefinedPlaces

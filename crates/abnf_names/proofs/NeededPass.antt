@@ -8,9 +8,9 @@ use Rattle.abnf_parts.proofs.NeededLaws.{needed_folded}
 use Rattle.abnf_parts.proofs.ApartLaws.{map_both, filter_same}
 use Rattle.abnf_names.specs.declared.place.Spot.{Spot}
 use Rattle.abnf_names.specs.Said.{Block}
-use Rattle.abnf_names.specs.Places.{Named, places_of}
+use Rattle.abnf_names.specs.Places.{Named, named_at, places_of}
 use Rattle.abnf_names.specs.Rules.{needed, defined, undefined}
-use Rattle.abnf_names.specs.Passes.{is_unknown, spot_name, named_at}
+use Rattle.abnf_names.specs.Passes.{is_unknown, spot_name}
 
 pub needed_all : (own unknown : List Name) (spots : List Spot) (blocks : List Block) → own ≡ defined blocks → map named_at spots ≡ places_of blocks → unknown ≡ fold with_name [] (filter (is_unknown own) (map spot_name spots)) →
     filter (is_needed unknown) core_rules ≡ needed blocks

@@ -192,6 +192,9 @@ module _ (bs cs : List Block) (e : map plain bs ≡ map plain cs) where
   grammar_same : (text : List ℕ) → grammar_of text bs ≡ grammar_of text cs
   grammar_same text = (λ i. record { text = text; names = names_same i; rules = rules_same i; places = places_same i; faults = faults_same i })
 
+pub one_defined : (text : List ℕ) (bs cs : List Block) → AreSaid text bs → AreSaid text cs → defined bs ≡ defined cs
+one_defined text bs cs p q = defined_same bs cs (same_blocks text bs cs p q)
+
 pub one_grammar : (g h : Grammar) → IsGrammar g → IsGrammar h → g.text ≡ h.text → g ≡ h
 one_grammar g h p q e =
     let said : AreSaid g.text q.blocks = subst (λ text. AreSaid text q.blocks) (sym e) q.of_text in

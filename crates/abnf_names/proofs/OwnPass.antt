@@ -15,9 +15,9 @@ use Rattle.abnf_parts.specs.Names.{Name, with_name}
 use Rattle.abnf_syntax.specs.declared.block.Head.{Head}
 use Rattle.abnf_syntax.specs.Heads.{head_of}
 use Rattle.abnf_names.specs.Said.{Block, name_of}
-use Rattle.abnf_names.specs.Places.{Named, places_of_name}
+use Rattle.abnf_names.specs.Places.{Named, name_place, places_of_name}
 use Rattle.abnf_names.specs.Rules.{defined, defines, head_name}
-use Rattle.abnf_names.specs.Passes.{block_of, definition, definition_of, name_place, spot_name, members_of, if_same, is_unknown, Grouped, AreOwn, ArePlaced}
+use Rattle.abnf_names.specs.Passes.{block_of, definition, definition_of, spot_name, members_of, if_same, is_unknown, Grouped, AreOwn, ArePlaced}
 use Rattle.abnf_names.specs.Excerpts.{excerpt, excerpt_of}
 use Rattle.abnf_names.specs.declared.definition.Definition.{Definition}
 use Rattle.abnf_names.specs.declared.section.Section.{Section}

@@ -4,8 +4,8 @@ use Rattle.std.specs.Prelude.{find, if◌then◌else◌}
 use Rattle.std.specs.Option.{option_or}
 use Rattle.ls_text.specs.declared.position.Place.{Place}
 use Rattle.abnf_names.specs.declared.place.Spot.{Spot}
-use Rattle.abnf_names.specs.Places.{Named, holds, ends_at, found_at}
-use Rattle.abnf_names.specs.Passes.{named_at, spot_at}
+use Rattle.abnf_names.specs.Places.{Named, named_at, holds, ends_at, found_at}
+use Rattle.abnf_names.specs.Passes.{spot_at}
 
 find-map : (test : Named → Bool) (spots : List Spot) → option_map named_at (find (λ spot. test (named_at spot)) spots) ≡ find test (map named_at spots)
 find-map test [] = refl

@@ -1,5 +1,5 @@
 -- Each rule that a name stands for is one of the rules of the grammar.
-use Rattle.std.proofs.Common.{◌≡◌, ◌<◌, ◌+◌, ℕ, List, [], map, length, refl, sym, ap, subst, ◌∙◌, length-append}
+use Rattle.std.proofs.Common.{◌≡◌, ◌<◌, ◌+◌, ℕ, List, [], ◌++◌, map, length, refl, sym, ap, subst, ◌∙◌, length-append, arith}
 use Rattle.std.specs.Prelude.{Option, Some, None, IfSome}
 use Rattle.std.proofs.lemmas.List.{length-map}
 use Rattle.std.proofs.lemmas.List.Quantifiers.{position-Some}
@@ -22,7 +22,14 @@ if_some : (o : Option ℕ) (n : ℕ) → ((r : ℕ) → o ≡ Some r → r < n) 
 if_some None n h = tt
 if_some (Some r) n h = h r refl
 
+one_rule_each : (g : Grammar) → IsGrammar g → length g.names ≡ length g.rules
+one_rule_each g h = ap (λ k. length k.names) h.is ∙ (one_name_each h.blocks ∙ sym (ap (λ k. length k.rules) h.is))
+
 pub rule_within : (g : Grammar) → IsGrammar g → (name : Name) → IfSome (rule_number g.names name) (λ r. r < length g.rules)
-rule_within g h name =
-    let count : length g.names ≡ length g.rules = ap (λ k. length k.names) h.is ∙ (one_name_each h.blocks ∙ sym (ap (λ k. length k.rules) h.is)) in
-    if_some (rule_number g.names name) (length g.rules) (λ r e. subst (λ n. r < n) count (position-Some (bytes_eq name) g.names r [] e).0)
+rule_within g h name = if_some (rule_number g.names name) (length g.rules) (λ r e. subst (λ n. r < n) (one_rule_each g h) (position-Some (bytes_eq name) g.names r [] e).0)
+
+-- so is each rule of the text's own
+pub own_within : (g : Grammar) → IsGrammar g → (own core : List Name) → own ++ core ≡ g.names → (name : Name) → IfSome (rule_number own name) (λ r. r < length g.rules)
+own_within g h own core names name =
+    let count : length own + length core ≡ length g.rules = sym (length-append own core) ∙ (ap length names ∙ one_rule_each g h) in
+    if_some (rule_number own name) (length g.rules) (λ r e. let few : r < length own = (position-Some (bytes_eq name) own r [] e).0 in omega (arith, count, few))

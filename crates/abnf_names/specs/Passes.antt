@@ -13,7 +13,7 @@ use Rattle.abnf_names.specs.declared.place.NamePlace.{NamePlace}
 use Rattle.abnf_parts.specs.Names.{folded_text, Name}
 use Rattle.std.specs.Str.{bytes_eq}
 use Rattle.abnf_names.specs.Said.{Block}
-use Rattle.abnf_names.specs.Places.{Named, holds, ends_at, places_of, places_of_name}
+use Rattle.abnf_names.specs.Places.{Named, named_at, name_place, holds, ends_at, places_of, places_of_name}
 use Rattle.abnf_names.specs.Rules.{adds, alternatives_said, defined, defines, needed, rules_of}
 use Rattle.abnf_names.specs.Excerpts.{excerpt, excerpt_of}
 use Rattle.abnf_names.specs.declared.own.NamePlaces.{NamePlaces}
@@ -48,15 +48,9 @@ counted_among (d ∷ ds) = d ∷ (if is_adding d then counted_among ds else filt
 abbrev pub alternatives_of : (Name → Option ℕ) → Definition → List Part
 alternatives_of number d = alternatives_said number d.said
 
-abbrev pub named_at : Spot → Named
-named_at s = record { text = s.name.0.now; place = s.place; defines = s.defines }
-
 -- the first spot that holds what stands behind that point, else the first that ends there
 abbrev pub spot_at : Place → List Spot → Option Spot
 spot_at at spots = option_or (find (λ spot. holds at (named_at spot)) spots) (find (λ spot. ends_at at (named_at spot)) spots)
-
-abbrev pub name_place : Named → NamePlace
-name_place n = record { place = n.place; defines = n.defines }
 
 -- Names, and beside each the things that were put under it.
 abbrev pub Grouped : Type 0 → Type 0

@@ -1,5 +1,6 @@
 -- The places of names in a text.
-use Rattle.std.specs.Prelude.{ℕ, Bool, true, false, not, ◌&&◌, ◌||◌, nat_le, nat_lt, nat_eq, List, [], ◌∷◌, ◌++◌, flat_map, find, filter, Option, if◌then◌else◌}
+use Rattle.std.specs.Prelude.{◌≡◌, ℕ, Bool, true, false, not, ◌&&◌, ◌||◌, nat_le, nat_lt, nat_eq, List, [], ◌∷◌, ◌++◌, flat_map, find, filter, All, Option, if◌then◌else◌}
+use Rattle.std.specs.List.{list_any}
 use Rattle.std.specs.Option.{is_some, option_or}
 use Rattle.abnf_token.specs.declared.token.Kind.{Kind}
 use Rattle.abnf_token.specs.declared.token.Kind.TheVariants.{Number}
@@ -14,6 +15,8 @@ use Rattle.abnf_syntax.specs.Faults.{place_of}
 use Rattle.abnf_syntax.specs.Heads.{head_of}
 use Rattle.std.specs.Str.{bytes_eq}
 use Rattle.abnf_parts.specs.Names.{Name}
+use Rattle.abnf_names.specs.declared.place.Spot.{Spot}
+use Rattle.abnf_names.specs.declared.place.NamePlace.{NamePlace}
 use Rattle.abnf_names.specs.Said.{Block}
 
 -- A name in the text, as it is written there. `defines` says that it is a block's head.
@@ -21,6 +24,14 @@ pub record Named : Type 0 where
   pub text : List ℕ
   pub place : Place
   pub defines : Bool
+
+-- what a spot says
+abbrev pub named_at : Spot → Named
+named_at s = record { text = s.name.0.now; place = s.place; defines = s.defines }
+
+-- of a name its place, and whether it defines
+abbrev pub name_place : Named → NamePlace
+name_place n = record { place = n.place; defines = n.defines }
 
 abbrev pub named : Bool → Item → List Named
 named defines item = if is_name (kind_of item) then record { text = item.token.text.now; place = place_of item.token; defines = defines } ∷ [] else []
@@ -75,3 +86,20 @@ place_and_name p = (p.0, p.1.0.now)
 -- the places of a name, in the order of the text
 abbrev pub places_of_name : Name → List Named → List Named
 places_of_name name places = filter (λ n. bytes_eq name (lowercase n.text)) places
+
+-- Some place defines the name, perhaps in a faulty block.
+abbrev pub is_defined : List Named → Name → Bool
+is_defined places name = list_any (λ n. n.defines) (places_of_name name places)
+
+-- the place begins before this byte of this line
+abbrev pub begins_before : ℕ → ℕ → Named → Bool
+begins_before line start n = nat_lt n.place.line line || (nat_eq n.place.line line && nat_lt n.place.start start)
+
+-- The place begins before each of these.
+abbrev pub AllBehind : Named → List Named → Type 0
+AllBehind n ns = All (λ m. begins_before m.place.line m.place.start n ≡ true) ns
+
+-- Each place begins before all that follow it.
+abbrev pub Ascend : List Named → Type 0
+Ascend [] = Unit {0}
+Ascend (n ∷ ns) = AllBehind n ns × Ascend ns

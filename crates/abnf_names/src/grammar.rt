@@ -1,13 +1,13 @@
 //! The grammar of a text.
 
-ghost use Rattle.std.specs.Prelude.{◌≡◌, ◌<◌, ◌↔◌, IfOk, IfSome, IsTrue, length, map, option_map};
+ghost use Rattle.std.specs.Prelude.{◌≡◌, ◌<◌, ◌↔◌, IfOk, IfSome, IsTrue, List, is_some, length, map, option_map};
 ghost use Rattle.abnf_parts.specs.Part.{root_number};
 ghost use Rattle.abnf_parts.specs.Nodes.{AreNodes};
 ghost use Rattle.abnf_parts.specs.Names.{folded_text, rule_number};
 ghost use Rattle.abnf_parts.specs.Reach.{ReachesOpaque};
-ghost use Rattle.abnf_names.specs.Places.{at_offset, place_and_name, place_and_text, places_of_name};
-ghost use Rattle.abnf_names.specs.Rules.{IsGrammar};
-ghost use Rattle.abnf_names.specs.Passes.{name_place};
+ghost use Rattle.abnf_names.specs.Places.{at_offset, is_defined, name_place, named_at, place_and_name, place_and_text, places_of_name};
+ghost use Rattle.abnf_names.specs.Said.{Block, AreSaid};
+ghost use Rattle.abnf_names.specs.Rules.{IsGrammar, defined};
 ghost use Rattle.abnf_names.specs.Excerpts.{HasSections};
 
 use crate::groups::Groups;
@@ -119,6 +119,19 @@ impl<'t> Grammar<'t> {
         self.names.rule_of(name)
     }
 
+    /// The text's own rule of a name. There is none where the text doesn't define the name, which then stands for a core rule or for
+    /// nothing.
+    pub fn own_rule_of(&self, name: Folded<'t>) -> Option<RuleNo>
+        ensures rule { (blocks : List Block) → AreSaid self.now.text blocks → result ≡ rule_number (defined blocks) (folded_text name.entry) }
+        ensures within { IfSome result (λ r. r < length self.now.rules) }
+        ensures defined { is_some result ≡ is_defined self.now.places (folded_text name.entry) }
+    {
+        match self.names.own().index_of(name) {
+            Some(rule) => Some(RuleNo::new(rule)),
+            None => None,
+        }
+    }
+
     /// The name at an offset, which counts characters of the text, and its place. That is the place which holds the character
     /// behind the offset, else the one that ends there. There is none in a comment, a quoted string or prose, and a name that
     /// follows a bad token or a number at once has none. An offset past the text's end is taken for the end.
@@ -130,6 +143,13 @@ impl<'t> Grammar<'t> {
             Some(spot) => Some((spot.place, spot.name)),
             None => None,
         }
+    }
+
+    /// The places of all names, in the order of the text.
+    pub fn spots(&self) -> &[Spot<'t>]
+        ensures { map named_at result.now ≡ self.now.places }
+    {
+        self.spots.as_slice()
     }
 
     /// The places of a name, in the order of the text.

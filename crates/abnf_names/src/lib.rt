@@ -18,6 +18,6 @@ mod section;
 
 pub use abnf_parts::{Node, NodeNo, RuleNo};
 pub use grammar::Grammar;
-pub use laws::{grammars_are_unique, grammars_exist};
-pub use place::{NamePlace, is_touched};
+pub use laws::{grammars_are_unique, grammars_exist, places_ascend};
+pub use place::{NamePlace, Spot, is_touched};
 pub use section::Section;

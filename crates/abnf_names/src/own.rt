@@ -4,7 +4,7 @@ ghost use Rattle.std.specs.Prelude.{◌≡◌, ◌++◌, ◌∷◌, [], List, ma
 ghost use Rattle.abnf_names.specs.Said as said;
 ghost use Rattle.abnf_names.specs.Rules.{defined, needed, head_name, faults_of, fault_place, block_fault};
 ghost use Rattle.abnf_parts.specs.Names.{with_name};
-ghost use Rattle.abnf_names.specs.Places.{Named, places_of};
+ghost use Rattle.abnf_names.specs.Places.{Named, named_at, places_of};
 ghost use Rattle.abnf_names.specs.Passes as spec;
 ghost use Rattle.abnf_names.specs.Excerpts as excerpts;
 ghost use Rattle.abnf_parts.specs.Core.{core_rules, is_needed};
@@ -92,7 +92,7 @@ fn with_spot<'t>(
     groups: Groups<'t, NamePlace>,
     spot: &Spot<'t>,
 ) -> Result<Groups<'t, NamePlace>, AllocError>
-    ensures { IfOk result (λ g. (places : List Named) → spec.ArePlaced places groups.entry → spec.ArePlaced (places ++ spec.named_at spot.now ∷ []) g) }
+    ensures { IfOk result (λ g. (places : List Named) → spec.ArePlaced places groups.entry → spec.ArePlaced (places ++ named_at spot.now ∷ []) g) }
 {
     let place = NamePlace {
         place: spot.place,
@@ -103,7 +103,7 @@ fn with_spot<'t>(
 
 /// Under each name its places.
 fn placed<'t>(alloc: Global, spots: &[Spot<'t>]) -> Result<Groups<'t, NamePlace>, AllocError>
-    ensures { IfOk result (λ g. spec.ArePlaced (map spec.named_at spots.now) g) }
+    ensures { IfOk result (λ g. spec.ArePlaced (map named_at spots.now) g) }
 {
     let mut groups = Groups::new(alloc);
     for spot in spots {
@@ -181,7 +181,7 @@ pub(crate) fn rule_names<'t>(
     parsed: &[Parsed<'t>],
     spots: &[Spot<'t>],
 ) -> Result<(RuleNames<'t>, List<Core>), AllocError>
-    requires { map spec.named_at spots.now ≡ places_of (map spec.block_of parsed.now) }
+    requires { map named_at spots.now ≡ places_of (map spec.block_of parsed.now) }
     ensures names { IfOk result (λ r. spec.AreNames (map spec.block_of parsed.now) r.0) }
     ensures needed { IfOk result (λ r. map table.core_of r.1 ≡ needed (map spec.block_of parsed.now)) }
 {

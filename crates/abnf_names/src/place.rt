@@ -18,11 +18,14 @@ pub struct NamePlace {
     pub defines: bool,
 }
 
-/// A name in the text.
+/// A place of a name, with the name.
 #[derive(Clone, Copy, Debug)]
-pub(crate) struct Spot<'t> {
+pub struct Spot<'t> {
+    /// The name, as it is written there.
     pub name: Folded<'t>,
+    /// Its place, in bytes of its line.
     pub place: Place,
+    /// Whether the name is the head of a block there, as in [`NamePlace`].
     pub defines: bool,
 }
 
@@ -32,7 +35,7 @@ fn push_named<'t>(
     defines: bool,
     item: Item<'t>,
 ) -> Result<(), AllocError>
-    ensures { OnOk result (map spec.named_at spots.new ≡ map spec.named_at spots.old ++ places.named defines item.entry) }
+    ensures { OnOk result (map places.named_at spots.new ≡ map places.named_at spots.old ++ places.named defines item.entry) }
 {
     match item.token.kind {
         Kind::Name => spots.push(Spot {
@@ -56,7 +59,7 @@ pub fn is_touched(before: Kind, item: Item<'_>) -> bool
 
 /// Adds the place of a use behind an item of this kind.
 fn push_use<'t>(spots: &mut List<Spot<'t>>, before: Kind, item: Item<'t>) -> Result<(), AllocError>
-    ensures { OnOk result (map spec.named_at spots.new ≡ map spec.named_at spots.old ++ places.use_after before item.entry) }
+    ensures { OnOk result (map places.named_at spots.new ≡ map places.named_at spots.old ++ places.use_after before item.entry) }
 {
     if is_touched(before, item) {
         Ok(())
@@ -67,7 +70,7 @@ fn push_use<'t>(spots: &mut List<Spot<'t>>, before: Kind, item: Item<'t>) -> Res
 
 /// Adds the places in a block.
 fn push_places<'t>(spots: &mut List<Spot<'t>>, block: &Block<'t>) -> Result<(), AllocError>
-    ensures { OnOk result (map spec.named_at spots.new ≡ map spec.named_at spots.old ++ places.places_in block.now.items) }
+    ensures { OnOk result (map places.named_at spots.new ≡ map places.named_at spots.old ++ places.places_in block.now.items) }
 {
     let Some((first, rest)) = block.items.as_slice().split_first() else {
         return Ok(());
@@ -86,7 +89,7 @@ pub(crate) fn places_of<'t>(
     alloc: Global,
     parsed: &[Parsed<'t>],
 ) -> Result<List<Spot<'t>>, AllocError>
-    ensures { IfOk result (λ spots. map spec.named_at spots ≡ places.places_of (map spec.block_of parsed.now)) }
+    ensures { IfOk result (λ spots. map places.named_at spots ≡ places.places_of (map spec.block_of parsed.now)) }
 {
     let mut spots = List::new(alloc);
     for p in parsed {
@@ -97,28 +100,28 @@ pub(crate) fn places_of<'t>(
 
 /// Whether a spot holds what stands behind a point, which is an empty place.
 fn holds(spot: &Spot<'_>, at: Place) -> bool
-    ensures { result ≡ places.holds at (spec.named_at spot.now) }
+    ensures { result ≡ places.holds at (places.named_at spot.now) }
 {
     spot.place.line == at.line && spot.place.start <= at.start && at.start < spot.place.end
 }
 
 /// Whether a spot ends at a point.
 fn ends_at(spot: &Spot<'_>, at: Place) -> bool
-    ensures { result ≡ places.ends_at at (spec.named_at spot.now) }
+    ensures { result ≡ places.ends_at at (places.named_at spot.now) }
 {
     spot.place.line == at.line && spot.place.end == at.start
 }
 
 /// The first spot that holds what stands behind a point.
 fn first_holding<'s, 't>(spots: &'s [Spot<'t>], at: Place) -> Option<&'s Spot<'t>>
-    ensures { option_map (λ spot. spot.now) result ≡ find (λ spot. places.holds at (spec.named_at spot)) spots.now }
+    ensures { option_map (λ spot. spot.now) result ≡ find (λ spot. places.holds at (places.named_at spot)) spots.now }
 {
     spots.iter().find(|spot| holds(spot, at))
 }
 
 /// The first spot that ends at a point.
 fn first_ending<'s, 't>(spots: &'s [Spot<'t>], at: Place) -> Option<&'s Spot<'t>>
-    ensures { option_map (λ spot. spot.now) result ≡ find (λ spot. places.ends_at at (spec.named_at spot)) spots.now }
+    ensures { option_map (λ spot. spot.now) result ≡ find (λ spot. places.ends_at at (places.named_at spot)) spots.now }
 {
     spots.iter().find(|spot| ends_at(spot, at))
 }

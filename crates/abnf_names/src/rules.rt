@@ -8,7 +8,7 @@ ghost use Rattle.abnf_names.specs.Said as said;
 ghost use Rattle.abnf_names.specs.Rules as rules;
 ghost use Rattle.abnf_names.specs.Passes as spec;
 ghost use Rattle.abnf_names.specs.Excerpts as excerpts;
-ghost use Rattle.abnf_names.specs.Places.{places_of};
+ghost use Rattle.abnf_names.specs.Places.{named_at, places_of};
 ghost use Rattle.abnf_parts.specs.CoreTable as table;
 ghost use Rattle.abnf_parts.specs.Pushed.{Adds, AddsTrees};
 
@@ -188,7 +188,7 @@ pub(crate) fn rules_said<'t>(
     parsed: Vec<Parsed<'t>>,
     spots: &[Spot<'t>],
 ) -> Result<Rules<'t>, AllocError>
-    requires { map spec.named_at spots.now ≡ places_of (map spec.block_of parsed.items) }
+    requires { map named_at spots.now ≡ places_of (map spec.block_of parsed.items) }
     ensures { IfOk result (λ r. spec.AreRules (map spec.block_of parsed.entry.items) r) }
 {
     let (names, needed) = rule_names(alloc, parsed.as_slice(), spots)?;

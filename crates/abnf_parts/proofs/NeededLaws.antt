@@ -159,7 +159,7 @@ module _ (test : Name → Bool) where
       by true e g rest = ap (λ b. b || list_any test names) (subst (λ m. test m ≡ true) (same_is x n e) t)
       by false e g rest = ap (λ b. test n || b) (rest g) ∙ or_true (test n)
 
-  any_folded : (names xs : List Name) → list_any test (fold with_name names xs) ≡ (list_any test names || list_any test xs)
+  pub any_folded : (names xs : List Name) → list_any test (fold with_name names xs) ≡ (list_any test names || list_any test xs)
   any_folded names [] = sym (or_false (list_any test names))
   any_folded names (x ∷ xs) =
       any_folded (with_name names x) xs

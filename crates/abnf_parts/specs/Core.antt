@@ -81,6 +81,10 @@ core_rules = alpha ∷ bit ∷ char ∷ cr ∷ crlf ∷ ctl ∷ digit ∷ dquote
 abbrev pub core_name : CoreRule → List ℕ
 core_name core = lowercase core.name
 
+-- a core rule has this name
+abbrev pub is_core_name : Name → Bool
+is_core_name name = list_any (λ core. bytes_eq (core_name core) name) core_rules
+
 abbrev pub name_used : Part → Option (List ℕ)
 name_used (ref name rule) = Some (lowercase name)
 name_used _ = None

@@ -1,9 +1,11 @@
 //! The core rules of RFC 5234, appendix B.1.
 
 ghost use Rattle.std.specs.Prelude.{◌≡◌, ℕ, [], map, fold, filter, Option, IfOk};
+ghost use Rattle.std.specs.List.{list_any};
+ghost use Rattle.std.specs.Str.{bytes_eq};
 ghost use Rattle.abnf_token.specs.Folded.{lowercase};
-ghost use Rattle.abnf_parts.specs.Names.{Name, with_name};
-ghost use Rattle.abnf_parts.specs.Core.{is_needed, core_rules, core_name};
+ghost use Rattle.abnf_parts.specs.Names.{Name, folded_text, with_name};
+ghost use Rattle.abnf_parts.specs.Core.{is_core_name, is_needed, core_rules, core_name};
 ghost use Rattle.abnf_parts.specs.CoreTable as table;
 
 use crate::names::Names;
@@ -208,4 +210,23 @@ pub fn core_names<'t>(alloc: Global, needed: &[Core]) -> Result<Names<'t>, Alloc
         names.add(Folded(core.name()))?;
     }
     Ok(names)
+}
+
+/// Whether one of these core rules has this name.
+fn has_name(rules: &[Core], name: Folded<'_>) -> bool
+    ensures { result ≡ list_any (λ core. bytes_eq (core_name core) (folded_text name.entry)) (map table.core_of rules.now) }
+{
+    for core in rules {
+        if Folded(core.name()) == name {
+            return true;
+        }
+    }
+    false
+}
+
+/// Whether a core rule has this name.
+pub fn is_core_name(name: Folded<'_>) -> bool
+    ensures { result ≡ is_core_name (folded_text name.entry) }
+{
+    has_name(&CORE_RULES, name)
 }

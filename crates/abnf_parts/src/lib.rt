@@ -17,7 +17,7 @@ mod names;
 mod node;
 mod tree;
 
-pub use core_rule::{Core, core_names, needed_rules};
+pub use core_rule::{Core, core_names, is_core_name, needed_rules};
 pub use core_tree::push_needed;
 pub use leaf::{range_of, repeat_bounds};
 pub use names::{Names, RuleNames};

@@ -1,5 +1,6 @@
 use Rattle.std.proofs.Common.{sym, subst, map, take, refl}
-use Rattle.abnf_names.specs.Passes.{ArePlaced, named_at}
+use Rattle.abnf_names.specs.Places.{named_at}
+use Rattle.abnf_names.specs.Passes.{ArePlaced}
 use Rattle.abnf_names.proofs.OwnPass.{map_take-next}
 use Rattle.abnf_names.proofs.own.placed.Goals as goal
 

@@ -1,5 +1,6 @@
 use Rattle.std.proofs.Common.{map, take}
-use Rattle.abnf_names.specs.Passes.{ArePlaced, named_at}
+use Rattle.abnf_names.specs.Places.{named_at}
+use Rattle.abnf_names.specs.Passes.{ArePlaced}
 use Rattle.abnf_names.proofs.own.placed.Given as goal
 
 abbrev pub invariant-loop-spot : goal.invariant-loop-spot

@@ -1,4 +1,4 @@
-use Rattle.abnf_names.specs.Passes.{named_at}
+use Rattle.abnf_names.specs.Places.{named_at}
 use Rattle.abnf_names.proofs.OwnPass.{placed_more, ok_one}
 use Rattle.abnf_names.proofs.own.with_spot.Goals as goal
 

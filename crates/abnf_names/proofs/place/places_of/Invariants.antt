@@ -1,6 +1,6 @@
 use Rattle.std.proofs.Common.{◌≡◌, ◌++◌, map, drop}
-use Rattle.abnf_names.specs.Places.{places_of}
-use Rattle.abnf_names.specs.Passes.{named_at, block_of}
+use Rattle.abnf_names.specs.Places.{named_at, places_of}
+use Rattle.abnf_names.specs.Passes.{block_of}
 use Rattle.abnf_names.proofs.place.places_of.Given as goal
 
 -- what is left gives the places that are left

@@ -1,6 +1,5 @@
 use Rattle.std.proofs.Common.{◌≡◌, ◌++◌, map, drop}
-use Rattle.abnf_names.specs.Places.{uses_after}
-use Rattle.abnf_names.specs.Passes.{named_at}
+use Rattle.abnf_names.specs.Places.{named_at, uses_after}
 use Rattle.abnf_names.proofs.place.push_places.Given as goal
 
 -- what is left gives the places that are left

@@ -3,8 +3,8 @@ use Rattle.std.specs.Borrow.{Bor}
 use Rattle.ls_text.specs.declared.position.Place.{Place}
 use Rattle.ls_text.specs.Positions.{place_at}
 use Rattle.abnf_names.specs.declared.place.Spot.{Spot}
-use Rattle.abnf_names.specs.Places.{found_at, at_offset, place_and_text}
-use Rattle.abnf_names.specs.Passes.{named_at, spot_at}
+use Rattle.abnf_names.specs.Places.{named_at, found_at, at_offset, place_and_text}
+use Rattle.abnf_names.specs.Passes.{spot_at}
 use Rattle.abnf_names.specs.Rules.{Grammar}
 use Rattle.abnf_names.proofs.SpotLaws.{spot_is}
 use Rattle.abnf_names.proofs.grammar.Grammar.name_at.Goals as goal

@@ -1,8 +1,9 @@
 use Rattle.std.proofs.Common.{◌≡◌, List, map, ap, subst, ◌∙◌}
 use Rattle.abnf_names.specs.declared.parsed.Parsed.{Parsed}
 use Rattle.abnf_names.specs.declared.own.NamePlaces.{NamePlaces}
+use Rattle.abnf_names.specs.Places.{named_at}
 use Rattle.abnf_names.specs.Rules.{faults_of}
-use Rattle.abnf_names.specs.Passes.{block_of, named_at, AreNamePlaces}
+use Rattle.abnf_names.specs.Passes.{block_of, AreNamePlaces}
 use Rattle.abnf_names.proofs.Kept.{kept}
 use Rattle.abnf_names.proofs.grammar.Grammar.of.Goals as goal
 
