@@ -27,7 +27,7 @@ tag_back : (kind : Kind) → kind_from (tag kind) ≡ kind
 tag_back k.Name = refl
 tag_back kind = refl
 
-same_kind : (j kind : Kind) → same j kind ≡ true → j ≡ kind
+pub same_kind : (j kind : Kind) → same j kind ≡ true → j ≡ kind
 same_kind j kind e = sym (tag_back j) ∙ ap kind_from (eqb-true (tag j) (tag kind) e) ∙ tag_back kind
 
 both_kinds : (o : Option Kind) (j kind : Kind) → is_kind j o ≡ true → is_kind kind o ≡ true → j ≡ kind
@@ -55,9 +55,9 @@ front_len (b ∷ bs) (c ∷ cs) some front is =
     let more : continuation_len b ≡ continuation_len c = ap continuation_len first in
     omega (arith, eqb-true (length bs) (continuation_len b) is, more)
 
-record SameNext (j kind : Kind) (x y : Text) : Type 0 where
-  kinds : j ≡ kind
-  texts : x ≡ y
+pub record SameNext (j kind : Kind) (x y : Text) : Type 0 where
+  pub kinds : j ≡ kind
+  pub texts : x ≡ y
 
 contradiction : (j kind : Kind) (x y left : Text) (n : ℕ) → IsNext kind y left → n < length y → NoLonger n left → is_in kind y ≡ true → ⊥
 contradiction j kind x y left n next lt none is =
@@ -78,7 +78,7 @@ one_by j kind x y left p q (is_bad d a la) (is_bad e b lb) = record {
   texts = same_texts x y left p.front q.front (front_len x left p.some p.front a ∙ sym (front_len y left q.some q.front b));
 }
 
-one_next : (j kind : Kind) (x y left : Text) → IsNext j x left → IsNext kind y left → SameNext j kind x y
+pub one_next : (j kind : Kind) (x y left : Text) → IsNext j x left → IsNext kind y left → SameNext j kind x y
 one_next j kind x y left p q = one_by j kind x y left p q (fitting j x left p.fits) (fitting kind y left q.fits)
 
 pub one_answer : (left : Text) → HasOneAnswer left

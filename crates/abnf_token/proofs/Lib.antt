@@ -7,3 +7,7 @@ pub mod Values
 pub mod MarkLaws
 pub mod Exist
 pub mod Runs
+pub mod Calm
+pub mod LineLaw
+pub mod PieceChars
+pub mod RenamedRows

@@ -7,7 +7,7 @@ use Rattle.abnf_token.specs.declared.mark.TokenMark.{TokenMark}
 use Rattle.abnf_token.specs.declared.token.Kind.{Kind}
 use Rattle.abnf_token.specs.declared.token.Token.{Token}
 use Rattle.abnf_token.specs.Classes.{Text, is_in}
-use Rattle.abnf_token.specs.Marks.{mark_of, AreMarks, AreMarksOnto, IsMarkOf}
+use Rattle.abnf_token.specs.Marks.{mark_of, AreMarksOnto, IsMarkOf}
 use Rattle.abnf_token.specs.Rest.{Rest}
 use Rattle.abnf_token.specs.Tokens.{IsNext, TokensOf, GivesToken, AreSlices}
 use Rattle.abnf_token.proofs.Cuts.{cut, first_char}

@@ -5,3 +5,4 @@ pub mod Tokens
 pub mod Numbers
 pub mod Folded
 pub mod Marks
+pub mod Renamed

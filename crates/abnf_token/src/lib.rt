@@ -12,6 +12,7 @@ mod folded;
 mod machine;
 mod mark;
 mod number;
+mod renaming;
 mod scan;
 mod token;
 
@@ -19,5 +20,6 @@ pub use existence::lines_have_tokens;
 pub use folded::Folded;
 pub use mark::{TokenMark, marks_of, push_marks, token_at};
 pub use number::{base_of, digit_value, number_of};
+pub use renaming::renames_keep_tokens;
 pub use scan::{TokenIter, tokens};
 pub use token::{Kind, Token};

@@ -1,0 +1,14 @@
+pub mod ItemShapes
+pub mod TreeLaws
+pub mod Rows
+pub mod SaidLaws
+pub mod Shapes
+pub mod NameLaws
+pub mod GrammarLaws
+pub mod CoreKept
+pub mod OwnLaws
+pub mod RulesKept
+pub mod LinesLaw
+pub mod Granted
+pub mod GrammarKept
+pub mod NamesKept
