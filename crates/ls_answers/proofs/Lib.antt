@@ -4,3 +4,7 @@ pub mod HoverLaws
 pub mod OneAnswer
 pub mod Exist
 pub mod HoverTexts
+pub mod OneList
+pub mod WalkLaws
+pub mod RenameLaws
+pub mod InsertionLaws

@@ -1,6 +1,6 @@
 -- A question about a text has one answer, but for the certificate beside an example.
-use Rattle.std.proofs.Common.{◌≡◌, ℕ, List, [], ◌∷◌, map, Option, Some, None, option_map, refl, sym, ap, subst, ◌∙◌}
-use Rattle.std.specs.Prelude.{All}
+use Rattle.std.proofs.Common.{◌≡◌, ℕ, Bool, List, [], ◌∷◌, map, Option, Some, None, option_map, refl, sym, ap, subst, ◌∙◌}
+use Rattle.std.specs.Prelude.{All, filter}
 use Rattle.std.specs.List.{cons_option}
 use Rattle.std.proofs.lemmas.List.Elements.{All-head, All-tail}
 use Rattle.ls_text.specs.Lines.{utf16_len}
@@ -26,6 +26,7 @@ use Rattle.abnf_names.specs.Rules.{Grammar}
 use Rattle.abnf_names.proofs.OneGrammar.{one_grammar}
 use Rattle.abnf_cert.specs.declared.entry.Entry.{Entry}
 use Rattle.abnf_least.specs.declared.shortest.Shortest.{Shortest}
+use Rattle.abnf_least.specs.declared.shortest.Shortest.TheVariants.{Shown, Long, Huge, Nothing, NotKnown}
 use Rattle.abnf_least.proofs.OneShown.{one_shown}
 use Rattle.abnf_lint.proofs.OneFinding.{findings_unique}
 use Rattle.ls_answers.specs.declared.answer.Diagnostic.{Diagnostic}
@@ -40,8 +41,15 @@ use Rattle.ls_answers.specs.declared.ask.Ask.{Ask}
 use Rattle.ls_answers.specs.declared.ask.Ask.TheVariants as ask
 use Rattle.ls_answers.specs.Outline.{symbol_with, symbol_of, IsOutline}
 use Rattle.ls_answers.proofs.Outlines.{outline}
-use Rattle.ls_answers.specs.Places.{AreDefinitions, defining, name_at}
-use Rattle.ls_answers.specs.Answers.{IsAnswer, hover_without_cert, without_cert}
+use Rattle.ls_answers.specs.Insertions.{IsComment, IsInsertedBefore, IsInsertion, IsInsertionBy, IsInsertionThere, first_head, name_at_start}
+use Rattle.ls_answers.specs.Places.{AreDefinitions, ArePlaces, AreReferences, is_wanted, name_at, name_range, places_alike, wanted_with}
+use Rattle.ls_answers.specs.Renames.{IsRename, rename_fault, renamed}
+use Rattle.ls_answers.specs.SemanticTokens.{AreSemanticTokens}
+use Rattle.ls_answers.specs.declared.answer.Insertion.{Insertion}
+use Rattle.ls_answers.specs.declared.places.Wanted.{Wanted}
+use Rattle.ls_answers.specs.declared.places.Wanted.TheVariants.{Definitions}
+use Rattle.ls_answers.proofs.OneList.{one_list_of_numbers}
+use Rattle.ls_answers.specs.Answers.{IsAnswer, hover_without_cert, insertion_without_cert, without_cert}
 
 -- ---- outlines
 
@@ -92,12 +100,14 @@ one_outline text xs ys p q =
     let blocks_are = same_blocks ls p.blocks q.blocks (one_list ls 0 (map bounds p.blocks) (map bounds q.blocks) p.all q.all) p.items q.items in
     p.symbols_are ∙ (sym (symbols_bare text p.blocks) ∙ (ap (outline text) blocks_are ∙ (symbols_bare text q.blocks ∙ sym q.symbols_are)))
 
--- ---- definitions
+-- ---- places
 
-one_list_of_places : (text : List ℕ) (at : Position) (xs ys : List Range) → AreDefinitions text at xs → AreDefinitions text at ys → xs ≡ ys
-one_list_of_places text at xs ys p q =
+one_list_of_places : (wanted : Wanted) (text : List ℕ) (at : Position) (xs ys : List Range) → ArePlaces wanted text at xs → ArePlaces wanted text at ys → xs ≡ ys
+one_list_of_places wanted text at xs ys p q =
     let same = one_grammar p.grammar q.grammar p.right q.right (p.of_text ∙ sym q.of_text) in
-    p.ranges_are ∙ (ap (λ (g : Grammar). map (λ (named : Named). place_range utf16_len text named.place) (defining g (name_at g at))) same ∙ sym q.ranges_are)
+    p.ranges_are
+    ∙ (ap (λ (g : Grammar). map (name_range text) (filter (λ (named : Named). is_wanted wanted named.defines) (places_alike g (name_at g at)))) same
+    ∙ sym q.ranges_are)
 
 -- ---- hovers
 
@@ -131,40 +141,164 @@ one_hover text at a b p q =
     let P : Grammar → Type 0 = λ g. IsHoverAt g (name_at g at) a in
     one_hover_at q.grammar (name_at q.grammar at) a b (subst P same p.shown) q.shown
 
+-- ---- renames
+
+one_rename : (text : List ℕ) (at : Position) (new : List ℕ) (a b : Answer) → IsRename text at new a → IsRename text at new b → a ≡ b
+one_rename text at new a b p q =
+    let same = one_grammar p.grammar q.grammar p.right q.right (p.of_text ∙ sym q.of_text) in
+    p.answer_is ∙ (ap (λ (g : Grammar). renamed g at new (rename_fault g at new)) same ∙ sym q.answer_is)
+
+-- ---- insertions
+
+one_comment : (roots : List Part) (line : ℕ) (example : List ℕ) (a b : Insertion) → IsComment roots line example a → IsComment roots line example b
+    → insertion_without_cert a ≡ insertion_without_cert b
+one_comment roots line example a b p q =
+    let positions = p.position_is ∙ sym q.position_is in
+    let texts = p.text_is ∙ sym q.text_is in
+    (λ i. record { position = positions i; text = texts i; cert = [] })
+
+one_before : (roots : List Part) (line : ℕ) (shown : Shortest) (a b : Option Insertion) → IsInsertedBefore roots line shown a → IsInsertedBefore roots line shown b
+    → option_map insertion_without_cert a ≡ option_map insertion_without_cert b
+one_before roots line (Shown n example) None b p q = absurd p
+one_before roots line (Shown n example) (Some a) None p q = absurd q
+one_before roots line (Shown n example) (Some a) (Some b) p q = ap Some (one_comment roots line example a b p q)
+one_before roots line (Long n) a b p q = ap (option_map insertion_without_cert) (p ∙ sym q)
+one_before roots line Huge a b p q = ap (option_map insertion_without_cert) (p ∙ sym q)
+one_before roots line Nothing a b p q = ap (option_map insertion_without_cert) (p ∙ sym q)
+one_before roots line NotKnown a b p q = ap (option_map insertion_without_cert) (p ∙ sym q)
+
+one_by : (g : Grammar) (head : Option Named) (rule : Option ℕ) (a b : Option Insertion) → IsInsertionBy g head rule a → IsInsertionBy g head rule b
+    → option_map insertion_without_cert a ≡ option_map insertion_without_cert b
+one_by g None rule a b p q = ap (option_map insertion_without_cert) (p ∙ sym q)
+one_by g (Some head) None a b p q = ap (option_map insertion_without_cert) (p ∙ sym q)
+one_by g (Some head) (Some r) a b p q =
+    let line = (name_range g.text head).start.line in
+    let P : Shortest → Type 0 = λ shown. IsInsertedBefore g.rules line shown a in
+    one_before g.rules line q.0 a b (subst P (one_shown g.rules r p.0 q.0 p.1 q.1) p.2) q.2
+
+one_there : (g : Grammar) (o : Option Named) (a b : Option Insertion) → IsInsertionThere g o a → IsInsertionThere g o b
+    → option_map insertion_without_cert a ≡ option_map insertion_without_cert b
+one_there g None a b p q = ap (option_map insertion_without_cert) (p ∙ sym q)
+one_there g (Some n) a b p q = one_by g (first_head g (lowercase n.text)) (rule_number g.names (lowercase n.text)) a b p q
+
+one_insertion : (text : List ℕ) (range : Range) (a b : Option Insertion) → IsInsertion text range a → IsInsertion text range b
+    → option_map insertion_without_cert a ≡ option_map insertion_without_cert b
+one_insertion text range a b p q =
+    let same = one_grammar p.grammar q.grammar p.right q.right (p.of_text ∙ sym q.of_text) in
+    let P : Grammar → Type 0 = λ g. IsInsertionThere g (name_at_start g range) a in
+    one_there q.grammar (name_at_start q.grammar range) a b (subst P same p.inserted) q.inserted
+
 -- ---- findings
 
 one_list_of_findings : (text : List ℕ) (xs ys : List Diagnostic) → AreDiagnostics text xs → AreDiagnostics text ys → xs ≡ ys
 one_list_of_findings text xs ys p q =
     p.diagnostics_are ∙ (ap (map (diagnostic_of text)) (findings_unique text p.findings q.findings p.of_text q.of_text) ∙ sym q.diagnostics_are)
 
+-- ---- the answers to each kind of question
+
+hover_answer : (text : List ℕ) (at : Position) (a : Answer) → IsAnswer text (ask.Hover at) a → (x : Option HoverText) × (a ≡ answer.Hover x) × IsHover text at x
+hover_answer text at (answer.Hover hover) p = (hover, refl, p)
+hover_answer text at (answer.Places ranges) p = absurd p
+hover_answer text at (answer.Symbols symbols) p = absurd p
+hover_answer text at (answer.Edits ranges new) p = absurd p
+hover_answer text at (answer.Refused fault) p = absurd p
+hover_answer text at (answer.Insert insertion) p = absurd p
+hover_answer text at (answer.Numbers numbers) p = absurd p
+hover_answer text at (answer.Findings diagnostics) p = absurd p
+
+definitions_answer : (text : List ℕ) (at : Position) (a : Answer) → IsAnswer text (ask.Definition at) a → (x : List Range) × (a ≡ answer.Places x) × AreDefinitions text at x
+definitions_answer text at (answer.Hover hover) p = absurd p
+definitions_answer text at (answer.Places ranges) p = (ranges, refl, p)
+definitions_answer text at (answer.Symbols symbols) p = absurd p
+definitions_answer text at (answer.Edits ranges new) p = absurd p
+definitions_answer text at (answer.Refused fault) p = absurd p
+definitions_answer text at (answer.Insert insertion) p = absurd p
+definitions_answer text at (answer.Numbers numbers) p = absurd p
+definitions_answer text at (answer.Findings diagnostics) p = absurd p
+
+references_answer : (text : List ℕ) (at : Position) (declarations : Bool) (a : Answer) → IsAnswer text (ask.References at declarations) a → (x : List Range) × (a ≡ answer.Places x) × AreReferences text at declarations x
+references_answer text at declarations (answer.Hover hover) p = absurd p
+references_answer text at declarations (answer.Places ranges) p = (ranges, refl, p)
+references_answer text at declarations (answer.Symbols symbols) p = absurd p
+references_answer text at declarations (answer.Edits ranges new) p = absurd p
+references_answer text at declarations (answer.Refused fault) p = absurd p
+references_answer text at declarations (answer.Insert insertion) p = absurd p
+references_answer text at declarations (answer.Numbers numbers) p = absurd p
+references_answer text at declarations (answer.Findings diagnostics) p = absurd p
+
+outline_answer : (text : List ℕ) (a : Answer) → IsAnswer text ask.Symbols a → (x : List Symbol) × (a ≡ answer.Symbols x) × IsOutline text x
+outline_answer text (answer.Hover hover) p = absurd p
+outline_answer text (answer.Places ranges) p = absurd p
+outline_answer text (answer.Symbols symbols) p = (symbols, refl, p)
+outline_answer text (answer.Edits ranges new) p = absurd p
+outline_answer text (answer.Refused fault) p = absurd p
+outline_answer text (answer.Insert insertion) p = absurd p
+outline_answer text (answer.Numbers numbers) p = absurd p
+outline_answer text (answer.Findings diagnostics) p = absurd p
+
+insertion_answer : (text : List ℕ) (range : Range) (a : Answer) → IsAnswer text (ask.Action range) a → (x : Option Insertion) × (a ≡ answer.Insert x) × IsInsertion text range x
+insertion_answer text range (answer.Hover hover) p = absurd p
+insertion_answer text range (answer.Places ranges) p = absurd p
+insertion_answer text range (answer.Symbols symbols) p = absurd p
+insertion_answer text range (answer.Edits ranges new) p = absurd p
+insertion_answer text range (answer.Refused fault) p = absurd p
+insertion_answer text range (answer.Insert insertion) p = (insertion, refl, p)
+insertion_answer text range (answer.Numbers numbers) p = absurd p
+insertion_answer text range (answer.Findings diagnostics) p = absurd p
+
+tokens_answer : (text : List ℕ) (a : Answer) → IsAnswer text ask.Tokens a → (x : List ℕ) × (a ≡ answer.Numbers x) × AreSemanticTokens text x
+tokens_answer text (answer.Hover hover) p = absurd p
+tokens_answer text (answer.Places ranges) p = absurd p
+tokens_answer text (answer.Symbols symbols) p = absurd p
+tokens_answer text (answer.Edits ranges new) p = absurd p
+tokens_answer text (answer.Refused fault) p = absurd p
+tokens_answer text (answer.Insert insertion) p = absurd p
+tokens_answer text (answer.Numbers numbers) p = (numbers, refl, p)
+tokens_answer text (answer.Findings diagnostics) p = absurd p
+
+findings_answer : (text : List ℕ) (a : Answer) → IsAnswer text ask.Diagnose a → (x : List Diagnostic) × (a ≡ answer.Findings x) × AreDiagnostics text x
+findings_answer text (answer.Hover hover) p = absurd p
+findings_answer text (answer.Places ranges) p = absurd p
+findings_answer text (answer.Symbols symbols) p = absurd p
+findings_answer text (answer.Edits ranges new) p = absurd p
+findings_answer text (answer.Refused fault) p = absurd p
+findings_answer text (answer.Insert insertion) p = absurd p
+findings_answer text (answer.Numbers numbers) p = absurd p
+findings_answer text (answer.Findings diagnostics) p = (diagnostics, refl, p)
+
 -- ---- answers
 
+-- two answers of one kind are the same where what they hold is
+alike : {A : Type 0} (wrap : A → Answer) (a b : Answer) (x y : A) → a ≡ wrap x → b ≡ wrap y → without_cert (wrap x) ≡ without_cert (wrap y) → without_cert a ≡ without_cert b
+alike wrap a b x y p q e = ap without_cert p ∙ (e ∙ ap without_cert (sym q))
+
 pub one_answer : (text : List ℕ) (question : Ask) (a b : Answer) → IsAnswer text question a → IsAnswer text question b → without_cert a ≡ without_cert b
-one_answer text (ask.Hover at) (answer.Hover a) (answer.Hover b) p q = ap answer.Hover (one_hover text at a b p q)
-one_answer text (ask.Hover at) (answer.Hover a) (answer.Places ys) p q = absurd q
-one_answer text (ask.Hover at) (answer.Hover a) (answer.Symbols ys) p q = absurd q
-one_answer text (ask.Hover at) (answer.Hover a) (answer.Findings ys) p q = absurd q
-one_answer text (ask.Hover at) (answer.Places xs) b p q = absurd p
-one_answer text (ask.Hover at) (answer.Symbols xs) b p q = absurd p
-one_answer text (ask.Hover at) (answer.Findings xs) b p q = absurd p
-one_answer text (ask.Definition at) (answer.Places xs) (answer.Places ys) p q = ap answer.Places (one_list_of_places text at xs ys p q)
-one_answer text (ask.Definition at) (answer.Places xs) (answer.Hover b) p q = absurd q
-one_answer text (ask.Definition at) (answer.Places xs) (answer.Symbols ys) p q = absurd q
-one_answer text (ask.Definition at) (answer.Places xs) (answer.Findings ys) p q = absurd q
-one_answer text (ask.Definition at) (answer.Hover a) b p q = absurd p
-one_answer text (ask.Definition at) (answer.Symbols xs) b p q = absurd p
-one_answer text (ask.Definition at) (answer.Findings xs) b p q = absurd p
-one_answer text ask.Symbols (answer.Symbols xs) (answer.Symbols ys) p q = ap answer.Symbols (one_outline text xs ys p q)
-one_answer text ask.Symbols (answer.Symbols xs) (answer.Hover b) p q = absurd q
-one_answer text ask.Symbols (answer.Symbols xs) (answer.Places ys) p q = absurd q
-one_answer text ask.Symbols (answer.Symbols xs) (answer.Findings ys) p q = absurd q
-one_answer text ask.Symbols (answer.Hover a) b p q = absurd p
-one_answer text ask.Symbols (answer.Places xs) b p q = absurd p
-one_answer text ask.Symbols (answer.Findings xs) b p q = absurd p
-one_answer text ask.Diagnose (answer.Findings xs) (answer.Findings ys) p q = ap answer.Findings (one_list_of_findings text xs ys p q)
-one_answer text ask.Diagnose (answer.Findings xs) (answer.Hover b) p q = absurd q
-one_answer text ask.Diagnose (answer.Findings xs) (answer.Places ys) p q = absurd q
-one_answer text ask.Diagnose (answer.Findings xs) (answer.Symbols ys) p q = absurd q
-one_answer text ask.Diagnose (answer.Hover a) b p q = absurd p
-one_answer text ask.Diagnose (answer.Places xs) b p q = absurd p
-one_answer text ask.Diagnose (answer.Symbols xs) b p q = absurd p
+one_answer text (ask.Hover at) a b p q =
+    let x = hover_answer text at a p in
+    let y = hover_answer text at b q in
+    alike answer.Hover a b x.0 y.0 x.1 y.1 (ap answer.Hover (one_hover text at x.0 y.0 x.2 y.2))
+one_answer text (ask.Definition at) a b p q =
+    let x = definitions_answer text at a p in
+    let y = definitions_answer text at b q in
+    alike answer.Places a b x.0 y.0 x.1 y.1 (ap answer.Places (one_list_of_places Definitions text at x.0 y.0 x.2 y.2))
+one_answer text (ask.References at declarations) a b p q =
+    let x = references_answer text at declarations a p in
+    let y = references_answer text at declarations b q in
+    alike answer.Places a b x.0 y.0 x.1 y.1 (ap answer.Places (one_list_of_places (wanted_with declarations) text at x.0 y.0 x.2 y.2))
+one_answer text ask.Symbols a b p q =
+    let x = outline_answer text a p in
+    let y = outline_answer text b q in
+    alike answer.Symbols a b x.0 y.0 x.1 y.1 (ap answer.Symbols (one_outline text x.0 y.0 x.2 y.2))
+one_answer text (ask.Rename at new) a b p q = ap without_cert (one_rename text at new a b p q)
+one_answer text (ask.Action range) a b p q =
+    let x = insertion_answer text range a p in
+    let y = insertion_answer text range b q in
+    alike answer.Insert a b x.0 y.0 x.1 y.1 (ap answer.Insert (one_insertion text range x.0 y.0 x.2 y.2))
+one_answer text ask.Tokens a b p q =
+    let x = tokens_answer text a p in
+    let y = tokens_answer text b q in
+    alike answer.Numbers a b x.0 y.0 x.1 y.1 (ap answer.Numbers (one_list_of_numbers text x.0 y.0 x.2 y.2))
+one_answer text ask.Diagnose a b p q =
+    let x = findings_answer text a p in
+    let y = findings_answer text b q in
+    alike answer.Findings a b x.0 y.0 x.1 y.1 (ap answer.Findings (one_list_of_findings text x.0 y.0 x.2 y.2))

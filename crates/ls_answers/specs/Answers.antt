@@ -3,18 +3,26 @@ use Rattle.std.specs.Prelude.{ℕ, List, [], option_map}
 use Rattle.ls_answers.specs.Diagnostics.{AreDiagnostics}
 use Rattle.ls_answers.specs.Hovers.{IsHover}
 use Rattle.ls_answers.specs.Outline.{IsOutline}
-use Rattle.ls_answers.specs.Places.{AreDefinitions}
+use Rattle.ls_answers.specs.Insertions.{IsInsertion}
+use Rattle.ls_answers.specs.Places.{AreDefinitions, AreReferences}
+use Rattle.ls_answers.specs.Renames.{IsRename}
+use Rattle.ls_answers.specs.SemanticTokens.{AreSemanticTokens}
 use Rattle.ls_answers.specs.declared.ask.Ask.{Ask}
 use Rattle.ls_answers.specs.declared.ask.Ask.TheVariants as ask
 use Rattle.ls_answers.specs.declared.answer.Answer.{Answer}
 use Rattle.ls_answers.specs.declared.answer.Answer.TheVariants as answer
 use Rattle.ls_answers.specs.declared.answer.HoverText.{HoverText}
+use Rattle.ls_answers.specs.declared.answer.Insertion.{Insertion}
 
 -- the answer to the question about the text with these characters
 abbrev pub IsAnswer : List ℕ → Ask → Answer → Type 0
 IsAnswer text (ask.Hover at) (answer.Hover hover) = IsHover text at hover
 IsAnswer text (ask.Definition at) (answer.Places ranges) = AreDefinitions text at ranges
+IsAnswer text (ask.References at declarations) (answer.Places ranges) = AreReferences text at declarations ranges
 IsAnswer text ask.Symbols (answer.Symbols symbols) = IsOutline text symbols
+IsAnswer text (ask.Rename at new) answer = IsRename text at new answer
+IsAnswer text (ask.Action range) (answer.Insert insertion) = IsInsertion text range insertion
+IsAnswer text ask.Tokens (answer.Numbers numbers) = AreSemanticTokens text numbers
 IsAnswer text ask.Diagnose (answer.Findings diagnostics) = AreDiagnostics text diagnostics
 IsAnswer text _ _ = ⊥
 
@@ -22,9 +30,16 @@ IsAnswer text _ _ = ⊥
 abbrev pub hover_without_cert : HoverText → HoverText
 hover_without_cert hover = record hover { example = option_map (λ example. (example.0, [])) hover.example }
 
+abbrev pub insertion_without_cert : Insertion → Insertion
+insertion_without_cert insertion = record insertion { cert = [] }
+
 -- an answer but for its certificate
 abbrev pub without_cert : Answer → Answer
 without_cert (answer.Hover hover) = answer.Hover (option_map hover_without_cert hover)
 without_cert (answer.Places ranges) = answer.Places ranges
 without_cert (answer.Symbols symbols) = answer.Symbols symbols
+without_cert (answer.Edits ranges new) = answer.Edits ranges new
+without_cert (answer.Refused fault) = answer.Refused fault
+without_cert (answer.Insert insertion) = answer.Insert (option_map insertion_without_cert insertion)
+without_cert (answer.Numbers numbers) = answer.Numbers numbers
 without_cert (answer.Findings diagnostics) = answer.Findings diagnostics

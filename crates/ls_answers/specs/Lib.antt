@@ -1,6 +1,11 @@
 pub mod Outline
 pub mod Places
 pub mod Hovers
+pub mod Asks
+pub mod Renames
+pub mod Insertions
+pub mod SemanticTokens
+pub mod Walk
 pub mod Diagnostics
 pub mod Answers
 pub mod Told

@@ -2,7 +2,8 @@ use abnf_cert::Cert;
 use abnf_least::Shortest;
 use abnf_lint::Code;
 use ls_lists::{List, Text};
-use ls_text::Range;
+use ls_text::{Position, Range};
+use thiserror::Error;
 
 /// A rule of a grammar, as the outline of a document shows it (LSP 3.17, "Document Symbols Request").
 #[derive(Drop)]
@@ -34,6 +35,30 @@ pub struct Diagnostic {
     pub message: Text,
 }
 
+/// A text that could be inserted (LSP 3.17, "Code Action Request").
+#[derive(Drop)]
+pub struct Insertion {
+    /// Where it would come: at the start of a line.
+    pub position: Position,
+    pub text: Text,
+    /// The certificate that tells the example in the text.
+    pub cert: Cert,
+}
+
+/// Why a name isn't given another text (LSP 3.17, "Rename Request").
+#[derive(Clone, Copy, Debug, Drop, PartialEq, Eq, Error)]
+pub enum RenameFault {
+    /// The new text isn't a name (RFC 5234, section 2.1).
+    #[error("not a rule name")]
+    NotAName,
+    /// No name stands there, or none that the document defines.
+    #[error("nothing to rename")]
+    NothingToRename,
+    /// The new text is another name of the document or that of a core rule, in whatever case.
+    #[error("name in use")]
+    NameInUse,
+}
+
 /// What is answered to a question about a document.
 #[derive(Drop)]
 pub enum Answer {
@@ -42,6 +67,14 @@ pub enum Answer {
     /// Ranges of places in the text, in UTF-16 units and in the order of the text.
     Places(List<Range>),
     Symbols(List<Symbol>),
+    /// The ranges that a rename writes anew, in UTF-16 units and in the order of the text, and what each gets.
+    Edits(List<Range>, Text),
+    /// A rename isn't granted.
+    Refused(RenameFault),
+    /// What could be inserted, if there is something.
+    Insert(Option<Insertion>),
+    /// Five numbers for each token, in the order of the text.
+    Numbers(List<u32>),
     /// In the order of the text.
     Findings(List<Diagnostic>),
 }

@@ -1,6 +1,8 @@
-ghost use Rattle.std.specs.Prelude.{◌≡◌, Ok};
+ghost use Rattle.std.specs.Prelude.{◌≡◌, true, IfOk, OnErr};
+ghost use Rattle.ls_answers.specs.Asks.{is_rename};
 
-use ls_text::Position;
+use ls_lists::Text;
+use ls_text::{Position, Range};
 use std::alloc::AllocError as Memory;
 
 /// A question about a document.
@@ -10,21 +12,39 @@ pub enum Ask {
     Hover(Position),
     /// Where the name at a position is defined (LSP 3.17, "Goto Definition Request").
     Definition(Position),
+    /// Where the name at a position stands; the second field says whether the places that define it are among them (LSP 3.17,
+    /// "Find References Request").
+    References(Position, bool),
     /// Its symbols (LSP 3.17, "Document Symbols Request").
     Symbols,
+    /// What to write anew so that the name at a position is this one (LSP 3.17, "Rename Request").
+    Rename(Position, Text),
+    /// What could be inserted at a range (LSP 3.17, "Code Action Request").
+    Action(Range),
+    /// The classes of its tokens (LSP 3.17, "Semantic Tokens").
+    Tokens,
     /// What is wrong or doubtful in it (LSP 3.17, "PublishDiagnostics Notification").
     Diagnose,
 }
 
 impl Ask {
-    /// A question of its own that is the same. It needs no memory.
+    /// A question of its own that is the same.
+    ///
+    /// `Memory` says that an allocation was refused; a rename alone needs one.
     pub fn copy(&self) -> Result<Ask, Memory>
-        ensures { result ≡ Ok self.now }
+        ensures copy { IfOk result (λ ask. ask ≡ self.now) }
+        ensures memory { OnErr result (is_rename self.now ≡ true) }
     {
         match self {
             Ask::Hover(position) => Ok(Ask::Hover(*position)),
             Ask::Definition(position) => Ok(Ask::Definition(*position)),
+            Ask::References(position, declarations) => {
+                Ok(Ask::References(*position, *declarations))
+            }
             Ask::Symbols => Ok(Ask::Symbols),
+            Ask::Rename(position, name) => Ok(Ask::Rename(*position, name.copy()?)),
+            Ask::Action(range) => Ok(Ask::Action(*range)),
+            Ask::Tokens => Ok(Ask::Tokens),
             Ask::Diagnose => Ok(Ask::Diagnose),
         }
     }

@@ -7,8 +7,11 @@ use crate::answer::Answer;
 use crate::ask::Ask;
 use crate::diagnostics::diagnostics;
 use crate::hovers::hover;
+use crate::insertion::insertion;
 use crate::outline::symbols;
-use crate::places::definitions;
+use crate::places::{definitions, references};
+use crate::rename::rename;
+use crate::semantic_tokens::semantic_tokens;
 use abnf_names::Grammar;
 use ls_text::Snapshot;
 use std::alloc::{AllocError as Memory, Global};
@@ -108,7 +111,16 @@ fn answer_in(alloc: Global, grammar: &Grammar, ask: &Ask) -> Result<Answer, Memo
     match ask {
         Ask::Hover(at) => Ok(Answer::Hover(hover(alloc, grammar, *at)?)),
         Ask::Definition(at) => Ok(Answer::Places(definitions(alloc, grammar, *at)?)),
+        Ask::References(at, declarations) => Ok(Answer::Places(references(
+            alloc,
+            grammar,
+            *at,
+            *declarations,
+        )?)),
         Ask::Symbols => Ok(Answer::Symbols(symbols(alloc, grammar.source())?)),
+        Ask::Rename(at, new) => rename(alloc, grammar, *at, new),
+        Ask::Action(range) => Ok(Answer::Insert(insertion(alloc, grammar, *range)?)),
+        Ask::Tokens => Ok(Answer::Numbers(semantic_tokens(alloc, grammar)?)),
         Ask::Diagnose => Ok(Answer::Findings(diagnostics(alloc, grammar)?)),
     }
 }

@@ -12,12 +12,15 @@ mod ask;
 mod diagnostics;
 mod hover;
 mod hovers;
+mod insertion;
 mod job;
 mod laws;
 mod outline;
 mod places;
+mod rename;
+mod semantic_tokens;
 
-pub use answer::{Answer, Diagnostic, HoverText, Symbol};
+pub use answer::{Answer, Diagnostic, HoverText, Insertion, RenameFault, Symbol};
 pub use ask::Ask;
 pub use hover::hover_text;
 pub use job::{Done, Job, run};

@@ -1,0 +1,100 @@
+//! What could be inserted at a range.
+ghost use Rattle.std.specs.Prelude.{◌≡◌, ◌<◌, IfOk, find, length, min, option_map};
+ghost use Rattle.ls_text.specs.Edits.{position_offset};
+ghost use Rattle.ls_text.specs.Lines.{utf16_len};
+ghost use Rattle.abnf_parts.specs.Names.{folded_text, rule_number};
+ghost use Rattle.ls_answers.specs.Insertions as spec;
+
+use crate::answer::Insertion;
+use abnf_cert::Cert;
+use abnf_least::{Shortest, example, least, render};
+use abnf_names::{Grammar, NamePlace};
+use abnf_parts::RuleNo;
+use abnf_token::Folded;
+use ls_lists::Text;
+use ls_text::{Position, Range, Snapshot};
+use std::alloc::{AllocError as Memory, Global};
+
+/// What could be inserted at a range: where a name stands at its start that the text defines, and whose rule has an example that is
+/// shown, this example, as a comment on a line of its own before the rule.
+///
+/// `Memory` says that an allocation was refused.
+pub fn insertion(
+    alloc: Global,
+    grammar: &Grammar,
+    range: Range,
+) -> Result<Option<Insertion>, Memory>
+    ensures { IfOk result (λ insertion. spec.IsInsertion grammar.now.text range insertion) }
+{
+    match grammar.name_at(start_of(grammar.source(), range)) {
+        Some((_, name)) => insertion_of_name(alloc, grammar, name),
+        None => Ok(None),
+    }
+}
+
+/// The offset at which a range starts, whichever of its ends comes first.
+fn start_of(snapshot: &Snapshot, range: Range) -> usize
+    ensures { result ≡ min (position_offset utf16_len snapshot.now range.start) (position_offset utf16_len snapshot.now range.end) }
+{
+    snapshot
+        .offset_of(range.start)
+        .min(snapshot.offset_of(range.end))
+}
+
+/// What could be inserted of a name.
+fn insertion_of_name(
+    alloc: Global,
+    grammar: &Grammar,
+    name: Folded,
+) -> Result<Option<Insertion>, Memory>
+    ensures { IfOk result (λ insertion. spec.IsInsertionBy grammar.now
+        (spec.first_head grammar.now (folded_text name.entry)) (rule_number grammar.now.names (folded_text name.entry)) insertion) }
+{
+    let Some(head) = first_definition(grammar.places(name)) else {
+        return Ok(None);
+    };
+    let Some(rule) = grammar.rule_of(name) else {
+        return Ok(None);
+    };
+    let line = grammar.source().range_of(&head.place).start.line;
+    insertion_of_rule(alloc, grammar, line, rule)
+}
+
+/// The first of the places that defines its name.
+fn first_definition(places: &[NamePlace]) -> Option<&NamePlace>
+    ensures { option_map (λ place. place.now) result ≡ find (λ p. p.defines) places.now }
+{
+    places.iter().find(|place| place.defines)
+}
+
+/// What could be inserted before this line of a rule.
+fn insertion_of_rule(
+    alloc: Global,
+    grammar: &Grammar,
+    line: u32,
+    rule: RuleNo,
+) -> Result<Option<Insertion>, Memory>
+    requires { rule < length grammar.now.rules }
+    ensures { IfOk result (λ insertion. spec.IsInsertionOfRule grammar.now.rules line rule insertion) }
+{
+    let cert = least(alloc, grammar)?;
+    match example(alloc, grammar, &cert, rule)? {
+        Shortest::Shown { text, .. } => Ok(Some(Insertion {
+            position: Position { line, character: 0 },
+            text: comment_of(alloc, text.as_slice())?,
+            cert,
+        })),
+        _ => Ok(None),
+    }
+}
+
+/// An example as a comment on a line of its own.
+fn comment_of(alloc: Global, example: &[u32]) -> Result<Text, Memory>
+    ensures { IfOk result (λ text. text ≡ spec.comment_of example.now) }
+{
+    let example = render(alloc, example)?;
+    let mut text = String::from_str(alloc, "; example ")?;
+    text.push_str(example.as_str())?;
+    text.push_str("\n")?;
+    Ok(Text::new(text))
+}

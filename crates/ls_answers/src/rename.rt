@@ -1,0 +1,94 @@
+//! What gives a name another text.
+ghost use Rattle.std.specs.Prelude.{◌≡◌, IfOk};
+ghost use Rattle.std.specs.List.{list_all, list_any};
+ghost use Rattle.std.specs.Str.{bytes_eq};
+ghost use Rattle.abnf_names.specs.Rules.{IsGrammar};
+ghost use Rattle.abnf_parts.specs.Names.{folded_text};
+ghost use Rattle.abnf_token.specs.Classes as classes;
+ghost use Rattle.abnf_token.specs.Folded.{lowercase};
+ghost use Rattle.ls_answers.specs.Renames as spec;
+
+use crate::answer::{Answer, RenameFault};
+use crate::places::{Wanted, ranges_at};
+use abnf_names::Grammar;
+use abnf_parts::is_core_name;
+use abnf_token::Folded;
+use ls_lists::Text;
+use ls_text::Position;
+use std::alloc::{AllocError as Memory, Global};
+
+/// What gives the name at a position another text: the ranges of all its places, in the order of the text, or why it isn't granted,
+/// which is the first of [`RenameFault`] that holds. The same text, or the same name in another case, is granted.
+///
+/// `Memory` says that an allocation was refused.
+pub fn rename(alloc: Global, grammar: &Grammar, at: Position, new: &Text) -> Result<Answer, Memory>
+    ensures { IfOk result (λ answer. spec.IsRename grammar.now.text at new.now answer) }
+{
+    match rename_fault(grammar, at, new.as_str()) {
+        Some(fault) => Ok(Answer::Refused(fault)),
+        None => {
+            let ranges = ranges_at(alloc, grammar, at, Wanted::Both)?;
+            Ok(Answer::Edits(ranges, new.copy()?))
+        }
+    }
+}
+
+/// Why the name at a position isn't given this new text.
+fn rename_fault(grammar: &Grammar, at: Position, new: &str) -> Option<RenameFault>
+    ensures fault { result ≡ spec.rename_fault grammar.now at new.now }
+    ensures grammar { IsGrammar grammar.now }
+{
+    let snapshot = grammar.source();
+    if !is_name(new) {
+        return Some(RenameFault::NotAName);
+    }
+    match grammar.name_at(snapshot.offset_of(at)) {
+        Some((_, old)) => fault_of_name(grammar, old, new),
+        None => Some(RenameFault::NothingToRename),
+    }
+}
+
+/// Why a name isn't given this new text.
+fn fault_of_name(grammar: &Grammar, old: Folded, new: &str) -> Option<RenameFault>
+    ensures { result ≡ spec.fault_of_name grammar.now (folded_text old.entry) new.now }
+{
+    if grammar.own_rule_of(old).is_none() {
+        return Some(RenameFault::NothingToRename);
+    }
+    let new = Folded(new);
+    if new != old && is_in_use(grammar, new) {
+        return Some(RenameFault::NameInUse);
+    }
+    None
+}
+
+/// Whether a name stands somewhere in the text.
+fn has_place(grammar: &Grammar, name: Folded) -> bool
+    ensures { result ≡ list_any (λ n. bytes_eq (folded_text name.entry) (lowercase n.text)) grammar.now.places }
+{
+    !grammar.places(name).is_empty()
+}
+
+/// Whether a name stands somewhere in the text, or is that of a core rule.
+fn is_in_use(grammar: &Grammar, name: Folded) -> bool
+    ensures { result ≡ spec.is_in_use grammar.now (folded_text name.entry) }
+{
+    has_place(grammar, name) || is_core_name(name)
+}
+
+/// Whether a text is a name: a letter, then letters, digits and `-` (RFC 5234, sections 2.1 and 4).
+fn is_name(text: &str) -> bool
+    ensures { result ≡ classes.is_name text.now }
+{
+    match text.as_bytes() {
+        [first, rest @ ..] => first.is_ascii_alphabetic() && are_name_bytes(rest),
+        [] => false,
+    }
+}
+
+/// Whether these are letters, digits and `-` alone.
+fn are_name_bytes(bytes: &[u8]) -> bool
+    ensures { result ≡ list_all classes.is_name_byte bytes.now }
+{
+    bytes.iter().all(|byte| byte.is_ascii_alphabetic() || byte.is_ascii_digit() || *byte == b'-')
+}
