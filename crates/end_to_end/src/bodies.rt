@@ -82,6 +82,8 @@ fn bodies(rt: HostRuntime) -> Result<(), Fail> {
     let replied = Out::Replied {
         id: Id::Number(2),
         uri: Text::from_str(alloc, "file:///g")?,
+        label: 7,
+        links: true,
         done,
     };
     let body = body_of(alloc, &replied)?;

@@ -13,7 +13,7 @@ const EXIT: &str = r#"{"jsonrpc":"2.0","method":"exit"}"#;
 
 /// The answer to `initialize` with id 1: 238 bytes.
 const CAPABILITIES: &str =
-    r#"{"id":1,"jsonrpc":"2.0","result":{"capabilities":{"definitionProvider":true,"documentSymbolProvider":true,"hoverProvider":true,"positionEncoding":"utf-16","textDocumentSync":{"change":2,"openClose":true}},"serverInfo":{"name":"abnf_ls"}}}"#;
+    r#"{"id":1,"jsonrpc":"2.0","result":{"capabilities":{"codeActionProvider":true,"definitionProvider":true,"documentSymbolProvider":true,"hoverProvider":true,"positionEncoding":"utf-16","referencesProvider":true,"renameProvider":true,"semanticTokensProvider":{"full":true,"legend":{"tokenModifiers":["definition","defaultLibrary"],"tokenTypes":["type","string","number","operator","comment","macro"]}},"textDocumentSync":{"change":2,"openClose":true}},"serverInfo":{"name":"abnf_ls"}}}"#;
 
 const DOWN: &str = r#"{"id":3,"jsonrpc":"2.0","result":null}"#;
 

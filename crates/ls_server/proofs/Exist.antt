@@ -178,14 +178,14 @@ short_next state body p = short_on (turn_on state body).0 state.kept p
 
 -- ---- replies
 
-some_reply_on : (id : Id) (ask : Ask) (o : Option Document) → ShortAt o → (reply : Option (List ℕ)) × IsRepliedOn id ask o reply
+some_reply_on : (id : Id) (ask : Ask) (links : Bool) (o : Option Document) → ShortAt o → (reply : Option (List ℕ)) × IsRepliedOn id ask links o reply
 unfolding kept.IsReply
-some_reply_on id ask None s = (refusal_of id NotOpen, refl)
-some_reply_on id ask (Some d) s = let a = some_answer d.snapshot ask s in (Some (reply_body id d.uri a.0), (a.0, a.1, refl))
+some_reply_on id ask links None s = (refusal_of id NotOpen, refl)
+some_reply_on id ask links (Some d) s = let a = some_answer d.snapshot ask s in (Some (reply_body id d.uri d.label links a.0), (a.0, a.1, refl))
 
-some_reply_to : (id : Id) (uri : List ℕ) (ask : Ask) (k : Kept) → AreShort k.documents → (reply : Option (List ℕ)) × IsReplied id uri ask k reply
+some_reply_to : (id : Id) (uri : List ℕ) (ask : Ask) (links : Bool) (k : Kept) → AreShort k.documents → (reply : Option (List ℕ)) × IsReplied id uri ask links k reply
 unfolding IsReplied
-some_reply_to id uri ask k p = some_reply_on id ask (document_at uri k.documents) (short_find (is_named uri) k.documents p)
+some_reply_to id uri ask links k p = some_reply_on id ask links (document_at uri k.documents) (short_find (is_named uri) k.documents p)
 
 some_published : (o : Option Document) → ShortAt o → (reply : Option (List ℕ)) × IsPublishedOf o reply
 unfolding IsPublished
@@ -216,7 +216,7 @@ unfolding IsAnsweredOpening IsAnsweredChange
 some_event (DidOpen uri label text) k p = some_published (opened_document uri label text k) (short_new uri label text k)
 some_event (DidChange uri label edits) k p = some_published (changed_document uri label edits k) (short_edited_at label edits k (place_of uri k.documents) p)
 some_event (DidClose uri) k p = (None, refl)
-some_event (Request id uri ask links) k p = some_reply_to id uri ask k p
+some_event (Request id uri ask links) k p = some_reply_to id uri ask links k p
 some_event (Say body) k p = (Some body, refl)
 
 some_turn : (t : Turn) (k : Kept) → AreShort k.documents → (reply : Option (List ℕ)) × IsAnsweredOn t k reply

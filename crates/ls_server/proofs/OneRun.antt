@@ -1,10 +1,9 @@
 -- On a list of messages one thing is said, and what is said on more of them begins with it.
-use Rattle.std.proofs.Common.{◌≡◌, ℕ, List, [], ◌∷◌, ◌++◌, Option, Some, None, inl, inr, sym, ap, ◌∙◌, append_assoc}
+use Rattle.std.proofs.Common.{◌≡◌, ℕ, Bool, List, [], ◌∷◌, ◌++◌, Option, Some, None, inl, inr, sym, ap, ◌∙◌, append_assoc}
 use Rattle.ls_rpc.specs.declared.message.Id.{Id}
 use Rattle.ls_answers.specs.declared.ask.Ask.{Ask}
 use Rattle.ls_answers.proofs.OneAnswer.{one_answer}
 use Rattle.ls_answers.specs.declared.ask.Ask.TheVariants.{Diagnose}
-use Rattle.ls_session.specs.Bodies.{reply_body}
 use Rattle.ls_session.proofs.WithoutCert.{same_findings, same_reply}
 use Rattle.ls_session.specs.declared.event.ClientEvent.{ClientEvent}
 use Rattle.ls_session.specs.declared.event.ClientEvent.TheVariants.{DidOpen, DidChange, DidClose, Request, Say}
@@ -18,9 +17,9 @@ use Rattle.ls_server.specs.Talk.{Talk, IsAnswered, IsAnsweredOn, IsReply, turn_o
 use Rattle.ls_server.specs.Runs.{Says, frames_for}
 use Rattle.ls_server.proofs.Known.{append-nil}
 
-one_body : (id : Id) (uri text : List ℕ) (ask : Ask) (a b : List ℕ) → kept.IsReply id uri text ask a → kept.IsReply id uri text ask b → a ≡ b
+one_body : (id : Id) (document : Document) (ask : Ask) (links : Bool) (a b : List ℕ) → kept.IsReply id document ask links a → kept.IsReply id document ask links b → a ≡ b
 unfolding kept.IsReply
-one_body id uri text ask a b p q = p.2 ∙ (same_reply id uri p.0 q.0 (one_answer text ask p.0 q.0 p.1 q.1) ∙ sym q.2)
+one_body id document ask links a b p q = p.2 ∙ (same_reply id document.uri document.label links p.0 q.0 (one_answer document.snapshot ask p.0 q.0 p.1 q.1) ∙ sym q.2)
 
 one_publication : (document : Document) (a b : List ℕ) → IsPublished document a → IsPublished document b → a ≡ b
 unfolding IsPublished
@@ -32,22 +31,22 @@ one_published (Some document) None b p q = absurd p
 one_published (Some document) (Some a) None p q = absurd q
 one_published (Some document) (Some a) (Some b) p q = ap Some (one_publication document a b p q)
 
-one_reply_on : (id : Id) (ask : Ask) (o : Option Document) (a b : Option (List ℕ)) → IsRepliedOn id ask o a → IsRepliedOn id ask o b → a ≡ b
-one_reply_on id ask None a b p q = p ∙ sym q
-one_reply_on id ask (Some document) None b p q = absurd p
-one_reply_on id ask (Some document) (Some a) None p q = absurd q
-one_reply_on id ask (Some document) (Some a) (Some b) p q = ap Some (one_body id document.uri document.snapshot ask a b p q)
+one_reply_on : (id : Id) (ask : Ask) (links : Bool) (o : Option Document) (a b : Option (List ℕ)) → IsRepliedOn id ask links o a → IsRepliedOn id ask links o b → a ≡ b
+one_reply_on id ask links None a b p q = p ∙ sym q
+one_reply_on id ask links (Some document) None b p q = absurd p
+one_reply_on id ask links (Some document) (Some a) None p q = absurd q
+one_reply_on id ask links (Some document) (Some a) (Some b) p q = ap Some (one_body id document ask links a b p q)
 
-one_reply_to : (id : Id) (uri : List ℕ) (ask : Ask) (k : Kept) (a b : Option (List ℕ)) → IsReplied id uri ask k a → IsReplied id uri ask k b → a ≡ b
+one_reply_to : (id : Id) (uri : List ℕ) (ask : Ask) (links : Bool) (k : Kept) (a b : Option (List ℕ)) → IsReplied id uri ask links k a → IsReplied id uri ask links k b → a ≡ b
 unfolding IsReplied
-one_reply_to id uri ask k a b p q = one_reply_on id ask (document_at uri k.documents) a b p q
+one_reply_to id uri ask links k a b p q = one_reply_on id ask links (document_at uri k.documents) a b p q
 
 one_answer_to : (event : ClientEvent) (k : Kept) (a b : Option (List ℕ)) → IsAnswered event k a → IsAnswered event k b → a ≡ b
 unfolding IsAnsweredOpening IsAnsweredChange
 one_answer_to (DidOpen uri label text) k a b p q = one_published (opened_document uri label text k) a b p q
 one_answer_to (DidChange uri label edits) k a b p q = one_published (changed_document uri label edits k) a b p q
 one_answer_to (DidClose uri) k a b p q = p ∙ sym q
-one_answer_to (Request id uri ask links) k a b p q = one_reply_to id uri ask k a b p q
+one_answer_to (Request id uri ask links) k a b p q = one_reply_to id uri ask links k a b p q
 one_answer_to (Say body) k a b p q = p ∙ sym q
 
 one_on : (t : Turn) (k : Kept) (a b : Option (List ℕ)) → IsAnsweredOn t k a → IsAnsweredOn t k b → a ≡ b

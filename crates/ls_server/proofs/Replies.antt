@@ -1,5 +1,5 @@
 -- The body that replies with what a job gave.
-use Rattle.std.proofs.Common.{◌≡◌, ℕ, ℤ, List, Option, None, Some, Result, Ok, Err, option_map, refl, sym, ◌∙◌, subst}
+use Rattle.std.proofs.Common.{◌≡◌, ℕ, ℤ, Bool, List, Option, None, Some, Result, Ok, Err, option_map, refl, sym, ◌∙◌, subst}
 use Rattle.std.specs.Borrow.{Bor}
 use Rattle.std.specs.Prelude.{MatchResult, IfOk}
 use Rattle.ls_rpc.specs.declared.message.Id.{Id}
@@ -27,15 +27,15 @@ body-some : (f : Answer → List ℕ) (o : Option Answer) (body : List ℕ) → 
 body-some f None body e = absurd (cc)
 body-some f (Some answer) body e = (answer, refl, cc)
 
--- the body of such a job replies to its question
-pub told-reply : (id : Id) (uri text : List ℕ) (ask : Ask) (told : Told) (body : List ℕ) → told.text ≡ text → told.ask ≡ ask
-    → ((answer : Answer) → told.answer ≡ Some answer → IsAnswer told.text told.ask answer) → Some body ≡ body_of (Replied id uri told) → IsReply id uri text ask body
+-- the body of such a job replies to its question about a document
+pub told-reply : (id : Id) (document : Document) (uri : List ℕ) (label : ℤ) (links : Bool) (ask : Ask) (told : Told) (body : List ℕ) → uri ≡ document.uri → label ≡ document.label → told.text ≡ document.snapshot → told.ask ≡ ask
+    → ((answer : Answer) → told.answer ≡ Some answer → IsAnswer told.text told.ask answer) → Some body ≡ body_of (Replied id uri label links told) → IsReply id document ask links body
 unfolding IsReply body_of
-told-reply id uri text ask told body t a right e =
-    let parts = body-some (reply_body id uri) told.answer body e in
-    let P : List ℕ → Type 0 = λ l. IsAnswer l told.ask parts.0 in
-    let Q : Ask → Type 0 = λ q. IsAnswer text q parts.0 in
-    (parts.0, subst Q a (subst P t (right parts.0 parts.1)), parts.2)
+told-reply id document uri label links ask told body u l t a right e =
+    let parts = body-some (reply_body id uri label links) told.answer body e in
+    let P : List ℕ → Type 0 = λ text. IsAnswer text told.ask parts.0 in
+    let Q : Ask → Type 0 = λ q. IsAnswer document.snapshot q parts.0 in
+    (parts.0, subst Q a (subst P t (right parts.0 parts.1)), parts.2 ∙ (λ i. reply_body id (u i) (l i) links parts.0))
 
 -- the body of a job that looked for a document's findings publishes them
 pub told-findings : (document : Document) (uri : List ℕ) (label : ℤ) (told : Told) (body : List ℕ) → uri ≡ document.uri → label ≡ document.label → told.text ≡ document.snapshot → told.ask ≡ Diagnose

@@ -127,18 +127,19 @@ IsAnsweredChange uri label edits kept reply = IsPublishedOf (changed_document ur
 
 -- ---- answers
 
--- the body replies with an answer to the question about the document of this name, which has this text
-unfoldable pub IsReply : Id → List ℕ → List ℕ → Ask → List ℕ → Type 0
-IsReply id uri text ask body = (answer : Answer) × IsAnswer text ask answer × (body ≡ reply_body id uri answer)
+-- the body replies with an answer to the question about this document's text; edits in it name the document and the client's
+-- version of it, in the form that the client takes
+unfoldable pub IsReply : Id → Document → Ask → Bool → List ℕ → Type 0
+IsReply id document ask links body = (answer : Answer) × IsAnswer document.snapshot ask answer × (body ≡ reply_body id document.uri document.label links answer)
 
-abbrev pub IsRepliedOn : Id → Ask → Option Document → Option (List ℕ) → Type 0
-IsRepliedOn id ask None reply = reply ≡ refusal_of id NotOpen
-IsRepliedOn id ask (Some document) None = ⊥
-IsRepliedOn id ask (Some document) (Some body) = IsReply id document.uri document.snapshot ask body
+abbrev pub IsRepliedOn : Id → Ask → Bool → Option Document → Option (List ℕ) → Type 0
+IsRepliedOn id ask links None reply = reply ≡ refusal_of id NotOpen
+IsRepliedOn id ask links (Some document) None = ⊥
+IsRepliedOn id ask links (Some document) (Some body) = IsReply id document ask links body
 
 -- what a request is answered with: the refusal where its document isn't open, else the body with the answer on its text
-unfoldable pub IsReplied : Id → List ℕ → Ask → Kept → Option (List ℕ) → Type 0
-IsReplied id uri ask kept reply = IsRepliedOn id ask (document_at uri kept.documents) reply
+unfoldable pub IsReplied : Id → List ℕ → Ask → Bool → Kept → Option (List ℕ) → Type 0
+IsReplied id uri ask links kept reply = IsRepliedOn id ask links (document_at uri kept.documents) reply
 
 abbrev pub counted : Kept → Option Document → Kept
 counted kept None = kept

@@ -34,7 +34,7 @@ abbrev pub IsAnswered : ClientEvent → Kept → Option (List ℕ) → Type 0
 IsAnswered (DidOpen uri label text) kept reply = IsAnsweredOpening uri label text kept reply
 IsAnswered (DidChange uri label edits) kept reply = IsAnsweredChange uri label edits kept reply
 IsAnswered (DidClose uri) kept reply = reply ≡ None
-IsAnswered (Request id uri ask links) kept reply = IsReplied id uri ask kept reply
+IsAnswered (Request id uri ask links) kept reply = IsReplied id uri ask links kept reply
 IsAnswered (Say body) kept reply = reply ≡ Some body
 
 abbrev pub kept_on : Turn → Kept → Kept

@@ -78,7 +78,7 @@ fn answered(keeper: &mut Keeper, event: ClientEvent) -> Result<Option<Vec<u8>>, 
             keeper.close(uri.as_str());
             Ok(None)
         }
-        ClientEvent::Request(id, uri, ask, _) => keeper.answer(id, uri.as_str(), ask),
+        ClientEvent::Request(id, uri, ask, links) => keeper.answer(id, uri.as_str(), ask, links),
         ClientEvent::Say(body) => Ok(Some(body.into_vec())),
     }
 }

@@ -1,6 +1,5 @@
 //! The documents that a client has open.
 ghost use Rattle.std.specs.Prelude.{◌≡◌, [], IfOk, OnOk, option_map};
-ghost use Rattle.std.specs.Arc.{arc_value};
 ghost use Rattle.ls_server.specs.Kept.{IsAnsweredChange, IsAnsweredOpening, IsPublished, IsReplied, IsReply, asked, changed, closed, document_at, is_named, next_ticket, next_version, nothing_kept, opened, place_of};
 ghost use Rattle.ls_session.specs.Bodies.{body_of, refusal_of};
 
@@ -156,38 +155,58 @@ impl Keeper {
         self.tickets = self.next_ticket();
     }
 
-    /// The body that answers a request, which has the next ticket where its document is open.
+    /// The body that answers a request, which has the next ticket where its document is open. `links` says whether the client
+    /// takes edits of a workspace as `documentChanges`.
     #[tactic(auto, unfolding(crate::specs::Kept::IsReplied, crate::specs::Kept::asked))]
-    pub fn answer(&mut self, id: Id, uri: &str, ask: Ask) -> Result<Option<Vec<u8>>, AllocError>
+    pub fn answer(
+        &mut self,
+        id: Id,
+        uri: &str,
+        ask: Ask,
+        links: bool,
+    ) -> Result<Option<Vec<u8>>, AllocError>
         ensures reply { IfOk result (λ body.
-            IsReplied id uri.now ask self.old (option_map (λ bytes. bytes.items) body)) }
+            IsReplied id uri.now ask links self.old (option_map (λ bytes. bytes.items) body)) }
         ensures ticket { OnOk result (self.new ≡ asked uri.now self.old) }
     {
         let Some(document) = document_at(self.documents.as_slice(), uri) else {
             return refusal_body(self.alloc, &id, DeskFault::NotOpen);
         };
         let ticket = self.next_ticket();
-        let snapshot = document.snapshot.arc()?;
-        let job = Job {
-            ticket,
-            snapshot,
-            ask,
-        };
-        let body = replied(self.alloc, id, document.uri.copy()?, job)?;
+        let body = replied(self.alloc, ticket, id, document, ask, links)?;
         self.tickets = ticket;
         Ok(Some(body))
     }
 }
 
-/// The body with the answer to a question about the document of this name.
-fn replied(alloc: Global, id: Id, uri: Text, job: Job) -> Result<Vec<u8>, AllocError>
-    ensures { IfOk result (λ body. IsReply id uri (arc_value job.snapshot) job.ask body.items) }
+/// The body with the answer to a question about a document.
+fn replied(
+    alloc: Global,
+    ticket: u64,
+    id: Id,
+    document: &Document,
+    ask: Ask,
+    links: bool,
+) -> Result<Vec<u8>, AllocError>
+    ensures { IfOk result (λ body. IsReply id document.now ask links body.items) }
 {
+    let job = Job {
+        ticket,
+        snapshot: document.snapshot.arc()?,
+        ask,
+    };
     let done = run(alloc, job);
     if done.answer().is_err() {
         return Err(AllocError);
     }
-    let body = body_of(alloc, &Out::Replied { id, uri, done })?;
+    let out = Out::Replied {
+        id,
+        uri: document.uri.copy()?,
+        label: document.label,
+        links,
+        done,
+    };
+    let body = body_of(alloc, &out)?;
     Ok(body)
 }
 

@@ -1,20 +1,23 @@
 -- The bodies of what is said. Members of their JSON stand in the order of their keys.
-use Rattle.std.specs.Prelude.{ℕ, ℤ, List, map, codes, Option, Some, None, option_map}
+use Rattle.std.specs.Prelude.{ℕ, ℤ, List, [], map, Bool, codes, Option, Some, None, option_map}
 use Rattle.serde_json.specs.Data.{Data, Members, null, number, string, array, object, unsigned, member, no_members}
 use Rattle.serde_json.specs.Find.{of_integer}
 use Rattle.serde_json.specs.View.{items_of}
 use Rattle.serde_json.specs.Written.{compact_text}
-use Rattle.ls_text.specs.declared.position.Position.{Position}
 use Rattle.ls_text.specs.declared.position.Range.{Range}
 use Rattle.ls_rpc.specs.declared.message.Id.{Id}
 use Rattle.ls_rpc.specs.Reply.{notice_json, result_json}
-use Rattle.ls_session.specs.Refusal.{error_body}
+use Rattle.ls_session.specs.Edits.{actions_json, edits_json, workspace_edit_json}
+use Rattle.ls_session.specs.Positions.{range_json}
+use Rattle.ls_session.specs.Refusal.{error_body, refusal_of_rename}
+use Rattle.ls_session.specs.Tokens.{tokens_json}
 use Rattle.abnf_lint.specs.Messages.{code_text, severity_of}
 use Rattle.abnf_lint.specs.declared.message.Severity.{Severity}
 use Rattle.abnf_lint.specs.declared.message.Severity.TheVariants.{Error, Warning}
 use Rattle.ls_answers.specs.declared.answer.Symbol.{Symbol}
 use Rattle.ls_answers.specs.declared.answer.HoverText.{HoverText}
 use Rattle.ls_answers.specs.declared.answer.Diagnostic.{Diagnostic}
+use Rattle.ls_answers.specs.declared.answer.RenameFault.{RenameFault}
 use Rattle.ls_answers.specs.declared.answer.Answer.{Answer}
 use Rattle.ls_answers.specs.declared.answer.Answer.TheVariants as answer
 use Rattle.ls_session.specs.declared.answer.Out.{Out}
@@ -22,16 +25,6 @@ use Rattle.ls_session.specs.declared.answer.Out.TheVariants as out
 use Rattle.ls_session.specs.declared.answer.DeskFault.{DeskFault}
 use Rattle.ls_session.specs.declared.answer.DeskFault.TheVariants as fault
 use Rattle.ls_session.specs.declared.refusal.Refusal.TheVariants as refusal
-
-abbrev pub position_json : Position → Data
-position_json position =
-    object (member (codes "character") (number (unsigned position.character))
-    (member (codes "line") (number (unsigned position.line)) no_members))
-
-abbrev pub range_json : Range → Data
-range_json range =
-    object (member (codes "end") (position_json range.end)
-    (member (codes "start") (position_json range.start) no_members))
 
 -- of the kind 12, a function (LSP 3.17, "Document Symbols Request")
 abbrev pub symbol_json : Symbol → Data
@@ -90,23 +83,43 @@ diagnostic_json diagnostic =
 abbrev pub diagnostics_json : List Diagnostic → Data
 diagnostics_json diagnostics = array (items_of (map diagnostic_json diagnostics))
 
--- the result that an answer about a document is
-abbrev pub answer_json : List ℕ → Answer → Data
-answer_json uri (answer.Hover hover) = hover_or_null hover
-answer_json uri (answer.Places ranges) = locations_json uri ranges
-answer_json uri (answer.Symbols symbols) = symbols_json symbols
-answer_json uri (answer.Findings diagnostics) = diagnostics_json diagnostics
+-- the result that an answer about a document is, by its uri, the client's version of it, and whether the client takes edits as
+-- `documentChanges`; a rename that isn't granted has none
+abbrev pub answer_json : List ℕ → ℤ → Bool → Answer → Data
+answer_json uri label links (answer.Hover hover) = hover_or_null hover
+answer_json uri label links (answer.Places ranges) = locations_json uri ranges
+answer_json uri label links (answer.Symbols symbols) = symbols_json symbols
+answer_json uri label links (answer.Edits ranges new) = workspace_edit_json uri label links (edits_json new ranges)
+answer_json uri label links (answer.Refused fault) = null
+answer_json uri label links (answer.Insert insertion) = actions_json uri label links insertion
+answer_json uri label links (answer.Numbers numbers) = tokens_json numbers
+answer_json uri label links (answer.Findings diagnostics) = diagnostics_json diagnostics
+
+-- the findings that an answer tells; one of another kind tells none
+abbrev pub found_in : Answer → List Diagnostic
+found_in (answer.Findings diagnostics) = diagnostics
+found_in _ = []
 
 -- what is published of the document's version with this label (LSP 3.17, "PublishDiagnostics Notification")
 abbrev pub findings_json : List ℕ → ℤ → Answer → Data
 findings_json uri label answer =
-    object (member (codes "diagnostics") (answer_json uri answer)
+    object (member (codes "diagnostics") (diagnostics_json (found_in answer))
     (member (codes "uri") (string uri)
     (member (codes "version") (number (of_integer label)) no_members)))
 
+-- why a rename isn't granted, if the answer says so
+abbrev pub fault_in : Answer → Option RenameFault
+fault_in (answer.Refused fault) = Some fault
+fault_in _ = None
+
+-- the error where there is one, else the result
+abbrev pub error_or_result : Id → Option RenameFault → Data → List ℕ
+error_or_result id (Some fault) result = error_body (Some id) (refusal_of_rename fault)
+error_or_result id None result = compact_text (result_json id result)
+
 -- the body that replies to a request about a document with an answer
-unfoldable pub reply_body : Id → List ℕ → Answer → List ℕ
-reply_body id uri answer = compact_text (result_json id (answer_json uri answer))
+unfoldable pub reply_body : Id → List ℕ → ℤ → Bool → Answer → List ℕ
+reply_body id uri label links answer = error_or_result id (fault_in answer) (answer_json uri label links answer)
 
 -- the body that publishes what was found in a document
 unfoldable pub findings_body : List ℕ → ℤ → Answer → List ℕ
@@ -115,7 +128,7 @@ findings_body uri label answer = compact_text (notice_json (codes "textDocument/
 -- the body of what waits to be said; there is none of a job that was refused memory
 unfoldable pub body_of : Out → Option (List ℕ)
 body_of (out.Said body) = Some body
-body_of (out.Replied id uri done) = option_map (reply_body id uri) done.answer
+body_of (out.Replied id uri label links done) = option_map (reply_body id uri label links) done.answer
 body_of (out.Findings uri label done) = option_map (findings_body uri label) done.answer
 
 -- the body that answers a refused request, where there is one

@@ -16,7 +16,11 @@ requests =
     (codes "shutdown", request.Shutdown) ∷
     (codes "textDocument/hover", request.Hover) ∷
     (codes "textDocument/definition", request.Definition) ∷
-    (codes "textDocument/documentSymbol", request.DocumentSymbol) ∷ []
+    (codes "textDocument/references", request.References) ∷
+    (codes "textDocument/documentSymbol", request.DocumentSymbol) ∷
+    (codes "textDocument/rename", request.Rename) ∷
+    (codes "textDocument/codeAction", request.CodeAction) ∷
+    (codes "textDocument/semanticTokens/full", request.SemanticTokens) ∷ []
 
 abbrev pub notices : List (List ℕ × NoticeKind)
 notices =

@@ -1,6 +1,9 @@
 pub mod Kind
 pub mod Params
 pub mod Refusal
+pub mod Positions
+pub mod Tokens
 pub mod Initialize
 pub mod Session
+pub mod Edits
 pub mod Bodies

@@ -1,5 +1,5 @@
 -- What is read of a message's parameters. `None` means that they can't be read.
-use Rattle.std.specs.Prelude.{ℕ, ℤ, pos, min, List, [], ◌∷◌, Bool, false, Option, Some, None, codes, option_map, option_and_then, unwrap_or}
+use Rattle.std.specs.Prelude.{ℕ, ℤ, pos, min, List, [], ◌∷◌, Bool, true, false, Option, Some, None, codes, option_map, option_and_then, unwrap_or}
 use Rattle.serde_json.specs.Data.{Data, null, boolean, number, string, array, object, Items, no_items, item}
 use Rattle.serde_json.specs.Find.{get, as_str, as_bool, as_number, as_array, as_u64, as_i64}
 use Rattle.ls_text.specs.declared.position.Position.{Position}
@@ -99,12 +99,44 @@ event_of notice.Unknown params = None
 
 -- ---- requests
 
+-- where a request asks (LSP 3.17, "TextDocumentPositionParams")
+abbrev pub position_in : Data → Option Position
+position_in params = get (codes "position") params >>= position_of
+
+abbrev pub named_declarations : Data → Option Bool
+named_declarations params = get (codes "context") params >>= get (codes "includeDeclaration") >>= as_bool
+
+-- whether the places that define a name are asked for: `includeDeclaration` says false, and all else says that they are (LSP 3.17,
+-- "Find References Request")
+abbrev pub declarations_of : Data → Bool
+declarations_of params = unwrap_or (named_declarations params) true
+
+abbrev pub references_of : Data → Option Ask
+references_of params = do
+  position ← position_in params
+  Some (ask.References position (declarations_of params))
+
+-- the name that a rename gives is a text (LSP 3.17, "Rename Request")
+abbrev pub rename_of : Data → Option Ask
+rename_of params = do
+  position ← position_in params
+  new ← get (codes "newName") params >>= as_str
+  Some (ask.Rename position new)
+
+-- the context is passed over (LSP 3.17, "Code Action Request")
+abbrev pub action_of : Data → Option Ask
+action_of params = option_map ask.Action (get (codes "range") params >>= range_of)
+
 abbrev pub ask_of : RequestKind → Data → Option Ask
 ask_of request.Initialize params = None
 ask_of request.Shutdown params = None
-ask_of request.Hover params = option_map ask.Hover (get (codes "position") params >>= position_of)
-ask_of request.Definition params = option_map ask.Definition (get (codes "position") params >>= position_of)
+ask_of request.Hover params = option_map ask.Hover (position_in params)
+ask_of request.Definition params = option_map ask.Definition (position_in params)
+ask_of request.References params = references_of params
 ask_of request.DocumentSymbol params = Some ask.Symbols
+ask_of request.Rename params = rename_of params
+ask_of request.CodeAction params = action_of params
+ask_of request.SemanticTokens params = Some ask.Tokens
 ask_of request.Unknown params = None
 
 -- the document and the question of a request

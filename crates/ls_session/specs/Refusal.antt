@@ -5,6 +5,8 @@ use Rattle.serde_json.specs.Written.{compact_text}
 use Rattle.ls_rpc.specs.declared.message.Id.{Id}
 use Rattle.ls_rpc.specs.Message.{parse_error, invalid_request}
 use Rattle.ls_rpc.specs.Reply.{error_json}
+use Rattle.ls_answers.specs.declared.answer.RenameFault.{RenameFault}
+use Rattle.ls_answers.specs.declared.answer.RenameFault.TheVariants as rename
 use Rattle.ls_session.specs.declared.refusal.Refusal.{Refusal}
 use Rattle.ls_session.specs.declared.refusal.Refusal.TheVariants as refusal
 
@@ -12,6 +14,7 @@ use Rattle.ls_session.specs.declared.refusal.Refusal.TheVariants as refusal
 abbrev pub minus : ℕ → ℤ
 minus n = negsuc (n - 1)
 
+-- a rename that isn't granted is a request that has failed (LSP 3.17, "Response Message": RequestFailed)
 abbrev pub code_of : Refusal → ℤ
 code_of refusal.ParseError = parse_error
 code_of refusal.InvalidRequest = invalid_request
@@ -19,6 +22,9 @@ code_of refusal.MethodNotFound = minus 32601
 code_of refusal.InvalidParams = minus 32602
 code_of refusal.DocumentNotOpen = minus 32602
 code_of refusal.NotInitialized = minus 32002
+code_of refusal.NotAName = minus 32803
+code_of refusal.NothingToRename = minus 32803
+code_of refusal.NameInUse = minus 32803
 
 abbrev pub text_of : Refusal → List ℕ
 text_of refusal.ParseError = codes "parse error"
@@ -27,10 +33,19 @@ text_of refusal.MethodNotFound = codes "method not found"
 text_of refusal.InvalidParams = codes "invalid params"
 text_of refusal.DocumentNotOpen = codes "document not open"
 text_of refusal.NotInitialized = codes "not initialized"
+text_of refusal.NotAName = codes "not a rule name"
+text_of refusal.NothingToRename = codes "nothing to rename"
+text_of refusal.NameInUse = codes "name in use"
 
 -- the refusal of a body that is no message, by its code
 abbrev pub refusal_of_code : ℤ → Refusal
 refusal_of_code code = if int_eq code parse_error then refusal.ParseError else refusal.InvalidRequest
+
+-- the refusal of a rename that isn't granted
+abbrev pub refusal_of_rename : RenameFault → Refusal
+refusal_of_rename rename.NotAName = refusal.NotAName
+refusal_of_rename rename.NothingToRename = refusal.NothingToRename
+refusal_of_rename rename.NameInUse = refusal.NameInUse
 
 -- the body of a reply with an error
 abbrev pub error_body : Option Id → Refusal → List ℕ

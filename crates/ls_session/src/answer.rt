@@ -8,10 +8,21 @@ use thiserror::Error;
 pub enum Out {
     /// A body as it stands.
     Said(List<u8>),
-    /// The job of the request with this id about the document with this uri, which has run.
-    Replied { id: Id, uri: Text, done: Done },
+    /// The job of the request with this id about the document with this uri, which has run; the client's version of its text, and
+    /// whether the client takes edits of a workspace as `documentChanges`.
+    Replied {
+        id: Id,
+        uri: Text,
+        label: i64,
+        links: bool,
+        done: Done,
+    },
     /// The job that found what is wrong in the document with this uri, which has run, and the client's version of its text.
-    Findings { uri: Text, label: i64, done: Done },
+    Findings {
+        uri: Text,
+        label: i64,
+        done: Done,
+    },
 }
 
 /// Why an event of the client was refused.

@@ -1,14 +1,17 @@
 ghost use Rattle.std.specs.Prelude.{◌≡◌, IfOk, Some, None, Ok, option_map, false};
 ghost use Rattle.serde_json.specs.View.{view};
 ghost use Rattle.serde_json.specs.Written.{has_float};
-ghost use Rattle.ls_session.specs.Bodies.{answer_json, body_of, findings_body, findings_json, hover_json, location_json, locations_json, plain_text_json, position_json, range_json, refusal_of, reply_body, symbol_json, symbols_json};
+ghost use Rattle.ls_session.specs.Bodies.{answer_json, body_of, findings_body, findings_json, found_in, hover_json, location_json, locations_json, plain_text_json, refusal_of, reply_body, symbol_json, symbols_json};
 
 use crate::answer::{DeskFault, Out};
 use crate::diagnostics::diagnostics_value;
+use crate::edits::{actions_value, edits_value, workspace_edit_value};
+use crate::positions::range_value;
 use crate::refusal::Refusal;
-use ls_answers::{Answer, HoverText, Symbol};
+use crate::tokens::tokens_value;
+use ls_answers::{Answer, Diagnostic, HoverText, Symbol};
 use ls_rpc::{Id, notice_text, result_text};
-use ls_text::{Position, Range};
+use ls_text::Range;
 use serde_json::{Map, Value, put};
 use std::alloc::{AllocError as Memory, Global};
 
@@ -24,7 +27,13 @@ pub fn body_of(alloc: Global, out: &Out) -> Result<Vec<u8>, Memory>
 {
     match out {
         Out::Said(body) => Vec::from_slice(alloc, body.as_slice()),
-        Out::Replied { id, uri, done } => reply_body(alloc, id, uri.as_str(), done.answer()?),
+        Out::Replied {
+            id,
+            uri,
+            label,
+            links,
+            done,
+        } => reply_body(alloc, id, uri.as_str(), *label, *links, done.answer()?),
         Out::Findings { uri, label, done } => {
             findings_body(alloc, uri.as_str(), *label, done.answer()?)
         }
@@ -32,14 +41,24 @@ pub fn body_of(alloc: Global, out: &Out) -> Result<Vec<u8>, Memory>
 }
 
 #[tactic(auto, using(crate::proofs::NoFloats::answer_has_no_float), unfolding(crate::specs::Bodies::reply_body))]
-fn reply_body(alloc: Global, id: &Id, uri: &str, answer: &Answer) -> Result<Vec<u8>, Memory>
-    ensures { IfOk result (λ body. body.items ≡ reply_body id.now uri.now answer.now) }
+fn reply_body(
+    alloc: Global,
+    id: &Id,
+    uri: &str,
+    label: i64,
+    links: bool,
+    answer: &Answer,
+) -> Result<Vec<u8>, Memory>
+    ensures { IfOk result (λ body. body.items ≡ reply_body id.now uri.now label links answer.now) }
 {
-    let value = answer_value(alloc, uri, answer)?;
+    if let Answer::Refused(fault) = answer {
+        return Refusal::of_rename(*fault).body(alloc, Some(id));
+    }
+    let value = answer_value(alloc, uri, label, links, answer)?;
     result_text(alloc, id, value)
 }
 
-#[tactic(auto, using(crate::proofs::NoFloats::findings_have_no_float), unfolding(crate::specs::Bodies::findings_body))]
+#[tactic(auto, unfolding(crate::specs::Bodies::findings_body))]
 fn findings_body(alloc: Global, uri: &str, label: i64, answer: &Answer) -> Result<Vec<u8>, Memory>
     ensures { IfOk result (λ body. body.items ≡ findings_body uri.now label answer.now) }
 {
@@ -65,22 +84,46 @@ pub fn refusal_body(alloc: Global, id: &Id, fault: DeskFault) -> Result<Option<V
     }
 }
 
-fn answer_value(alloc: Global, uri: &str, answer: &Answer) -> Result<Value, Memory>
-    ensures { IfOk result (λ value. view value ≡ answer_json uri.now answer.now) }
+fn answer_value(
+    alloc: Global,
+    uri: &str,
+    label: i64,
+    links: bool,
+    answer: &Answer,
+) -> Result<Value, Memory>
+    ensures { IfOk result (λ value. view value ≡ answer_json uri.now label links answer.now) }
 {
     match answer {
         Answer::Hover(Some(hover)) => hover_value(alloc, hover),
         Answer::Hover(None) => Ok(Value::Null),
         Answer::Places(ranges) => locations_value(alloc, uri, ranges.as_slice()),
         Answer::Symbols(symbols) => symbols_value(alloc, symbols.as_slice()),
+        Answer::Edits(ranges, new) => {
+            let edits = edits_value(alloc, new.as_str(), ranges.as_slice())?;
+            workspace_edit_value(alloc, uri, label, links, edits)
+        }
+        Answer::Refused(_) => Ok(Value::Null),
+        Answer::Insert(Some(insertion)) => actions_value(alloc, uri, label, links, insertion),
+        Answer::Insert(None) => Ok(Value::Array(Vec::new(alloc))),
+        Answer::Numbers(numbers) => tokens_value(alloc, numbers.as_slice()),
         Answer::Findings(diagnostics) => diagnostics_value(alloc, diagnostics.as_slice()),
+    }
+}
+
+/// The findings that an answer tells.
+fn found_in(answer: &Answer) -> &[Diagnostic]
+    ensures { result.now ≡ found_in answer.now }
+{
+    match answer {
+        Answer::Findings(diagnostics) => diagnostics.as_slice(),
+        _ => &[],
     }
 }
 
 fn findings_value(alloc: Global, uri: &str, label: i64, answer: &Answer) -> Result<Value, Memory>
     ensures { IfOk result (λ value. view value ≡ findings_json uri.now label answer.now) }
 {
-    let found = answer_value(alloc, uri, answer)?;
+    let found = diagnostics_value(alloc, found_in(answer))?;
     let uri = Value::try_from_str(alloc, uri)?;
     let mut members = Map::new(alloc);
     put(&mut members, alloc, "diagnostics", found)?;
@@ -157,38 +200,5 @@ fn symbol_value(alloc: Global, symbol: &Symbol) -> Result<Value, Memory>
     put(&mut members, alloc, "name", name)?;
     put(&mut members, alloc, "range", range)?;
     put(&mut members, alloc, "selectionRange", name_range)?;
-    Ok(Value::Object(members))
-}
-
-pub(crate) fn range_value(alloc: Global, range: Range) -> Result<Value, Memory>
-    ensures { IfOk result (λ value. view value ≡ range_json range) }
-{
-    let mut members = Map::new(alloc);
-    put(
-        &mut members,
-        alloc,
-        "end",
-        position_value(alloc, range.end)?,
-    )?;
-    put(
-        &mut members,
-        alloc,
-        "start",
-        position_value(alloc, range.start)?,
-    )?;
-    Ok(Value::Object(members))
-}
-
-fn position_value(alloc: Global, position: Position) -> Result<Value, Memory>
-    ensures { IfOk result (λ value. view value ≡ position_json position) }
-{
-    let mut members = Map::new(alloc);
-    put(
-        &mut members,
-        alloc,
-        "character",
-        Value::from(position.character),
-    )?;
-    put(&mut members, alloc, "line", Value::from(position.line))?;
     Ok(Value::Object(members))
 }

@@ -3,7 +3,7 @@ ghost use Rattle.std.specs.Prelude.{◌≡◌, IfOk};
 ghost use Rattle.serde_json.specs.View.{view, members_view};
 ghost use Rattle.ls_session.specs.Bodies.{described, diagnostic_json, diagnostics_json, severity_number};
 
-use crate::bodies::range_value;
+use crate::positions::range_value;
 use abnf_lint::Severity;
 use ls_answers::Diagnostic;
 use serde_json::{Map, Value, put};

@@ -1,7 +1,8 @@
 ghost use Rattle.std.specs.Prelude.{◌≡◌, IfOk};
-ghost use Rattle.serde_json.specs.View.{view};
-ghost use Rattle.ls_session.specs.Initialize.{initialize_json, capabilities_json, sync_json};
+ghost use Rattle.serde_json.specs.View.{view, members_view};
+ghost use Rattle.ls_session.specs.Initialize.{initialize_json, capabilities_json, semantic_tokens_json, served_json, sync_json};
 
+use crate::tokens::legend_value;
 use serde_json::{Map, Value, put};
 use std::alloc::{AllocError as Memory, Global};
 
@@ -27,8 +28,21 @@ fn capabilities_value(alloc: Global) -> Result<Value, Memory>
     ensures { IfOk result (λ value. view value ≡ capabilities_json) }
 {
     let encoding = Value::try_from_str(alloc, "utf-16")?;
+    let tokens = semantic_tokens_value(alloc)?;
     let sync = sync_value(alloc)?;
+    let mut members = served(alloc)?;
+    put(&mut members, alloc, "positionEncoding", encoding)?;
+    put(&mut members, alloc, "semanticTokensProvider", tokens)?;
+    put(&mut members, alloc, "textDocumentSync", sync)?;
+    Ok(Value::Object(members))
+}
+
+/// The methods that are served without further options.
+fn served(alloc: Global) -> Result<Map<String, Value>, Memory>
+    ensures { IfOk result (λ members. members_view members.entries ≡ served_json) }
+{
     let mut members = Map::new(alloc);
+    put(&mut members, alloc, "codeActionProvider", Value::from(true))?;
     put(&mut members, alloc, "definitionProvider", Value::from(true))?;
     put(
         &mut members,
@@ -37,8 +51,18 @@ fn capabilities_value(alloc: Global) -> Result<Value, Memory>
         Value::from(true),
     )?;
     put(&mut members, alloc, "hoverProvider", Value::from(true))?;
-    put(&mut members, alloc, "positionEncoding", encoding)?;
-    put(&mut members, alloc, "textDocumentSync", sync)?;
+    put(&mut members, alloc, "referencesProvider", Value::from(true))?;
+    put(&mut members, alloc, "renameProvider", Value::from(true))?;
+    Ok(members)
+}
+
+fn semantic_tokens_value(alloc: Global) -> Result<Value, Memory>
+    ensures { IfOk result (λ value. view value ≡ semantic_tokens_json) }
+{
+    let legend = legend_value(alloc)?;
+    let mut members = Map::new(alloc);
+    put(&mut members, alloc, "full", Value::from(true))?;
+    put(&mut members, alloc, "legend", legend)?;
     Ok(Value::Object(members))
 }
 

@@ -8,7 +8,11 @@ pub enum RequestKind {
     Shutdown,
     Hover,
     Definition,
+    References,
     DocumentSymbol,
+    Rename,
+    CodeAction,
+    SemanticTokens,
     Unknown,
 }
 
@@ -33,8 +37,16 @@ pub(crate) fn request_kind(method: &str) -> RequestKind
         RequestKind::Hover
     } else if method == "textDocument/definition" {
         RequestKind::Definition
+    } else if method == "textDocument/references" {
+        RequestKind::References
     } else if method == "textDocument/documentSymbol" {
         RequestKind::DocumentSymbol
+    } else if method == "textDocument/rename" {
+        RequestKind::Rename
+    } else if method == "textDocument/codeAction" {
+        RequestKind::CodeAction
+    } else if method == "textDocument/semanticTokens/full" {
+        RequestKind::SemanticTokens
     } else {
         RequestKind::Unknown
     }

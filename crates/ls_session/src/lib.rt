@@ -8,12 +8,15 @@
 mod answer;
 mod bodies;
 mod diagnostics;
+mod edits;
 mod event;
 mod initialize;
 mod kind;
 mod params;
+mod positions;
 mod refusal;
 mod session;
+mod tokens;
 
 pub use answer::{DeskFault, Out};
 pub use bodies::{body_of, refusal_body};

@@ -2,7 +2,7 @@
 ghost use Rattle.std.specs.Prelude.{◌≡◌, IfOk, option_map, unwrap_or};
 ghost use Rattle.serde_json.specs.View.{view, items_view};
 ghost use Rattle.serde_json.specs.Data.{null};
-ghost use Rattle.ls_session.specs.Params.{document_member, uri_of, label_of, count_of, position_of, range_of, range_or_none, edit_of, edits_of, changes_of, did_open_of, did_change_of, did_close_of, event_of, ask_of, question_of, named_links, links_of};
+ghost use Rattle.ls_session.specs.Params.{document_member, uri_of, label_of, count_of, position_of, range_of, range_or_none, edit_of, edits_of, changes_of, did_open_of, did_change_of, did_close_of, event_of, position_in, named_declarations, declarations_of, references_of, rename_of, action_of, ask_of, question_of, named_links, links_of};
 
 use crate::event::ClientEvent;
 use crate::kind::{NoticeKind, RequestKind};
@@ -159,15 +159,63 @@ pub(crate) fn event(
     }
 }
 
+fn position_in(params: &Value) -> Option<Position>
+    ensures { result ≡ position_in (view params.now) }
+{
+    position(params.get("position")?)
+}
+
+/// Whether the places that define a name are asked for.
+fn declarations(params: &Value) -> bool
+    ensures { result ≡ declarations_of (view params.now) }
+{
+    named_declarations(params).unwrap_or(true)
+}
+
+fn named_declarations(params: &Value) -> Option<bool>
+    ensures { result ≡ named_declarations (view params.now) }
+{
+    params.get("context")?.get("includeDeclaration")?.as_bool()
+}
+
+fn references(params: &Value) -> Option<Ask>
+    ensures { result ≡ references_of (view params.now) }
+{
+    let position = position_in(params)?;
+    Some(Ask::References(position, declarations(params)))
+}
+
+fn rename(alloc: Global, params: &Value) -> Result<Option<Ask>, Memory>
+    ensures { IfOk result (λ ask. ask ≡ rename_of (view params.now)) }
+{
+    let Some(position) = position_in(params) else {
+        return Ok(None);
+    };
+    let Some(name) = params.get("newName").and_then(Value::as_str) else {
+        return Ok(None);
+    };
+    Ok(Some(Ask::Rename(position, Text::from_str(alloc, name)?)))
+}
+
+fn action(params: &Value) -> Option<Ask>
+    ensures { result ≡ action_of (view params.now) }
+{
+    Some(Ask::Action(range(params.get("range")?)?))
+}
+
 /// The question of a request.
-fn ask(kind: RequestKind, params: &Value) -> Option<Ask>
-    ensures { result ≡ ask_of kind (view params.now) }
+fn ask(alloc: Global, kind: RequestKind, params: &Value) -> Result<Option<Ask>, Memory>
+    ensures { IfOk result (λ ask. ask ≡ ask_of kind (view params.now)) }
 {
     match kind {
-        RequestKind::Hover => Some(Ask::Hover(position(params.get("position")?)?)),
-        RequestKind::Definition => Some(Ask::Definition(position(params.get("position")?)?)),
-        RequestKind::DocumentSymbol => Some(Ask::Symbols),
-        RequestKind::Initialize | RequestKind::Shutdown | RequestKind::Unknown => None,
+        RequestKind::Hover => Ok(position_in(params).map(Ask::Hover)),
+        RequestKind::Definition => Ok(position_in(params).map(Ask::Definition)),
+        RequestKind::References => Ok(references(params)),
+        RequestKind::DocumentSymbol => Ok(Some(Ask::Symbols)),
+        RequestKind::Rename => rename(alloc, params),
+        RequestKind::CodeAction => Ok(action(params)),
+        RequestKind::SemanticTokens => Ok(Some(Ask::Tokens)),
+        RequestKind::Initialize | RequestKind::Shutdown | RequestKind::Unknown => Ok(None),
     }
 }
 
@@ -182,7 +230,7 @@ pub(crate) fn question(
     let Some(uri) = uri(params) else {
         return Ok(None);
     };
-    match ask(kind, params) {
+    match ask(alloc, kind, params)? {
         Some(ask) => Ok(Some((Text::from_str(alloc, uri)?, ask))),
         None => Ok(None),
     }

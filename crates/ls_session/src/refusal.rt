@@ -1,7 +1,8 @@
 ghost use Rattle.std.specs.Prelude.{◌≡◌, IfOk};
 ghost use Rattle.std.specs.Option.{option_copied};
-ghost use Rattle.ls_session.specs.Refusal.{code_of, text_of, error_body, refusal_of_code};
+ghost use Rattle.ls_session.specs.Refusal.{code_of, text_of, error_body, refusal_of_code, refusal_of_rename};
 
+use ls_answers::RenameFault;
 use ls_rpc::{INVALID_REQUEST, Id, PARSE_ERROR, error_text};
 use std::alloc::{AllocError as Memory, Global};
 
@@ -21,6 +22,12 @@ pub enum Refusal {
     DocumentNotOpen,
     /// The request came before `initialize`.
     NotInitialized,
+    /// A rename to a text that isn't the name of a rule.
+    NotAName,
+    /// A rename where no name stands that the document defines.
+    NothingToRename,
+    /// A rename to a name that stands for something else.
+    NameInUse,
 }
 
 impl Refusal {
@@ -34,6 +41,7 @@ impl Refusal {
             Refusal::MethodNotFound => -32601,
             Refusal::InvalidParams | Refusal::DocumentNotOpen => -32602,
             Refusal::NotInitialized => -32002,
+            Refusal::NotAName | Refusal::NothingToRename | Refusal::NameInUse => -32803,
         }
     }
 
@@ -48,6 +56,9 @@ impl Refusal {
             Refusal::InvalidParams => "invalid params",
             Refusal::DocumentNotOpen => "document not open",
             Refusal::NotInitialized => "not initialized",
+            Refusal::NotAName => "not a rule name",
+            Refusal::NothingToRename => "nothing to rename",
+            Refusal::NameInUse => "name in use",
         }
     }
 
@@ -59,6 +70,17 @@ impl Refusal {
             Refusal::ParseError
         } else {
             Refusal::InvalidRequest
+        }
+    }
+
+    /// The refusal of a rename that isn't granted.
+    pub(crate) fn of_rename(fault: RenameFault) -> Refusal
+        ensures { result ≡ refusal_of_rename fault }
+    {
+        match fault {
+            RenameFault::NotAName => Refusal::NotAName,
+            RenameFault::NothingToRename => Refusal::NothingToRename,
+            RenameFault::NameInUse => Refusal::NameInUse,
         }
     }
 
