@@ -114,8 +114,11 @@ class Server:
             if line.startswith(b"Content-Length: "):
                 left = int(line[16:])
             elif line == b"\r\n":
-                if b'"id":9,' in self.process.stdout.read(left):
+                body = self.process.stdout.read(left)
+                if b'"id":9,' in body:
                     return time.perf_counter() - start
+                if body.startswith(b'{"error":'):
+                    sys.exit(f"refused: {body.decode()}")
 
     def memory(self):
         """The most kibibytes of memory that the program has had."""
@@ -147,22 +150,45 @@ def edited(text, name, line, character, count):
     print(f"{f'{count} edits {name}':<46} {seconds * 1e3:9.1f} ms   {seconds * 1e3 / count:9.2f} ms an edit   {more} KiB more memory in all")
 
 
-def asked(name, text):
-    """Opens a grammar, asks for its outline, for the definition of the last name in its first line and for what is shown of it,
-    and types one character behind it. Opening and typing end with the findings."""
-    at = {"line": 0, "character": len(text.split("\n", 1)[0])}
-    definition, hover = (request(number, f"textDocument/{method}", textDocument={"uri": "file:///g"}, position=at)
-                         for number, method in ((3, "definition"), (4, "hover")))
+def about(number, method, **params):
+    """A request about the document."""
+    return request(number, f"textDocument/{method}", textDocument={"uri": "file:///g"}, **params)
+
+
+def timed(text, *steps):
+    """Opens a text and sends these steps one after the other: the least milliseconds of each, those of the opening first."""
     times = []
     for _ in range(RUNS):
         server = Server()
         server.until_answered(INITIALIZE)
-        steps = (opened(text), SYMBOLS, definition, hover, typed(**at))
-        times.append([server.until_answered(given) for given in steps])
+        times.append([server.until_answered(given) for given in (opened(text), *steps)])
         server.end()
-    opening, outline, jump, shown, key = (min(column) * 1e3 for column in zip(*times))
+    return [min(column) * 1e3 for column in zip(*times)]
+
+
+def asked(name, text):
+    """Opens a grammar, asks for its outline, for the definition of the last name in its first line and for what is shown of it,
+    and types one character behind it. Opening and typing end with the findings."""
+    at = {"line": 0, "character": len(text.split("\n", 1)[0])}
+    definition, hover = (about(number, method, position=at) for number, method in ((3, "definition"), (4, "hover")))
+    opening, outline, jump, shown, key = timed(text, SYMBOLS, definition, hover, typed(**at))
     print(f"{name:<46} {opening:9.2f} ms   outline {outline:8.2f} ms   definition {jump:8.2f} ms"
           f"   hover {shown:8.2f} ms   keystroke {key:8.2f} ms   {len(text):>10} bytes")
+
+
+def written_anew(name, text):
+    """Opens a grammar, asks for all places of the last name in its first line, for the edits that rename it, for the code action there, and
+    for the tokens of the whole text."""
+    at = {"line": 0, "character": len(text.split("\n", 1)[0])}
+    _, places, edits, action, tokens = timed(
+        text,
+        about(3, "references", position=at, context={"includeDeclaration": True}),
+        about(4, "rename", position=at, newName="another-name"),
+        about(5, "codeAction", range={"start": at, "end": at}, context={"diagnostics": []}),
+        about(6, "semanticTokens/full"),
+    )
+    print(f"{name:<46} references {places:8.2f} ms   rename {edits:8.2f} ms   code action {action:8.2f} ms"
+          f"   semantic tokens {tokens:8.2f} ms   {len(text):>10} bytes")
 
 
 def grammar(count, alternatives=1):
@@ -173,6 +199,11 @@ def grammar(count, alternatives=1):
     return "".join(rule(number) for number in range(count))
 
 
+def naming_one(count):
+    """So many rules, all of which name the last one."""
+    return "".join(f"rule-{number} = %x20-7E / rule-{count - 1}\n" for number in range(count))
+
+
 def main():
     first_reply()
     asked("open of 100 rules", grammar(100))
@@ -180,6 +211,10 @@ def main():
     asked("open of 10,000 rules", grammar(10_000))
     asked("open of 100,000 rules", grammar(100_000))
     asked("open of 4 MB, 4,000 rules with 85 names each", grammar(4_000, 85))
+    written_anew("a name with 2 places in 1,000 rules", grammar(1_000))
+    written_anew("a name with 2 places in 100,000 rules", grammar(100_000))
+    written_anew("a name with a place in each of 1,000 rules", naming_one(1_000))
+    written_anew("a name with a place in each of 100,000 rules", naming_one(100_000))
     big = b'{"jsonrpc":"2.0","method":"$/nothing","params":"' + b"x" * (16777216 - 60) + b'"}'
     seconds = row("one frame of 16 MB, an unknown notice", INITIALIZE + frame(big) + END)
     print(f"{'':<46} {seconds / copied(big):9.1f} x one copy of its bytes in memory")

@@ -1,4 +1,5 @@
-" Vim with the package ALE: goes into vimrc. gd goes from a name to its definition.
+" Vim with the package ALE: goes into vimrc. gd goes from a name to its definition, :ALEFindReferences lists its places, :ALERename
+" renames it.
 packadd! ale
 autocmd BufRead,BufNewFile *.abnf setfiletype abnf
 autocmd FileType abnf setlocal commentstring=;%s comments=:;

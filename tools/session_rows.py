@@ -6,11 +6,21 @@ import json
 
 INITIALIZE = '{"jsonrpc":"2.0","id":1,"method":"initialize","params":{"capabilities":{}}}'
 INITIALIZED = '{"jsonrpc":"2.0","method":"initialized","params":{}}'
-# 238 bytes
+# 480 bytes
 CAPABILITIES = (
-    '{"id":1,"jsonrpc":"2.0","result":{"capabilities":{"definitionProvider":true,"documentSymbolProvider":true,'
-    '"hoverProvider":true,"positionEncoding":"utf-16","textDocumentSync":{"change":2,"openClose":true}},"serverInfo":{"name":"abnf_ls"}}}'
+    '{"id":1,"jsonrpc":"2.0","result":{"capabilities":{"codeActionProvider":true,"definitionProvider":true,"documentSymbolProvider":true,'
+    '"hoverProvider":true,"positionEncoding":"utf-16","referencesProvider":true,"renameProvider":true,"semanticTokensProvider":{"full":true,'
+    '"legend":{"tokenModifiers":["definition","defaultLibrary"],"tokenTypes":["type","string","number","operator","comment","macro"]}},'
+    '"textDocumentSync":{"change":2,"openClose":true}},"serverInfo":{"name":"abnf_ls"}}}'
 )
+
+
+def takes_links(said):
+    """An initialize whose client says this, which is JSON, of whether it takes edits as documentChanges."""
+    edits = f'{{"documentChanges":{said}}}'
+    return f'{{"id":1,"method":"initialize","params":{{"capabilities":{{"workspace":{{"workspaceEdit":{edits}}}}}}}}}'
+
+
 SHUTDOWN = '{"jsonrpc":"2.0","id":3,"method":"shutdown"}'
 DOWN = '{"id":3,"jsonrpc":"2.0","result":null}'
 EXIT = '{"jsonrpc":"2.0","method":"exit"}'
@@ -57,6 +67,10 @@ def span(line, start, end):
     return f'{{"end":{{"character":{end},"line":{line}}},"start":{{"character":{start},"line":{line}}}}}'
 
 
+def answered(result):
+    return f'{{"id":2,"jsonrpc":"2.0","result":{result}}}'
+
+
 def published(*findings, label=1, uri="file:///g"):
     """What is published of a version: for each finding its line, its two ends in it, severity, code and message."""
     diagnostics = ",".join(
@@ -69,7 +83,7 @@ def published(*findings, label=1, uri="file:///g"):
 
 OPEN = opened('a = "x"')
 CLEAN = published()  # 118 bytes
-assert (len(CAPABILITIES), len(OUTLINE), len(NOT_OPEN), len(INVALID_REQUEST), len(CLEAN)) == (238, 215, 78, 79, 118)
+assert (len(CAPABILITIES), len(OUTLINE), len(NOT_OPEN), len(INVALID_REQUEST), len(CLEAN)) == (480, 215, 78, 79, 118)
 
 LIVES = (
     ("no exit", [INITIALIZE, INITIALIZED, OPEN, SYMBOLS], [CAPABILITIES, CLEAN, OUTLINE], 1),
@@ -141,22 +155,38 @@ EDITS = (
 )
 
 
-def definition(text, beside, answer):
-    params = f'{{"textDocument":{{"uri":"file:///g"}}{beside}}}'
-    request = f'{{"id":2,"method":"textDocument/definition","params":{params}}}'
-    return f"a definition{beside} in {text!r}", [INITIALIZE, opened(text), request], [CAPABILITIES, answer], 1
+def asked(method, beside, uri="file:///g"):
+    """A request of this method about a document, with these parameters beside it, which are JSON."""
+    return f'{{"id":2,"method":"textDocument/{method}","params":{{"textDocument":{{"uri":"{uri}"}}{beside}}}}}'
 
 
-def defined(text, character, *ranges):
-    """The definition at a character of the first line stands at these places: a line, its first character and the end."""
-    places = (
-        f'{{"range":{{"end":{{"character":{end},"line":{line}}},"start":{{"character":{start},"line":{line}}}}},"uri":"file:///g"}}'
-        for line, start, end in ranges
-    )
-    answer = f'{{"id":2,"jsonrpc":"2.0","result":[{",".join(places)}]}}'
-    return definition(text, f',"position":{{"character":{character},"line":0}}', answer)
+def replied(method, text, beside, answer, initialize=INITIALIZE):
+    """A request about a text that is opened, and its answer."""
+    return f"{method}{beside} in {text[:60]!r}", [initialize, opened(text), asked(method, beside)], [CAPABILITIES, answer], 1
 
 
+def at(line, character):
+    return f',"position":{{"character":{character},"line":{line}}}'
+
+
+def places(*spans, uri="file:///g"):
+    """Places: the line of each, its first character and the end."""
+    listed = ",".join(f'{{"range":{span(*it)},"uri":"{uri}"}}' for it in spans)
+    return f"[{listed}]"
+
+
+def defined(text, character, *spans):
+    """The definition at a character of the first line stands at these places."""
+    return replied("definition", text, at(0, character), answered(places(*spans)))
+
+
+NO_POSITIONS = (
+    "",
+    ',"position":null',
+    ',"position":{"line":0}',
+    ',"position":{"character":-1,"line":0}',
+    ',"position":{"character":"0","line":0}',
+)
 SHORT = 'a=b\nb=""'
 
 DEFINITIONS = (
@@ -177,18 +207,8 @@ DEFINITIONS = (
     defined(SHORT, 9, (1, 0, 1)),
     # characters outside the first plane are two units of UTF-16 each
     defined('a="\U0001f004\U0001f004" a', 9, (0, 0, 1)),
-    *(
-        definition("a = a", beside, INVALID_PARAMS)
-        for beside in (
-            "",
-            ',"position":null',
-            ',"position":{"line":0}',
-            ',"position":{"character":-1,"line":0}',
-            ',"position":{"character":"0","line":0}',
-        )
-    ),
+    *(replied("definition", "a = a", beside, INVALID_PARAMS) for beside in NO_POSITIONS),
 )
-
 
 
 def found(text, *findings):
@@ -248,11 +268,12 @@ FINDINGS = (
 )
 
 
-def hovered(text, line, character, shown, answer):
-    request = f'{{"id":2,"method":"textDocument/hover","params":{{"textDocument":{{"uri":"file:///g"}},"position":{{"line":{line},"character":{character}}}}}}}'
-    result = "null" if shown is None else f'{{"contents":{{"kind":"plaintext","value":{json.dumps(shown)}}},"range":{span(*answer)}}}'
-    wanted = f'{{"id":2,"jsonrpc":"2.0","result":{result}}}'
-    return f"hover at {line}:{character} of {text[:60]!r}", [INITIALIZE, opened(text), request], [CAPABILITIES, wanted], 1
+def shown_at(shown, place):
+    return answered(f'{{"contents":{{"kind":"plaintext","value":{json.dumps(shown)}}},"range":{span(*place)}}}')
+
+
+def hovered(text, line, character, shown, place):
+    return replied("hover", text, at(line, character), answered("null") if shown is None else shown_at(shown, place))
 
 
 def length(number, example):
@@ -285,9 +306,346 @@ HOVERS = (
 # a body of 180 bytes
 assert len(HOVERS[0][2][1]) == 180, len(HOVERS[0][2][1])
 
+LIST = 'item = "i"\nlist = 1*Item ; item'
+
+
+def context(said):
+    """Whether the places that define a name are wanted; this is JSON."""
+    return f',"context":{{"includeDeclaration":{said}}}'
+
+
+WITH, WITHOUT = context("true"), context("false")
+
+
+def referred(text, line, character, context, *spans):
+    return replied("references", text, at(line, character) + context, answered(places(*spans)))
+
+
+# A second definition, which doesn't count, and faulty blocks
+FAULTY = 'a = "x"\nA = (a\nb = ? a'
+# What follows a bad token or a number at once is no place
+TOUCHED = 'g = "x"\na = ?g %x41g g'
+
+REFERENCES = (
+    referred(LIST, 0, 0, WITHOUT, (1, 9, 13)),
+    referred(LIST, 0, 0, WITH, (0, 0, 4), (1, 9, 13)),
+    referred(LIST, 0, 4, WITHOUT, (1, 9, 13)),
+    # false alone leaves the defining places out
+    *(
+        referred(LIST, 1, 13, beside, (0, 0, 4), (1, 9, 13))
+        for beside in ("", ',"context":null', ',"context":{}', context("null"), context('"false"'), context("0"))
+    ),
+    # in a comment, in a string and in no text there is no name
+    referred(LIST, 1, 16, WITH),
+    referred(LIST, 0, 8, WITH),
+    referred("", 0, 0, WITH),
+    # core rules and what nothing defines have their uses
+    referred("a = DIGIT digit", 0, 4, WITH, (0, 4, 9), (0, 10, 15)),
+    referred("a = nope\nb = NOPE", 0, 8, WITHOUT, (0, 4, 8), (1, 4, 8)),
+    referred(FAULTY, 0, 0, WITH, (0, 0, 1), (1, 0, 1), (1, 5, 6), (2, 6, 7)),
+    referred(FAULTY, 2, 6, WITHOUT, (1, 5, 6), (2, 6, 7)),
+    referred(TOUCHED, 0, 0, WITH, (0, 0, 1), (1, 13, 14)),
+    referred(TOUCHED, 1, 5, WITH),
+    referred(TOUCHED, 1, 11, WITH),
+    referred('a =/ "x"\na = a', 1, 4, WITH, (0, 0, 1), (1, 0, 1), (1, 4, 5)),
+    referred('a =/ "x"\na = a', 1, 4, WITHOUT, (1, 4, 5)),
+    # characters outside the first plane are two units of UTF-16 each
+    referred('b = "x"\na = <\U0001f600\U0001f600> b', 0, 0, WITHOUT, (1, 11, 12)),
+    *(replied("references", "a = a", beside + WITH, INVALID_PARAMS) for beside in NO_POSITIONS),
+)
+
+
+def edits(new, *spans):
+    """The text that each of these places gets."""
+    listed = ",".join(f'{{"newText":{json.dumps(new)},"range":{span(*it)}}}' for it in spans)
+    return f"[{listed}]"
+
+
+def workspace_edit(made, uri="file:///g"):
+    """Edits of a document, for a client that takes no links."""
+    return f'{{"changes":{{"{uri}":{made}}}}}'
+
+
+def linked_edit(made, label=1, uri="file:///g"):
+    """Edits of a version of a document, for a client that takes links."""
+    return f'{{"documentChanges":[{{"edits":{made},"textDocument":{{"uri":"{uri}","version":{label}}}}}]}}'
+
+
+def named(new):
+    """A new name, which is JSON."""
+    return f',"newName":{new}'
+
+
+def renamed(text, line, character, new, *spans):
+    """A rename that is granted: each of these places gets the new name."""
+    return replied("rename", text, at(line, character) + named(json.dumps(new)), answered(workspace_edit(edits(new, *spans))))
+
+
+def kept(text, line, character, new, why):
+    """A rename that is refused."""
+    return replied("rename", text, at(line, character) + named(json.dumps(new)), refused(-32803, why))
+
+
+NOT_A_NAME, NOTHING, IN_USE = "not a rule name", "nothing to rename", "name in use"
+ITEM = at(0, 0) + named('"ITEM2"')
+ITEM_EDITS = edits("ITEM2", (0, 0, 4), (1, 9, 13))
+RENAMED = (
+    '{"id":2,"jsonrpc":"2.0","result":{"changes":{"file:///g":['
+    '{"newText":"ITEM2","range":{"end":{"character":4,"line":0},"start":{"character":0,"line":0}}},'
+    '{"newText":"ITEM2","range":{"end":{"character":13,"line":1},"start":{"character":9,"line":1}}}]}}}'
+)
+LINKED = (
+    '{"id":2,"jsonrpc":"2.0","result":{"documentChanges":[{"edits":['
+    '{"newText":"ITEM2","range":{"end":{"character":4,"line":0},"start":{"character":0,"line":0}}},'
+    '{"newText":"ITEM2","range":{"end":{"character":13,"line":1},"start":{"character":9,"line":1}}}],'
+    '"textDocument":{"uri":"file:///g","version":1}}]}}'
+)
+assert (RENAMED, LINKED) == (answered(workspace_edit(ITEM_EDITS)), answered(linked_edit(ITEM_EDITS)))
+LINKS = takes_links("true")
+DIGITS = 'DIGIT = "0"\nn = 2DIGIT HEXDIG'
+# A uri as a client may write it, and as JSON writes it with the shortest escapes
+ODD, SHORTEST = r"file:\/\/\/\u0009\u0022\\\u00e9", r"file:///\t\"\\é"
+
+
+def odd(initialize, method, beside, result):
+    """A request about a document whose uri has characters that JSON escapes."""
+    said = [initialize, opened(LIST, ODD), asked(method, beside, r"file:///\t\"\\\u00E9")]
+    return f"{method} of a uri with escapes, {result[:30]}", said, [CAPABILITIES, answered(result)], 1
+
+
+RENAMES = (
+    replied("rename", LIST, ITEM, RENAMED),
+    replied("rename", LIST, ITEM, LINKED, initialize=LINKS),
+    replied("rename", LIST, at(0, 4) + named('"ITEM2"'), RENAMED),
+    # true alone says that links are taken
+    *(replied("rename", LIST, ITEM, RENAMED, initialize=takes_links(said)) for said in ("false", "null", '"true"', "1")),
+    (
+        "a rename in the version that the client named",
+        [LINKS, opened(LIST), changed(f"[{edit((0, 0), (0, 0), ';' + chr(10))}]"), asked("rename", at(1, 0) + named('"b"'))],
+        [CAPABILITIES, answered(linked_edit(edits("b", (1, 0, 4), (2, 9, 13)), label=2))],
+        2,
+    ),
+    odd(INITIALIZE, "rename", ITEM, workspace_edit(ITEM_EDITS, SHORTEST)),
+    odd(LINKS, "rename", ITEM, linked_edit(ITEM_EDITS, uri=SHORTEST)),
+    odd(INITIALIZE, "references", at(0, 0) + WITH, places((0, 0, 4), (1, 9, 13), uri=SHORTEST)),
+    # the same name, and the same in another case
+    renamed(LIST, 0, 0, "item", (0, 0, 4), (1, 9, 13)),
+    renamed(LIST, 1, 9, "ITEM", (0, 0, 4), (1, 9, 13)),
+    renamed('digit = "0"', 0, 0, "DIGIT", (0, 0, 5)),
+    renamed(LIST, 1, 0, "a-2-", (1, 0, 4)),
+    *(kept(LIST, 0, 0, new, NOT_A_NAME) for new in ("2x", "", "-a", "a b", "a_b", "a\u00e9", "<a>", "a\n")),
+    *(kept(LIST, 0, 0, new, IN_USE) for new in ("digit", "LIST", "Crlf", "list")),
+    *(kept(LIST, line, character, "a", NOTHING) for line, character in ((1, 16), (0, 5), (0, 8))),
+    # a core rule, and a name that nothing defines
+    kept("a = DIGIT", 0, 4, "b", NOTHING),
+    kept("a = nope", 0, 4, "b", NOTHING),
+    # what is tested first is told
+    kept(LIST, 1, 16, "2x", NOT_A_NAME),
+    kept(LIST, 1, 16, "LIST", NOTHING),
+    # a name is in use where something uses it, in a faulty block too, but not in a comment or as part of something misspelled
+    kept("a = nope", 0, 0, "NOPE", IN_USE),
+    kept('a = "x"\nb = (c', 0, 0, "c", IN_USE),
+    kept('a = "x"\nb = " c', 0, 0, "C", IN_USE),
+    renamed('a = "x"\nb = "c', 0, 0, "c", (0, 0, 1)),
+    renamed('a = "x" ; c', 0, 0, "c", (0, 0, 1)),
+    renamed(FAULTY, 2, 6, "c", (0, 0, 1), (1, 0, 1), (1, 5, 6), (2, 6, 7)),
+    renamed('a = %item\nitem = "i"', 1, 0, "x41", (1, 0, 4)),
+    renamed(DIGITS, 0, 0, "d0", (0, 0, 5), (1, 5, 10)),
+    # its edits, from the last to the first, leave what is shown as it was
+    (
+        "a rename that the client makes, and the same hover before and after it",
+        [
+            INITIALIZE,
+            opened(DIGITS),
+            asked("hover", at(1, 0)),
+            asked("rename", at(1, 5) + named('"d0"')),
+            changed(f"[{edit((1, 5), (1, 10), 'd0')},{edit((0, 0), (0, 5), 'd0')}]"),
+            asked("hover", at(1, 0)),
+            asked("references", at(0, 0) + WITH),
+        ],
+        [
+            CAPABILITIES,
+            shown_at(length(3, "00A"), (1, 0, 1)),
+            answered(workspace_edit(edits("d0", (0, 0, 5), (1, 5, 10)))),
+            shown_at(length(3, "00A"), (1, 0, 1)),
+            answered(places((0, 0, 2), (1, 5, 7))),
+        ],
+        2,
+    ),
+    *(replied("rename", "a = a", beside + named('"b"'), INVALID_PARAMS) for beside in NO_POSITIONS),
+    *(replied("rename", "a = a", at(0, 0) + beside, INVALID_PARAMS) for beside in ("", named("null"), named("5"), named('["b"]'))),
+)
+
+
+def ranged(start, end):
+    ends = [f'{{"line":{line},"character":{character}}}' for line, character in (start, end)]
+    return f',"range":{{"start":{ends[0]},"end":{ends[1]}}}'
+
+
+def action(edit):
+    return f'[{{"edit":{edit},"kind":"refactor","title":"Insert shortest example"}}]'
+
+
+def inserted(line, example):
+    """The edits that insert an example before a line."""
+    return edits(f"; example {example}\n", (line, 0, 0))
+
+
+def offered(text, start, end, line, example):
+    """At a range the example can be inserted before this line."""
+    return replied("codeAction", text, ranged(start, end), answered(action(workspace_edit(inserted(line, example)))))
+
+
+def not_offered(text, start, end):
+    return replied("codeAction", text, ranged(start, end), NONE)
+
+
+LETTER = "a = %x41 ; c"
+OFFERED = (
+    '{"id":2,"jsonrpc":"2.0","result":[{"edit":{"changes":{"file:///g":[{"newText":"; example A\\n",'
+    '"range":{"end":{"character":0,"line":0},"start":{"character":0,"line":0}}}]}},"kind":"refactor","title":"Insert shortest example"}]}'
+)
+assert OFFERED == answered(action(workspace_edit(inserted(0, "A"))))
+
+ACTIONS = (
+    replied("codeAction", LETTER, ranged((0, 0), (0, 0)), OFFERED),
+    # what stands beside the range is ignored
+    replied("codeAction", LETTER, ranged((0, 0), (0, 0)) + ',"context":7', OFFERED),
+    replied("codeAction", LETTER, ranged((0, 0), (0, 0)), answered(action(linked_edit(inserted(0, "A")))), initialize=LINKS),
+    odd(INITIALIZE, "codeAction", ranged((1, 9), (1, 9)), action(workspace_edit(inserted(0, "i"), SHORTEST))),
+    odd(LINKS, "codeAction", ranged((1, 9), (1, 9)), action(linked_edit(inserted(0, "i"), uri=SHORTEST))),
+    # the name at the start counts, whichever end that is
+    offered(LETTER, (0, 0), (0, 12), 0, "A"),
+    offered(LETTER, (0, 12), (0, 0), 0, "A"),
+    offered(LETTER, (0, 1), (0, 1), 0, "A"),
+    not_offered(LETTER, (0, 2), (0, 2)),
+    not_offered(LETTER, (0, 11), (0, 11)),
+    offered(LIST, (1, 0), (1, 4), 1, "i"),
+    offered(LIST, (1, 0), (0, 0), 0, "i"),
+    not_offered(LIST, (0, 5), (1, 0)),
+    # from a use, before the line of the first place that defines the name
+    offered(LIST, (1, 9), (1, 13), 0, "i"),
+    offered('a =/ "y"\na = "xx"', (1, 0), (1, 0), 0, "y"),
+    offered('a = "xx"\na = "y"', (1, 0), (1, 0), 0, "xx"),
+    offered('a =/ "x"', (0, 0), (0, 0), 0, "x"),
+    # a core rule has no line in the text, unless the text defines it
+    not_offered("a = DIGIT", (0, 4), (0, 4)),
+    offered('DIGIT = "7"\na = digit', (1, 4), (1, 4), 0, "7"),
+    not_offered("a = nope", (0, 4), (0, 4)),
+    # it comes at the line's start, and its line end is LF
+    offered('  b = "y"\r\n  a = CRLF', (1, 2), (1, 2), 1, "\\x{D}\\x{A}"),
+    offered('a = ""', (0, 0), (0, 0), 0, ""),
+    offered('a = "\\" %x1F600', (0, 0), (0, 0), 0, "\\\\\\x{1F600}"),
+    # a rule with a fault, one that leads there, prose, and one that generates nothing
+    not_offered("a = (b", (0, 0), (0, 0)),
+    not_offered("a = b\nb = ?", (0, 0), (0, 0)),
+    not_offered("a = <text>", (0, 0), (0, 0)),
+    not_offered("a = a", (0, 0), (0, 0)),
+    # of the length 4,096, and longer
+    offered('a = 4096"x"', (0, 0), (0, 0), 0, "x" * 4096),
+    not_offered('a = 4097"x"', (0, 0), (0, 0)),
+    not_offered("", (0, 0), (0, 0)),
+    *(
+        replied("codeAction", "a = a", beside, INVALID_PARAMS)
+        for beside in (
+            "",
+            ',"range":null',
+            ',"range":[]',
+            ',"range":{"start":{"line":0,"character":0}}',
+            ',"range":{"end":{"line":0,"character":0}}',
+            ranged((0, 0), (0, -1)),
+        )
+    ),
+)
+
+
+def classed(text, *tokens):
+    """The tokens of a text: lines below the one before, characters behind it or from the line's start, length, type and modifiers."""
+    numbers = ",".join(str(number) for token in tokens for number in token)
+    return replied("semanticTokens/full", text, "", answered(f'{{"data":[{numbers}]}}'))
+
+
+# The legend: types and modifiers
+NAME, QUOTED, NUMBER, OPERATOR, COMMENT, PROSE = range(6)
+USE, DEFINES, IS_CORE = 0, 1, 2
+# A name at the start of a line that it defines, and its `=` behind a blank
+HEAD = ((0, 0, 1, NAME, DEFINES), (0, 2, 1, OPERATOR, 0))
+NEXT = ((1, 0, 1, NAME, DEFINES), (0, 2, 1, OPERATOR, 0))
+CLASSED = '{"id":2,"jsonrpc":"2.0","result":{"data":[0,0,1,0,1,0,2,1,3,0,0,2,4,2,0,0,5,3,4,0]}}'
+
+TOKENS = (
+    replied("semanticTokens/full", LETTER, "", CLASSED),
+    classed(""),
+    classed('a = "x"', *HEAD, (0, 2, 3, QUOTED, 0)),
+    # lines that are empty or hold a comment, and a rule that is indented
+    classed('\n\n; c\n  a = "x"', (2, 0, 3, COMMENT, 0), (1, 2, 1, NAME, DEFINES), (0, 2, 1, OPERATOR, 0), (0, 2, 3, QUOTED, 0)),
+    # line ends belong to no token
+    classed("a = b ; c\r\nb = a\rc = b\n", *HEAD, (0, 2, 1, NAME, USE), (0, 2, 3, COMMENT, 0), *NEXT, (0, 2, 1, NAME, USE), *NEXT, (0, 2, 1, NAME, USE)),
+    # blanks belong to none either, but in a comment
+    classed('a\t=\t%s"x"\t;\tc', *HEAD, (0, 2, 5, QUOTED, 0), (0, 6, 3, COMMENT, 0)),
+    # characters outside the first plane are two units of UTF-16 each
+    classed("; \U0001f600\na = <\U0001f600> / b", (0, 0, 4, COMMENT, 0), *NEXT, (0, 2, 4, PROSE, 0), (0, 5, 1, OPERATOR, 0), (0, 2, 1, NAME, USE)),
+    classed('a = \U0001f600 "x"', *HEAD, (0, 5, 3, QUOTED, 0)),
+    classed(
+        "a =/ 1*2( b / [ c ] )",
+        (0, 0, 1, NAME, DEFINES),
+        (0, 2, 2, OPERATOR, 0),
+        (0, 3, 3, OPERATOR, 0),
+        (0, 3, 1, OPERATOR, 0),
+        (0, 2, 1, NAME, USE),
+        (0, 2, 1, OPERATOR, 0),
+        (0, 2, 1, OPERATOR, 0),
+        (0, 2, 1, NAME, USE),
+        (0, 2, 1, OPERATOR, 0),
+        (0, 2, 1, OPERATOR, 0),
+    ),
+    # a block of two lines
+    classed('a = *b\n  / %d13.10', *HEAD, (0, 2, 1, OPERATOR, 0), (0, 1, 1, NAME, USE), (1, 2, 1, OPERATOR, 0), (0, 2, 7, NUMBER, 0)),
+    # core rules, and the same where the text defines them, in a faulty block too
+    classed("a = DIGIT crlf", *HEAD, (0, 2, 5, NAME, IS_CORE), (0, 6, 4, NAME, IS_CORE)),
+    classed("a = (DIGIT", *HEAD, (0, 2, 1, OPERATOR, 0), (0, 1, 5, NAME, IS_CORE)),
+    classed(
+        DIGITS,
+        (0, 0, 5, NAME, DEFINES),
+        (0, 6, 1, OPERATOR, 0),
+        (0, 2, 3, QUOTED, 0),
+        *NEXT,
+        (0, 2, 1, OPERATOR, 0),
+        (0, 1, 5, NAME, USE),
+        (0, 6, 6, NAME, IS_CORE),
+    ),
+    classed("DIGIT = (\na = digit", (0, 0, 5, NAME, DEFINES), (0, 6, 1, OPERATOR, 0), (0, 2, 1, OPERATOR, 0), *NEXT, (0, 2, 5, NAME, USE)),
+    # bad tokens, and names that follow one or a number at once: these stand for nothing
+    classed("b = DIGIT\na = ?DIGIT DIGIT", *HEAD, (0, 2, 5, NAME, IS_CORE), *NEXT, (0, 3, 5, NAME, USE), (0, 6, 5, NAME, IS_CORE)),
+    classed("a = %item %x41g g", *HEAD, (0, 3, 4, NAME, USE), (0, 5, 4, NUMBER, 0), (0, 4, 1, NAME, USE), (0, 2, 1, NAME, USE)),
+    classed('a = "b c\nb = <a', *HEAD, (0, 3, 1, NAME, USE), (0, 2, 1, NAME, USE), *NEXT, (0, 3, 1, NAME, USE)),
+    # a second definition, and a name that isn't one since no `=` follows
+    classed('a = "x"\na = "y"\na', *HEAD, (0, 2, 3, QUOTED, 0), *NEXT, (0, 2, 3, QUOTED, 0), (1, 0, 1, NAME, USE)),
+)
+
+
+def about_no_document(method, beside):
+    """A request about a document that isn't open, and such ones that name none."""
+    no_uri = (f'{{"textDocument":{{}}{beside}}}', f'{{"textDocument":{{"uri":7}}{beside}}}', f'{{{beside[1:]}}}', "[]", "null")
+    yield f"{method} of no document", [INITIALIZE, OPEN, closed(), asked(method, beside)], [CAPABILITIES, NOT_OPEN], 1
+    yield f"{method} of another document", [INITIALIZE, OPEN, asked(method, beside, "file:///h")], [CAPABILITIES, NOT_OPEN], 1
+    for params in no_uri:
+        request = f'{{"id":2,"method":"textDocument/{method}","params":{params}}}'
+        yield f"{method} with the parameters {params}", [INITIALIZE, OPEN, request], [CAPABILITIES, INVALID_PARAMS], 1
+    request = f'{{"id":2,"method":"textDocument/{method}"}}'
+    yield f"{method} without parameters", [INITIALIZE, OPEN, request], [CAPABILITIES, INVALID_PARAMS], 1
+
+
+NO_DOCUMENT = (
+    *about_no_document("references", at(0, 0) + WITH),
+    *about_no_document("rename", at(0, 0) + named('"b"')),
+    *about_no_document("codeAction", ranged((0, 0), (0, 0))),
+    *about_no_document("semanticTokens/full", ""),
+)
+
 SESSIONS = LIVES + FINDINGS
 # What these are answered with beside what is published; the last number counts the versions of the document
-REPLIES = EDITS + DEFINITIONS + HOVERS
+REPLIES = EDITS + DEFINITIONS + HOVERS + REFERENCES + RENAMES + ACTIONS + TOKENS + NO_DOCUMENT
 
 # What stands in the stream behind a whole frame, and the line that names its fault
 FRAMES = (

@@ -1,7 +1,8 @@
 #!/usr/bin/env bash
 # Runs a real Emacs (28 with the package eglot, or 29 and later) in batch mode against the language server, by the set-up that
-# editors/emacs-eglot.el gives: opens a grammar, asks for its outline, a definition and a hover, looks at its diagnostics, edits, asks
-# again, opens a CRLF file, and shuts down. Usage: emacs.sh PROGRAM. EMACS names the editor (emacs if left out). Status 0: all right, 1: a wrong answer, 2: it
+# editors/emacs-eglot.el gives: opens a grammar, asks for its outline, a definition and a hover, looks at its diagnostics, goes through
+# the references of a name, renames it and back, takes the code action, asks for the semantic tokens, edits, asks again, opens a CRLF
+# file, and shuts down. Usage: emacs.sh PROGRAM. EMACS names the editor (emacs if left out). Status 0: all right, 1: a wrong answer, 2: it
 # could not be tried. Of the snippet the program's path is another, and eglot-ensure is left out: it waits for a command, and
 # none comes in batch mode.
 set -euo pipefail
@@ -54,6 +55,42 @@ cat > "$folder/try.el" <<'EL'
   (told)
   (goto-char (point-min)) (forward-line (1- line)) (search-forward word) (goto-char (match-beginning 0))
   (plist-get (plist-get (jsonrpc-request (eglot-current-server) :textDocument/hover (eglot--TextDocumentPositionParams)) :contents) :value))
+(defun text () (buffer-substring-no-properties (point-min) (point-max)))
+(defun go (line word)
+  (told)
+  (goto-char (point-min)) (forward-line (1- line)) (search-forward word) (goto-char (match-beginning 0)))
+(defun references (line word)
+  "The lines and columns of the places of a name, in characters from 0."
+  (go line word)
+  (sort (mapcar (lambda (item)
+                  (let ((at (xref-location-marker (xref-item-location item))))
+                    (with-current-buffer (marker-buffer at)
+                      (save-excursion (goto-char at) (cons (line-number-at-pos) (- (point) (line-beginning-position)))))))
+                (xref-backend-references 'eglot (xref-backend-identifier-at-point 'eglot)))
+        #'car-less-than-car))
+(defun renamed (line word new)
+  "The text once a name is renamed, or why it isn't."
+  (go line word)
+  (condition-case why (progn (eglot-rename new) (text))
+    (jsonrpc-error (alist-get 'jsonrpc-error-message (cddr why)))))
+(defun acted (line word)
+  "The text once the first code action is taken, behind the titles of all."
+  (go line word)
+  (let ((titles (mapcar (lambda (it) (plist-get it :title)) (eglot-code-actions (point) nil)))
+        (last-nonmenu-event t))
+    (cl-letf (((symbol-function 'completing-read) (lambda (_prompt items &rest _) (caar items))))
+      (eglot-code-actions (point) nil nil t))
+    (append titles (list (text)))))
+(defun tokens ()
+  (told)
+  (append (plist-get (jsonrpc-request (eglot-current-server) :textDocument/semanticTokens/full
+                                      (list :textDocument (eglot--TextDocumentIdentifier)))
+                     :data)
+          nil))
+(defun with (text &rest pairs)
+  "The text with each of these changed."
+  (cl-loop for (from to) on pairs by #'cddr do (setq text (replace-regexp-in-string from to text t t)))
+  text)
 (defun diagnostics (count)
   "What flymake shows, once it is so much or three seconds have passed."
   (told)
@@ -75,6 +112,25 @@ cat > "$folder/try.el" <<'EL'
       (is "definition at the end of a name behind an emoji" (definition 6 "/name") '(4))
       (is "hover" (hover 4 "hello") "shortest length 2\nexample hi")
       (is "diagnostics" (diagnostics 1) '((6 "abnf [syntax]: bad character")))
+      (is "references" (references 3 "hello") '((3 . 11) (4 . 0) (6 . 15)))
+      (is "semantic tokens" (tokens)
+          '(0 0 14 4 0 2 0 8 0 1 0 9 1 3 0 0 2 5 0 0 0 6 2 0 2 0 3 4 0 0 0 5 4 4 0
+            1 0 5 0 1 0 9 1 3 0 0 2 4 1 0 0 5 1 3 0 0 2 7 1 0
+            1 0 4 0 1 0 9 1 3 0 0 2 2 3 0 0 2 5 0 2
+            1 0 4 0 1 0 8 2 3 0 0 7 1 3 0 0 1 5 0 0 0 5 1 3 0 0 1 4 0 0))
+      (is "a name in use" (renamed 4 "hello" "Greeting") "name in use")
+      (is "no name" (renamed 4 "hello" "2x") "not a rule name")
+      (is "a core rule" (renamed 3 "SP" "space") "nothing to rename")
+      (let ((whole (text)))
+        (is "a rename over the whole file" (renamed 6 "hello" "salutation")
+            (with whole "= hello" "= salutation" "^hello" "salutation" "/hello" "/salutation"))
+        (is "outline after it" (outline) '((3 . "greeting") (4 . "salutation") (5 . "NAME") (6 . "name")))
+        (is "hover after it" (hover 3 "salutation") "shortest length 2\nexample hi")
+        (is "and back" (renamed 3 "salutation" "hello") whole)
+        (is "code action" (acted 3 "hello") (list "Insert shortest example" (with whole "^hello" "; example hi\nhello")))
+        (is "outline after it" (outline) '((3 . "greeting") (5 . "hello") (6 . "NAME") (7 . "name")))
+        (goto-char (point-min)) (forward-line 3) (kill-whole-line)
+        (is "the text again" (text) whole))
       (goto-char (point-max)) (insert "broken = (hello\n")
       (is "one fault more while it stands" (diagnostics 2) '((6 "abnf [syntax]: bad character") (7 "abnf [syntax]: bracket not closed")))
       (forward-line -1) (kill-whole-line)
@@ -99,6 +155,9 @@ cat > "$folder/try.el" <<'EL'
       (goto-char (point-min)) (forward-line 5) (insert "new = hello\n")
       (is "outline with CRLF after an edit" (outline) '((3 . "greeting") (4 . "hello") (5 . "NAME") (6 . "new") (7 . "name")))
       (is "definition with CRLF" (definition 6 "hello") '(4))
+      (let ((whole (text)))
+        (is "a rename with CRLF" (renamed 3 "hello" "hi") (with whole "= hello" "= hi" "^hello" "hi" "/hello" "/hi")))
+      (is "references with CRLF" (references 4 "hi") '((3 . 11) (4 . 0) (6 . 6) (7 . 15)))
       (set-buffer-modified-p nil)
       (eglot-shutdown (eglot-current-server)))
   (error (cl-incf failed) (princ (format "FAIL %S\n" err))))

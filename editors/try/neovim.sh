@@ -1,7 +1,7 @@
 #!/usr/bin/env bash
 # Runs a real Neovim (0.7 or later) headless against the language server, by the set-up that editors/neovim.lua gives: opens
-# a grammar, asks for its outline, a definition and a hover, looks at its diagnostics, edits, asks again, reloads, opens a CRLF file,
-# and ends.
+# a grammar, asks for its outline, a definition and a hover, looks at its diagnostics, edits, asks again, reloads, goes through the
+# references of a name, renames it and back, takes the code action, asks for the semantic tokens, opens a CRLF file, and ends.
 # Usage: neovim.sh PROGRAM. NVIM names the editor (nvim if left out). Status 0: all right, 1: a wrong answer, 2: it could not be
 # tried. The snippet is taken as it stands, but for the path of the program.
 set -euo pipefail
@@ -66,6 +66,52 @@ local function hover(row, word)
   vim.api.nvim_win_set_cursor(0, { row, at - 1 })
   return ask("textDocument/hover", vim.lsp.util.make_position_params(0, "utf-16")).contents.value
 end
+local function text() return table.concat(vim.api.nvim_buf_get_lines(0, 0, -1, false), "\n") end
+local function go(row, word) vim.api.nvim_win_set_cursor(0, { row, vim.fn.getline(row):find(word, 1, true) - 1 }) end
+-- where the editor lists the places of a name: the line and the column of each, in bytes from 1
+local function references(row, word, context)
+  go(row, word)
+  vim.fn.setqflist({}, "r")
+  if context then vim.lsp.buf.references(context) else vim.cmd("normal grr") end
+  vim.wait(3000, function() return #vim.fn.getqflist() > 0 end, 10)
+  local places = {}
+  for _, it in ipairs(vim.fn.getqflist()) do
+    places[#places + 1] = it.lnum .. ":" .. it.col
+  end
+  vim.cmd("silent! cclose")
+  return table.concat(places, " ")
+end
+-- the text once a name is renamed, or as it is after three seconds
+local function renamed(row, word, new)
+  go(row, word)
+  local before = text()
+  vim.lsp.buf.rename(new)
+  vim.wait(3000, function() return text() ~= before end, 10)
+  return text()
+end
+local function refused(row, word, new)
+  go(row, word)
+  local params = vim.lsp.util.make_position_params(0, "utf-16")
+  params.newName = new
+  local ok, why = pcall(ask, "textDocument/rename", params)
+  return ok and "granted" or tostring(why):match('message = "([^"]*)"')
+end
+-- the text once the only code action at a name is taken; its title
+local function acted(row, word)
+  go(row, word)
+  local title, before, select = "no code action", text(), vim.ui.select
+  vim.ui.select = function(items, options, choose)
+    title = options.format_item(items[1]) .. (#items == 1 and "" or " and others")
+    choose(items[1], 1)
+  end
+  vim.cmd("normal gra")
+  vim.wait(3000, function() return text() ~= before end, 10)
+  vim.ui.select = select
+  return text(), title
+end
+local function tokens()
+  return table.concat(ask("textDocument/semanticTokens/full", { textDocument = vim.lsp.util.make_text_document_params() }).data, " ")
+end
 local function diagnostics()
   local found = {}
   for _, it in ipairs(vim.diagnostic.get(0)) do
@@ -112,6 +158,27 @@ local ok, err = pcall(function()
   is("attached after a reload", tostring(ready()), "true")
   is("servers after a reload", tostring(vim.tbl_count(clients())), "1")
   is("outline after a reload", outline(), "greeting@2 hello@3 NAME@4 name@5")
+  local whole = text()
+  is("references", references(3, "hello"), "3:12 4:1 6:19")
+  is("references without the definition", references(6, "hello", { includeDeclaration = false }), "3:12 6:19")
+  is("semantic tokens", tokens(), table.concat({
+    "0 0 14 4 0 2 0 8 0 1 0 9 1 3 0 0 2 5 0 0 0 6 2 0 2 0 3 4 0 0 0 5 4 4 0",
+    "1 0 5 0 1 0 9 1 3 0 0 2 4 1 0 0 5 1 3 0 0 2 7 1 0",
+    "1 0 4 0 1 0 9 1 3 0 0 2 2 3 0 0 2 5 0 2",
+    "1 0 4 0 1 0 8 2 3 0 0 7 1 3 0 0 1 5 0 0 0 5 1 3 0 0 1 4 0 0",
+  }, " "))
+  is("a name in use", refused(4, "hello", "Greeting"), "name in use")
+  is("no name", refused(4, "hello", "2x"), "not a rule name")
+  is("a core rule", refused(3, "SP", "space"), "nothing to rename")
+  local new = whole:gsub("= hello", "= salutation"):gsub("\nhello", "\nsalutation"):gsub("/hello", "/salutation")
+  is("a rename over the whole file", renamed(6, "hello", "salutation"), new)
+  is("outline after it", outline(), "greeting@2 salutation@3 NAME@4 name@5")
+  is("hover after it", hover(3, "salutation"), "shortest length 2\nexample hi")
+  is("and back", renamed(3, "salutation", "hello"), whole)
+  local with_comment, title = acted(3, "hello")
+  is("code action", title, "Insert shortest example")
+  is("the text with the example", with_comment, (whole:gsub("\nhello", "\n; example hi\nhello")))
+  is("outline after it", outline(), "greeting@2 hello@4 NAME@5 name@6")
   vim.cmd("edit! " .. vim.fn.fnameescape(vim.env.TRY_FOLDER .. "/dos.abnf"))
   is("attached to a CRLF file", tostring(ready()), "true")
   is("servers for both files", tostring(vim.tbl_count(clients())), "1")
@@ -120,6 +187,9 @@ local ok, err = pcall(function()
   vim.cmd("normal! 6GOnew = hello")
   is("outline with CRLF after an edit", outline(), "greeting@2 hello@3 NAME@4 new@5 name@6")
   is("definition with CRLF", definition(6, "hello"), "3:0-5")
+  local new = text():gsub("= hello", "= hi"):gsub("\nhello", "\nhi"):gsub("/hello", "/hi")
+  is("a rename with CRLF", renamed(3, "hello", "hi"), new)
+  is("references with CRLF", references(4, "hi"), "3:12 4:1 6:7 7:19")
 end)
 if not ok then failed = failed + 1 io.stdout:write("FAIL " .. tostring(err) .. "\n") end
 -- a crash of the server, or a complaint of it, stands in the editor's log

@@ -88,54 +88,25 @@ fn says(alloc: Global, fault: SyntaxFault, want: &str) -> Result<bool, Fail> {
 
 #[test]
 fn say_what_their_findings_say(rt: HostRuntime) -> Result<(), Fail> {
-    let place = Place {
+    let alloc = rt.alloc();
+    let at = Place {
         line: 0,
         start: 0,
         end: 1,
     };
-    assert!(rt; says(rt.alloc(), SyntaxFault::NoName(place), "rule name expected")?);
+    assert!(rt; says(alloc, SyntaxFault::NoName(at), "rule name expected")?);
     assert!(rt;
         says(
-            rt.alloc(),
-            SyntaxFault::NoDefinedAs(place),
+            alloc,
+            SyntaxFault::NoDefinedAs(at),
             "\"=\" or \"=/\" expected"
         )?
     );
-    assert!(rt; says(rt.alloc(), SyntaxFault::BadToken(place), "bad character")?);
-    assert!(rt;
-        says(
-            rt.alloc(),
-            SyntaxFault::ElementExpected(place),
-            "element expected"
-        )?
-    );
-    assert!(rt;
-        says(
-            rt.alloc(),
-            SyntaxFault::BlankExpected(place),
-            "blank expected"
-        )?
-    );
-    assert!(rt;
-        says(
-            rt.alloc(),
-            SyntaxFault::Unclosed(place),
-            "bracket not closed"
-        )?
-    );
-    assert!(rt;
-        says(
-            rt.alloc(),
-            SyntaxFault::NumberTooLarge(place),
-            "number too large"
-        )?
-    );
-    assert!(rt;
-        says(
-            rt.alloc(),
-            SyntaxFault::TooDeep(place),
-            "brackets nested too deep"
-        )?
-    );
+    assert!(rt; says(alloc, SyntaxFault::BadToken(at), "bad character")?);
+    assert!(rt; says(alloc, SyntaxFault::ElementExpected(at), "element expected")?);
+    assert!(rt; says(alloc, SyntaxFault::BlankExpected(at), "blank expected")?);
+    assert!(rt; says(alloc, SyntaxFault::Unclosed(at), "bracket not closed")?);
+    assert!(rt; says(alloc, SyntaxFault::NumberTooLarge(at), "number too large")?);
+    assert!(rt; says(alloc, SyntaxFault::TooDeep(at), "brackets nested too deep")?);
     Ok(())
 }
