@@ -1,4 +1,4 @@
-use ls_answers::{Ask, Job, run};
+use ls_answers::{Ask, Done, Job, run};
 use ls_lists::{List, Text};
 use ls_rpc::Id;
 use ls_session::{ClientEvent, DeskFault, Out, Refusal, Session, Turn, body_of, refusal_body};
@@ -69,29 +69,46 @@ fn a_close(rt: HostRuntime) -> Result<(), Fail> {
     Ok(())
 }
 
-#[test]
-fn bodies(rt: HostRuntime) -> Result<(), Fail> {
-    let alloc = rt.alloc();
-    let text = String::from_str(alloc, "a = \"x\"")?;
+/// The outline of a text, as a job that has run.
+fn outline_of(alloc: Global, text: &str) -> Result<Done, Fail> {
+    let text = String::from_str(alloc, text)?;
     let job = Job {
         ticket: 1,
         snapshot: Arc::new(alloc, Snapshot::of_text(alloc, text)?)?,
         ask: Ask::Symbols,
     };
-    let done = run(alloc, job);
-    let replied = Out::Replied {
+    Ok(run(alloc, job))
+}
+
+/// What replies with a job that has run.
+fn replied(alloc: Global, done: Done) -> Result<Out, Memory> {
+    let uri = Text::from_str(alloc, "file:///g")?;
+    Ok(Out::Replied {
         id: Id::Number(2),
-        uri: Text::from_str(alloc, "file:///g")?,
+        uri,
         label: 7,
         links: true,
         done,
-    };
+    })
+}
+
+#[test]
+fn a_reply(rt: HostRuntime) -> Result<(), Fail> {
+    let alloc = rt.alloc();
+    let done = outline_of(alloc, "a = \"x\"")?;
+    let replied = replied(alloc, done)?;
     let body = body_of(alloc, &replied)?;
     assert_eq!(rt; body.len(), 215);
     assert!(rt;
         body.as_slice()
             == b"{\"id\":2,\"jsonrpc\":\"2.0\",\"result\":[{\"kind\":12,\"name\":\"a\",\"range\":{\"end\":{\"character\":7,\"line\":0},\"start\":{\"character\":0,\"line\":0}},\"selectionRange\":{\"end\":{\"character\":1,\"line\":0},\"start\":{\"character\":0,\"line\":0}}}]}".as_slice()
     );
+    Ok(())
+}
+
+#[test]
+fn a_body_that_is_said(rt: HostRuntime) -> Result<(), Fail> {
+    let alloc = rt.alloc();
     let said = body_of(alloc, &Out::Said(List::from_slice(alloc, b"{}")?))?;
     assert!(rt; said.as_slice() == b"{}".as_slice());
     Ok(())
