@@ -1,0 +1,279 @@
+#!/usr/bin/env python3
+"""Asks the built program about random texts, and compares what it answers with a plain reading of them.
+
+    tools/random_texts.py [PROGRAM [SEED [COUNT]]]
+
+PROGRAM is out/abnf_ls, SEED 1 and COUNT 200 where they aren't given. For each text the tokens are asked for, and at random positions
+references, renames and code actions. The plain reading below knows tokens, blocks and places of names; what it doesn't know is which string
+is the shortest, so a code action is compared with the program's own hover. It ends nonzero where an answer differs. It isn't part of
+the gate.
+"""
+import json
+import os
+import random
+import re
+import subprocess
+import sys
+
+TOP = os.path.dirname(os.path.dirname(os.path.abspath(__file__)))
+CORE_RULES = "alpha bit char cr crlf ctl digit dquote hexdig htab lf lwsp octet sp vchar wsp".split()
+BASES = (("bB", "01"), ("dD", "0-9"), ("xX", "0-9A-Fa-f"))
+NUMBERS = "|".join(f"[{letter}][{digits}]+(?:(?:\\.[{digits}]+)+|-[{digits}]+)?" for letter, digits in BASES)
+# The classes of tokens (RFC 5234, section 4; RFC 7405, section 2.2) and the types of the legend
+CLASSES = tuple(
+    (kind, re.compile(form, re.DOTALL))
+    for kind, form in (
+        ("name", "[A-Za-z][A-Za-z0-9-]*"),
+        ("defines", "=/?"),
+        ("operator", r"/|[()\[\]]|[0-9]*\*[0-9]*|[0-9]+"),
+        ("quoted", r'(?:%[iIsS])?"[\x20\x21\x23-\x7e]*"'),
+        ("number", f"%(?:{NUMBERS})"),
+        ("prose", "<[^>]*>"),
+        ("comment", ";.*"),
+        ("blank", r"[ \t]+"),
+    )
+)
+TYPES = {"name": 0, "quoted": 1, "number": 2, "defines": 3, "operator": 3, "comment": 4, "prose": 5}
+
+
+def units(text):
+    """The UTF-16 units of a text."""
+    return len(text.encode("utf-16-le")) // 2
+
+
+def tokens_of(line):
+    """The kind, the text and the start of each token: the longest text of a class, or else one bad character."""
+    at, found = 0, []
+    while at < len(line):
+        fitting = [(match.end(), kind) for kind, form in CLASSES if (match := form.match(line, at)) and match.end() > at]
+        end, kind = max(fitting, default=(at + 1, "bad"))
+        found.append((kind, line[at:end], at))
+        at = end
+    return found
+
+
+def indent(line):
+    """How deep a line with content is indented; None for a line that is blank or a comment."""
+    content = line.lstrip(" \t")
+    return len(line) - len(content) if content and content[0] != ";" else None
+
+
+class Place:
+    """A name in a text: its line, where it starts and ends there in characters, its text, and whether it defines."""
+
+    def __init__(self, line, start, text, defines):
+        self.line, self.start, self.end = line, start, start + len(text)
+        self.text, self.defines = text, defines
+
+
+class Reading:
+    """What a text says, read plainly."""
+
+    def __init__(self, text):
+        self.lines = re.split("\r\n|\n|\r", text)
+        self.tokens = [tokens_of(line) for line in self.lines]
+        self.places = [place for block in self.blocks() for place in self.places_in(block)]
+
+    def blocks(self):
+        indents = [indent(line) for line in self.lines]
+        base = next((depth for depth in indents if depth is not None), 0)
+        starts = [at for at, depth in enumerate(indents) if depth is not None and depth <= base]
+        return [range(start, end) for start, end in zip(starts, starts[1:] + [len(self.lines)])]
+
+    def places_in(self, block):
+        items, apart = [], False
+        for line in block:
+            for kind, text, start in self.tokens[line]:
+                if kind not in ("blank", "comment"):
+                    items.append((kind, text, line, start, apart))
+                apart = kind in ("blank", "comment")
+            apart = True
+        has_head = len(items) > 1 and items[0][0] == "name" and items[1][0] == "defines"
+        before = [None] + [item[0] for item in items]
+        for at, (kind, text, line, start, apart) in enumerate(items):
+            touched = at > 0 and not apart and before[at] in ("bad", "number")
+            if kind == "name" and not touched:
+                yield Place(line, start, text, at == 0 and has_head)
+
+    def named(self, name):
+        return [place for place in self.places if place.text.lower() == name.lower()]
+
+    def is_defined(self, name):
+        return any(place.defines for place in self.named(name))
+
+    def point(self, line, character):
+        """The line and the character of a position of UTF-16 units."""
+        if line >= len(self.lines):
+            return len(self.lines) - 1, len(self.lines[-1])
+        text, at = self.lines[line], 0
+        while at < len(text) and units(text[: at + 1]) <= character:
+            at += 1
+        return line, at
+
+    def place_at(self, position):
+        line, at = self.point(*position)
+        here = [place for place in self.places if place.line == line]
+        holding = [place for place in here if place.start <= at < place.end]
+        return next(iter(holding + [place for place in here if place.end == at]), None)
+
+    def range_of(self, place):
+        ends = (units(self.lines[place.line][:at]) for at in (place.start, place.end))
+        start, end = ({"line": place.line, "character": character} for character in ends)
+        return {"start": start, "end": end}
+
+    def numbers(self):
+        """The five numbers of each semantic token."""
+        by_start = {(place.line, place.start): place for place in self.places}
+        told, last_line, last_start = [], 0, 0
+        for line, tokens in enumerate(self.tokens):
+            for kind, text, at in tokens:
+                if kind in TYPES:
+                    start = units(self.lines[line][:at])
+                    behind = start - last_start if line == last_line else start
+                    told += [line - last_line, behind, units(text), TYPES[kind], self.modifiers(by_start.get((line, at)))]
+                    last_line, last_start = line, start
+        return told
+
+    def modifiers(self, place):
+        if place is None:
+            return 0
+        if place.defines:
+            return 1
+        return 2 if not self.is_defined(place.text) and place.text.lower() in CORE_RULES else 0
+
+    def references(self, position, declarations):
+        place = self.place_at(position)
+        return [self.range_of(it) for it in (self.named(place.text) if place else []) if declarations or not it.defines]
+
+    def rename(self, position, new):
+        """The ranges that get the new name, or why they don't."""
+        place = self.place_at(position)
+        if not re.fullmatch("[A-Za-z][A-Za-z0-9-]*", new):
+            return "not a rule name"
+        if place is None or not self.is_defined(place.text):
+            return "nothing to rename"
+        if new.lower() != place.text.lower() and (self.named(new) or new.lower() in CORE_RULES):
+            return "name in use"
+        return [self.range_of(it) for it in self.named(place.text)]
+
+    def head_line(self, position):
+        """The line where the name at a position is first defined."""
+        place = self.place_at(position)
+        return next((it.line for it in self.named(place.text) if it.defines), None) if place else None
+
+
+FRAGMENTS = (
+    *("a", "b", "A", "item", "ITEM", "DIGIT", "digit", "HEXDIG", "CRLF", "x41", "c-1", " ", "  ", "\t"),
+    *(" = ", " =/ ", "=", "=/", "/", " / ", "(", ")", "[", "]", "*", "2", "1*3", "3*2", "0*"),
+    *('"x"', '"', "%x41", "%d13.10", "%x30-39", "%", '%s"Q"', '%i"q"', "<p r>", "<", "é", "😀"),
+    *("; c item\n", ";", "\n", "\n", "\n", "\r\n", "\r", "?", "_", "-", "\n a", "\nb = ", "\nitem = ", "\n="),
+    *('a = "x"\n', "b = a b\n", "item = 1*DIGIT\n", 'A =/ "y"\n', "a = %x41 / <é> b ; 😀\n"),
+)
+NEW_NAMES = ("a", "b", "c", "item2", "ITEM", "digit", "crlf", "2x", "", "a b", "x41", "d0", "-a", "Q", "A", "hexdig", "c-1", "C-1", "é")
+
+
+class Session:
+    """Messages to the program, and what must be answered to each request: a function of its result or of its error's text."""
+
+    def __init__(self, choose):
+        self.choose, self.messages, self.wanted = choose, [], {}
+        self.request("initialize", {"capabilities": {}}, lambda answers: answers[0])
+
+    def request(self, method, params, want):
+        number = len(self.wanted)
+        self.messages.append({"id": number, "method": method, "params": params})
+        self.wanted[number] = want
+        return number
+
+    def notice(self, method, document):
+        self.messages.append({"method": f"textDocument/{method}", "params": {"textDocument": document}})
+
+    def position(self, reading):
+        if reading.places and self.choose.random() < 0.8:
+            place = self.choose.choice(reading.places)
+            at = self.choose.choice((place.start, (place.start + place.end) // 2, place.end))
+            return place.line, units(reading.lines[place.line][:at])
+        return self.choose.randrange(len(reading.lines) + 1), self.choose.randrange(12)
+
+    def ask(self, uri, method, want, **params):
+        return self.request(f"textDocument/{method}", {"textDocument": {"uri": uri}, **params}, lambda answers: want)
+
+    def about(self, uri, text):
+        """Opens a text, asks about it and closes it."""
+        reading = Reading(text)
+        self.notice("didOpen", {"uri": uri, "languageId": "abnf", "version": 1, "text": text})
+        self.ask(uri, "semanticTokens/full", {"data": reading.numbers()})
+        for _ in range(3):
+            self.ask_references(uri, reading)
+            self.ask_rename(uri, reading)
+            self.ask_action(uri, reading)
+        self.notice("didClose", {"uri": uri})
+
+    def ask_references(self, uri, reading):
+        at, declarations = self.position(reading), self.choose.choice((True, False))
+        want = [{"range": it, "uri": uri} for it in reading.references(at, declarations)]
+        self.ask(uri, "references", want, position=as_json(at), context={"includeDeclaration": declarations})
+
+    def ask_rename(self, uri, reading):
+        at, new = self.position(reading), self.choose.choice(NEW_NAMES)
+        renamed = reading.rename(at, new)
+        want = renamed if isinstance(renamed, str) else {"changes": {uri: [{"newText": new, "range": it} for it in renamed]}}
+        self.ask(uri, "rename", want, position=as_json(at), newName=new)
+
+    def ask_action(self, uri, reading):
+        ends = [self.position(reading) for _ in range(2)]
+        start = min(ends, key=lambda end: (reading.point(*end), end))
+        hover = self.request("textDocument/hover", {"textDocument": {"uri": uri}, "position": as_json(start)}, None)
+        line = reading.head_line(start)
+        params = {"textDocument": {"uri": uri}, "range": dict(zip(("start", "end"), map(as_json, ends)))}
+        self.request("textDocument/codeAction", params, lambda answers: action(uri, line, answers[hover]))
+
+
+def as_json(position):
+    return dict(zip(("line", "character"), position))
+
+
+def action(uri, line, hover):
+    """The actions where the name is first defined in this line, by what a hover on the name says."""
+    shown = re.fullmatch("shortest length ([0-9]+)\nexample (.*)", hover["contents"]["value"] if hover else "", re.DOTALL)
+    if line is None or not shown or int(shown.group(1)) > 4096:
+        return []
+    at = as_json((line, 0))
+    edit = {"newText": f"; example {shown.group(2)}\n", "range": {"start": at, "end": at}}
+    return [{"edit": {"changes": {uri: [edit]}}, "kind": "refactor", "title": "Insert shortest example"}]
+
+
+def frame(message):
+    body = json.dumps({"jsonrpc": "2.0", **message}).encode()
+    return b"Content-Length: %d\r\n\r\n%b" % (len(body), body)
+
+
+def answers_of(program, messages):
+    """What is answered to each request: its result, or the text of its error."""
+    said = subprocess.run([program], input=b"".join(map(frame, messages)), stdout=subprocess.PIPE, check=False).stdout
+    answers = {}
+    while said:
+        header, _, rest = said.partition(b"\r\n\r\n")
+        length = int(header.rpartition(b" ")[2])
+        message, said = json.loads(rest[:length]), rest[length:]
+        if "id" in message:
+            answers[message["id"]] = message["error"]["message"] if "error" in message else message["result"]
+    return answers
+
+
+def main(program=os.path.join(TOP, "out", "abnf_ls"), seed="1", count="200"):
+    choose = random.Random(int(seed))
+    session = Session(choose)
+    for number in range(int(count)):
+        text = "".join(choose.choices(FRAGMENTS, k=choose.choice((1, 3, 6, 10, 20, 40))))
+        session.about(f"file:///{number}", text)
+    answers = answers_of(program, session.messages)
+    wrong = [number for number, want in session.wanted.items() if want and answers.get(number) != want(answers)]
+    for number in wrong[:5]:
+        print(f"request {number}: {answers.get(number)!r} in place of {session.wanted[number](answers)!r}")
+    print(f"random_texts.py: {len(session.wanted)} requests about {count} texts, {len(wrong)} answered otherwise")
+    return 1 if wrong else 0
+
+
+if __name__ == "__main__":
+    sys.exit(main(*sys.argv[1:]))
