@@ -12,3 +12,15 @@ pub mod LinesLaw
 pub mod Granted
 pub mod GrammarKept
 pub mod NamesKept
+pub mod PlacesLaw
+pub mod AllPlaces
+pub mod RoundLaws
+pub mod SegmentLaws
+pub mod WholeText
+pub mod TextKept
+pub mod LinePieces
+pub mod TextRows
+pub mod NameTexts
+pub mod PieceRows
+pub mod RangeSpots
+pub mod RangesKept

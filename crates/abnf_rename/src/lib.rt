@@ -15,11 +15,16 @@
 //! rename of the text's own leaves the core rule its name. So nothing is claimed of what the old name stands for afterwards: there it is
 //! the core rule, and in most other texts nothing.
 //!
-//! Both grammars are of the text as it stands, line by line: that the tokens of a renamed line are those of the line, but for the name, is
-//! a law of `abnf_token` (`renames_keep_tokens`). There is no code here.
+//! Each line of the renamed text has the tokens of the line as it was, but for the name. Of a single line this is a law of `abnf_token`
+//! (`renames_keep_tokens`). [`renames_keep_grammars`] says all of this of the text after the edits, which is found by writing the new text
+//! into each range, from the last to the first: so the ranges that a client is sent are enough, and no line comes or goes by them.
+//!
+//! It is said of each grammar of the renamed text. A text has no more than one, and has one if its lines have fewer than 2^64 bytes, as
+//! `abnf_names` shows. There is no code here.
 #![tactic(auto)]
 
-ghost use Rattle.std.specs.Prelude.{ℕ, List};
+ghost use Rattle.std.specs.Prelude.{ℕ, List, All};
+ghost use Rattle.std.specs.Char.{IsScalar};
 ghost use Rattle.abnf_token.specs.Classes.{Text};
 ghost use Rattle.abnf_syntax.specs.Blocks.{line_texts};
 ghost use Rattle.abnf_parts.specs.Names.{Name};
@@ -28,6 +33,7 @@ ghost use Rattle.abnf_names.specs.Rules.{Grammar, IsGrammar};
 ghost use Rattle.abnf_rename.specs.Lines.{AreRenamedLines};
 ghost use Rattle.abnf_rename.specs.Parts.{renamed_part, renamed_rules, KeepsMeaning};
 ghost use Rattle.abnf_rename.specs.Rules.{IsGranted, AreSameRules, KeepsNames};
+ghost use Rattle.abnf_rename.specs.Text.{ranges_of, KeepsTheGrammar};
 
 /// Trees that are the same but for the name in the references to one rule generate the same strings, with as many nested references,
 /// and the same rules lead to an opaque part. This holds of all trees, whatever text they are of.
@@ -44,4 +50,14 @@ pub fn grammars_are_kept()
     ensures { (old : Name) (new : Text) (before after : Grammar) → IsGrammar before → IsGrammar after → IsGranted old new before →
         AreRenamedLines old new (line_texts before.text) (line_texts after.text) →
         AreSameRules old new before after × KeepsNames old new before after }
+{}
+
+/// The whole of it, for the text after the edits of a granted rename, which write the new text in the range of each place of the old
+/// name: its lines are those of the text with the new text at the places of the old name, and each grammar of it has the same rules
+/// but for that name, as [`grammars_are_kept`] says.
+///
+/// A text is made of Unicode scalar values, as every document is.
+pub fn renames_keep_grammars()
+    ensures { (old : Name) (new : Text) (before : Grammar) → IsGrammar before → All IsScalar before.text → IsGranted old new before →
+        KeepsTheGrammar old new before (ranges_of before old) }
 {}

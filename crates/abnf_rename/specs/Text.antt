@@ -1,0 +1,39 @@
+-- The text after a rename, and what is kept of its grammar (LSP 3.17, "Rename Request").
+use Rattle.std.specs.Prelude.{◌≡◌, ℕ, List, [], ◌∷◌, map}
+use Rattle.std.specs.Str.{chars}
+use Rattle.ls_text.specs.Lines.{utf16_len}
+use Rattle.ls_text.specs.Positions.{place_range}
+use Rattle.ls_text.specs.Edits.{replaced, position_offset}
+use Rattle.ls_text.specs.declared.position.Range.{Range}
+use Rattle.abnf_token.specs.Classes.{Text}
+use Rattle.abnf_syntax.specs.Blocks.{line_texts}
+use Rattle.abnf_parts.specs.Names.{Name}
+use Rattle.abnf_names.specs.Places.{places_of_name}
+use Rattle.abnf_names.specs.Rules.{Grammar, IsGrammar}
+use Rattle.abnf_rename.specs.Lines.{AreRenamedLines}
+use Rattle.abnf_rename.specs.Rules.{AreSameRules, KeepsNames}
+
+-- The text with these characters in the place of each range. Each is a range of the text as it was: the last is written first, so that
+-- the ranges before it stay where they are. The width of a character is a parameter, as for positions.
+abbrev pub with_ranges : (ℕ → ℕ) → List ℕ → List ℕ → List Range → List ℕ
+with_ranges width text new [] = text
+with_ranges width text new (r ∷ rs) =
+    replaced (with_ranges width text new rs) (position_offset width text r.start) (position_offset width text r.end) new
+
+-- the text with the new one in each of these ranges, whose positions count UTF-16 units
+abbrev pub text_renamed : List ℕ → Text → List Range → List ℕ
+text_renamed text new ranges = with_ranges utf16_len text (chars new) ranges
+
+-- the ranges of the places of a name, in the order of the text
+abbrev pub ranges_of : Grammar → Name → List Range
+ranges_of g name = map (λ named. place_range utf16_len g.text named.place) (places_of_name name g.places)
+
+-- What a rename of this name keeps, of the text after its edits.
+--
+-- Line by line, the tokens have the same kinds and texts, but that each place of the name has the new text; no line comes or goes. And
+-- each grammar of the text after the edits has the same rules but for that name, generates the same strings from each name, and leads to
+-- opaque parts from the same names, the old one as the new one.
+pub record KeepsTheGrammar (old : Name) (new : Text) (before : Grammar) (ranges : List Range) : Type 0 where
+  pub lines : AreRenamedLines old new (line_texts before.text) (line_texts (text_renamed before.text new ranges))
+  pub rules : (after : Grammar) → IsGrammar after → after.text ≡ text_renamed before.text new ranges → AreSameRules old new before after
+  pub names : (after : Grammar) → IsGrammar after → after.text ≡ text_renamed before.text new ranges → KeepsNames old new before after
