@@ -7,4 +7,5 @@ pub mod HoverTexts
 pub mod OneList
 pub mod WalkLaws
 pub mod RenameLaws
+pub mod RenameKept
 pub mod InsertionLaws

@@ -3,6 +3,7 @@ pub mod Places
 pub mod Hovers
 pub mod Asks
 pub mod Renames
+pub mod RenameKeeps
 pub mod Insertions
 pub mod SemanticTokens
 pub mod Walk

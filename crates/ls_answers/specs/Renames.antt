@@ -1,23 +1,18 @@
 -- What gives the name at a position another text (LSP 3.17, "Rename Request").
-use Rattle.std.specs.Prelude.{◌≡◌, ℕ, List, map, Bool, not, ◌&&◌, ◌||◌, Option, Some, None, if◌then◌else◌}
-use Rattle.std.specs.List.{list_any}
+use Rattle.std.specs.Prelude.{◌≡◌, ℕ, List, map, not, ◌&&◌, Option, Some, None, if◌then◌else◌}
 use Rattle.std.specs.Str.{bytes_eq}
 use Rattle.abnf_token.specs.Classes.{is_name}
 use Rattle.abnf_token.specs.Folded.{lowercase}
 use Rattle.ls_text.specs.declared.position.Position.{Position}
-use Rattle.abnf_parts.specs.Core.{is_core_name}
 use Rattle.abnf_parts.specs.Names.{Name}
 use Rattle.abnf_names.specs.Places.{Named, is_defined}
 use Rattle.abnf_names.specs.Rules.{Grammar, IsGrammar}
+use Rattle.abnf_rename.specs.Rules.{is_in_use}
 use Rattle.ls_answers.specs.Places.{name_at, name_range, places_alike}
 use Rattle.ls_answers.specs.declared.answer.Answer.{Answer}
 use Rattle.ls_answers.specs.declared.answer.Answer.TheVariants as answer
 use Rattle.ls_answers.specs.declared.answer.RenameFault.{RenameFault}
 use Rattle.ls_answers.specs.declared.answer.RenameFault.TheVariants.{NotAName, NothingToRename, NameInUse}
-
--- The name stands somewhere in the text, or is that of a core rule.
-abbrev pub is_in_use : Grammar → Name → Bool
-is_in_use g name = list_any (λ n. bytes_eq name (lowercase n.text)) g.places || is_core_name name
 
 -- Why the name isn't given this new text. It may be its own in another case, since names are compared without case (RFC 5234, section
 -- 2.1); another name must be new.

@@ -1,7 +1,8 @@
 //! Questions about a text, and what they give.
-ghost use Rattle.std.specs.Prelude.{◌≡◌, IfOk, MatchResult, None, Some};
+ghost use Rattle.std.specs.Prelude.{◌≡◌, IfOk, IfSome, MatchResult, None, Some};
 ghost use Rattle.std.specs.Arc.{arc_value};
 ghost use Rattle.ls_answers.specs.Answers.{IsAnswer};
+ghost use Rattle.ls_answers.specs.RenameKeeps.{KeepsIfRenamed};
 
 use crate::answer::Answer;
 use crate::ask::Ask;
@@ -72,11 +73,13 @@ impl Done {
         &self.ask
     }
 
-    /// The answer for the job's own text and ask, or that memory was refused.
+    /// The answer for the job's own text and ask, or that memory was refused. The edits of a rename keep the grammar of the text.
     pub fn answer(&self) -> Result<&Answer, Memory>
         ensures value { MatchResult result (λ a. self.now.answer ≡ Some a.now) (λ _. self.now.answer ≡ None) }
         ensures right { IfOk result (λ a. IsAnswer self.now.text self.now.ask a.now) }
+        ensures keeps { IfOk result (λ a. KeepsIfRenamed self.now.text self.now.ask a.now) }
     {
+        let _count = self.snapshot.char_count();
         match &self.answer {
             Ok(answer) => Ok(answer),
             Err(_) => Err(Memory),
@@ -126,16 +129,21 @@ fn answer_in(alloc: Global, grammar: &Grammar, ask: &Ask) -> Result<Answer, Memo
 }
 
 /// Answers the question of a job. A refusal of memory is kept in what it gives.
+///
+/// The edits of a rename that is granted keep the grammar of the text: line by line its tokens but at the places of the name, and its
+/// rules with what they generate.
 pub fn run(alloc: Global, job: Job) -> Done
     ensures ticket { result.ticket ≡ job.ticket }
     ensures text { result.text ≡ arc_value job.snapshot }
     ensures ask { result.ask ≡ job.ask }
+    ensures keeps { IfSome result.answer (λ answer. KeepsIfRenamed (arc_value job.snapshot) job.ask answer) }
 {
     let Job {
         ticket,
         snapshot,
         ask,
     } = job;
+    let _count = snapshot.char_count();
     let answer = answer_of(alloc, &snapshot, &ask);
     Done {
         ticket,

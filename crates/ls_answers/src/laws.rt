@@ -1,7 +1,9 @@
 //! Laws of answers.
-ghost use Rattle.std.specs.Prelude.{◌≡◌, ◌<◌, ◌^◌, List, ℕ, length};
+ghost use Rattle.std.specs.Prelude.{◌≡◌, ◌<◌, ◌^◌, All, List, ℕ, length};
+ghost use Rattle.std.specs.Char.{IsScalar};
 ghost use Rattle.ls_answers.specs.Answers.{IsAnswer, without_cert};
 ghost use Rattle.ls_answers.specs.Hover.{AtMostOneHoverText, HoverTextsExist};
+ghost use Rattle.ls_answers.specs.RenameKeeps.{KeepsIfRenamed};
 ghost use Rattle.ls_answers.specs.declared.answer.Answer.{Answer};
 ghost use Rattle.ls_answers.specs.declared.ask.Ask.{Ask};
 
@@ -14,6 +16,14 @@ pub fn answers_are_unique()
 /// Each question about a text of fewer than 2^62 characters has an answer.
 pub fn answers_exist()
     ensures { (text : List ℕ) (question : Ask) → length text < 2 ^ 62 → (a : Answer) × IsAnswer text question a }
+{}
+
+/// A rename that is granted keeps the grammar: the text after its edits has the tokens of the text but at the places of the name, and each
+/// grammar of it has the same rules but for that name, which generate the same strings. A text is made of Unicode scalar values, as every
+/// document is.
+pub fn renames_keep_the_grammar()
+    ensures { (text : List ℕ) (question : Ask) (answer : Answer) → All IsScalar text → IsAnswer text question answer
+        → KeepsIfRenamed text question answer }
 {}
 
 /// Of a rule, or of a name that stands for none, one text is shown at most, by whatever certificate.

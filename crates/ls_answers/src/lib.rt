@@ -4,6 +4,9 @@
 //! its own text and question, or that memory was refused. A question about a text has an answer ([`answers_exist`]), and at most
 //! one, but for the certificate beside an example ([`answers_are_unique`]).
 //!
+//! A rename that is granted keeps the grammar of its text: what [`run`] says of it, of the text after its edits, follows from the answer by
+//! a law ([`renames_keep_the_grammar`]).
+//!
 //! [`hover_text`] says in one or two lines what is known of the shortest strings of a rule.
 #![tactic(auto)]
 
@@ -24,4 +27,7 @@ pub use answer::{Answer, Diagnostic, HoverText, Insertion, RenameFault, Symbol};
 pub use ask::Ask;
 pub use hover::hover_text;
 pub use job::{Done, Job, run};
-pub use laws::{answers_are_unique, answers_exist, hover_texts_are_unique, hover_texts_exist};
+pub use laws::{
+    answers_are_unique, answers_exist, hover_texts_are_unique, hover_texts_exist,
+    renames_keep_the_grammar,
+};

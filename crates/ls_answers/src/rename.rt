@@ -4,6 +4,7 @@ ghost use Rattle.std.specs.List.{list_all, list_any};
 ghost use Rattle.std.specs.Str.{bytes_eq};
 ghost use Rattle.abnf_names.specs.Rules.{IsGrammar};
 ghost use Rattle.abnf_parts.specs.Names.{folded_text};
+ghost use Rattle.abnf_rename.specs.Rules as granting;
 ghost use Rattle.abnf_token.specs.Classes as classes;
 ghost use Rattle.abnf_token.specs.Folded.{lowercase};
 ghost use Rattle.ls_answers.specs.Renames as spec;
@@ -71,7 +72,7 @@ fn has_place(grammar: &Grammar, name: Folded) -> bool
 
 /// Whether a name stands somewhere in the text, or is that of a core rule.
 fn is_in_use(grammar: &Grammar, name: Folded) -> bool
-    ensures { result ≡ spec.is_in_use grammar.now (folded_text name.entry) }
+    ensures { result ≡ granting.is_in_use grammar.now (folded_text name.entry) }
 {
     has_place(grammar, name) || is_core_name(name)
 }

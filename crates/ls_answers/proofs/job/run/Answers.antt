@@ -1,0 +1,13 @@
+use Rattle.std.proofs.Common.{rules}
+use Rattle.std.specs.Prelude.{All, IfOk}
+use Rattle.std.specs.Arc.{arc_value}
+use Rattle.std.specs.Char.{IsScalar}
+use Rattle.ls_answers.specs.Answers.{IsAnswer}
+use Rattle.ls_answers.proofs.RenameKept.{result_keeps}
+use Rattle.ls_answers.proofs.job.run.Goals as goal
+
+pub returns-clause-keeps : goal.returns-clause-keeps
+returns-clause-keeps c =
+    let scalars : All IsScalar (arc_value c.args.job.snapshot) = search rules in
+    let right : IfOk c.answer_of-answer.result (λ answer. IsAnswer (arc_value c.args.job.snapshot) c.args.job.ask answer) = search rules in
+    result_keeps (arc_value c.args.job.snapshot) c.args.job.ask c.answer_of-answer.result scalars right
