@@ -13,6 +13,7 @@ import sys
 import tempfile
 
 import command_rows
+import random_texts
 import session_rows
 
 TOP = os.path.dirname(os.path.dirname(os.path.abspath(__file__)))
@@ -169,9 +170,17 @@ def file_cases(program, files):
         yield f"{arguments[0]} with an output that is full", full, (2, b"write failed\n", b"")
 
 
+def random_cases(program):
+    """Answers on random texts, beside a plain reading of these, and the tokens after a rename that is granted."""
+    session, wrong = random_texts.compared(program, 1, 800)
+    yield f"{len(session.wanted)} requests about 800 random texts", wrong, []
+    yield f"the tokens after {len(session.renames)} renames in random texts", session.renames.count(False), 0
+
+
 def all_cases(program):
     yield from cases(program)
     yield from session_cases(program)
+    yield from random_cases(program)
     with tempfile.TemporaryDirectory() as folder:
         files = Files(folder)
         for some in (example_cases, check_cases, file_cases):

@@ -3,10 +3,11 @@
 
     tools/random_texts.py [PROGRAM [SEED [COUNT]]]
 
-PROGRAM is out/abnf_ls, SEED 1 and COUNT 200 where they aren't given. For each text the tokens are asked for, and at random positions
+PROGRAM is out/abnf_ls, SEED 1 and COUNT 600 where they aren't given. For each text the tokens are asked for, and at random positions
 references, renames and code actions. The plain reading below knows tokens, blocks and places of names; what it doesn't know is which string
-is the shortest, so a code action is compared with the program's own hover. It ends nonzero where an answer differs. It isn't part of
-the gate.
+is the shortest, so a code action is compared with the program's own hover. At last the edits of a rename that is granted are made in the
+text: its tokens are the same but at the places of the name, and at each place the same is shown as before. It ends nonzero where an answer
+differs. The gate asks about 800 texts (tools/program_ends.py).
 """
 import json
 import os
@@ -71,6 +72,7 @@ class Reading:
 
     def __init__(self, text):
         self.lines = re.split("\r\n|\n|\r", text)
+        self.ends = re.findall("\r\n|\n|\r", text) + [""]
         self.tokens = [tokens_of(line) for line in self.lines]
         self.places = [place for block in self.blocks() for place in self.places_in(block)]
 
@@ -156,6 +158,25 @@ class Reading:
             return "name in use"
         return [self.range_of(it) for it in self.named(place.text)]
 
+    def start_of(self, place):
+        return place.line, units(self.lines[place.line][: place.start])
+
+    def with_name(self, old, new):
+        """The text with the new name at each place of the old one."""
+        lines = list(self.lines)
+        for place in reversed(self.named(old)):
+            line = lines[place.line]
+            lines[place.line] = line[: place.start] + new + line[place.end :]
+        return "".join(line + end for line, end in zip(lines, self.ends))
+
+    def pieces(self, old=None, new=None):
+        """The kind and the text of each token, line by line, with the new name at each place of the old one."""
+        starts = {(place.line, place.start) for place in (self.named(old) if old else [])}
+        return [
+            [(kind, new if (line, start) in starts else text) for kind, text, start in tokens]
+            for line, tokens in enumerate(self.tokens)
+        ]
+
     def head_line(self, position):
         """The line where the name at a position is first defined."""
         place = self.place_at(position)
@@ -177,6 +198,8 @@ class Session:
 
     def __init__(self, choose):
         self.choose, self.messages, self.wanted = choose, [], {}
+        # of each rename that was made, whether the plain reading finds the promised tokens after it
+        self.renames = []
         self.request("initialize", {"capabilities": {}}, lambda answers: answers[0])
 
     def request(self, method, params, want):
@@ -185,8 +208,8 @@ class Session:
         self.wanted[number] = want
         return number
 
-    def notice(self, method, document):
-        self.messages.append({"method": f"textDocument/{method}", "params": {"textDocument": document}})
+    def notice(self, method, document, **params):
+        self.messages.append({"method": f"textDocument/{method}", "params": {"textDocument": document, **params}})
 
     def position(self, reading):
         if reading.places and self.choose.random() < 0.8:
@@ -207,6 +230,7 @@ class Session:
             self.ask_references(uri, reading)
             self.ask_rename(uri, reading)
             self.ask_action(uri, reading)
+        self.rename_one(uri, reading)
         self.notice("didClose", {"uri": uri})
 
     def ask_references(self, uri, reading):
@@ -220,10 +244,31 @@ class Session:
         want = renamed if isinstance(renamed, str) else {"changes": {uri: [{"newText": new, "range": it} for it in renamed]}}
         self.ask(uri, "rename", want, position=as_json(at), newName=new)
 
+    def rename_one(self, uri, reading):
+        """Makes the edits of a rename that is granted, if there is one, and asks for what it keeps."""
+        named = [(place.text, new) for place in reading.places for new in NEW_NAMES if self.is_granted(reading, place, new)]
+        if not named:
+            return
+        old, new = self.choose.choice(named)
+        after = Reading(reading.with_name(old, new))
+        before = [self.hover(uri, reading.start_of(place)) for place in reading.places]
+        changes = [{"range": reading.range_of(place), "text": new} for place in reversed(reading.named(old))]
+        self.notice("didChange", {"uri": uri, "version": 2}, contentChanges=changes)
+        self.renames.append(after.pieces() == reading.pieces(old, new) and len(after.places) == len(reading.places))
+        self.ask(uri, "semanticTokens/full", {"data": after.numbers()})
+        for place, number in zip(after.places, before):
+            self.hover(uri, after.start_of(place), lambda answers, it=place, was=number: {**answers[was], "range": after.range_of(it)})
+
+    def is_granted(self, reading, place, new):
+        return isinstance(reading.rename(reading.start_of(place), new), list)
+
+    def hover(self, uri, at, want=None):
+        return self.request("textDocument/hover", {"textDocument": {"uri": uri}, "position": as_json(at)}, want)
+
     def ask_action(self, uri, reading):
         ends = [self.position(reading) for _ in range(2)]
         start = min(ends, key=lambda end: (reading.point(*end), end))
-        hover = self.request("textDocument/hover", {"textDocument": {"uri": uri}, "position": as_json(start)}, None)
+        hover = self.hover(uri, start)
         line = reading.head_line(start)
         params = {"textDocument": {"uri": uri}, "range": dict(zip(("start", "end"), map(as_json, ends)))}
         self.request("textDocument/codeAction", params, lambda answers: action(uri, line, answers[hover]))
@@ -261,18 +306,25 @@ def answers_of(program, messages):
     return answers
 
 
-def main(program=os.path.join(TOP, "out", "abnf_ls"), seed="1", count="200"):
-    choose = random.Random(int(seed))
-    session = Session(choose)
-    for number in range(int(count)):
-        text = "".join(choose.choices(FRAGMENTS, k=choose.choice((1, 3, 6, 10, 20, 40))))
+def compared(program, seed, count):
+    """The session on so many random texts, and the numbers of the requests in it that the program answers otherwise."""
+    session = Session(random.Random(seed))
+    for number in range(count):
+        text = "".join(session.choose.choices(FRAGMENTS, k=session.choose.choice((1, 3, 6, 10, 20, 40))))
         session.about(f"file:///{number}", text)
     answers = answers_of(program, session.messages)
     wrong = [number for number, want in session.wanted.items() if want and answers.get(number) != want(answers)]
     for number in wrong[:5]:
         print(f"request {number}: {answers.get(number)!r} in place of {session.wanted[number](answers)!r}")
+    return session, wrong
+
+
+def main(program=os.path.join(TOP, "out", "abnf_ls"), seed="1", count="600"):
+    session, wrong = compared(program, int(seed), int(count))
+    lost = session.renames.count(False)
     print(f"random_texts.py: {len(session.wanted)} requests about {count} texts, {len(wrong)} answered otherwise")
-    return 1 if wrong else 0
+    print(f"random_texts.py: {len(session.renames)} renames made, {lost} with other tokens than promised")
+    return 1 if wrong or lost else 0
 
 
 if __name__ == "__main__":
