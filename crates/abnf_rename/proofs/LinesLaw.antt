@@ -18,7 +18,7 @@ use Rattle.abnf_syntax.specs.Kinds.{is_item}
 use Rattle.abnf_syntax.specs.Blocks.{indent, is_content, base_indent, begins_at, NoneBegins, IsBlock, AreBlocks}
 use Rattle.abnf_syntax.specs.Items.{with_line_end, items_behind, items_of, AreTokens, AreItems, view}
 use Rattle.abnf_syntax.proofs.Sound.{and_both}
-use Rattle.abnf_rename.specs.Lines.{IsRenamedLine, AreRenamedLines}
+use Rattle.abnf_rename.specs.Lines.{IsRenamedLine, AreRenamedLines, HaveRenamedTokens}
 use Rattle.abnf_rename.proofs.ItemShapes.{Shape, shape, renamed_shapes, AreRenamedItems}
 
 -- ---- what a line begins with
@@ -120,13 +120,19 @@ module _ (old new : Text) (named : is_name new ≡ true) where
 
   -- ---- tokens of lines
 
-  pub pieces_kept : (at other : ℕ) (l m : Text) → IsRenamedLine old new l m → (ts us : List Token) → TokensOf at 0 l ts → TokensOf other 0 m us → map piece us ≡ renamed old new false (map piece ts)
+  pieces_kept : (at other : ℕ) (l m : Text) → IsRenamedLine old new l m → (ts us : List Token) → TokensOf at 0 l ts → TokensOf other 0 m us → map piece us ≡ renamed old new false (map piece ts)
   pieces_kept at other l m h ts us t u =
       let before = cut_tokens at 0 l ts t in
       let after = cut_tokens other 0 m us u in
       let same : map piece ts ≡ h.pieces = one_cut (map piece ts) h.pieces before.cut h.cut (sym before.is ∙ h.line_is) in
       one_cut (map piece us) (renamed old new false h.pieces) after.cut (line_kept old new h.pieces named h.cut) (sym after.is ∙ h.other_is)
       ∙ ap (renamed old new false) (sym same)
+
+  pub tokens_kept : (ls ms : List Text) → AreRenamedLines old new ls ms → HaveRenamedTokens old new ls ms
+  tokens_kept [] [] h = tt
+  tokens_kept [] (m ∷ ms) h = absurd h
+  tokens_kept (l ∷ ls) [] h = absurd h
+  tokens_kept (l ∷ ls) (m ∷ ms) h = (λ at there ts us t u. pieces_kept at there l m h.0 ts us t u, tokens_kept ls ms h.1)
 
   lines_kept : (ls ms : List Text) → AreRenamedLines old new ls ms → (at : ℕ) (tss uss : List (List Token)) → length uss ≡ length tss → AreTokens ls at tss → AreTokens ms at uss →
       map (map piece) uss ≡ map (λ ts. renamed old new false (map piece ts)) tss

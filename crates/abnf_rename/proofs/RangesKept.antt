@@ -22,6 +22,7 @@ use Rattle.abnf_rename.specs.Lines.{AreRenamedLines}
 use Rattle.abnf_rename.specs.Rules.{IsGranted, AreSameRules, KeepsNames}
 use Rattle.abnf_rename.specs.Text.{text_renamed, ranges_of, KeepsTheGrammar}
 use Rattle.abnf_rename.proofs.AllPlaces.{ArePieces, range, all_places}
+use Rattle.abnf_rename.proofs.LinesLaw.{tokens_kept}
 use Rattle.abnf_rename.proofs.NameTexts.{name_utf8, name_solid, name_plain}
 use Rattle.abnf_rename.proofs.NamesKept.{both_kept}
 use Rattle.abnf_rename.proofs.PieceRows.{Cut, row_cuts, are_pieces, solid_rows}
@@ -122,4 +123,9 @@ grammar_kept old new g right s granted =
     let both : (after : Grammar) → IsGrammar after → after.text ≡ text_renamed g.text new (ranges_of g old) → AreSameRules old new g after × KeepsNames old new g after =
     λ after is of_text. both_kept old new g after right is granted (subst (λ t. AreRenamedLines old new (line_texts g.text) (line_texts t)) (sym of_text) lines)
     in
-    record { lines = lines; rules = λ after is of_text. (both after is of_text).0; names = λ after is of_text. (both after is of_text).1 }
+    record {
+      lines = lines;
+      tokens = tokens_kept old new granted.named (line_texts g.text) (line_texts (text_renamed g.text new (ranges_of g old))) lines;
+      rules = λ after is of_text. (both after is of_text).0;
+      names = λ after is of_text. (both after is of_text).1;
+    }

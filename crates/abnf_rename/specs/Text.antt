@@ -10,7 +10,7 @@ use Rattle.abnf_syntax.specs.Blocks.{line_texts}
 use Rattle.abnf_parts.specs.Names.{Name}
 use Rattle.abnf_names.specs.Places.{places_of_name}
 use Rattle.abnf_names.specs.Rules.{Grammar, IsGrammar}
-use Rattle.abnf_rename.specs.Lines.{AreRenamedLines}
+use Rattle.abnf_rename.specs.Lines.{AreRenamedLines, HaveRenamedTokens}
 use Rattle.abnf_rename.specs.Rules.{AreSameRules, KeepsNames}
 
 -- The text with these characters in the place of each range. Each is a range of the text as it was: the last is written first, so that
@@ -30,10 +30,11 @@ ranges_of g name = map (λ named. place_range utf16_len g.text named.place) (pla
 
 -- What a rename of this name keeps, of the text after its edits.
 --
--- Line by line, the tokens have the same kinds and texts, but that each place of the name has the new text; no line comes or goes. And
--- each grammar of the text after the edits has the same rules but for that name, generates the same strings from each name, and leads to
+-- The lines are the renamed lines. Line by line, the tokens have the same kinds and texts, but that each place of the name has the new
+-- text; no line comes or goes. And each grammar of the text after the edits has the same rules but for that name, generates the same strings from each name, and leads to
 -- opaque parts from the same names, the old one as the new one.
 pub record KeepsTheGrammar (old : Name) (new : Text) (before : Grammar) (ranges : List Range) : Type 0 where
   pub lines : AreRenamedLines old new (line_texts before.text) (line_texts (text_renamed before.text new ranges))
+  pub tokens : HaveRenamedTokens old new (line_texts before.text) (line_texts (text_renamed before.text new ranges))
   pub rules : (after : Grammar) → IsGrammar after → after.text ≡ text_renamed before.text new ranges → AreSameRules old new before after
   pub names : (after : Grammar) → IsGrammar after → after.text ≡ text_renamed before.text new ranges → KeepsNames old new before after
