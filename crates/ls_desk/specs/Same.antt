@@ -1,0 +1,34 @@
+-- Equality of ids and of questions, as tests.
+use Rattle.std.specs.Prelude.{Bool, true, false, ◌==◌, ◌&&◌, bytes_eq}
+use Rattle.std.specs.Bool.{beq}
+use Rattle.std.specs.Ordering.{int_eq}
+use Rattle.ls_rpc.specs.declared.message.Id.{Id}
+use Rattle.ls_rpc.specs.declared.message.Id.TheVariants as id
+use Rattle.ls_text.specs.declared.position.Position.{Position}
+use Rattle.ls_text.specs.declared.position.Range.{Range}
+use Rattle.ls_answers.specs.declared.ask.Ask.{Ask}
+use Rattle.ls_answers.specs.declared.ask.Ask.TheVariants.{Hover, Definition, References, Symbols, Rename, Action, Tokens, Diagnose}
+
+-- a number and a text are never the same id
+abbrev pub id_eq : Id → Id → Bool
+id_eq (id.Number a) (id.Number b) = int_eq a b
+id_eq (id.Text a) (id.Text b) = bytes_eq a b
+id_eq (id.Number a) (id.Text b) = false
+id_eq (id.Text a) (id.Number b) = false
+
+abbrev pub position_eq : Position → Position → Bool
+position_eq a b = (a.line == b.line) && (a.character == b.character)
+
+abbrev pub range_eq : Range → Range → Bool
+range_eq a b = position_eq a.start b.start && position_eq a.end b.end
+
+abbrev pub ask_eq : Ask → Ask → Bool
+ask_eq (Hover a) (Hover b) = position_eq a b
+ask_eq (Definition a) (Definition b) = position_eq a b
+ask_eq (References a x) (References b y) = position_eq a b && beq x y
+ask_eq Symbols Symbols = true
+ask_eq (Rename a n) (Rename b m) = position_eq a b && bytes_eq n m
+ask_eq (Action a) (Action b) = range_eq a b
+ask_eq Tokens Tokens = true
+ask_eq Diagnose Diagnose = true
+ask_eq _ _ = false

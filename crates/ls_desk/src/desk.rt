@@ -1,0 +1,506 @@
+//! The desk and its calls.
+//!
+//! Each call has three steps: it makes all that needs memory and finds its refusal, it makes room, and it writes what changes, where nothing
+//! can fail any more.
+ghost use Rattle.std.specs.Prelude.{◌≢◌, is_some, slice_get, false, is_none, find, position, ◌≡◌, ◌+◌, ◌<◌, ◌≤◌, ◌⊎◌, IfOk, IfErr, OnOk, IfSome, IfNone, Some, None, [], length, true};
+ghost use Rattle.std.specs.Option.{option_map};
+ghost use Rattle.std.specs.Str.{chars};
+ghost use Rattle.ls_text.specs.Edits.{is_too_large};
+ghost use Rattle.ls_desk.specs.Machine.{is_open, document_of, edited_at, is_held, is_queued, left_at, asked, asks_with, requests, id_waits, told_at, request_cancelled, waits};
+ghost use Rattle.ls_desk.specs.Stands.{Sends, IsSound, StandsAt, failures, state_of};
+ghost use Rattle.ls_desk.specs.Faults.{Accepts, open_fault, Refuses, end_fault, is_full, finish_fault, request_fault, take_fault, give_back_fault, cancel_fault, full_fault, is_for, kept_of, IsJobOf, Takes};
+ghost use Rattle.ls_desk.specs.Puts.{next_of};
+
+use crate::event::{DeskFault, Event, Kept, Out};
+use crate::find;
+use crate::outs::{
+    Next, Opening, ask, asked, cancel, cancel_none, change, changed_text, close, failures, finish,
+    give_back, has_failed, job_of, next_text, open, remove_at, say, shared_text, take, ticket_of,
+};
+use crate::room::{put_replies, room_for_event, room_for_reply, room_for_text};
+use crate::state::{Document, Waiting};
+use ls_answers::{Ask, Done, Job};
+use ls_lists::{List, Text};
+use ls_rpc::Id;
+use ls_text::{Edit, MAX_BYTES};
+use std::alloc::Global;
+use std::collections::VecDeque;
+use std::marker::Model;
+
+// The most documents that are open at once.
+const MOST_DOCUMENTS: usize = 256;
+
+// The most requests that wait at once.
+const MOST_REQUESTS: usize = 1_024;
+
+/// The open documents, the waiting jobs, the unsent replies and the journal of a session.
+///
+/// Contracts see its journal, its unsent replies and its limit. Its state is the replay of its journal.
+#[derive(Drop)]
+pub struct Desk {
+    alloc: Global,
+    documents: Vec<Document>,
+    waiting: Vec<Waiting>,
+    next_version: u64,
+    next_ticket: u64,
+    outbox: VecDeque<Out>,
+    journal: Vec<Event>,
+    max_events: usize,
+}
+
+impl Model for Desk {
+    ghost use Rattle.std.specs.Prelude.{vec_capacity};
+    ghost use Rattle.ls_desk.specs.Stands.{Seen};
+    ghost use Rattle.ls_desk.specs.Kept.{IsKept};
+
+    ghost Value = { Seen };
+
+    ghost view = { λ d. record { journal = d.journal.items; outbox = d.outbox.items; max_events = d.max_events } };
+
+    ghost invariant = { λ d. IsKept d.documents.items d.waiting.items d.next_version d.next_ticket d.outbox.items d.journal.items d.max_events (vec_capacity d.journal) };
+}
+
+impl Desk {
+    /// A desk on which nothing has happened. Takes no memory.
+    pub fn new(alloc: Global, max_events: usize) -> Desk
+        requires { (0 < max_events) × (max_events ≤ 1000000) }
+        ensures { result ≡ record { journal = []; outbox = []; max_events = max_events } }
+    {
+        Desk {
+            alloc,
+            documents: Vec::new(alloc),
+            waiting: Vec::new(alloc),
+            next_version: 1,
+            next_ticket: 1,
+            outbox: VecDeque::new(alloc),
+            journal: Vec::new(alloc),
+            max_events,
+        }
+    }
+
+    /// All that happened here. It is legal, and the outbox stands for the unsent entries of the state that it leads to.
+    pub fn journal(&self) -> &[Event]
+        ensures value { result.now ≡ self.now.journal }
+        ensures sound { IsSound self.now }
+    {
+        self.journal.as_slice()
+    }
+
+    /// How many replies wait to be sent.
+    pub fn unsent(&self) -> usize
+        ensures { result ≡ length self.now.outbox }
+    {
+        self.outbox.len()
+    }
+
+    // There is no room for an event and these replies.
+    fn is_full(&self, replies: usize) -> bool
+        ensures full { result ≡ is_full self.now (1 + replies) }
+        ensures room { result ≡ false → length self.now.journal + length self.now.outbox + (1 + replies) ≤ self.now.max_events }
+    {
+        self.max_events - (self.journal.len() + self.outbox.len()) <= replies
+    }
+
+    // What the end of a document's text tells, or the refusal that comes first.
+    #[tactic(auto, using(crate::proofs::Rules::desk_rules))]
+    fn ends(&self, uri: &Text) -> Result<VecDeque<Out>, DeskFault>
+        ensures replies { IfOk result (λ replies. replies.items ≡ failures uri.now (state_of self.now).waiting) }
+        ensures none { OnOk result (end_fault self.now uri.now ≡ None) }
+        ensures open { OnOk result (is_open uri.now (state_of self.now).documents ≡ true) }
+        ensures room { IfOk result (λ replies. length self.now.journal + length self.now.outbox + (1 + length replies.items) ≤ self.now.max_events) }
+        ensures err { IfErr result (λ fault. (fault ≡ DeskFault.Memory) ⊎ (end_fault self.now uri.now ≡ Some fault)) }
+    {
+        if find::document_of(self.documents.as_slice(), uri).is_none() {
+            return Err(DeskFault::NotOpen);
+        }
+        let replies = failures(self.alloc, uri, self.waiting.as_slice())?;
+        if self.is_full(replies.len()) {
+            return Err(DeskFault::SessionFull);
+        }
+        Ok(replies)
+    }
+
+    // The text of a document after edits.
+    fn changed(&self, uri: &Text, label: i64, edits: &[Edit]) -> Result<Option<Next>, DeskFault>
+        ensures next { IfOk result (λ next. next ≡ next_of (state_of self.now).next_version (state_of self.now).next_ticket uri.now label (edited_at (document_of uri.now (state_of self.now).documents) edits.now)) }
+        ensures err { IfErr result (λ fault. fault ≡ DeskFault.Memory) }
+    {
+        let next = changed_text(
+            self.alloc,
+            self.documents.as_slice(),
+            uri,
+            label,
+            edits,
+            self.next_version,
+            self.next_ticket,
+        )?;
+        Ok(next)
+    }
+
+    /// Changes a document by edits, each on the text that the ones before it left. `None`: one of these texts would be too
+    /// large, and the document is closed.
+    pub fn did_change(
+        &mut self,
+        uri: Text,
+        label: i64,
+        edits: List<Edit>,
+    ) -> Result<Option<u64>, DeskFault>
+        ensures ok { IfOk result (λ version. Accepts (end_fault self.old uri) self.old self.new (Event.Changed uri label edits version)) }
+        ensures err { IfErr result (λ fault. Refuses (end_fault self.old uri) self.old self.new fault) }
+    {
+        let replies = self.ends(&uri)?;
+        let next = self.changed(&uri, label, edits.as_slice())?;
+        put_replies(
+            &mut self.documents,
+            &mut self.waiting,
+            &mut self.journal,
+            &mut self.outbox,
+            replies,
+        )?;
+        let version = change(
+            &mut self.documents,
+            &mut self.waiting,
+            &mut self.next_version,
+            &mut self.next_ticket,
+            &mut self.journal,
+            uri,
+            label,
+            edits,
+            next,
+        );
+        Ok(version)
+    }
+
+    /// Closes a document.
+    pub fn did_close(&mut self, uri: Text) -> Result<(), DeskFault>
+        ensures ok { OnOk result (Accepts (end_fault self.old uri) self.old self.new (Event.Closed uri)) }
+        ensures err { IfErr result (λ fault. Refuses (end_fault self.old uri) self.old self.new fault) }
+    {
+        let replies = self.ends(&uri)?;
+        put_replies(
+            &mut self.documents,
+            &mut self.waiting,
+            &mut self.journal,
+            &mut self.outbox,
+            replies,
+        )?;
+        close(
+            &mut self.documents,
+            &mut self.waiting,
+            &mut self.journal,
+            uri,
+        );
+        Ok(())
+    }
+
+    // Where the job stands that was run there, or the refusal that comes first.
+    fn check_finish(&self, done: &Done, failed: bool) -> Result<usize, DeskFault>
+        requires { failed ≡ is_none done.now.answer }
+        ensures none { OnOk result (finish_fault self.now done.now ≡ None) }
+        ensures at { IfOk result (λ at. position (is_held done.now.ticket) (state_of self.now).waiting ≡ Some at) }
+        ensures within { IfOk result (λ at. at < length (state_of self.now).waiting) }
+        ensures job { OnOk result (is_for (find (is_held done.now.ticket) (state_of self.now).waiting) done.now ≡ true) }
+        ensures room { OnOk result (length self.now.journal + length self.now.outbox
+            + (1 + length (left_at (is_none done.now.answer) (find (is_held done.now.ticket) (state_of self.now).waiting))) ≤ self.now.max_events) }
+        ensures err { IfErr result (λ fault. finish_fault self.now done.now ≡ Some fault) }
+    {
+        let Some((at, job)) = find::held(self.waiting.as_slice(), done.ticket()) else {
+            return Err(DeskFault::UnknownTicket);
+        };
+        if !find::is_for(job, done) {
+            return Err(DeskFault::OtherText);
+        }
+        if self.is_full(find::replies_of(failed, job)) {
+            return Err(DeskFault::SessionFull);
+        }
+        Ok(at)
+    }
+
+    /// Takes back a job that has run. Its answer is kept for sending; where memory was refused in it, a failure is, or nothing
+    /// for a diagnosis. A refusal hands the run back.
+    pub fn finish(&mut self, done: Done) -> Result<Kept, (DeskFault, Done)>
+        ensures ok { IfOk result (λ kept. Accepts (finish_fault self.old done) self.old self.new (Event.Finished done.ticket (is_none done.answer)) × (kept ≡ kept_of self.old done)) }
+        ensures err { IfErr result (λ e. Refuses (finish_fault self.old done) self.old self.new e.0 × (e.1 ≡ done)) }
+    {
+        let failed = has_failed(&done);
+        let at = match self.check_finish(&done, failed) {
+            Ok(at) => at,
+            Err(fault) => return Err((fault, done)),
+        };
+        match room_for_reply(&mut self.journal, &mut self.outbox) {
+            Ok(()) => {}
+            Err(_) => return Err((DeskFault::Memory, done)),
+        }
+        let job = remove_at(&mut self.waiting, at);
+        let kept = finish(&mut self.outbox, &mut self.journal, job, done, failed);
+        Ok(kept)
+    }
+
+    // The job that a request makes, or the refusal that comes first.
+    fn asked(&self, id: &Id, uri: &Text, question: &Ask, links: bool) -> Result<Waiting, DeskFault>
+        ensures job { IfOk result (λ job. option_map (asked (state_of self.now).next_ticket id.now question.now links) (document_of uri.now (state_of self.now).documents) ≡ Some job) }
+        ensures none { OnOk result (request_fault self.now id.now uri.now ≡ None) }
+        ensures possible { OnOk result ((requests (state_of self.now).waiting < 1024) × (id_waits id.now (state_of self.now).waiting ≡ false)) }
+        ensures room { OnOk result (length self.now.journal + length self.now.outbox + 1 ≤ self.now.max_events) }
+        ensures err { IfErr result (λ fault. (fault ≡ DeskFault.Memory) ⊎ (request_fault self.now id.now uri.now ≡ Some fault)) }
+    {
+        let Some(document) = find::document_of(self.documents.as_slice(), uri) else {
+            return Err(DeskFault::NotOpen);
+        };
+        if find::requests(self.waiting.as_slice()) >= MOST_REQUESTS {
+            return Err(DeskFault::TooManyWaiting);
+        }
+        if find::asked(self.waiting.as_slice(), id).is_some() {
+            return Err(DeskFault::IdInUse);
+        }
+        if self.is_full(0) {
+            return Err(DeskFault::SessionFull);
+        }
+        Ok(asked(document, self.next_ticket, id, question, links)?)
+    }
+
+    /// A request about a document waits from now on.
+    pub fn request(
+        &mut self,
+        id: Id,
+        uri: Text,
+        question: Ask,
+        links: bool,
+    ) -> Result<u64, DeskFault>
+        requires { question ≢ Ask.Diagnose }
+        ensures ok { IfOk result (λ ticket. Accepts (request_fault self.old id uri) self.old self.new (Event.Asked id uri question links ticket)) }
+        ensures err { IfErr result (λ fault. Refuses (request_fault self.old id uri) self.old self.new fault) }
+    {
+        let job = self.asked(&id, &uri, &question, links)?;
+        room_for_text(
+            &mut self.documents,
+            &mut self.waiting,
+            &mut self.journal,
+            self.outbox.len(),
+        )?;
+        let ticket = ask(
+            &mut self.waiting,
+            &mut self.next_ticket,
+            &mut self.journal,
+            id,
+            uri,
+            question,
+            links,
+            job,
+        );
+        Ok(ticket)
+    }
+
+    // The first queued job and where it stands, or the refusal that comes first.
+    fn next_job(&self) -> Result<Option<(usize, Job)>, DeskFault>
+        ensures none { IfOk result (λ next. IfNone next (find is_queued (state_of self.now).waiting ≡ None)) }
+        ensures free { OnOk result (take_fault self.now ≡ None) }
+        ensures at { IfOk result (λ next. IfSome next (λ n. position is_queued (state_of self.now).waiting ≡ Some n.0)) }
+        ensures within { IfOk result (λ next. IfSome next (λ n. n.0 < length (state_of self.now).waiting)) }
+        ensures job { IfOk result (λ next. IfSome next (λ n. IfSome (find is_queued (state_of self.now).waiting) (λ w. IsJobOf w n.1))) }
+        ensures room { IfOk result (λ next. IfSome next (λ _. length self.now.journal + length self.now.outbox + 1 ≤ self.now.max_events)) }
+        ensures err { IfErr result (λ fault. (fault ≡ DeskFault.Memory) ⊎ (take_fault self.now ≡ Some fault)) }
+    {
+        let Some((at, job)) = find::queued(self.waiting.as_slice()) else {
+            return Ok(None);
+        };
+        if self.is_full(0) {
+            return Err(DeskFault::SessionFull);
+        }
+        Ok(Some((at, job_of(job)?)))
+    }
+
+    /// Hands out the queued job with the least ticket.
+    pub fn take(&mut self, worker: u32) -> Result<Option<Job>, DeskFault>
+        ensures ok { IfOk result (λ job. Takes worker self.old self.new job) }
+        ensures err { IfErr result (λ fault. Refuses (take_fault self.old) self.old self.new fault) }
+    {
+        let Some((at, job)) = self.next_job()? else {
+            return Ok(None);
+        };
+        room_for_event(&mut self.journal, self.outbox.len())?;
+        take(&mut self.waiting, &mut self.journal, at, worker);
+        Ok(Some(job))
+    }
+
+    // Where the taken job with a ticket stands, or the refusal that comes first.
+    fn held(&self, ticket: u64) -> Result<usize, DeskFault>
+        ensures at { IfOk result (λ at. position (is_held ticket) (state_of self.now).waiting ≡ Some at) }
+        ensures none { OnOk result (give_back_fault self.now ticket ≡ None) }
+        ensures within { IfOk result (λ at. at < length (state_of self.now).waiting) }
+        ensures there { OnOk result (is_some (find (is_held ticket) (state_of self.now).waiting) ≡ true) }
+        ensures room { OnOk result (length self.now.journal + length self.now.outbox + 1 ≤ self.now.max_events) }
+        ensures err { IfErr result (λ fault. give_back_fault self.now ticket ≡ Some fault) }
+    {
+        let Some((at, _)) = find::held(self.waiting.as_slice(), ticket) else {
+            return Err(DeskFault::UnknownTicket);
+        };
+        if self.is_full(0) {
+            return Err(DeskFault::SessionFull);
+        }
+        Ok(at)
+    }
+
+    /// Takes back a job that wasn't run. It is queued again.
+    pub fn give_back(&mut self, ticket: u64) -> Result<(), DeskFault>
+        ensures ok { OnOk result (Accepts (give_back_fault self.old ticket) self.old self.new (Event.Returned ticket)) }
+        ensures err { IfErr result (λ fault. Refuses (give_back_fault self.old ticket) self.old self.new fault) }
+    {
+        let at = self.held(ticket)?;
+        room_for_event(&mut self.journal, self.outbox.len())?;
+        give_back(&mut self.waiting, &mut self.journal, at, ticket);
+        Ok(())
+    }
+
+    // Where the request with an id stands, or the refusal that comes first.
+    fn waiting_at(&self, id: &Id) -> Result<Option<usize>, DeskFault>
+        ensures none { IfOk result (λ at. IfNone at (find (asks_with id.now) (state_of self.now).waiting ≡ None)) }
+        ensures free { OnOk result (cancel_fault self.now id.now ≡ None) }
+        ensures at { IfOk result (λ at. IfSome at (λ i. position (asks_with id.now) (state_of self.now).waiting ≡ Some i)) }
+        ensures within { IfOk result (λ at. IfSome at (λ i. i < length (state_of self.now).waiting)) }
+        ensures room { OnOk result (length self.now.journal + length self.now.outbox
+            + (1 + length (told_at request_cancelled (find (asks_with id.now) (state_of self.now).waiting))) ≤ self.now.max_events) }
+        ensures err { IfErr result (λ fault. cancel_fault self.now id.now ≡ Some fault) }
+    {
+        match find::asked(self.waiting.as_slice(), id) {
+            Some((at, job)) => {
+                if self.is_full(find::replies_of(true, job)) {
+                    return Err(DeskFault::SessionFull);
+                }
+                Ok(Some(at))
+            }
+            None => {
+                if self.is_full(0) {
+                    return Err(DeskFault::SessionFull);
+                }
+                Ok(None)
+            }
+        }
+    }
+
+    /// Cancels the request with an id, if it waits. Its client is told so.
+    pub fn cancel(&mut self, id: &Id) -> Result<bool, DeskFault>
+        ensures ok { IfOk result (λ found. Accepts (cancel_fault self.old id.now) self.old self.new (Event.Cancelled id.now found)) }
+        ensures err { IfErr result (λ fault. Refuses (cancel_fault self.old id.now) self.old self.new fault) }
+    {
+        let at = self.waiting_at(id)?;
+        let id = id.copy()?;
+        match at {
+            Some(at) => {
+                room_for_reply(&mut self.journal, &mut self.outbox)?;
+                let job = remove_at(&mut self.waiting, at);
+                cancel(&mut self.outbox, &mut self.journal, id, job);
+                Ok(true)
+            }
+            None => {
+                room_for_event(&mut self.journal, self.outbox.len())?;
+                cancel_none(&mut self.journal, id);
+                Ok(false)
+            }
+        }
+    }
+
+    // A copy of a body that is to be said, or the refusal that comes first.
+    fn copied(&self, body: &List<u8>) -> Result<List<u8>, DeskFault>
+        ensures copy { IfOk result (λ copy. copy ≡ body.now) }
+        ensures none { OnOk result (full_fault self.now 2 ≡ None) }
+        ensures room { OnOk result (length self.now.journal + length self.now.outbox + 2 ≤ self.now.max_events) }
+        ensures err { IfErr result (λ fault. (fault ≡ DeskFault.Memory) ⊎ (full_fault self.now 2 ≡ Some fault)) }
+    {
+        if self.is_full(1) {
+            return Err(DeskFault::SessionFull);
+        }
+        Ok(body.copy()?)
+    }
+
+    /// Says a body.
+    pub fn say(&mut self, body: List<u8>) -> Result<(), DeskFault>
+        ensures ok { OnOk result (Accepts (full_fault self.old 2) self.old self.new (Event.Said body)) }
+        ensures err { IfErr result (λ fault. Refuses (full_fault self.old 2) self.old self.new fault) }
+    {
+        let copy = self.copied(&body)?;
+        room_for_reply(&mut self.journal, &mut self.outbox)?;
+        say(&mut self.outbox, &mut self.journal, body, copy);
+        Ok(())
+    }
+
+    /// Whether a ticket waits, queued or taken.
+    pub fn wanted(&self, ticket: u64) -> bool
+        ensures { result ≡ waits ticket (state_of self.now).waiting }
+    {
+        find::waits(self.waiting.as_slice(), ticket)
+    }
+
+    /// The reply with this number, from 0 for the oldest, of those that wait to be sent. It is what the unsent entry with that number stands
+    /// for: an answer is right for the text and the question of its job.
+    pub fn out_at(&self, at: usize) -> Option<&Out>
+        ensures value { option_map (λ out. out.now) result ≡ slice_get self.now.outbox at }
+        ensures stands { IfSome result (λ out. StandsAt self.now at out.now) }
+        ensures sound { IsSound self.now }
+    {
+        self.outbox.get(at)
+    }
+
+    // What opening a document puts down, or the refusal that comes first.
+    fn opening(&self, uri: &Text, label: i64, text: Text) -> Result<Opening, DeskFault>
+        ensures text { IfOk result (λ opening. opening.text ≡ chars text) }
+        ensures none { OnOk result (open_fault self.now uri.now text ≡ None) }
+        ensures fits { IfOk result (λ opening. is_too_large opening.text ≡ false) }
+        ensures next { IfOk result (λ opening. Some opening.next ≡ next_of (state_of self.now).next_version (state_of self.now).next_ticket uri.now label (Some opening.text)) }
+        ensures possible { OnOk result ((is_open uri.now (state_of self.now).documents ≡ false) × (length (state_of self.now).documents < 256)) }
+        ensures room { OnOk result (length self.now.journal + length self.now.outbox + 1 ≤ self.now.max_events) }
+        ensures err { IfErr result (λ fault. (fault ≡ DeskFault.Memory) ⊎ (open_fault self.now uri.now text ≡ Some fault)) }
+    {
+        if find::document_of(self.documents.as_slice(), uri).is_some() {
+            return Err(DeskFault::AlreadyOpen);
+        }
+        if self.documents.len() >= MOST_DOCUMENTS {
+            return Err(DeskFault::TooManyDocuments);
+        }
+        if text.len() > MAX_BYTES {
+            return Err(DeskFault::TooLarge);
+        }
+        if self.is_full(0) {
+            return Err(DeskFault::SessionFull);
+        }
+        let text = shared_text(self.alloc, text)?;
+        let next = next_text(uri, label, &text, self.next_version, self.next_ticket)?;
+        Ok(Opening { text, next })
+    }
+
+    /// Opens a document.
+    pub fn did_open(&mut self, uri: Text, label: i64, text: Text) -> Result<u64, DeskFault>
+        ensures ok { IfOk result (λ version. Accepts (open_fault self.old uri text) self.old self.new (Event.Opened uri label (chars text) version)) }
+        ensures err { IfErr result (λ fault. Refuses (open_fault self.old uri text) self.old self.new fault) }
+    {
+        let opening = self.opening(&uri, label, text)?;
+        room_for_text(
+            &mut self.documents,
+            &mut self.waiting,
+            &mut self.journal,
+            self.outbox.len(),
+        )?;
+        let version = open(
+            &mut self.documents,
+            &mut self.waiting,
+            &mut self.next_version,
+            &mut self.next_ticket,
+            &mut self.journal,
+            uri,
+            label,
+            opening,
+        );
+        Ok(version)
+    }
+
+    /// The oldest reply, which leaves the outbox. It is what the first unsent entry stands for. Takes no memory.
+    pub fn next_out(&mut self) -> Option<Out>
+        ensures some { IfSome result (λ out. Sends self.old self.new out) }
+        ensures none { IfNone result ((self.old.outbox ≡ []) × (self.new ≡ self.old)) }
+    {
+        let out = self.outbox.pop_front()?;
+        let ticket = ticket_of(&out);
+        self.journal.push_reserved(Event::Sent { ticket });
+        Some(out)
+    }
+}

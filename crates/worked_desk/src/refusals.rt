@@ -1,0 +1,139 @@
+//! Runs that are refused come back.
+
+use super::steps::{START, change, close, comes_back, open, opened, symbols, take};
+use ls_answers::{Ask, Done, Job, run};
+use ls_desk::{Desk, DeskFault, Kept, SharedSnapshot};
+use ls_text::{Snapshot, TextFault};
+use std::alloc::Global;
+use std::test::Fail;
+
+// A run with a ticket, of a text and a question of its own.
+fn done(alloc: Global, ticket: u64, text: &str, ask: Ask) -> Result<Done, DeskFault> {
+    let text = String::from_str(alloc, text)?;
+    let snapshot = match Snapshot::of_text(alloc, text) {
+        Ok(snapshot) => SharedSnapshot::new(alloc, snapshot)?.arc()?,
+        Err(TextFault::TooLarge) => return Err(DeskFault::TooLarge),
+        Err(TextFault::Memory) => return Err(DeskFault::Memory),
+    };
+    Ok(run(
+        alloc,
+        Job {
+            ticket,
+            snapshot,
+            ask,
+        },
+    ))
+}
+
+// Whether a run of the first ticket after the findings is refused for this.
+fn is_refused(
+    desk: &mut Desk,
+    alloc: Global,
+    text: &str,
+    ask: Ask,
+    want: DeskFault,
+) -> Result<bool, DeskFault> {
+    let other = done(alloc, 2, text, ask)?;
+    Ok(comes_back(desk, other, want))
+}
+
+// An outline is asked for and taken.
+fn outlined(desk: &mut Desk, alloc: Global) -> Result<bool, DeskFault> {
+    let begun = opened(desk, alloc)? && symbols(desk, alloc, 2)? == 2;
+    let job = take(desk)?;
+    Ok(begun && job.ticket == 2)
+}
+
+#[test]
+fn of_another_text_or_question(rt: HostRuntime) -> Result<(), Fail> {
+    let alloc = rt.alloc();
+    let fault = DeskFault::OtherText;
+    let mut desk = Desk::new(alloc, 1_000_000);
+    let begun = outlined(&mut desk, alloc);
+    let text = is_refused(&mut desk, alloc, "a = \"y\"", Ask::Symbols, fault);
+    let question = is_refused(&mut desk, alloc, "a = \"x\"", Ask::Hover(START), fault);
+    drop(desk);
+    assert!(rt; begun? && text? && question?);
+    Ok(())
+}
+
+// A ticket that is queued and not taken, and one that was never given.
+fn refuses_tickets(desk: &mut Desk, alloc: Global) -> Result<bool, DeskFault> {
+    let begun = opened(desk, alloc)? && symbols(desk, alloc, 2)? == 2;
+    let queued = done(alloc, 2, "a = \"x\"", Ask::Symbols)?;
+    let refused = comes_back(desk, queued, DeskFault::UnknownTicket);
+    let never = done(alloc, 9, "a = \"x\"", Ask::Symbols)?;
+    Ok(begun && refused && comes_back(desk, never, DeskFault::UnknownTicket))
+}
+
+#[test]
+fn of_another_ticket(rt: HostRuntime) -> Result<(), Fail> {
+    let mut desk = Desk::new(rt.alloc(), 1_000_000);
+    let refused = refuses_tickets(&mut desk, rt.alloc());
+    drop(desk);
+    assert!(rt; refused?);
+    Ok(())
+}
+
+// A run of a text of its own with the same characters is taken, once.
+fn takes_one_run(desk: &mut Desk, alloc: Global) -> Result<bool, DeskFault> {
+    let begun = outlined(desk, alloc)?;
+    let first = done(alloc, 2, "a = \"x\"", Ask::Symbols)?;
+    let kept = matches!(desk.finish(first), Ok(Kept::Reply));
+    let again = is_refused(
+        desk,
+        alloc,
+        "a = \"x\"",
+        Ask::Symbols,
+        DeskFault::UnknownTicket,
+    )?;
+    Ok(begun && kept && again)
+}
+
+#[test]
+fn of_a_second_run(rt: HostRuntime) -> Result<(), Fail> {
+    let mut desk = Desk::new(rt.alloc(), 1_000_000);
+    let one = takes_one_run(&mut desk, rt.alloc());
+    drop(desk);
+    assert!(rt; one?);
+    Ok(())
+}
+
+// Three events fill it: an open, a request, a take. The findings of the open are what is taken.
+fn is_full(desk: &mut Desk, alloc: Global) -> Result<bool, DeskFault> {
+    let version = open(desk, alloc, "a = \"x\"")?;
+    let ticket = symbols(desk, alloc, 2)?;
+    let job = take(desk)?;
+    let refused = comes_back(desk, run(alloc, job), DeskFault::SessionFull);
+    Ok(version == 1 && ticket == 2 && refused)
+}
+
+#[test]
+fn of_a_full_session(rt: HostRuntime) -> Result<(), Fail> {
+    let mut desk = Desk::new(rt.alloc(), 3);
+    let full = is_full(&mut desk, rt.alloc());
+    let changed = change(&mut desk, rt.alloc(), "");
+    drop(desk);
+    assert!(rt; full?);
+    assert!(rt; changed == Err(DeskFault::SessionFull));
+    Ok(())
+}
+
+// A document is opened once, closed once, and opened anew at the next version.
+fn opens_and_closes(desk: &mut Desk, alloc: Global) -> Result<bool, DeskFault> {
+    let begun = opened(desk, alloc)?;
+    let twice = open(desk, alloc, "") == Err(DeskFault::AlreadyOpen);
+    close(desk, alloc)?;
+    let closed = close(desk, alloc) == Err(DeskFault::NotOpen);
+    let asked = symbols(desk, alloc, 2) == Err(DeskFault::NotOpen);
+    Ok(begun && twice && closed && asked && open(desk, alloc, "")? == 2)
+}
+
+#[test]
+fn of_what_is_not_open(rt: HostRuntime) -> Result<(), Fail> {
+    let mut desk = Desk::new(rt.alloc(), 1_000_000);
+    let opens = opens_and_closes(&mut desk, rt.alloc());
+    drop(desk);
+    assert!(rt; opens?);
+    Ok(())
+}

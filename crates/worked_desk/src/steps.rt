@@ -1,0 +1,119 @@
+//! The calls of a desk, with plain arguments. All are about one document.
+
+use ls_answers::{Ask, Done, Job, run};
+use ls_desk::{Desk, DeskFault, Kept, Out};
+use ls_lists::{List, Text};
+use ls_rpc::Id;
+use ls_text::{Edit, Position};
+use std::alloc::{AllocError, Global};
+
+const URI: &str = "file:///g";
+
+/// The start of the document, where the name of its first rule stands.
+pub(crate) const START: Position = Position {
+    line: 0,
+    character: 0,
+};
+
+fn uri(alloc: Global) -> Result<Text, AllocError> {
+    Text::from_str(alloc, URI)
+}
+
+pub(crate) fn open(desk: &mut Desk, alloc: Global, text: &str) -> Result<u64, DeskFault> {
+    desk.did_open(uri(alloc)?, 1, Text::from_str(alloc, text)?)
+}
+
+pub(crate) fn close(desk: &mut Desk, alloc: Global) -> Result<(), DeskFault> {
+    desk.did_close(uri(alloc)?)
+}
+
+// One edit that replaces the whole text.
+fn whole(alloc: Global, text: &str) -> Result<List<Edit>, AllocError> {
+    let text = Text::from_str(alloc, text)?;
+    let mut edits = List::new(alloc);
+    edits.push(Edit { range: None, text })?;
+    Ok(edits)
+}
+
+pub(crate) fn change(desk: &mut Desk, alloc: Global, text: &str) -> Result<Option<u64>, DeskFault> {
+    desk.did_change(uri(alloc)?, 2, whole(alloc, text)?)
+}
+
+pub(crate) fn hover(desk: &mut Desk, alloc: Global, id: i64) -> Result<u64, DeskFault> {
+    desk.request(Id::Number(id), uri(alloc)?, Ask::Hover(START), false)
+}
+
+pub(crate) fn symbols(desk: &mut Desk, alloc: Global, id: i64) -> Result<u64, DeskFault> {
+    desk.request(Id::Number(id), uri(alloc)?, Ask::Symbols, false)
+}
+
+pub(crate) fn rename(desk: &mut Desk, alloc: Global, id: i64) -> Result<u64, DeskFault> {
+    let ask = Ask::Rename(START, Text::from_str(alloc, "b")?);
+    desk.request(Id::Number(id), uri(alloc)?, ask, false)
+}
+
+/// The first queued job, which is there.
+pub(crate) fn take(desk: &mut Desk) -> Result<Job, DeskFault> {
+    desk.take(0)?.ok_or(DeskFault::UnknownTicket)
+}
+
+/// Runs a job, and says what its finish kept or why it was refused.
+pub(crate) fn finish(desk: &mut Desk, alloc: Global, job: Job) -> Result<Kept, DeskFault> {
+    match desk.finish(run(alloc, job)) {
+        Ok(kept) => Ok(kept),
+        Err((fault, _)) => Err(fault),
+    }
+}
+
+/// Whether a job that has run is refused for this, and comes back.
+pub(crate) fn comes_back(desk: &mut Desk, done: Done, want: DeskFault) -> bool {
+    let ticket = done.ticket();
+    match desk.finish(done) {
+        Ok(_) => false,
+        Err((fault, done)) => fault == want && done.ticket() == ticket,
+    }
+}
+
+/// Whether a reply leaves, which is the oldest.
+pub(crate) fn leaves(desk: &mut Desk) -> bool {
+    desk.next_out().is_some()
+}
+
+// Whether the first queued job has this ticket, and its answer is kept.
+fn takes(desk: &mut Desk, alloc: Global, ticket: u64) -> Result<bool, DeskFault> {
+    let job = take(desk)?;
+    let first = job.ticket == ticket;
+    let kept = finish(desk, alloc, job);
+    Ok(first && kept? == Kept::Reply)
+}
+
+/// Whether the findings with a ticket are the first queued job, and are sent once it has run.
+pub(crate) fn tells_findings(
+    desk: &mut Desk,
+    alloc: Global,
+    ticket: u64,
+) -> Result<bool, DeskFault> {
+    let kept = takes(desk, alloc, ticket)?;
+    Ok(kept && matches!(desk.out_at(0), Some(Out::Findings { .. })) && leaves(desk))
+}
+
+/// Opens the document at version 1, and sends its findings.
+pub(crate) fn opened(desk: &mut Desk, alloc: Global) -> Result<bool, DeskFault> {
+    let version = open(desk, alloc, "a = \"x\"")?;
+    Ok(version == 1 && tells_findings(desk, alloc, 1)?)
+}
+
+/// Whether the oldest reply is a failure of this job, with this id and code. It leaves.
+pub(crate) fn sends_failure(desk: &mut Desk, want: u64, number: i64, told: i32) -> bool {
+    let fails = match desk.out_at(0) {
+        Some(
+            Out::Failed {
+                ticket,
+                id: Id::Number(id),
+                code,
+            },
+        ) => *ticket == want && *id == number && *code == told,
+        _ => false,
+    };
+    fails && leaves(desk)
+}
