@@ -52,6 +52,11 @@ def closed(uri="file:///g"):
     return f'{{"jsonrpc":"2.0","method":"textDocument/didClose","params":{{"textDocument":{{"uri":"{uri}"}}}}}}'
 
 
+def cancelled(request):
+    """A cancel of the request with this id, which is JSON."""
+    return f'{{"jsonrpc":"2.0","method":"$/cancelRequest","params":{{"id":{request}}}}}'
+
+
 def changed(changes):
     """A change by these changes, which are JSON."""
     document = '{"uri":"file:///g","version":2}'
@@ -81,6 +86,7 @@ def published(*findings, label=1, uri="file:///g"):
     return f'{{"jsonrpc":"2.0","method":"textDocument/publishDiagnostics","params":{params}}}'
 
 
+CANCEL_NOTHING = '{"method":"$/cancelRequest"}'
 OPEN = opened('a = "x"')
 CLEAN = published()  # 118 bytes
 assert (len(CAPABILITIES), len(OUTLINE), len(NOT_OPEN), len(INVALID_REQUEST), len(CLEAN)) == (480, 215, 78, 79, 118)
@@ -98,6 +104,19 @@ LIVES = (
         "an unknown request, and an unknown notice",
         [INITIALIZE, '{"id":"7","method":"$/unknown"}', '{"method":"$/unknown"}'],
         [CAPABILITIES, refused(-32601, "method not found", '"7"')],
+        1,
+    ),
+    (
+        "cancels of no request that waits, and of what is no id",
+        [cancelled("2"), INITIALIZE, OPEN, cancelled("2"), cancelled('"x"'), cancelled("null"), cancelled("1.5"), CANCEL_NOTHING, SYMBOLS]
+        + [SHUTDOWN, cancelled("2"), EXIT],
+        [CAPABILITIES, CLEAN, OUTLINE, DOWN],
+        0,
+    ),
+    (
+        "a cancel in a request",
+        [INITIALIZE, '{"id":2,"method":"$/cancelRequest","params":{"id":1}}'],
+        [CAPABILITIES, refused(-32601, "method not found")],
         1,
     ),
     ("a notice's method in a request", [INITIALIZE, '{"id":"x","method":"textDocument/didOpen"}'], [CAPABILITIES, refused(-32601, "method not found", '"x"')], 1),

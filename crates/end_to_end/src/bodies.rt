@@ -1,7 +1,8 @@
 use ls_answers::{Ask, Done, Job, run};
+use ls_desk::{DeskFault, Out};
 use ls_lists::{List, Text};
 use ls_rpc::Id;
-use ls_session::{ClientEvent, DeskFault, Out, Refusal, Session, Turn, body_of, refusal_body};
+use ls_session::{ClientEvent, Refusal, Session, Turn, body_of, refusal_body};
 use ls_text::Snapshot;
 use std::alloc::{AllocError as Memory, Global};
 use std::sync::Arc;
@@ -19,6 +20,10 @@ const SYMBOLS: &[u8] =
 
 const CLOSE: &[u8] =
     b"{\"method\":\"textDocument/didClose\",\"params\":{\"textDocument\":{\"uri\":\"file:///g\"}}}";
+
+const SHUTDOWN: &[u8] = b"{\"id\":3,\"method\":\"shutdown\"}";
+
+const CANCEL: &[u8] = b"{\"method\":\"$/cancelRequest\",\"params\":{\"id\":\"q\"}}";
 
 /// What the session makes of a body after `initialize`.
 fn turn_of(alloc: Global, body: &[u8]) -> Result<Turn, Memory> {
@@ -69,6 +74,26 @@ fn a_close(rt: HostRuntime) -> Result<(), Fail> {
     Ok(())
 }
 
+/// Whether this cancels the request with the id `q`.
+fn cancels(turn: &Turn) -> bool {
+    match turn {
+        Turn::Event(ClientEvent::Cancel(Id::Text(id))) => id.as_str() == "q",
+        _ => false,
+    }
+}
+
+#[test]
+fn a_cancel(rt: HostRuntime) -> Result<(), Fail> {
+    let mut session = Session::new(rt.alloc());
+    assert!(rt; matches!(&session.event(CANCEL)?, Turn::Nothing));
+    session.event(INITIALIZE)?;
+    assert!(rt; cancels(&session.event(CANCEL)?));
+    session.event(SHUTDOWN)?;
+    assert!(rt; cancels(&session.event(CANCEL)?));
+    assert!(rt; matches!(&session.event(CLOSE)?, Turn::Nothing));
+    Ok(())
+}
+
 /// The outline of a text, as a job that has run.
 fn outline_of(alloc: Global, text: &str) -> Result<Done, Fail> {
     let text = String::from_str(alloc, text)?;
@@ -86,6 +111,7 @@ fn replied(alloc: Global, done: Done) -> Result<Out, Memory> {
     Ok(Out::Replied {
         id: Id::Number(2),
         uri,
+        version: 1,
         label: 7,
         links: true,
         done,
@@ -114,6 +140,33 @@ fn a_body_that_is_said(rt: HostRuntime) -> Result<(), Fail> {
     Ok(())
 }
 
+/// The body for the request with id 2, where the desk gave it up with this code.
+fn failed(alloc: Global, code: i32) -> Result<Vec<u8>, Memory> {
+    let id = Id::Number(2);
+    let ticket = 2;
+    body_of(alloc, &Out::Failed { ticket, id, code })
+}
+
+#[test]
+fn failures(rt: HostRuntime) -> Result<(), Fail> {
+    let alloc = rt.alloc();
+    let cancelled = failed(alloc, -32800)?;
+    assert_eq!(rt; cancelled.len(), 78);
+    assert!(rt;
+        cancelled.as_slice()
+            == b"{\"error\":{\"code\":-32800,\"message\":\"request cancelled\"},\"id\":2,\"jsonrpc\":\"2.0\"}".as_slice()
+    );
+    assert!(rt;
+        failed(alloc, -32801)?.as_slice()
+            == b"{\"error\":{\"code\":-32801,\"message\":\"content modified\"},\"id\":2,\"jsonrpc\":\"2.0\"}".as_slice()
+    );
+    assert!(rt;
+        failed(alloc, -32603)?.as_slice()
+            == b"{\"error\":{\"code\":-32603,\"message\":\"internal error\"},\"id\":2,\"jsonrpc\":\"2.0\"}".as_slice()
+    );
+    Ok(())
+}
+
 #[test]
 fn refusals(rt: HostRuntime) -> Result<(), Fail> {
     let alloc = rt.alloc();
@@ -128,6 +181,8 @@ fn refusals(rt: HostRuntime) -> Result<(), Fail> {
         None => panic!(rt; "no body"),
     }
     assert!(rt; refusal_body(alloc, &Id::Number(2), DeskFault::TooLarge)?.is_none());
+    assert!(rt; refusal_body(alloc, &Id::Number(2), DeskFault::IdInUse)?.is_some());
+    assert!(rt; refusal_body(alloc, &Id::Number(2), DeskFault::TooManyWaiting)?.is_some());
     assert!(rt;
         Refusal::NotInitialized.code() == -32002
             && Refusal::NotInitialized.text() == "not initialized"

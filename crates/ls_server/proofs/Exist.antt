@@ -13,9 +13,9 @@ use Rattle.ls_answers.specs.declared.ask.Ask.{Ask}
 use Rattle.ls_answers.proofs.Exist.{some_answer}
 use Rattle.ls_answers.specs.declared.ask.Ask.TheVariants.{Diagnose}
 use Rattle.ls_session.specs.Bodies.{findings_body, reply_body, refusal_of}
-use Rattle.ls_session.specs.declared.answer.DeskFault.TheVariants.{NotOpen}
+use Rattle.ls_desk.specs.declared.event.DeskFault.TheVariants.{NotOpen}
 use Rattle.ls_session.specs.declared.event.ClientEvent.{ClientEvent}
-use Rattle.ls_session.specs.declared.event.ClientEvent.TheVariants.{DidOpen, DidChange, DidClose, Request, Say}
+use Rattle.ls_session.specs.declared.event.ClientEvent.TheVariants.{DidOpen, DidChange, DidClose, Request, Cancel, Say}
 use Rattle.ls_session.specs.declared.event.Status.{Status}
 use Rattle.ls_session.specs.declared.event.Turn.{Turn}
 use Rattle.ls_session.specs.declared.event.Turn.TheVariants as turn
@@ -165,6 +165,7 @@ short_after (DidOpen uri label text) k p = short_opened uri label text k p
 short_after (DidChange uri label edits) k p = short_changed_at label edits k (place_of uri k.documents) p
 short_after (DidClose uri) k p = short_without k.documents (place_of uri k.documents) p
 short_after (Request id uri ask links) k p = short_counted k (document_at uri k.documents) p
+short_after (Cancel id) k p = p
 short_after (Say body) k p = p
 
 short_on : (t : Turn) (k : Kept) → AreShort k.documents → AreShort (kept_on t k).documents
@@ -217,6 +218,7 @@ some_event (DidOpen uri label text) k p = some_published (opened_document uri la
 some_event (DidChange uri label edits) k p = some_published (changed_document uri label edits k) (short_edited_at label edits k (place_of uri k.documents) p)
 some_event (DidClose uri) k p = (None, refl)
 some_event (Request id uri ask links) k p = some_reply_to id uri ask links k p
+some_event (Cancel id) k p = (None, refl)
 some_event (Say body) k p = (Some body, refl)
 
 some_turn : (t : Turn) (k : Kept) → AreShort k.documents → (reply : Option (List ℕ)) × IsAnsweredOn t k reply

@@ -6,7 +6,7 @@ use Rattle.ls_answers.proofs.OneAnswer.{one_answer}
 use Rattle.ls_answers.specs.declared.ask.Ask.TheVariants.{Diagnose}
 use Rattle.ls_session.proofs.WithoutCert.{same_findings, same_reply}
 use Rattle.ls_session.specs.declared.event.ClientEvent.{ClientEvent}
-use Rattle.ls_session.specs.declared.event.ClientEvent.TheVariants.{DidOpen, DidChange, DidClose, Request, Say}
+use Rattle.ls_session.specs.declared.event.ClientEvent.TheVariants.{DidOpen, DidChange, DidClose, Request, Cancel, Say}
 use Rattle.ls_session.specs.declared.event.Status.{Status}
 use Rattle.ls_session.specs.declared.event.Turn.{Turn}
 use Rattle.ls_session.specs.declared.event.Turn.TheVariants as turn
@@ -47,6 +47,7 @@ one_answer_to (DidOpen uri label text) k a b p q = one_published (opened_documen
 one_answer_to (DidChange uri label edits) k a b p q = one_published (changed_document uri label edits k) a b p q
 one_answer_to (DidClose uri) k a b p q = p ∙ sym q
 one_answer_to (Request id uri ask links) k a b p q = one_reply_to id uri ask links k a b p q
+one_answer_to (Cancel id) k a b p q = p ∙ sym q
 one_answer_to (Say body) k a b p q = p ∙ sym q
 
 one_on : (t : Turn) (k : Kept) (a b : Option (List ℕ)) → IsAnsweredOn t k a → IsAnsweredOn t k b → a ≡ b

@@ -8,9 +8,8 @@ use Rattle.ls_answers.specs.Told.{Told}
 use Rattle.ls_answers.specs.declared.ask.Ask.{Ask}
 use Rattle.ls_answers.specs.declared.answer.Answer.{Answer}
 use Rattle.ls_session.specs.Bodies.{body_of, findings_body, reply_body}
-use Rattle.ls_session.specs.declared.answer.Out.TheVariants.{Replied}
+use Rattle.ls_desk.specs.declared.event.Out.TheVariants.{Replied, Findings}
 use Rattle.ls_answers.specs.declared.ask.Ask.TheVariants.{Diagnose}
-use Rattle.ls_session.specs.declared.answer.Out.TheVariants.{Findings}
 use Rattle.ls_server.specs.declared.keeper.Document.{Document}
 use Rattle.ls_server.specs.Kept.{IsPublished, IsReply}
 
@@ -28,20 +27,20 @@ body-some f None body e = absurd (cc)
 body-some f (Some answer) body e = (answer, refl, cc)
 
 -- the body of such a job replies to its question about a document
-pub told-reply : (id : Id) (document : Document) (uri : List ℕ) (label : ℤ) (links : Bool) (ask : Ask) (told : Told) (body : List ℕ) → uri ≡ document.uri → label ≡ document.label → told.text ≡ document.snapshot → told.ask ≡ ask
-    → ((answer : Answer) → told.answer ≡ Some answer → IsAnswer told.text told.ask answer) → Some body ≡ body_of (Replied id uri label links told) → IsReply id document ask links body
+pub told-reply : (id : Id) (document : Document) (uri : List ℕ) (version : ℕ) (label : ℤ) (links : Bool) (ask : Ask) (told : Told) (body : List ℕ) → uri ≡ document.uri → label ≡ document.label → told.text ≡ document.snapshot → told.ask ≡ ask
+    → ((answer : Answer) → told.answer ≡ Some answer → IsAnswer told.text told.ask answer) → Some body ≡ body_of (Replied id uri version label links told) → IsReply id document ask links body
 unfolding IsReply body_of
-told-reply id document uri label links ask told body u l t a right e =
+told-reply id document uri version label links ask told body u l t a right e =
     let parts = body-some (reply_body id uri label links) told.answer body e in
     let P : List ℕ → Type 0 = λ text. IsAnswer text told.ask parts.0 in
     let Q : Ask → Type 0 = λ q. IsAnswer document.snapshot q parts.0 in
     (parts.0, subst Q a (subst P t (right parts.0 parts.1)), parts.2 ∙ (λ i. reply_body id (u i) (l i) links parts.0))
 
 -- the body of a job that looked for a document's findings publishes them
-pub told-findings : (document : Document) (uri : List ℕ) (label : ℤ) (told : Told) (body : List ℕ) → uri ≡ document.uri → label ≡ document.label → told.text ≡ document.snapshot → told.ask ≡ Diagnose
-    → ((answer : Answer) → told.answer ≡ Some answer → IsAnswer told.text told.ask answer) → Some body ≡ body_of (Findings uri label told) → IsPublished document body
+pub told-findings : (document : Document) (uri : List ℕ) (version : ℕ) (label : ℤ) (told : Told) (body : List ℕ) → uri ≡ document.uri → label ≡ document.label → told.text ≡ document.snapshot → told.ask ≡ Diagnose
+    → ((answer : Answer) → told.answer ≡ Some answer → IsAnswer told.text told.ask answer) → Some body ≡ body_of (Findings uri version label told) → IsPublished document body
 unfolding IsPublished body_of
-told-findings document uri label told body u l t a right e =
+told-findings document uri version label told body u l t a right e =
     let parts = body-some (findings_body uri label) told.answer body e in
     let P : List ℕ → Type 0 = λ text. IsAnswer text told.ask parts.0 in
     let Q : Ask → Type 0 = λ q. IsAnswer document.snapshot q parts.0 in

@@ -5,19 +5,20 @@ use Rattle.ls_frame.specs.declared.fault.FrameFault.TheVariants.{HeaderTooLong, 
 use Rattle.abnf_cert.specs.declared.fault.CertFault.{CertFault}
 use Rattle.abnf_cert.specs.declared.fault.CertFault.TheVariants as cert
 use Rattle.ls_session.specs.declared.event.Status.{Status}
-use Rattle.ls_session.specs.declared.event.Status.TheVariants.{Clean, Unclean, BadFrame}
+use Rattle.ls_session.specs.declared.event.Status.TheVariants as status
 use Rattle.ls_server.specs.declared.serve.ServeFault.{ServeFault}
 use Rattle.ls_server.specs.declared.serve.ServeFault.TheVariants.{Read, Write, Memory}
 use Rattle.ls_server.specs.declared.file.FileFault.{FileFault}
 use Rattle.ls_server.specs.declared.file.FileFault.TheVariants as file
 use Rattle.ls_server.specs.declared.ending.Ending.{Ending}
-use Rattle.ls_server.specs.declared.ending.Ending.TheVariants.{Good, Not, Framing, ReadFailed, WriteFailed, CannotRead, NotText, Certificate, Usage, OutOfMemory}
+use Rattle.ls_server.specs.declared.ending.Ending.TheVariants.{Good, Not, Framing, Full, ReadFailed, WriteFailed, CannotRead, NotText, Certificate, Usage, OutOfMemory}
 
 -- the ending of a session
 abbrev pub ending_of : Result Status ServeFault → Ending
-ending_of (Ok Clean) = Good
-ending_of (Ok Unclean) = Not
-ending_of (Ok (BadFrame fault)) = Framing fault
+ending_of (Ok status.Clean) = Good
+ending_of (Ok status.Unclean) = Not
+ending_of (Ok (status.BadFrame fault)) = Framing fault
+ending_of (Ok status.Full) = Full
 ending_of (Err Read) = ReadFailed
 ending_of (Err Write) = WriteFailed
 ending_of (Err Memory) = OutOfMemory
@@ -48,6 +49,7 @@ abbrev pub status_of_ending : Ending → ℕ
 status_of_ending Good = 0
 status_of_ending Not = 1
 status_of_ending (Framing fault) = 2
+status_of_ending Full = 3
 status_of_ending ReadFailed = 2
 status_of_ending WriteFailed = 2
 status_of_ending (CannotRead path) = 2
@@ -79,6 +81,7 @@ abbrev pub line_of_ending : Ending → List ℕ
 line_of_ending Good = []
 line_of_ending Not = []
 line_of_ending (Framing fault) = codes "framing fault " ++ fault_text fault
+line_of_ending Full = codes "session full"
 line_of_ending ReadFailed = codes "read failed"
 line_of_ending WriteFailed = codes "write failed"
 line_of_ending (CannotRead path) = codes "cannot read " ++ path

@@ -10,7 +10,7 @@ use Rattle.ls_answers.specs.Answers.{IsAnswer}
 use Rattle.ls_answers.specs.declared.ask.Ask.{Ask}
 use Rattle.ls_answers.specs.declared.ask.Ask.TheVariants.{Diagnose}
 use Rattle.ls_answers.specs.declared.answer.Answer.{Answer}
-use Rattle.ls_session.specs.declared.answer.DeskFault.TheVariants.{NotOpen}
+use Rattle.ls_desk.specs.declared.event.DeskFault.TheVariants.{NotOpen}
 use Rattle.ls_server.specs.declared.keeper.Document.{Document}
 
 -- the open documents, in the order of their opening, and how many versions and tickets there have been

@@ -3,7 +3,7 @@ use Rattle.std.specs.Prelude.{◌≡◌, ℕ, List, Option, None, Some}
 use Rattle.ls_rpc.specs.Message.{message_of}
 use Rattle.ls_session.specs.Session.{turn_of}
 use Rattle.ls_session.specs.declared.event.ClientEvent.{ClientEvent}
-use Rattle.ls_session.specs.declared.event.ClientEvent.TheVariants.{DidOpen, DidChange, DidClose, Request, Say}
+use Rattle.ls_session.specs.declared.event.ClientEvent.TheVariants.{DidOpen, DidChange, DidClose, Request, Cancel, Say}
 use Rattle.ls_session.specs.declared.event.Status.{Status}
 use Rattle.ls_session.specs.declared.event.Turn.{Turn}
 use Rattle.ls_session.specs.declared.event.Turn.TheVariants as turn
@@ -27,14 +27,16 @@ kept_after (DidOpen uri label text) kept = opened uri label text kept
 kept_after (DidChange uri label edits) kept = changed uri label edits kept
 kept_after (DidClose uri) kept = closed uri kept
 kept_after (Request id uri ask links) kept = asked uri kept
+kept_after (Cancel id) kept = kept
 kept_after (Say body) kept = kept
 
--- what an event is answered with: a body, or nothing
+-- what an event is answered with: a body, or nothing; no request waits, so that there is none to cancel
 abbrev pub IsAnswered : ClientEvent → Kept → Option (List ℕ) → Type 0
 IsAnswered (DidOpen uri label text) kept reply = IsAnsweredOpening uri label text kept reply
 IsAnswered (DidChange uri label edits) kept reply = IsAnsweredChange uri label edits kept reply
 IsAnswered (DidClose uri) kept reply = reply ≡ None
 IsAnswered (Request id uri ask links) kept reply = IsReplied id uri ask links kept reply
+IsAnswered (Cancel id) kept reply = reply ≡ None
 IsAnswered (Say body) kept reply = reply ≡ Some body
 
 abbrev pub kept_on : Turn → Kept → Kept

@@ -79,6 +79,8 @@ fn answered(keeper: &mut Keeper, event: ClientEvent) -> Result<Option<Vec<u8>>, 
             Ok(None)
         }
         ClientEvent::Request(id, uri, ask, links) => keeper.answer(id, uri.as_str(), ask, links),
+        // No request waits: each is answered before the next message is read.
+        ClientEvent::Cancel(_) => Ok(None),
         ClientEvent::Say(body) => Ok(Some(body.into_vec())),
     }
 }

@@ -17,6 +17,8 @@ pub enum Ending {
     /// The input ended without that, or the answer is no.
     Not,
     Framing(FrameFault),
+    /// The session has had as many events as it may have.
+    Full,
     ReadFailed,
     WriteFailed,
     /// A file can't be read.
@@ -64,6 +66,7 @@ impl Ending {
             Ok(Status::Clean) => Ending::Good,
             Ok(Status::Unclean) => Ending::Not,
             Ok(Status::BadFrame(fault)) => Ending::Framing(fault),
+            Ok(Status::Full) => Ending::Full,
             Err(ServeFault::Read) => Ending::ReadFailed,
             Err(ServeFault::Write) => Ending::WriteFailed,
             Err(ServeFault::Memory) => Ending::OutOfMemory,
@@ -106,6 +109,7 @@ impl Ending {
             | Ending::CannotRead(_)
             | Ending::NotText(_)
             | Ending::Certificate(_) => 2,
+            Ending::Full => 3,
             Ending::Usage => 5,
             Ending::OutOfMemory => 6,
         }
@@ -117,6 +121,7 @@ impl Ending {
         match self {
             Ending::Good | Ending::Not => ("", ""),
             Ending::Framing(fault) => ("framing fault ", numbered(*fault)),
+            Ending::Full => ("session full", ""),
             Ending::ReadFailed => ("read failed", ""),
             Ending::WriteFailed => ("write failed", ""),
             Ending::CannotRead(path) => return ("cannot read ", path.as_str()),

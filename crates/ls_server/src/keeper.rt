@@ -4,9 +4,10 @@ ghost use Rattle.ls_server.specs.Kept.{IsAnsweredChange, IsAnsweredOpening, IsPu
 ghost use Rattle.ls_session.specs.Bodies.{body_of, refusal_of};
 
 use ls_answers::{Ask, Job, run};
+use ls_desk::{DeskFault, Out};
 use ls_lists::{List, Text};
 use ls_rpc::Id;
-use ls_session::{DeskFault, Out, body_of, refusal_body};
+use ls_session::{body_of, refusal_body};
 use ls_text::{Edit, SharedSnapshot, Snapshot, TextFault};
 use std::alloc::{AllocError, Global};
 use std::marker::Model;
@@ -202,6 +203,7 @@ fn replied(
     let out = Out::Replied {
         id,
         uri: document.uri.copy()?,
+        version: document.version,
         label: document.label,
         links,
         done,
@@ -225,7 +227,13 @@ fn published(alloc: Global, ticket: u64, document: &Document) -> Result<Vec<u8>,
     }
     let uri = document.uri.copy()?;
     let label = document.label;
-    let body = body_of(alloc, &Out::Findings { uri, label, done })?;
+    let out = Out::Findings {
+        uri,
+        version: document.version,
+        label,
+        done,
+    };
+    let body = body_of(alloc, &out)?;
     Ok(body)
 }
 

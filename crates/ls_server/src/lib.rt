@@ -19,6 +19,7 @@ pub use laws::{
     example_texts_are_accepted, example_texts_exist, inputs_have_one_output, sessions_are_unique,
     sessions_exist,
 };
-pub use ls_session::{ClientEvent, DeskFault, Out, Session, Status, Turn, body_of, refusal_body};
+pub use ls_desk::{DeskFault, Out};
+pub use ls_session::{ClientEvent, Session, Status, Turn, body_of, refusal_body};
 pub use ls_text::Snapshot;
 pub use serve::{ServeFault, serve_limited, serve_plain};

@@ -9,7 +9,7 @@ use Rattle.ls_rpc.specs.declared.message.Id.{Id}
 use Rattle.ls_rpc.specs.Reply.{notice_json, result_json}
 use Rattle.ls_session.specs.Edits.{actions_json, edits_json, workspace_edit_json}
 use Rattle.ls_session.specs.Positions.{range_json}
-use Rattle.ls_session.specs.Refusal.{error_body, refusal_of_rename}
+use Rattle.ls_session.specs.Refusal.{error_body, refusal_of_failure, refusal_of_fault, refusal_of_rename}
 use Rattle.ls_session.specs.Tokens.{tokens_json}
 use Rattle.abnf_lint.specs.Messages.{code_text, severity_of}
 use Rattle.abnf_lint.specs.declared.message.Severity.{Severity}
@@ -20,11 +20,9 @@ use Rattle.ls_answers.specs.declared.answer.Diagnostic.{Diagnostic}
 use Rattle.ls_answers.specs.declared.answer.RenameFault.{RenameFault}
 use Rattle.ls_answers.specs.declared.answer.Answer.{Answer}
 use Rattle.ls_answers.specs.declared.answer.Answer.TheVariants as answer
-use Rattle.ls_session.specs.declared.answer.Out.{Out}
-use Rattle.ls_session.specs.declared.answer.Out.TheVariants as out
-use Rattle.ls_session.specs.declared.answer.DeskFault.{DeskFault}
-use Rattle.ls_session.specs.declared.answer.DeskFault.TheVariants as fault
-use Rattle.ls_session.specs.declared.refusal.Refusal.TheVariants as refusal
+use Rattle.ls_desk.specs.declared.event.Out.{Out}
+use Rattle.ls_desk.specs.declared.event.Out.TheVariants as out
+use Rattle.ls_desk.specs.declared.event.DeskFault.{DeskFault}
 
 -- of the kind 12, a function (LSP 3.17, "Document Symbols Request")
 abbrev pub symbol_json : Symbol → Data
@@ -125,16 +123,17 @@ reply_body id uri label links answer = error_or_result id (fault_in answer) (ans
 unfoldable pub findings_body : List ℕ → ℤ → Answer → List ℕ
 findings_body uri label answer = compact_text (notice_json (codes "textDocument/publishDiagnostics") (findings_json uri label answer))
 
+-- the body that replies to a request which the desk gave up, by the code that it keeps
+unfoldable pub failure_body : Id → ℤ → List ℕ
+failure_body id code = error_body (Some id) (refusal_of_failure code)
+
 -- the body of what waits to be said; there is none of a job that was refused memory
 unfoldable pub body_of : Out → Option (List ℕ)
 body_of (out.Said body) = Some body
-body_of (out.Replied id uri label links done) = option_map (reply_body id uri label links) done.answer
-body_of (out.Findings uri label done) = option_map (findings_body uri label) done.answer
+body_of (out.Replied id uri version label links done) = option_map (reply_body id uri label links) done.answer
+body_of (out.Failed ticket id code) = Some (failure_body id code)
+body_of (out.Findings uri version label done) = option_map (findings_body uri label) done.answer
 
 -- the body that answers a refused request, where there is one
 unfoldable pub refusal_of : Id → DeskFault → Option (List ℕ)
-refusal_of id fault.NotOpen = Some (error_body (Some id) refusal.DocumentNotOpen)
-refusal_of id fault.AlreadyOpen = None
-refusal_of id fault.TooManyDocuments = None
-refusal_of id fault.TooLarge = None
-refusal_of id fault.Memory = None
+refusal_of id fault = option_map (error_body (Some id)) (refusal_of_fault fault)

@@ -27,7 +27,8 @@ notices =
     (codes "exit", notice.Exit) ∷
     (codes "textDocument/didOpen", notice.DidOpen) ∷
     (codes "textDocument/didChange", notice.DidChange) ∷
-    (codes "textDocument/didClose", notice.DidClose) ∷ []
+    (codes "textDocument/didClose", notice.DidClose) ∷
+    (codes "$/cancelRequest", notice.CancelRequest) ∷ []
 
 abbrev pub request_named : List ℕ → RequestKind
 request_named name = entry_of requests request.Unknown name

@@ -2,6 +2,7 @@
 use Rattle.std.specs.Prelude.{ℕ, ℤ, pos, min, List, [], ◌∷◌, Bool, true, false, Option, Some, None, codes, option_map, option_and_then, unwrap_or}
 use Rattle.serde_json.specs.Data.{Data, null, boolean, number, string, array, object, Items, no_items, item}
 use Rattle.serde_json.specs.Find.{get, as_str, as_bool, as_number, as_array, as_u64, as_i64}
+use Rattle.ls_rpc.specs.Message.{id_of}
 use Rattle.ls_text.specs.declared.position.Position.{Position}
 use Rattle.ls_text.specs.declared.position.Range.{Range}
 use Rattle.ls_text.specs.declared.edit.Edit.{Edit}
@@ -89,12 +90,17 @@ did_change_of params = do
 abbrev pub did_close_of : Data → Option ClientEvent
 did_close_of params = option_map event.DidClose (uri_of params)
 
+-- an id is read as it is in a message (LSP 3.17, "Cancellation Support")
+abbrev pub cancel_of : Data → Option ClientEvent
+cancel_of params = option_map event.Cancel (get (codes "id") params >>= id_of)
+
 -- the event of a notice, if there is one
 abbrev pub event_of : NoticeKind → Data → Option ClientEvent
 event_of notice.Exit params = None
 event_of notice.DidOpen params = did_open_of params
 event_of notice.DidChange params = did_change_of params
 event_of notice.DidClose params = did_close_of params
+event_of notice.CancelRequest params = cancel_of params
 event_of notice.Unknown params = None
 
 -- ---- requests

@@ -1,5 +1,5 @@
 -- The errors that are answered: their codes, their texts and their bodies.
-use Rattle.std.specs.Prelude.{ℕ, ℤ, negsuc, ◌-◌, List, Option, codes, if◌then◌else◌}
+use Rattle.std.specs.Prelude.{ℕ, ℤ, negsuc, ◌-◌, List, Option, Some, None, codes, if◌then◌else◌}
 use Rattle.std.specs.Ordering.{int_eq}
 use Rattle.serde_json.specs.Written.{compact_text}
 use Rattle.ls_rpc.specs.declared.message.Id.{Id}
@@ -7,6 +7,8 @@ use Rattle.ls_rpc.specs.Message.{parse_error, invalid_request}
 use Rattle.ls_rpc.specs.Reply.{error_json}
 use Rattle.ls_answers.specs.declared.answer.RenameFault.{RenameFault}
 use Rattle.ls_answers.specs.declared.answer.RenameFault.TheVariants as rename
+use Rattle.ls_desk.specs.declared.event.DeskFault.{DeskFault}
+use Rattle.ls_desk.specs.declared.event.DeskFault.TheVariants as fault
 use Rattle.ls_session.specs.declared.refusal.Refusal.{Refusal}
 use Rattle.ls_session.specs.declared.refusal.Refusal.TheVariants as refusal
 
@@ -14,7 +16,8 @@ use Rattle.ls_session.specs.declared.refusal.Refusal.TheVariants as refusal
 abbrev pub minus : ℕ → ℤ
 minus n = negsuc (n - 1)
 
--- a rename that isn't granted is a request that has failed (LSP 3.17, "Response Message": RequestFailed)
+-- a rename that isn't granted, and one request too many, have failed; a request with the id of one that waits isn't valid (LSP 3.17,
+-- "Response Message": RequestFailed, InvalidRequest)
 abbrev pub code_of : Refusal → ℤ
 code_of refusal.ParseError = parse_error
 code_of refusal.InvalidRequest = invalid_request
@@ -22,6 +25,11 @@ code_of refusal.MethodNotFound = minus 32601
 code_of refusal.InvalidParams = minus 32602
 code_of refusal.DocumentNotOpen = minus 32602
 code_of refusal.NotInitialized = minus 32002
+code_of refusal.TooManyWaiting = minus 32803
+code_of refusal.IdInUse = invalid_request
+code_of refusal.ContentModified = minus 32801
+code_of refusal.RequestCancelled = minus 32800
+code_of refusal.InternalError = minus 32603
 code_of refusal.NotAName = minus 32803
 code_of refusal.NothingToRename = minus 32803
 code_of refusal.NameInUse = minus 32803
@@ -33,6 +41,11 @@ text_of refusal.MethodNotFound = codes "method not found"
 text_of refusal.InvalidParams = codes "invalid params"
 text_of refusal.DocumentNotOpen = codes "document not open"
 text_of refusal.NotInitialized = codes "not initialized"
+text_of refusal.TooManyWaiting = codes "too many requests waiting"
+text_of refusal.IdInUse = codes "id in use"
+text_of refusal.ContentModified = codes "content modified"
+text_of refusal.RequestCancelled = codes "request cancelled"
+text_of refusal.InternalError = codes "internal error"
 text_of refusal.NotAName = codes "not a rule name"
 text_of refusal.NothingToRename = codes "nothing to rename"
 text_of refusal.NameInUse = codes "name in use"
@@ -46,6 +59,26 @@ abbrev pub refusal_of_rename : RenameFault → Refusal
 refusal_of_rename rename.NotAName = refusal.NotAName
 refusal_of_rename rename.NothingToRename = refusal.NothingToRename
 refusal_of_rename rename.NameInUse = refusal.NameInUse
+
+-- the refusal of a request that the desk doesn't take, where it is one that is answered
+abbrev pub refusal_of_fault : DeskFault → Option Refusal
+refusal_of_fault fault.NotOpen = Some refusal.DocumentNotOpen
+refusal_of_fault fault.AlreadyOpen = None
+refusal_of_fault fault.TooManyDocuments = None
+refusal_of_fault fault.TooManyWaiting = Some refusal.TooManyWaiting
+refusal_of_fault fault.IdInUse = Some refusal.IdInUse
+refusal_of_fault fault.TooLarge = None
+refusal_of_fault fault.UnknownTicket = None
+refusal_of_fault fault.OtherText = None
+refusal_of_fault fault.SessionFull = None
+refusal_of_fault fault.Memory = None
+
+-- the refusal of a request that the desk gave up, by the code that it keeps; a code that it never keeps is the server's own fault
+abbrev pub refusal_of_failure : ℤ → Refusal
+refusal_of_failure code =
+    if int_eq code (code_of refusal.ContentModified) then refusal.ContentModified
+    else if int_eq code (code_of refusal.RequestCancelled) then refusal.RequestCancelled
+    else refusal.InternalError
 
 -- the body of a reply with an error
 abbrev pub error_body : Option Id → Refusal → List ℕ

@@ -7,7 +7,7 @@ use Rattle.ls_rpc.specs.Message.{Message, request, notice, response, bad}
 use Rattle.ls_rpc.specs.Reply.{result_json}
 use Rattle.ls_session.specs.Initialize.{initialize_json}
 use Rattle.ls_session.specs.Kind.{request_named, notice_named}
-use Rattle.ls_session.specs.Params.{event_of, question_of, links_of}
+use Rattle.ls_session.specs.Params.{cancel_of, event_of, question_of, links_of}
 use Rattle.ls_session.specs.Refusal.{error_body, refusal_of_code}
 use Rattle.ls_answers.specs.declared.ask.Ask.{Ask}
 use Rattle.ls_session.specs.declared.event.ClientEvent.{ClientEvent}
@@ -63,11 +63,16 @@ abbrev pub event_or_nothing : Option ClientEvent → Turn
 event_or_nothing None = Nothing
 event_or_nothing (Some e) = Event e
 
--- a notice other than exit is taken while the session runs
+-- after shutdown a notice is taken only where it cancels a request, which may have come before (LSP 3.17, "Cancellation Support")
+abbrev pub late_event : NoticeKind → Data → Option ClientEvent
+late_event note.CancelRequest params = cancel_of params
+late_event k params = None
+
+-- a notice other than exit is taken while the session runs; before initialize it is dropped (LSP 3.17, "Server lifecycle")
 abbrev pub stage_event : Stage → NoticeKind → Data → Option ClientEvent
 stage_event BeforeInitialize k params = None
 stage_event (Running links) k params = event_of k params
-stage_event ShutDown k params = None
+stage_event ShutDown k params = late_event k params
 stage_event Ended k params = None
 
 -- exit is clean after shutdown alone

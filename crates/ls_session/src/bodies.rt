@@ -1,15 +1,15 @@
 ghost use Rattle.std.specs.Prelude.{◌≡◌, IfOk, Some, None, Ok, option_map, false};
 ghost use Rattle.serde_json.specs.View.{view};
 ghost use Rattle.serde_json.specs.Written.{has_float};
-ghost use Rattle.ls_session.specs.Bodies.{answer_json, body_of, findings_body, findings_json, found_in, hover_json, location_json, locations_json, plain_text_json, refusal_of, reply_body, symbol_json, symbols_json};
+ghost use Rattle.ls_session.specs.Bodies.{answer_json, body_of, failure_body, findings_body, findings_json, found_in, hover_json, location_json, locations_json, plain_text_json, refusal_of, reply_body, symbol_json, symbols_json};
 
-use crate::answer::{DeskFault, Out};
 use crate::diagnostics::diagnostics_value;
 use crate::edits::{actions_value, edits_value, workspace_edit_value};
 use crate::positions::range_value;
 use crate::refusal::Refusal;
 use crate::tokens::tokens_value;
 use ls_answers::{Answer, Diagnostic, HoverText, Symbol};
+use ls_desk::{DeskFault, Out};
 use ls_rpc::{Id, notice_text, result_text};
 use ls_text::Range;
 use serde_json::{Map, Value, put};
@@ -33,10 +33,15 @@ pub fn body_of(alloc: Global, out: &Out) -> Result<Vec<u8>, Memory>
             label,
             links,
             done,
+            ..
         } => reply_body(alloc, id, uri.as_str(), *label, *links, done.answer()?),
-        Out::Findings { uri, label, done } => {
-            findings_body(alloc, uri.as_str(), *label, done.answer()?)
-        }
+        Out::Failed { id, code, .. } => failure_body(alloc, id, *code),
+        Out::Findings {
+            uri,
+            label,
+            done,
+            ..
+        } => findings_body(alloc, uri.as_str(), *label, done.answer()?),
     }
 }
 
@@ -58,6 +63,13 @@ fn reply_body(
     result_text(alloc, id, value)
 }
 
+#[tactic(auto, unfolding(crate::specs::Bodies::failure_body))]
+fn failure_body(alloc: Global, id: &Id, code: i32) -> Result<Vec<u8>, Memory>
+    ensures { IfOk result (λ body. body.items ≡ failure_body id.now code) }
+{
+    Refusal::of_failure(code).body(alloc, Some(id))
+}
+
 #[tactic(auto, unfolding(crate::specs::Bodies::findings_body))]
 fn findings_body(alloc: Global, uri: &str, label: i64, answer: &Answer) -> Result<Vec<u8>, Memory>
     ensures { IfOk result (λ body. body.items ≡ findings_body uri.now label answer.now) }
@@ -66,7 +78,7 @@ fn findings_body(alloc: Global, uri: &str, label: i64, answer: &Answer) -> Resul
     notice_text(alloc, "textDocument/publishDiagnostics", value)
 }
 
-/// The body that answers a request which the keeper of the documents refused. None where there is nothing to
+/// The body that answers a request which the desk refused. None where there is nothing to
 /// answer: the fault isn't a request's, or is the server's own.
 ///
 /// `Memory` says that an allocation was refused. Where there is nothing to answer none is needed.
@@ -75,12 +87,9 @@ pub fn refusal_body(alloc: Global, id: &Id, fault: DeskFault) -> Result<Option<V
     ensures body { IfOk result (λ body. option_map (λ b. b.items) body ≡ refusal_of id.now fault) }
     ensures none { refusal_of id.now fault ≡ None → result ≡ Ok None }
 {
-    match fault {
-        DeskFault::NotOpen => Ok(Some(Refusal::DocumentNotOpen.body(alloc, Some(id))?)),
-        DeskFault::AlreadyOpen
-        | DeskFault::TooManyDocuments
-        | DeskFault::TooLarge
-        | DeskFault::Memory => Ok(None),
+    match Refusal::of_fault(fault) {
+        Some(refusal) => Ok(Some(refusal.body(alloc, Some(id))?)),
+        None => Ok(None),
     }
 }
 

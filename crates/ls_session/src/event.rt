@@ -20,6 +20,8 @@ pub enum ClientEvent {
     /// A request with this id asks about the document with this uri. The last field says whether the client takes
     /// edits of a workspace as `documentChanges`.
     Request(Id, Text, Ask, bool),
+    /// The request with this id isn't wanted any more.
+    Cancel(Id),
     /// A body that is to be said as it stands.
     Say(List<u8>),
 }
@@ -33,6 +35,8 @@ pub enum Status {
     Unclean,
     /// By bytes that are no frames.
     BadFrame(FrameFault),
+    /// By as many events as a session may have.
+    Full,
 }
 
 /// What one message of the client comes to.
@@ -66,6 +70,7 @@ impl ClientEvent {
                 let uri = uri.copy()?;
                 Ok(ClientEvent::Request(id, uri, ask.copy()?, *links))
             }
+            ClientEvent::Cancel(id) => Ok(ClientEvent::Cancel(id.copy()?)),
             ClientEvent::Say(body) => Ok(ClientEvent::Say(body.copy()?)),
         }
     }

@@ -23,6 +23,7 @@ pub enum NoticeKind {
     DidOpen,
     DidChange,
     DidClose,
+    CancelRequest,
     Unknown,
 }
 
@@ -63,6 +64,8 @@ pub(crate) fn notice_kind(method: &str) -> NoticeKind
         NoticeKind::DidChange
     } else if method == "textDocument/didClose" {
         NoticeKind::DidClose
+    } else if method == "$/cancelRequest" {
+        NoticeKind::CancelRequest
     } else {
         NoticeKind::Unknown
     }

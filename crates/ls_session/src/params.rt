@@ -2,12 +2,13 @@
 ghost use Rattle.std.specs.Prelude.{◌≡◌, IfOk, option_map, unwrap_or};
 ghost use Rattle.serde_json.specs.View.{view, items_view};
 ghost use Rattle.serde_json.specs.Data.{null};
-ghost use Rattle.ls_session.specs.Params.{document_member, uri_of, label_of, count_of, position_of, range_of, range_or_none, edit_of, edits_of, changes_of, did_open_of, did_change_of, did_close_of, event_of, position_in, named_declarations, declarations_of, references_of, rename_of, action_of, ask_of, question_of, named_links, links_of};
+ghost use Rattle.ls_session.specs.Params.{document_member, uri_of, label_of, count_of, position_of, range_of, range_or_none, edit_of, edits_of, changes_of, did_open_of, did_change_of, did_close_of, cancel_of, event_of, position_in, named_declarations, declarations_of, references_of, rename_of, action_of, ask_of, question_of, named_links, links_of};
 
 use crate::event::ClientEvent;
 use crate::kind::{NoticeKind, RequestKind};
 use ls_answers::Ask;
 use ls_lists::{List, Text};
+use ls_rpc::read_id;
 use ls_text::{Edit, Position, Range};
 use serde_json::Value;
 use std::alloc::{AllocError as Memory, Global};
@@ -143,6 +144,16 @@ fn did_close(alloc: Global, params: &Value) -> Result<Option<ClientEvent>, Memor
     }
 }
 
+/// The id is an integer of `i64` or a text, as that of a request.
+pub(crate) fn cancel(alloc: Global, params: &Value) -> Result<Option<ClientEvent>, Memory>
+    ensures { IfOk result (λ event. event ≡ cancel_of (view params.now)) }
+{
+    match params.get("id") {
+        Some(id) => Ok(read_id(alloc, id)?.map(ClientEvent::Cancel)),
+        None => Ok(None),
+    }
+}
+
 /// The event of a notice.
 pub(crate) fn event(
     alloc: Global,
@@ -155,6 +166,7 @@ pub(crate) fn event(
         NoticeKind::DidOpen => did_open(alloc, params),
         NoticeKind::DidChange => did_change(alloc, params),
         NoticeKind::DidClose => did_close(alloc, params),
+        NoticeKind::CancelRequest => cancel(alloc, params),
         NoticeKind::Exit | NoticeKind::Unknown => Ok(None),
     }
 }

@@ -1,8 +1,9 @@
 ghost use Rattle.std.specs.Prelude.{◌≡◌, IfOk};
 ghost use Rattle.std.specs.Option.{option_copied};
-ghost use Rattle.ls_session.specs.Refusal.{code_of, text_of, error_body, refusal_of_code, refusal_of_rename};
+ghost use Rattle.ls_session.specs.Refusal.{code_of, text_of, error_body, refusal_of_code, refusal_of_failure, refusal_of_fault, refusal_of_rename};
 
 use ls_answers::RenameFault;
+use ls_desk::DeskFault;
 use ls_rpc::{INVALID_REQUEST, Id, PARSE_ERROR, error_text};
 use std::alloc::{AllocError as Memory, Global};
 
@@ -22,6 +23,16 @@ pub enum Refusal {
     DocumentNotOpen,
     /// The request came before `initialize`.
     NotInitialized,
+    /// As many requests wait as may.
+    TooManyWaiting,
+    /// A request with this id waits.
+    IdInUse,
+    /// The document of the request has changed, so that the answer would be out of date.
+    ContentModified,
+    /// The client has cancelled the request.
+    RequestCancelled,
+    /// The answer couldn't be made.
+    InternalError,
     /// A rename to a text that isn't the name of a rule.
     NotAName,
     /// A rename where no name stands that the document defines.
@@ -37,11 +48,17 @@ impl Refusal {
     {
         match self {
             Refusal::ParseError => PARSE_ERROR,
-            Refusal::InvalidRequest => INVALID_REQUEST,
+            Refusal::InvalidRequest | Refusal::IdInUse => INVALID_REQUEST,
             Refusal::MethodNotFound => -32601,
             Refusal::InvalidParams | Refusal::DocumentNotOpen => -32602,
             Refusal::NotInitialized => -32002,
-            Refusal::NotAName | Refusal::NothingToRename | Refusal::NameInUse => -32803,
+            Refusal::ContentModified => -32801,
+            Refusal::RequestCancelled => -32800,
+            Refusal::InternalError => -32603,
+            Refusal::TooManyWaiting
+            | Refusal::NotAName
+            | Refusal::NothingToRename
+            | Refusal::NameInUse => -32803,
         }
     }
 
@@ -56,6 +73,11 @@ impl Refusal {
             Refusal::InvalidParams => "invalid params",
             Refusal::DocumentNotOpen => "document not open",
             Refusal::NotInitialized => "not initialized",
+            Refusal::TooManyWaiting => "too many requests waiting",
+            Refusal::IdInUse => "id in use",
+            Refusal::ContentModified => "content modified",
+            Refusal::RequestCancelled => "request cancelled",
+            Refusal::InternalError => "internal error",
             Refusal::NotAName => "not a rule name",
             Refusal::NothingToRename => "nothing to rename",
             Refusal::NameInUse => "name in use",
@@ -81,6 +103,38 @@ impl Refusal {
             RenameFault::NotAName => Refusal::NotAName,
             RenameFault::NothingToRename => Refusal::NothingToRename,
             RenameFault::NameInUse => Refusal::NameInUse,
+        }
+    }
+
+    /// The refusal of a request that the desk doesn't take. None where there is nothing to answer: the fault isn't a request's, or
+    /// is the server's own.
+    pub(crate) fn of_fault(fault: DeskFault) -> Option<Refusal>
+        ensures { result ≡ refusal_of_fault fault }
+    {
+        match fault {
+            DeskFault::NotOpen => Some(Refusal::DocumentNotOpen),
+            DeskFault::TooManyWaiting => Some(Refusal::TooManyWaiting),
+            DeskFault::IdInUse => Some(Refusal::IdInUse),
+            DeskFault::AlreadyOpen
+            | DeskFault::TooManyDocuments
+            | DeskFault::TooLarge
+            | DeskFault::UnknownTicket
+            | DeskFault::OtherText
+            | DeskFault::SessionFull
+            | DeskFault::Memory => None,
+        }
+    }
+
+    /// The refusal of a request that the desk gave up, by its code.
+    pub(crate) fn of_failure(code: i32) -> Refusal
+        ensures { result ≡ refusal_of_failure code }
+    {
+        if code == Refusal::ContentModified.code() {
+            Refusal::ContentModified
+        } else if code == Refusal::RequestCancelled.code() {
+            Refusal::RequestCancelled
+        } else {
+            Refusal::InternalError
         }
     }
 

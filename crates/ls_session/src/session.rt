@@ -4,7 +4,7 @@ ghost use Rattle.serde_json.specs.View.{view};
 ghost use Rattle.serde_json.specs.Written.{has_float};
 ghost use Rattle.ls_rpc.specs.Message.{message_of, message_view};
 ghost use Rattle.ls_rpc.specs.Reply.{result_json};
-ghost use Rattle.ls_session.specs.Session.{turn_of, request_turn, running_turn, first_turn, notice_turn, exit_turn, stage_event, bad_turn, asked, refused, said};
+ghost use Rattle.ls_session.specs.Session.{turn_of, request_turn, running_turn, first_turn, notice_turn, exit_turn, stage_event, late_event, bad_turn, asked, refused, said};
 ghost use Rattle.ls_session.specs.declared.session.Stage.TheVariants.{BeforeInitialize};
 
 use crate::event::{ClientEvent, Status, Turn};
@@ -196,7 +196,22 @@ fn stage_event(
 {
     match stage {
         Stage::Running(_) => params::event(alloc, kind, params),
-        Stage::BeforeInitialize | Stage::ShutDown | Stage::Ended => Ok(None),
+        Stage::ShutDown => late_event(alloc, kind, params),
+        Stage::BeforeInitialize | Stage::Ended => Ok(None),
+    }
+}
+
+/// The event of a notice after `shutdown`: requests that came before it may wait, and can be cancelled.
+fn late_event(
+    alloc: Global,
+    kind: NoticeKind,
+    params: &Value,
+) -> Result<Option<ClientEvent>, Memory>
+    ensures { IfOk result (λ event. event ≡ late_event kind (view params.now)) }
+{
+    match kind {
+        NoticeKind::CancelRequest => params::cancel(alloc, params),
+        _ => Ok(None),
     }
 }
 
