@@ -1,0 +1,5 @@
+pub mod Asks
+pub mod Entries
+pub mod Going
+pub mod Inputs
+pub mod Talks

@@ -1,0 +1,212 @@
+-- What each method of a session does, from what the calls in it ensure.
+use Rattle.std.proofs.Common.{◌≡◌, ◌<◌, ℕ, suc, List, [], ◌∷◌, ◌++◌, length, map, take, drop, get_or, Bool, true, false, Option, Some, None, option_map, refl, sym, ap, subst, ◌∙◌}
+use Rattle.std.specs.Prelude.{◌≢◌, ◌&&◌, find, is_some, remove, slice_get, if◌then◌else◌}
+use Rattle.std.proofs.lemmas.List.{drop-map, map-append, take-map}
+use Rattle.std.proofs.lemmas.Option.{slice_get-map, slice_get_read}
+use Rattle.std.specs.Arc.{arc_value}
+use Rattle.ls_frame.specs.Frames.{frame_of}
+use Rattle.ls_rpc.specs.Message.{message_of}
+use Rattle.ls_answers.specs.Told.{Told}
+use Rattle.ls_answers.specs.declared.job.Job.{Job}
+use Rattle.ls_desk.specs.declared.event.Event.TheVariants.{Sent}
+use Rattle.ls_desk.specs.declared.event.Out.{Out}
+use Rattle.ls_desk.specs.declared.event.DeskFault.{DeskFault}
+use Rattle.ls_desk.specs.declared.event.DeskFault.TheVariants as fault
+use Rattle.ls_desk.specs.declared.state.Entry.{Entry}
+use Rattle.ls_desk.specs.declared.state.Waiting.{Waiting}
+use Rattle.ls_desk.specs.Journal.{IsLegalFrom, replay_from}
+use Rattle.ls_desk.specs.Machine.{IsPossible, first_ticket, is_queued, ticket_of}
+use Rattle.ls_desk.specs.Stands.{AreOutsFor, IsSound, Seen, Sends, state_of, ticket_of_out}
+use Rattle.ls_desk.specs.Faults.{IsJobOf, Refuses, Takes, is_full, or_else, take_fault}
+use Rattle.ls_session.specs.Bodies.{body_of}
+use Rattle.ls_session.specs.Session.{turn_of}
+use Rattle.ls_session.specs.declared.event.ClientEvent.{ClientEvent}
+use Rattle.ls_session.specs.declared.event.ClientEvent.TheVariants as event
+use Rattle.ls_session.specs.declared.event.Status.{Status}
+use Rattle.ls_session.specs.declared.event.Status.TheVariants.{Full}
+use Rattle.ls_session.specs.declared.event.Turn.{Turn}
+use Rattle.ls_session.specs.declared.event.Turn.TheVariants.{Event as Happens}
+use Rattle.ls_session.specs.declared.session.Stage.{Stage}
+use Rattle.ls_steps.specs.Runs.{Going, Held, IsSent, Steps, desk_of, finish_job, finishes, hear, held_as, held_of, is_filled, leaving, meets, ran, runs, send, state_at, status_by, take_job, takes, took, turned}
+use Rattle.ls_steps.specs.Leaves.{Leaves}
+use Rattle.ls_steps.proofs.Entries.{first-cause}
+
+-- ---- desks
+
+pub sound-start : (most : ℕ) → IsSound (record { journal = []; outbox = []; max_events = most })
+unfolding IsLegalFrom replay_from AreOutsFor
+sound-start most = record { legal = tt; outs = tt }
+
+outs-none : (es : List Entry) → AreOutsFor es [] → es ≡ []
+unfolding AreOutsFor
+outs-none [] h = refl
+outs-none (e ∷ es) h = absurd h
+
+pub nothing-unsent : (d : Seen) → IsSound d → d.outbox ≡ [] → (state_of d).unsent ≡ []
+nothing-unsent d s e = outs-none _ (let P : List Out → Type 0 = λ os. AreOutsFor (state_of d).unsent os in subst P e s.outs)
+
+-- a session over this desk
+abbrev pub over : Stage → Seen → List Held → Option Status → Going
+over stage d held status = record { stage = stage; journal = d.journal; max_events = d.max_events; held = held; status = status }
+
+-- ---- hear
+
+pub unheard : (g : Going) (body : List ℕ) → is_some g.status ≡ true → Steps g (hear body) g []
+unfolding Steps
+unheard g body e = (let P : Bool → Type 0 = λ b. g ≡ (if b then g else turned g (turn_of g.stage (message_of body))) in subst P (sym e) refl, refl)
+
+pub heard-turn : (g h : Going) (body : List ℕ) (turn : Turn × Stage) → is_some g.status ≡ false → turn ≡ turn_of g.stage (message_of body) → h ≡ turned g turn → Steps g (hear body) h []
+unfolding Steps
+heard-turn g h body turn e t s = (
+  (let P : Bool → Type 0 = λ b. h ≡ (if b then g else turned g (turn_of g.stage (message_of body))) in subst P (sym e) (s ∙ ap (turned g) t)),
+  refl,
+)
+
+-- what the desk does doesn't depend on what is said
+meets-alike : (d : Seen) (e : ClientEvent) → meets (record { journal = d.journal; outbox = []; max_events = d.max_events }) e ≡ meets d e
+meets-alike d (event.DidOpen uri label text) = refl
+meets-alike d (event.DidChange uri label edits) = refl
+meets-alike d (event.DidClose uri) = refl
+meets-alike d (event.Request id uri ask links) = refl
+meets-alike d (event.Cancel id) = refl
+meets-alike d (event.Say body) = refl
+
+pub heard-event : (stage later : Stage) (d new : Seen) (held : List Held) (status : Option Status) (body : List ℕ) (e : ClientEvent) (full : Bool)
+    → is_some status ≡ false → (Happens e, later) ≡ turn_of stage (message_of body) → Leaves (meets d e) full d new
+    → Steps (over stage d held status) (hear body) (over later new held (status_by status full)) []
+heard-event stage later d new held status body e full none turn left =
+    heard-turn (over stage d held status) (over later new held (status_by status full)) body (Happens e, later) none turn
+    (λ i. record {
+      stage = later;
+      journal = (left.journal ∙ sym (ap (λ l. l.journal) (meets-alike d e))) i;
+      max_events = left.most i;
+      held = held;
+      status = (ap (status_by status) (left.full_is ∙ sym (ap (λ l. l.full) (meets-alike d e)))) i;
+    })
+
+-- ---- take
+
+unless-filled : (g h : Going) (b : Bool) → b ≡ false → h ≡ (if b then g else h)
+unless-filled g h b e = let P : Bool → Type 0 = λ b. h ≡ (if b then g else h) in subst P (sym e) refl
+
+pub untaken : (g : Going) → is_filled g.status ≡ true → Steps g take_job g []
+unfolding Steps
+untaken g e = (let P : Bool → Type 0 = λ b. g ≡ (if b then g else takes g (find is_queued (state_at g).waiting)) in subst P (sym e) refl, refl)
+
+pub takes-then : (g h : Going) → is_filled g.status ≡ false → h ≡ takes g (find is_queued (state_at g).waiting) → Steps g take_job h []
+unfolding Steps
+takes-then g h e t = (let P : Bool → Type 0 = λ b. h ≡ (if b then g else takes g (find is_queued (state_at g).waiting)) in subst P (sym e) t, refl)
+
+pub takes-none : (stage : Stage) (d new : Seen) (held : List Held) (status : Option Status) → is_filled status ≡ false
+    → Takes 0 d new None → Steps (over stage d held status) take_job (over stage new held status) []
+takes-none stage d new held status e t =
+    takes-then (over stage d held status) (over stage new held status) e
+    (ap (λ (s : Seen). over stage s held status) t.1 ∙ sym (ap (takes (over stage d held status)) t.0))
+
+job-held : (w : Waiting) (job : Job) → IsJobOf w job → held_as job ≡ held_of w
+job-held w job j = λ i. record { ticket = j.ticket i; text = j.text i; ask = j.ask i }
+
+pub takes-one : (stage : Stage) (d new : Seen) (held : List Held) (status : Option Status) (job : Job) → is_filled status ≡ false
+    → Takes 0 d new (Some job) → Steps (over stage d held status) take_job (over stage new (held ++ held_as job ∷ []) status) []
+takes-one stage d new held status job e t =
+    let g = over stage d held status in
+    let a = t.3 in
+    let one : over stage new (held ++ held_as job ∷ []) status ≡ took g t.0 None
+    = λ i. record { stage = stage; journal = a.enters.journal i; max_events = a.enters.most i; held = held ++ job-held t.0 job t.2 i ∷ []; status = status } in
+    takes-then g (over stage new (held ++ held_as job ∷ []) status) e
+    (one ∙ (sym (ap (took g t.0) a.none) ∙ sym (ap (takes g) t.1)))
+
+takes-full-at : (g : Going) (o : Option Waiting) (b : Bool) (x : DeskFault) → or_else (is_some o && b) fault.SessionFull None ≡ Some x → take_fault (desk_of g) ≡ Some x
+    → takes g o ≡ record g { status = Some Full }
+takes-full-at g None b x e f = absurd (cc)
+takes-full-at g (Some w) b x e f = ap (took g w) f
+
+pub takes-full : (stage : Stage) (d new : Seen) (held : List Held) (status : Option Status) (x : DeskFault) → is_filled status ≡ false → x ≢ fault.Memory
+    → Refuses (take_fault d) d new x → Steps (over stage d held status) take_job (over stage new held (Some Full)) []
+takes-full stage d new held status x e n r =
+    let g = over stage d held status in
+    let f = first-cause (take_fault d) d new x n r in
+    takes-then g (over stage new held (Some Full)) e
+    (ap (λ (s : Seen). over stage s held (Some Full)) r.same ∙ sym (takes-full-at g (find is_queued (state_of d).waiting) (is_full d 1) x f f))
+
+-- ---- finish
+
+pub unfinished : (g : Going) (at : ℕ) → is_filled g.status ≡ true → Steps g (finish_job at) g []
+unfolding Steps
+unfinished g at e = (None, (let P : Bool → Type 0 = λ b. g ≡ (if b then g else runs g at None (slice_get g.held at)) in subst P (sym e) refl), refl)
+
+if-same : (g : Going) (b : Bool) → g ≡ (if b then g else g)
+if-same g true = refl
+if-same g false = refl
+
+-- there is no such job
+pub no-job : (g : Going) (at : ℕ) → slice_get g.held at ≡ None → Steps g (finish_job at) g []
+unfolding Steps
+no-job g at e = (None, (let P : Option Held → Type 0 = λ o. g ≡ (if is_filled g.status then g else runs g at None o) in subst P (sym e) (if-same g (is_filled g.status))), refl)
+
+pub finished : (stage : Stage) (d new : Seen) (held : List Held) (status : Option Status) (at : ℕ) (job : Held) (done : Told) (full : Bool)
+    → is_filled status ≡ false → slice_get held at ≡ Some job → done ≡ ran job done.answer → Leaves (finishes d done) full d new
+    → Steps (over stage d held status) (finish_job at) (over stage new (remove held at) (status_by status full)) []
+unfolding Steps
+finished stage d new held status at job done full e found r left =
+    let g = over stage d held status in
+    let h = over stage new (remove held at) (status_by status full) in
+    let one : h ≡ leaving (record g { held = remove held at }) (finishes d done)
+    = λ i. record { stage = stage; journal = left.journal i; max_events = left.most i; held = remove held at; status = status_by status (left.full_is i) } in
+    let P : Told → Type 0 = λ t. h ≡ leaving (record g { held = remove held at }) (finishes d t) in
+    let Q : Option Held → Type 0 = λ o. h ≡ runs g at done.answer o in
+    let R : Bool → Type 0 = λ b. h ≡ (if b then g else runs g at done.answer (slice_get held at)) in
+    (done.answer, subst R (sym e) (subst Q (sym found) (subst P r one)), refl)
+
+map-remove : (jobs : List Job) (at : ℕ) → map held_as (remove jobs at) ≡ remove (map held_as jobs) at
+map-remove jobs at =
+    map-append held_as (take at jobs) (drop (suc at) jobs) ∙ (λ j. sym (take-map held_as at jobs) j ++ sym (drop-map held_as (suc at) jobs) j)
+
+finished-job : (stage : Stage) (d new : Seen) (jobs left : List Job) (status : Option Status) (at : ℕ) (job : Job) (done : Told) (full : Bool)
+    → is_filled status ≡ false → at < length jobs → job ≡ get_or jobs at job → left ≡ remove jobs at → done ≡ ran (held_as job) done.answer → Leaves (finishes d done) full d new
+    → Steps (over stage d (map held_as jobs) status) (finish_job at) (over stage new (map held_as left) (status_by status full)) []
+finished-job stage d new jobs left status at job done full e within is gone r l =
+    let found : slice_get (map held_as jobs) at ≡ Some (held_as job)
+    = slice_get-map held_as jobs at ∙ ap (option_map held_as) (slice_get_read jobs (length jobs) at job refl within is) in
+    let P : List Held → Type 0 = λ hs. Steps (over stage d (map held_as jobs) status) (finish_job at) (over stage new hs (status_by status full)) [] in
+    subst P (sym (ap (map held_as) gone ∙ map-remove jobs at)) (finished stage d new (map held_as jobs) status at (held_as job) done full e found r l)
+
+-- the job at a place of those held has run, and the session is full by it or not
+pub finished-as : (g : Going) (stage : Stage) (d new : Seen) (jobs left : List Job) (status : Option Status) (at : ℕ) (job : Job) (done : Told) (said full filled : Bool)
+    → over stage d (map held_as jobs) status ≡ g → filled ≡ is_filled g.status → filled ≡ false → at < length jobs → job ≡ get_or jobs at job → left ≡ remove jobs at
+    → done.ticket ≡ job.ticket → done.text ≡ arc_value job.snapshot → done.ask ≡ job.ask → said ≡ full → Leaves (finishes d done) said d new
+    → Steps g (finish_job at) (over stage new (map held_as left) (status_by status full)) []
+finished-as g stage d new jobs left status at job done said full filled view f e within is gone ticket text ask s l =
+    let P : Going → Type 0 = λ x. Steps x (finish_job at) (over stage new (map held_as left) (status_by status full)) [] in
+    let Q : Bool → Type 0 = λ b. Leaves (finishes d done) b d new in
+    subst P view
+    (finished-job stage d new jobs left status at job done full (ap (λ (x : Going). is_filled x.status) view ∙ (sym f ∙ e)) within is gone
+    (λ i. record { ticket = ticket i; text = text i; ask = ask i; answer = done.answer }) (subst Q s l))
+
+-- ---- send
+
+pub sends-none : (stage : Stage) (d new : Seen) (held : List Held) (status : Option Status) → IsSound d → d.outbox ≡ [] → new ≡ d
+    → Steps (over stage d held status) send (over stage new held status) []
+unfolding Steps
+sends-none stage d new held status sound empty same =
+    let g = over stage d held status in
+    let P : List Entry → Type 0 = λ es. IsSent g es (over stage new held status) [] in
+    subst P (sym (nothing-unsent d sound empty)) (ap (λ (s : Seen). over stage s held status) same, refl)
+
+first-is : (es rest : List Entry) (e : Entry) (ticket : ℕ) → first_ticket es ≡ Some ticket → es ≡ e ∷ rest → ticket_of e ≡ ticket
+first-is es rest e ticket f s =
+    let P : List Entry → Type 0 = λ l. first_ticket l ≡ Some ticket in
+    let h : Some (ticket_of e) ≡ Some ticket = subst P s f in cc
+
+pub sends-one : (stage : Stage) (d new : Seen) (held : List Held) (status : Option Status) (out : Out) (body frame : List ℕ)
+    → Sends d new out → Some body ≡ body_of out → frame ≡ frame_of body → Steps (over stage d held status) send (over stage new held status) frame
+unfolding Steps IsPossible
+sends-one stage d new held status out body frame s b f =
+    let g = over stage d held status in
+    let e = s.is_for.0 in
+    let t : ticket_of e ≡ ticket_of_out out = first-is _ s.is_for.1 e _ s.enters.possible s.is_for.2 in
+    let j : new.journal ≡ d.journal ++ Sent (ticket_of e) ∷ [] = s.enters.journal ∙ ap (λ n. d.journal ++ Sent n ∷ []) (sym t) in
+    let P : List Entry → Type 0 = λ es. IsSent g es (over stage new held status) frame in
+    let same : over stage new held status ≡ record g { journal = d.journal ++ Sent (ticket_of e) ∷ [] }
+    = λ i. record { stage = stage; journal = j i; max_events = s.enters.most i; held = held; status = status } in
+    subst P (sym s.is_for.2) (same, s.was_current, (out, body, s.is_for.3, sym b, f))

@@ -1,0 +1,265 @@
+-- The session of one client over a desk, step by step: what each step enters into the desk's journal, and the bytes that it writes.
+use Rattle.std.specs.Prelude.{◌≡◌, ℕ, List, [], ◌∷◌, ◌++◌, drop, remove, slice_get, find, is_none, is_some, Bool, true, false, Option, Some, None, Vec, if◌then◌else◌}
+use Rattle.std.specs.declared.alloc.Global.{Global}
+use Rattle.std.specs.Arc.{arc_value}
+use Rattle.std.specs.Str.{chars}
+use Rattle.ls_frame.specs.Frames.{Stream, frame_of}
+use Rattle.ls_frame.specs.Faults.{fault_of}
+use Rattle.ls_frame.specs.declared.fault.FrameFault.{FrameFault}
+use Rattle.ls_frame.specs.declared.fault.FrameFault.TheVariants.{Truncated}
+use Rattle.ls_rpc.specs.Message.{message_of}
+use Rattle.ls_rpc.specs.declared.message.Id.{Id}
+use Rattle.ls_answers.specs.Told.{Told}
+use Rattle.ls_answers.specs.declared.ask.Ask.{Ask}
+use Rattle.ls_answers.specs.declared.answer.Answer.{Answer}
+use Rattle.ls_answers.specs.declared.job.Job.{Job}
+use Rattle.ls_desk.specs.declared.event.Event.{Event}
+use Rattle.ls_desk.specs.declared.event.Event.TheVariants.{Opened, Changed, Closed, Asked, Cancelled, Said, Took, Finished, Sent}
+use Rattle.ls_desk.specs.declared.event.Out.{Out}
+use Rattle.ls_desk.specs.declared.event.DeskFault.{DeskFault}
+use Rattle.ls_desk.specs.declared.event.DeskFault.TheVariants.{SessionFull}
+use Rattle.ls_desk.specs.declared.state.Waiting.{Waiting}
+use Rattle.ls_desk.specs.declared.state.Entry.{Entry}
+use Rattle.ls_desk.specs.Machine.{State, document_of, edited_at, version_if, id_waits, is_queued, ticket_of}
+use Rattle.ls_desk.specs.Journal.{replay}
+use Rattle.ls_desk.specs.Laws.{WasEntryCurrent}
+use Rattle.ls_desk.specs.Stands.{Seen, IsOutFor, state_of}
+use Rattle.ls_desk.specs.Faults.{open_fault, end_fault, request_fault, cancel_fault, full_fault, take_fault, finish_fault}
+use Rattle.ls_session.specs.Bodies.{body_of, refusal_of}
+use Rattle.ls_session.specs.Session.{turn_of}
+use Rattle.ls_session.specs.declared.event.ClientEvent.{ClientEvent}
+use Rattle.ls_session.specs.declared.event.ClientEvent.TheVariants.{DidOpen, DidChange, DidClose, Request, Cancel, Say}
+use Rattle.ls_session.specs.declared.event.Turn.{Turn}
+use Rattle.ls_session.specs.declared.event.Turn.TheVariants.{Nothing, Event as Happens, Exit}
+use Rattle.ls_session.specs.declared.event.Status.{Status}
+use Rattle.ls_session.specs.declared.event.Status.TheVariants.{Clean, Unclean, BadFrame, Full}
+use Rattle.ls_session.specs.declared.session.Stage.{Stage}
+use Rattle.ls_session.specs.declared.session.Stage.TheVariants.{BeforeInitialize}
+use Rattle.ls_steps.specs.declared.steps.Step.{Step}
+use Rattle.ls_steps.specs.declared.steps.Step.TheVariants as step
+
+-- ---- where a session stands
+
+-- a job that the worker holds
+pub record Held : Type 0 where
+  pub ticket : ℕ
+  pub text : List ℕ
+  pub ask : Ask
+
+abbrev pub held_of : Waiting → Held
+held_of w = record { ticket = w.ticket; text = w.text; ask = w.ask }
+
+abbrev pub held_as : Job → Held
+held_as job = record { ticket = job.ticket; text = arc_value job.snapshot; ask = job.ask }
+
+pub record Going : Type 0 where
+  pub stage : Stage
+  -- the desk's journal, and the most events that it takes
+  pub journal : List Event
+  pub max_events : ℕ
+  -- the worker's jobs, in the order in which they were taken
+  pub held : List Held
+  pub status : Option Status
+
+-- nothing has come
+abbrev pub begun : Going
+begun = record { stage = BeforeInitialize; journal = []; max_events = 1000000; held = []; status = None }
+
+-- the desk, as far as its refusals go: they don't depend on what is said of the entries
+abbrev pub desk_of : Going → Seen
+desk_of g = record { journal = g.journal; outbox = []; max_events = g.max_events }
+
+abbrev pub state_at : Going → State
+state_at g = replay g.journal
+
+-- ---- what a step leaves at the desk: its journal, and whether the session is full
+
+pub record Left : Type 0 where
+  pub journal : List Event
+  pub full : Bool
+
+abbrev pub entered : Seen → Event → Left
+entered d e = record { journal = d.journal ++ e ∷ []; full = false }
+
+abbrev pub unchanged : Seen → Left
+unchanged d = record { journal = d.journal; full = false }
+
+abbrev pub filled : Seen → Left
+filled d = record { journal = d.journal; full = true }
+
+-- ---- a client's event
+
+-- why the desk refuses it, if it does
+abbrev pub fault_at : Seen → ClientEvent → Option DeskFault
+fault_at d (DidOpen uri label text) = open_fault d uri text
+fault_at d (DidChange uri label edits) = end_fault d uri
+fault_at d (DidClose uri) = end_fault d uri
+fault_at d (Request id uri ask links) = request_fault d id uri
+fault_at d (Cancel id) = cancel_fault d id
+fault_at d (Say body) = full_fault d 2
+
+-- what is entered, where the desk doesn't refuse it
+abbrev pub entry_at : State → ClientEvent → Event
+entry_at s (DidOpen uri label text) = Opened uri label (chars text) s.next_version
+entry_at s (DidChange uri label edits) = Changed uri label edits (version_if s.next_version (edited_at (document_of uri s.documents) edits))
+entry_at s (DidClose uri) = Closed uri
+entry_at s (Request id uri ask links) = Asked id uri ask links s.next_ticket
+entry_at s (Cancel id) = Cancelled id (id_waits id s.waiting)
+entry_at s (Say body) = Said body
+
+-- whom a refusal concerns: a request has an id, all else is dropped
+abbrev pub asker_of : ClientEvent → Option Id
+asker_of (DidOpen uri label text) = None
+asker_of (DidChange uri label edits) = None
+asker_of (DidClose uri) = None
+asker_of (Request id uri ask links) = Some id
+asker_of (Cancel id) = None
+asker_of (Say body) = None
+
+abbrev pub told_of : Option Id → DeskFault → Option (List ℕ)
+told_of None fault = None
+told_of (Some id) fault = refusal_of id fault
+
+abbrev pub said_by : Seen → List ℕ → Option DeskFault → Left
+said_by d body None = entered d (Said body)
+said_by d body (Some fault) = filled d
+
+-- a refused request is told so, where there is room for that
+abbrev pub tells : Seen → Option (List ℕ) → Left
+tells d None = unchanged d
+tells d (Some body) = said_by d body (full_fault d 2)
+
+abbrev pub refused : Seen → Option Id → DeskFault → Left
+refused d id SessionFull = filled d
+refused d id fault = tells d (told_of id fault)
+
+abbrev pub met : Seen → ClientEvent → Option DeskFault → Left
+met d event None = entered d (entry_at (state_of d) event)
+met d event (Some fault) = refused d (asker_of event) fault
+
+abbrev pub meets : Seen → ClientEvent → Left
+meets d event = met d event (fault_at d event)
+
+-- ---- a job that has run
+
+-- its answer, or none where memory was refused in it
+abbrev pub ran : Held → Option Answer → Told
+ran job answer = record { ticket = job.ticket; text = job.text; ask = job.ask; answer = answer }
+
+-- one whose ticket waits no longer is dropped
+abbrev pub finished_by : Seen → Told → Option DeskFault → Left
+finished_by d done None = entered d (Finished done.ticket (is_none done.answer))
+finished_by d done (Some SessionFull) = filled d
+finished_by d done (Some fault) = unchanged d
+
+abbrev pub finishes : Seen → Told → Left
+finishes d done = finished_by d done (finish_fault d done)
+
+-- ---- acts
+
+-- what a step does: a Message has the next body with it, or the fault that stands in its place
+pub data Act : Type 0 where
+  hear : List ℕ → Act
+  break_off : FrameFault → Act
+  take_job : Act
+  finish_job : ℕ → Act
+  send : Act
+
+abbrev pub status_by : Option Status → Bool → Option Status
+status_by status full = if full then Some Full else status
+
+abbrev pub leaving : Going → Left → Going
+leaving g left = record g { journal = left.journal; status = status_by g.status left.full }
+
+abbrev pub on_turn : Going → Turn → Going
+on_turn g Nothing = g
+on_turn g (Happens event) = leaving g (meets (desk_of g) event)
+on_turn g (Exit status) = record g { status = Some status }
+
+abbrev pub turned : Going → Turn × Stage → Going
+turned g turn = on_turn (record g { stage = turn.1 }) turn.0
+
+abbrev pub heard : Going → List ℕ → Going
+heard g body = turned g (turn_of g.stage (message_of body))
+
+abbrev pub took : Going → Waiting → Option DeskFault → Going
+took g w None = record g { journal = g.journal ++ Took 0 ∷ []; held = g.held ++ held_of w ∷ [] }
+took g w (Some fault) = record g { status = Some Full }
+
+-- the first queued job
+abbrev pub takes : Going → Option Waiting → Going
+takes g None = g
+takes g (Some w) = took g w (take_fault (desk_of g))
+
+abbrev pub runs : Going → ℕ → Option Answer → Option Held → Going
+runs g k answer None = g
+runs g k answer (Some job) = leaving (record g { held = remove g.held k }) (finishes (desk_of g) (ran job answer))
+
+-- The first entry leaves, and the frame of an Out that stands for it is written. The text of an outcome was current when it was asked.
+abbrev pub IsSent : Going → List Entry → Going → List ℕ → Type 0
+IsSent g [] h bytes = (h ≡ g) × (bytes ≡ [])
+IsSent g (e ∷ es) h bytes = (h ≡ record g { journal = g.journal ++ Sent (ticket_of e) ∷ [] })
+    × WasEntryCurrent g.journal e
+    × ((out : Out) × (body : List ℕ) × IsOutFor e out × (body_of out ≡ Some body) × (bytes ≡ frame_of body))
+
+-- what reads does nothing once a status stands
+abbrev pub while_open : Option Status → Going → Going → Going
+while_open status g h = if is_some status then g else h
+
+abbrev pub is_filled : Option Status → Bool
+is_filled None = false
+is_filled (Some Clean) = false
+is_filled (Some Unclean) = false
+is_filled (Some (BadFrame fault)) = false
+is_filled (Some Full) = true
+
+-- once the session is full, only what is kept is sent
+abbrev pub unless_full : Option Status → Going → Going → Going
+unless_full status g h = if is_filled status then g else h
+
+-- the bytes of a frame, where there is one
+abbrev pub bytes_in : Option (Vec ℕ Global) → List ℕ
+bytes_in None = []
+bytes_in (Some frame) = frame.items
+
+-- one act, and the bytes that it writes. A job that is run may fail for want of memory; all else is a function.
+unfoldable pub Steps : Going → Act → Going → List ℕ → Type 0
+Steps g (hear body) h bytes = (h ≡ while_open g.status g (heard g body)) × (bytes ≡ [])
+Steps g (break_off fault) h bytes = (h ≡ while_open g.status g (record g { status = Some (BadFrame fault) })) × (bytes ≡ [])
+Steps g take_job h bytes = (h ≡ unless_full g.status g (takes g (find is_queued (state_at g).waiting))) × (bytes ≡ [])
+Steps g (finish_job k) h bytes = (answer : Option Answer) × (h ≡ unless_full g.status g (runs g k answer (slice_get g.held k))) × (bytes ≡ [])
+Steps g send h bytes = IsSent g (state_at g).unsent h bytes
+
+-- acts, one after the other
+unfoldable pub Runs : Going → List Act → Going → List ℕ → Type 0
+Runs g [] h bytes = (h ≡ g) × (bytes ≡ [])
+Runs g (act ∷ acts) h bytes = (mid : Going) × (now : List ℕ) × (later : List ℕ) × (Steps g act mid now × Runs mid acts h later × (bytes ≡ now ++ later))
+
+-- ---- a run on an input
+
+-- what is wrong behind the whole frames of a stream with this rest, at its end
+abbrev pub ends_wrong : Option FrameFault → List ℕ → Option FrameFault
+ends_wrong (Some fault) rest = Some fault
+ends_wrong None [] = None
+ends_wrong None (b ∷ rest) = Some Truncated
+
+-- what a Message does where these bodies are left to be read: behind the last one stands the fault, or nothing
+abbrev pub next_act : List (List ℕ) → Option FrameFault → List Act
+next_act (body ∷ bodies) fault = hear body ∷ []
+next_act [] (Some fault) = break_off fault ∷ []
+next_act [] None = []
+
+-- what the steps do
+abbrev pub acts_of : List (List ℕ) → Option FrameFault → List Step → List Act
+acts_of bodies fault [] = []
+acts_of bodies fault (step.Message ∷ steps) = next_act bodies fault ++ acts_of (drop 1 bodies) fault steps
+acts_of bodies fault (step.Take ∷ steps) = take_job ∷ acts_of bodies fault steps
+acts_of bodies fault (step.Finish k ∷ steps) = finish_job k ∷ acts_of bodies fault steps
+acts_of bodies fault (step.Send ∷ steps) = send ∷ acts_of bodies fault steps
+
+-- The input's frames and the steps give these bytes, and leave the session so.
+pub record IsRun (input : List ℕ) (steps : List Step) (h : Going) (bytes : List ℕ) : Type 0 where
+  pub contents : List (List ℕ)
+  pub rest : List ℕ
+  pub stream : Stream input contents rest
+  pub runs : Runs begun (acts_of contents (ends_wrong (fault_of rest) rest) steps) h bytes

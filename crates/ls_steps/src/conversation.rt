@@ -1,0 +1,169 @@
+//! A client's session, over a desk.
+ghost use Rattle.std.specs.Prelude.{◌≡◌, ℕ, List, [], IfOk, IfNone, OnOk, Some};
+ghost use Rattle.ls_desk.specs.Stands.{IsSound};
+ghost use Rattle.ls_frame.specs.Frames.{frame_of};
+ghost use Rattle.ls_session.specs.Bodies.{body_of};
+ghost use Rattle.ls_steps.specs.Runs.{Steps, begun, break_off, bytes_in, finish_job, hear, is_filled, send, state_at, take_job};
+
+use crate::at_desk::{finish, meet};
+use ls_answers::{Job, run};
+use ls_desk::{Desk, DeskFault, Out};
+use ls_frame::{FrameFault, write_frame};
+use ls_session::{Session, Status, Turn, body_of};
+use std::alloc::{AllocError as Memory, Global};
+use std::marker::Model;
+
+/// The most events that the desk's journal takes.
+const MOST_EVENTS: usize = 1_000_000;
+
+/// The number of the worker.
+const WORKER: u32 = 0;
+
+/// The frame of what is to be said.
+fn framed(alloc: Global, out: Out) -> Result<Vec<u8>, Memory>
+    ensures { IfOk result (λ frame. (body : List ℕ) × (body_of out ≡ Some body) × (frame.items ≡ frame_of body)) }
+{
+    let body = body_of(alloc, &out)?;
+    let mut frame = Vec::new(alloc);
+    match write_frame(alloc, &body, &mut frame) {
+        Ok(()) => Ok(frame),
+        Err(_) => Err(Memory),
+    }
+}
+
+/// The session of one client, the desk with its documents, and the jobs that the worker holds. Its methods are the steps
+/// that can come in any order.
+///
+/// `Memory` says that an allocation was refused. The session is over then.
+#[derive(Drop)]
+pub struct Conversation {
+    alloc: Global,
+    session: Session,
+    desk: Desk,
+    held: Vec<Job>,
+    status: Option<Status>,
+}
+
+impl Model for Conversation {
+    ghost use Rattle.std.specs.Prelude.{map};
+    ghost use Rattle.ls_desk.specs.Stands.{IsSound};
+    ghost use Rattle.ls_steps.specs.Runs.{Going, held_as};
+
+    ghost Value = { Going };
+
+    ghost view = { λ c. record { stage = c.session; journal = c.desk.journal; max_events = c.desk.max_events; held = map held_as c.held.items; status = c.status } };
+
+    ghost invariant = { λ c. IsSound c.desk };
+}
+
+impl Conversation {
+    /// A session to which nothing has come.
+    pub fn new(alloc: Global) -> Conversation
+        ensures { result ≡ begun }
+    {
+        Conversation {
+            alloc,
+            session: Session::new(alloc),
+            desk: Desk::new(alloc, MOST_EVENTS),
+            held: Vec::new(alloc),
+            status: None,
+        }
+    }
+
+    /// How the session ended, if it has.
+    pub fn status(&self) -> Option<Status>
+        ensures { result ≡ self.now.status }
+    {
+        self.status
+    }
+
+    /// The journal takes no more.
+    fn is_full(&self) -> bool
+        ensures { result ≡ is_filled self.now.status }
+    {
+        matches!(self.status, Some(Status::Full))
+    }
+
+    /// Hears a message of the client, by its body. After the end of the session nothing is heard.
+    #[tactic(auto, unfolding(crate::specs::Runs::Steps))]
+    pub fn hear(&mut self, body: &[u8]) -> Result<(), Memory>
+        ensures { OnOk result (Steps self.old (hear body.now) self.new []) }
+    {
+        if self.status.is_some() {
+            return Ok(());
+        }
+        match self.session.event(body)? {
+            Turn::Nothing => {}
+            Turn::Exit(status) => self.status = Some(status),
+            Turn::Event(event) => {
+                if meet(self.alloc, &mut self.desk, event)? {
+                    self.status = Some(Status::Full);
+                }
+            }
+        }
+        Ok(())
+    }
+
+    /// Ends the session where the client's bytes are no frames.
+    #[tactic(auto, unfolding(crate::specs::Runs::Steps))]
+    pub fn break_off(&mut self, fault: FrameFault)
+        ensures { Steps self.old (break_off fault) self.new [] }
+    {
+        if self.status.is_none() {
+            self.status = Some(Status::BadFrame(fault));
+        }
+    }
+
+    /// Takes the queued job with the least ticket, if there is one.
+    #[tactic(auto, unfolding(crate::specs::Runs::Steps))]
+    pub fn take(&mut self) -> Result<(), Memory>
+        ensures { OnOk result (Steps self.old take_job self.new []) }
+    {
+        if self.is_full() {
+            return Ok(());
+        }
+        match self.desk.take(WORKER) {
+            Ok(Some(job)) => self.held.push(job)?,
+            Ok(None) => {}
+            Err(DeskFault::Memory) => return Err(Memory),
+            Err(_) => self.status = Some(Status::Full),
+        }
+        Ok(())
+    }
+
+    /// Runs a job that was taken, from the first on that is held, and hands it in.
+    #[tactic(auto, unfolding(crate::specs::Runs::Steps))]
+    pub fn finish(&mut self, at: usize) -> Result<(), Memory>
+        ensures { OnOk result (Steps self.old (finish_job at) self.new []) }
+    {
+        if self.is_full() || at >= self.held.len() {
+            return Ok(());
+        }
+        let job = self.held.remove(at);
+        if finish(&mut self.desk, run(self.alloc, job))? {
+            self.status = Some(Status::Full);
+        }
+        Ok(())
+    }
+
+    /// The frame of what is to be said first, which counts as sent from now on.
+    #[tactic(auto, unfolding(crate::specs::Runs::Steps))]
+    pub fn send(&mut self) -> Result<Option<Vec<u8>>, Memory>
+        ensures sent { IfOk result (λ frame. Steps self.old send self.new (bytes_in frame)) }
+        ensures none { IfOk result (λ frame. IfNone frame ((state_at self.old).unsent ≡ [])) }
+    {
+        let Some(out) = self.desk.next_out() else {
+            return Ok(None);
+        };
+        Ok(Some(framed(self.alloc, out)?))
+    }
+
+    /// The desk, as the session leaves it.
+    pub fn into_desk(self) -> Desk
+        ensures journal { result.journal ≡ self.journal }
+        ensures most { result.max_events ≡ self.max_events }
+        ensures sound { IsSound result }
+    {
+        self.desk
+    }
+}

@@ -1,0 +1,12 @@
+//! The session of one client over a desk, step by step.
+//!
+//! A [`Conversation`] hears the client's messages, holds the jobs that its one worker has taken, and hands out the
+//! frames of what is said, in any order of these steps. [`run_steps`] does so for a whole input and a list of steps.
+#![tactic(auto)]
+
+mod at_desk;
+mod conversation;
+mod steps;
+
+pub use conversation::Conversation;
+pub use steps::{Run, Step, run_steps};

@@ -1,0 +1,107 @@
+//! A run by steps.
+ghost use Rattle.std.specs.Prelude.{◌≡◌, ◌≢◌, false, Err, IfOk, List, ℕ};
+ghost use Rattle.ls_desk.specs.Stands.{IsSound};
+ghost use Rattle.ls_frame.specs.Feeds.{contents_of};
+ghost use Rattle.ls_frame.specs.Frames.{Stream};
+ghost use Rattle.ls_frame.specs.Faults.{fault_of};
+ghost use Rattle.ls_steps.specs.Runs.{Going, IsRun, ends_wrong};
+
+use crate::conversation::Conversation;
+use ls_desk::Desk;
+use ls_frame::{FrameFault, Framer};
+use ls_session::Status;
+use std::alloc::{AllocError as Memory, Global};
+
+/// A step of a run.
+#[derive(Clone, Copy, Debug, PartialEq, Eq)]
+pub enum Step {
+    /// The next whole frame is heard. Where bytes stand in its place that are no frame, the session ends by that fault.
+    Message,
+    /// The worker takes a job.
+    Take,
+    /// The worker runs one of the jobs that it holds, counted from 0, and hands it in.
+    Finish(usize),
+    /// What is to be said first is written.
+    Send,
+}
+
+/// What a run leaves.
+#[derive(Drop)]
+pub struct Run {
+    /// The frames that were written.
+    pub bytes: Vec<u8>,
+    pub desk: Desk,
+    pub status: Option<Status>,
+}
+
+/// What can be read of an input: the contents of its whole frames, and what is wrong behind them.
+#[derive(Drop)]
+struct Frames {
+    bodies: Vec<Vec<u8>>,
+    fault: Option<FrameFault>,
+}
+
+/// Whether memory was refused to the framer.
+fn is_memory(fed: &Result<usize, FrameFault>) -> bool
+    ensures { result ≡ false → fed.now ≢ Err FrameFault.Memory }
+{
+    match fed {
+        Err(FrameFault::Memory) => true,
+        Ok(_) | Err(_) => false,
+    }
+}
+
+impl Frames {
+    fn of(alloc: Global, input: &[u8]) -> Result<Frames, Memory>
+        ensures { IfOk result (λ frames. (rest : List ℕ) × Stream input.now (contents_of frames.bodies.items) rest
+            × (frames.fault ≡ ends_wrong (fault_of rest) rest)) }
+    {
+        let mut framer = Framer::new(alloc);
+        let mut bodies = Vec::new(alloc);
+        let fed = framer.feed(input, &mut bodies);
+        if is_memory(&fed) {
+            return Err(Memory);
+        }
+        let fault = framer.end().err();
+        Ok(Frames { bodies, fault })
+    }
+}
+
+/// Runs a session by steps, over all that its client sends. What each step does is a method of [`Conversation`]; a Message with
+/// no frame left does nothing.
+///
+/// `Memory` says that an allocation was refused.
+pub fn run_steps(alloc: Global, input: &[u8], steps: &[Step]) -> Result<Run, Memory>
+    ensures run { IfOk result (λ run. (h : Going) × IsRun input.now steps.now h run.bytes.items × (run.desk.journal ≡ h.journal) × (run.status ≡ h.status)) }
+    ensures sound { IfOk result (λ run. IsSound run.desk × (run.desk.max_events ≡ 1000000)) }
+{
+    let frames = Frames::of(alloc, input)?;
+    let mut talk = Conversation::new(alloc);
+    let mut bytes = Vec::new(alloc);
+    let mut read = 0;
+    for step in steps {
+        match step {
+            Step::Message => {
+                if read < frames.bodies.len() {
+                    talk.hear(&frames.bodies[read])?;
+                    read += 1;
+                } else if let Some(fault) = frames.fault {
+                    talk.break_off(fault);
+                }
+            }
+            Step::Take => talk.take()?,
+            Step::Finish(at) => talk.finish(*at)?,
+            Step::Send => {
+                if let Some(frame) = talk.send()? {
+                    bytes.extend_from_slice(&frame)?;
+                }
+            }
+        }
+    }
+    let status = talk.status();
+    Ok(Run {
+        bytes,
+        desk: talk.into_desk(),
+        status,
+    })
+}
