@@ -1,5 +1,10 @@
 pub mod Asks
+pub mod Bounds
 pub mod Entries
 pub mod Going
 pub mod Inputs
+pub mod OneSession
+pub mod Serving
+pub mod ShortTexts
+pub mod SomeSession
 pub mod Talks

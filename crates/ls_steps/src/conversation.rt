@@ -1,5 +1,7 @@
 //! A client's session, over a desk.
-ghost use Rattle.std.specs.Prelude.{◌≡◌, ℕ, List, [], IfOk, IfNone, OnOk, Some};
+ghost use Rattle.std.specs.Prelude.{◌≡◌, ◌≤◌, ◌&&◌, ℕ, List, [], length, not, is_some, true, IfOk, IfNone, IfSome, OnOk, Some};
+ghost use Rattle.ls_desk.specs.Machine.{first_ticket};
+ghost use Rattle.ls_steps.specs.Plain.{is_idle};
 ghost use Rattle.ls_desk.specs.Stands.{IsSound};
 ghost use Rattle.ls_frame.specs.Frames.{frame_of};
 ghost use Rattle.ls_session.specs.Bodies.{body_of};
@@ -114,21 +116,28 @@ impl Conversation {
         }
     }
 
-    /// Takes the queued job with the least ticket, if there is one.
+    /// Takes the queued job with the least ticket, if there is one, and answers whether a job was taken.
     #[tactic(auto, unfolding(crate::specs::Runs::Steps))]
-    pub fn take(&mut self) -> Result<(), Memory>
-        ensures { OnOk result (Steps self.old take_job self.new []) }
+    pub fn take(&mut self) -> Result<bool, Memory>
+        ensures steps { OnOk result (Steps self.old take_job self.new []) }
+        ensures taken { IfOk result (λ taken. taken ≡ not (is_idle self.old) && not (is_filled self.new.status)) }
+        ensures fits { OnOk result (length self.new.journal ≤ self.new.max_events) }
     {
         if self.is_full() {
-            return Ok(());
+            return Ok(false);
         }
         match self.desk.take(WORKER) {
-            Ok(Some(job)) => self.held.push(job)?,
-            Ok(None) => {}
-            Err(DeskFault::Memory) => return Err(Memory),
-            Err(_) => self.status = Some(Status::Full),
+            Ok(Some(job)) => {
+                self.held.push(job)?;
+                Ok(true)
+            }
+            Ok(None) => Ok(false),
+            Err(DeskFault::SessionFull) => {
+                self.status = Some(Status::Full);
+                Ok(false)
+            }
+            Err(_) => Err(Memory),
         }
-        Ok(())
     }
 
     /// Runs a job that was taken, from the first on that is held, and hands it in.
@@ -151,6 +160,7 @@ impl Conversation {
     pub fn send(&mut self) -> Result<Option<Vec<u8>>, Memory>
         ensures sent { IfOk result (λ frame. Steps self.old send self.new (bytes_in frame)) }
         ensures none { IfOk result (λ frame. IfNone frame ((state_at self.old).unsent ≡ [])) }
+        ensures some { IfOk result (λ frame. IfSome frame (λ _. is_some (first_ticket (state_at self.old).unsent) ≡ true)) }
     {
         let Some(out) = self.desk.next_out() else {
             return Ok(None);

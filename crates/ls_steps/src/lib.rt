@@ -6,7 +6,10 @@
 
 mod at_desk;
 mod conversation;
+mod laws;
+mod plain;
 mod steps;
 
 pub use conversation::Conversation;
+pub use laws::{sessions_are_unique, sessions_exist};
 pub use steps::{Run, Step, run_steps};

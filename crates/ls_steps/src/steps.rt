@@ -89,7 +89,9 @@ pub fn run_steps(alloc: Global, input: &[u8], steps: &[Step]) -> Result<Run, Mem
                     talk.break_off(fault);
                 }
             }
-            Step::Take => talk.take()?,
+            Step::Take => {
+                talk.take()?;
+            }
             Step::Finish(at) => talk.finish(*at)?,
             Step::Send => {
                 if let Some(frame) = talk.send()? {

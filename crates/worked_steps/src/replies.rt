@@ -1,7 +1,9 @@
 //! Requests that are answered, ended by a change, cancelled or refused.
 
-use super::said::{CAPABILITIES, HOVER, INITIALIZE, NOTHING_WRONG, OPEN, frames};
-use ls_steps::{Run, Step, run_steps};
+use super::said::{
+    CAPABILITIES, HOVER, INITIALIZE, Left, NOTHING_WRONG, OPEN, frames, run_through,
+};
+use ls_steps::Step;
 use std::alloc::Global;
 use std::test::Fail;
 
@@ -34,40 +36,41 @@ const CANCELLED: &str =
 const NOT_OPEN: &str =
     r#"{"error":{"code":-32602,"message":"document not open"},"id":2,"jsonrpc":"2.0"}"#;
 
-/// A run over the changes of a document, up to the last reply.
-fn changed(alloc: Global, last: &[Step]) -> Result<Run, Fail> {
+/// Steps over the changes of a document. The last one hands in a rename that isn't wanted any more.
+const OVER_CHANGES: [Step; 19] = [
+    Step::Message,
+    Step::Message,
+    Step::Take,
+    Step::Finish(0),
+    Step::Send,
+    Step::Send,
+    Step::Message,
+    Step::Take,
+    Step::Message,
+    Step::Finish(0),
+    Step::Send,
+    Step::Take,
+    Step::Finish(0),
+    Step::Send,
+    Step::Message,
+    Step::Take,
+    Step::Message,
+    Step::Send,
+    Step::Finish(0),
+];
+
+/// A run over the changes of a document, by so many steps.
+fn changed(alloc: Global, steps: usize) -> Result<Left, Fail> {
     let input = frames(
         alloc,
         &[INITIALIZE, OPEN, HOVER, CHANGE, RENAME, CHANGE_AGAIN],
     )?;
-    let mut steps = vec![
-        in alloc;
-        Step::Message,
-        Step::Message,
-        Step::Take,
-        Step::Finish(0),
-        Step::Send,
-        Step::Send,
-        Step::Message,
-        Step::Take,
-        Step::Message,
-        Step::Finish(0),
-        Step::Send,
-        Step::Take,
-        Step::Finish(0),
-        Step::Send,
-        Step::Message,
-        Step::Take,
-        Step::Message,
-        Step::Send
-    ]?;
-    steps.extend_from_slice(last)?;
-    Ok(run_steps(alloc, &input, &steps)?)
+    Ok(run_through(alloc, &input, &OVER_CHANGES[..steps.min(19)])?)
 }
 
 #[test]
 fn a_change_ends_a_rename_and_no_hover(rt: HostRuntime) -> Result<(), Fail> {
-    let run = changed(rt.alloc(), &[])?;
+    let run = changed(rt.alloc(), 18)?;
     let wanted = frames(
         rt.alloc(),
         &[
@@ -80,16 +83,16 @@ fn a_change_ends_a_rename_and_no_hover(rt: HostRuntime) -> Result<(), Fail> {
     )?;
     assert_eq!(rt; HOVERED.len(), 180);
     assert!(rt; run.bytes.as_slice() == wanted.as_slice());
-    assert_eq!(rt; run.desk.journal().len(), 18);
+    assert_eq!(rt; run.events, 18);
     Ok(())
 }
 
 #[test]
 fn a_job_that_is_not_wanted_leaves_nothing(rt: HostRuntime) -> Result<(), Fail> {
-    let run = changed(rt.alloc(), &[])?;
-    let later = changed(rt.alloc(), &[Step::Finish(0)])?;
+    let run = changed(rt.alloc(), 18)?;
+    let later = changed(rt.alloc(), 19)?;
     assert!(rt; run.bytes.as_slice() == later.bytes.as_slice());
-    assert_eq!(rt; later.desk.journal().len(), 18);
+    assert_eq!(rt; later.events, 18);
     Ok(())
 }
 
@@ -109,7 +112,7 @@ fn a_cancel_is_told(rt: HostRuntime) -> Result<(), Fail> {
         Step::Send,
         Step::Send,
     ];
-    let run = run_steps(rt.alloc(), &input, &steps)?;
+    let run = run_through(rt.alloc(), &input, &steps)?;
     let wanted = frames(rt.alloc(), &[CAPABILITIES, CANCELLED, NOTHING_WRONG])?;
     assert!(rt; run.bytes.as_slice() == wanted.as_slice());
     Ok(())
@@ -119,7 +122,7 @@ fn a_cancel_is_told(rt: HostRuntime) -> Result<(), Fail> {
 fn a_request_about_no_document_is_refused(rt: HostRuntime) -> Result<(), Fail> {
     let input = frames(rt.alloc(), &[INITIALIZE, HOVER])?;
     let steps = [Step::Message, Step::Message, Step::Send, Step::Send];
-    let run = run_steps(rt.alloc(), &input, &steps)?;
+    let run = run_through(rt.alloc(), &input, &steps)?;
     let wanted = frames(rt.alloc(), &[CAPABILITIES, NOT_OPEN])?;
     assert!(rt; run.bytes.as_slice() == wanted.as_slice());
     assert!(rt; run.status.is_none());

@@ -26,7 +26,7 @@ loop-step-preserved c =
           (passed-on (contents_of c.in_ok-frames.frames.bodies.items) c.in_ok-frames.frames.fault c.args.steps.now c.loop-step.step-index c.loop-step.read c.loop-step.talk c.loop-step.bytes.items c.loop-step-test.true w.in-Message.is (simp length-map (omega arith)) w.in_default.is c.loop-step.invariant)
       | in-Take+in_ok-take-in-Take w ↦
           goes-as (contents_of c.in_ok-frames.frames.bodies.items) c.in_ok-frames.frames.fault c.args.steps.now w.take.new.self _ c.loop-step.bytes.items _ c.loop-step.read _ (c.loop-step.step-index + 1) w.talk-is (ap items w.bytes-is) w.read-is
-          (taken-on (contents_of c.in_ok-frames.frames.bodies.items) c.in_ok-frames.frames.fault c.args.steps.now c.loop-step.step-index c.loop-step.read c.loop-step.talk w.take.new.self c.loop-step.bytes.items c.loop-step-test.true w.in-Take.is w.in_ok-take-in-Take.ensures c.loop-step.invariant)
+          (taken-on (contents_of c.in_ok-frames.frames.bodies.items) c.in_ok-frames.frames.fault c.args.steps.now c.loop-step.step-index c.loop-step.read c.loop-step.talk w.take.new.self c.loop-step.bytes.items c.loop-step-test.true w.in-Take.is w.in_ok-take-in-Take.ensures.steps c.loop-step.invariant)
       | in-Finish+in_ok-finish-in-Finish w ↦
           goes-as (contents_of c.in_ok-frames.frames.bodies.items) c.in_ok-frames.frames.fault c.args.steps.now w.finish.new.self _ c.loop-step.bytes.items _ c.loop-step.read _ (c.loop-step.step-index + 1) w.talk-is (ap items w.bytes-is) w.read-is
           (finished-on (contents_of c.in_ok-frames.frames.bodies.items) c.in_ok-frames.frames.fault c.args.steps.now c.loop-step.step-index c.loop-step.read w.in-Finish.at c.loop-step.talk w.finish.new.self c.loop-step.bytes.items c.loop-step-test.true w.in-Finish.is w.in_ok-finish-in-Finish.ensures c.loop-step.invariant)

@@ -1,0 +1,142 @@
+-- What is said on messages, where no memory is refused in a job, is one thing.
+use Rattle.std.proofs.Common.{◌≡◌, ℕ, zero, suc, ◌++◌, Bool, true, false, List, [], ◌∷◌, Option, Some, None, refl, sym, ap, subst, ◌∙◌}
+use Rattle.std.specs.Prelude.{◌+◌, find, is_none, is_some, length, not, slice_get, remove, option_map}
+use Rattle.ls_answers.specs.Told.{Told}
+use Rattle.ls_answers.specs.declared.answer.Answer.{Answer}
+use Rattle.ls_answers.proofs.OneAnswer.{one_answer}
+use Rattle.ls_desk.specs.declared.event.Out.{Out}
+use Rattle.ls_desk.specs.declared.event.DeskFault.{DeskFault}
+use Rattle.ls_desk.specs.declared.event.DeskFault.TheVariants as fault
+use Rattle.ls_desk.specs.declared.state.Entry.{Entry}
+use Rattle.ls_desk.specs.declared.state.Entry.TheVariants.{Body, Failure, Outcome}
+use Rattle.ls_desk.specs.declared.state.Request.{Request}
+use Rattle.ls_desk.specs.declared.state.Waiting.{Waiting}
+use Rattle.ls_desk.specs.Stands.{IsOutFor, Seen, out_of, state_of}
+use Rattle.ls_desk.specs.Machine.{is_held, left_at}
+use Rattle.ls_answers.specs.Answers.{IsAnswer}
+use Rattle.ls_desk.specs.Faults.{finish_fault, full_fault, is_for, or_else}
+use Rattle.ls_frame.specs.Frames.{frame_of}
+use Rattle.ls_session.specs.Bodies.{body_of, reply_body, findings_body}
+use Rattle.ls_session.proofs.WithoutCert.{same_findings, same_reply}
+use Rattle.ls_steps.specs.Runs.{Going, Held, Steps, desk_of, finished_by, finishes, hear, leaving, ran, runs, state_at, take_job, unless_full}
+use Rattle.ls_steps.specs.Plain.{RunsOne, Works, AreFramesFor, Serves, Says, is_idle, sent_all}
+
+-- ---- jobs
+
+finished_alike : (d : Seen) (job : Held) (a b : Answer) (f : Option DeskFault) → finished_by d (ran job (Some a)) f ≡ finished_by d (ran job (Some b)) f
+finished_alike d job a b None = refl
+finished_alike d job a b (Some fault.NotOpen) = refl
+finished_alike d job a b (Some fault.AlreadyOpen) = refl
+finished_alike d job a b (Some fault.TooManyDocuments) = refl
+finished_alike d job a b (Some fault.TooManyWaiting) = refl
+finished_alike d job a b (Some fault.IdInUse) = refl
+finished_alike d job a b (Some fault.TooLarge) = refl
+finished_alike d job a b (Some fault.UnknownTicket) = refl
+finished_alike d job a b (Some fault.OtherText) = refl
+finished_alike d job a b (Some fault.SessionFull) = refl
+finished_alike d job a b (Some fault.Memory) = refl
+
+is_for_alike : (w : Option Waiting) (job : Held) (a b : Answer) → is_for w (ran job (Some a)) ≡ is_for w (ran job (Some b))
+is_for_alike None job a b = refl
+is_for_alike (Some w) job a b = refl
+
+fault_alike : (d : Seen) (job : Held) (a b : Answer) → finish_fault d (ran job (Some a)) ≡ finish_fault d (ran job (Some b))
+fault_alike d job a b =
+    let w = find (is_held job.ticket) (state_of d).waiting in
+    ap (λ x. or_else (is_none w) fault.UnknownTicket (or_else (not x) fault.OtherText (full_fault d (1 + length (left_at false w))))) (is_for_alike w job a b)
+
+-- What a job answers doesn't change what the machine does, but that memory was refused or not.
+finishes_alike : (d : Seen) (job : Held) (a b : Answer) → finishes d (ran job (Some a)) ≡ finishes d (ran job (Some b))
+finishes_alike d job a b = ap (finished_by d (ran job (Some a))) (fault_alike d job a b) ∙ finished_alike d job a b (finish_fault d (ran job (Some b)))
+
+runs_alike : (g : Going) (k : ℕ) (a b : Option Answer) (o : Option Held) → is_some a ≡ true → is_some b ≡ true → runs g k a o ≡ runs g k b o
+runs_alike g k a b None p q = refl
+runs_alike g k None b (Some job) p q = absurd (cc)
+runs_alike g k (Some a) None (Some job) p q = absurd (cc)
+runs_alike g k (Some a) (Some b) (Some job) p q =
+    ap (leaving (record g { held = remove g.held k })) (finishes_alike (desk_of g) job a b)
+
+one_taken : (g a b : Going) → Steps g take_job a [] → Steps g take_job b [] → a ≡ b
+unfolding Steps
+one_taken g a b p q = p.0 ∙ sym q.0
+
+one_job : (g h k : Going) → RunsOne false g h → RunsOne false g k → h ≡ k
+one_job g h k p q =
+    let same = one_taken g p.taken q.taken p.takes q.takes in
+    let alike = runs_alike q.taken 0 p.answer q.answer (slice_get q.taken.held 0) (p.answered refl) (q.answered refl) in
+    p.h_is
+    ∙ (ap (λ (t : Going). unless_full t.status t (runs t 0 p.answer (slice_get t.held 0))) same
+    ∙ (ap (unless_full q.taken.status q.taken) alike ∙ sym q.h_is))
+
+not_both : {A : Type 0} (b : Bool) → b ≡ true → b ≡ false → A
+not_both b p q = absurd (cc)
+
+one_work : (n m : ℕ) (g h k : Going) → Works false n g h → Works false m g k → h ≡ k
+unfolding Works
+one_work zero zero g h k p q = p.1 ∙ sym q.1
+one_work zero (suc m) g h k p q = not_both (is_idle g) p.0 q.0
+one_work (suc n) zero g h k p q = not_both (is_idle g) q.0 p.0
+one_work (suc n) (suc m) g h k p q =
+    one_work n m q.1.0 h k (subst (λ t. Works false n t h) (one_job g p.1.0 q.1.0 p.1.1 q.1.1) p.1.2) q.1.2
+
+-- ---- what leaves
+
+some_same : (a b : List ℕ) → Some a ≡ Some b → a ≡ b
+some_same a b e = cc
+
+abbrev pub body_for : Waiting → Option Request → Answer → List ℕ
+body_for w None a = findings_body w.uri w.label a
+body_for w (Some r) a = reply_body r.id w.uri w.label r.links a
+
+told_body : (w : Waiting) (r : Option Request) (done : Told) (a : Answer) → done.answer ≡ Some a → body_of (out_of w r done) ≡ Some (body_for w r a)
+unfolding body_of
+told_body w None done a e = ap (option_map (findings_body w.uri w.label)) e
+told_body w (Some r) done a e = ap (option_map (reply_body r.id w.uri w.label r.links)) e
+
+pub body_told : (w : Waiting) (out : Out) (done : Told) (a : Answer) → out ≡ out_of w w.request done → done.answer ≡ Some a → body_of out ≡ Some (body_for w w.request a)
+body_told w out done a o e = ap body_of o ∙ told_body w w.request done a e
+
+one_told : (w : Waiting) (r : Option Request) (a b : Answer) → IsAnswer w.text w.ask a → IsAnswer w.text w.ask b → body_for w r a ≡ body_for w r b
+one_told w None a b p q = same_findings w.uri w.label a b (one_answer w.text w.ask a b p q)
+one_told w (Some r) a b p q = same_reply r.id w.uri w.label r.links a b (one_answer w.text w.ask a b p q)
+
+one_body : (e : Entry) (o p : Out) (a b : List ℕ) → IsOutFor e o → IsOutFor e p → body_of o ≡ Some a → body_of p ≡ Some b → a ≡ b
+unfolding IsOutFor
+one_body (Body body) o p a b x y s t = some_same a b (sym s ∙ (ap body_of (x ∙ sym y) ∙ t))
+one_body (Failure ticket id code) o p a b x y s t = some_same a b (sym s ∙ (ap body_of (x ∙ sym y) ∙ t))
+one_body (Outcome w) o p a b x y s t =
+    some_same a b
+    (sym s
+    ∙ (body_told w o x.0 x.2.right.0 x.1 x.2.right.1
+    ∙ (ap Some (one_told w w.request x.2.right.0 y.2.right.0 x.2.right.2 y.2.right.2)
+    ∙ (sym (body_told w p y.0 y.2.right.0 y.1 y.2.right.1) ∙ t))))
+
+one_list : (es : List Entry) (a b : List ℕ) → AreFramesFor es a → AreFramesFor es b → a ≡ b
+unfolding AreFramesFor
+one_list [] a b x y = x ∙ sym y
+one_list (e ∷ es) a b x y =
+    x.3.3
+    ∙ ((λ i. frame_of (one_body e x.0 y.0 x.1 y.1 x.3.0 y.3.0 x.3.1 y.3.1 i) ++ one_list es x.2 y.2 x.3.2 y.3.2 i)
+    ∙ sym y.3.3)
+
+-- ---- messages
+
+one_heard : (g a b : Going) (body : List ℕ) → Steps g (hear body) a [] → Steps g (hear body) b [] → a ≡ b
+unfolding Steps
+one_heard g a b body p q = p.0 ∙ sym q.0
+
+pub one_message : (g h k : Going) (body bytes other : List ℕ) → Serves false g body h bytes → Serves false g body k other → (h ≡ k) × (bytes ≡ other)
+one_message g h k body bytes other p q =
+    let heard = one_heard g p.heard q.heard body p.hears q.hears in
+    let worked = one_work p.jobs q.jobs q.heard p.worked q.worked (subst (λ t. Works false p.jobs t p.worked) heard p.works) q.works in (
+      p.h_is ∙ (ap (λ (t : Going). sent_all t (state_at t).unsent) worked ∙ sym q.h_is),
+      one_list (state_at q.worked).unsent bytes other (subst (λ (t : Going). AreFramesFor (state_at t).unsent bytes) worked p.frames) q.frames,
+    )
+
+pub one_session : (g h k : Going) (bodies : List (List ℕ)) (bytes other : List ℕ) → Says false g bodies h bytes → Says false g bodies k other → (h ≡ k) × (bytes ≡ other)
+unfolding Says
+one_session g h k [] bytes other p q = (p.0 ∙ sym q.0, p.1 ∙ sym q.1)
+one_session g h k (body ∷ bodies) bytes other p q =
+    let first = one_message g p.0 q.0 body p.1 q.1 p.3.0 q.3.0 in
+    let rest = one_session q.0 h k bodies p.2 q.2 (subst (λ t. Says false t bodies h p.2) first.0 p.3.1) q.3.1 in
+    (rest.0, p.3.2 ∙ ((λ i. first.1 i ++ rest.1 i) ∙ sym q.3.2))

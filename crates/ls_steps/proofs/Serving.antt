@@ -1,0 +1,181 @@
+-- What the loops of the plain schedule keep.
+use Rattle.std.proofs.Common.{◌≡◌, ℕ, suc, ◌+◌, ◌-◌, ◌<◌, ◌≤◌, Bool, true, false, not, ◌&&◌, List, [], ◌∷◌, ◌++◌, length, map, Option, Some, None, refl, sym, ap, subst, ◌∙◌, append_assoc, length-append, arith}
+use Rattle.std.specs.Prelude.{find, is_none, is_some, IfNone, IfSome, slice_get, ◌||◌, Vec, if◌then◌else◌}
+use Rattle.std.specs.declared.alloc.Global.{Global}
+use Rattle.ls_answers.specs.Told.{Told}
+use Rattle.ls_answers.specs.declared.answer.Answer.{Answer}
+use Rattle.ls_desk.specs.declared.event.Event.TheVariants.{Finished, Sent, Took}
+use Rattle.ls_desk.specs.declared.event.DeskFault.{DeskFault}
+use Rattle.ls_desk.specs.declared.event.DeskFault.TheVariants as fault
+use Rattle.ls_desk.specs.declared.state.Entry.{Entry}
+use Rattle.ls_desk.specs.declared.state.Waiting.{Waiting}
+use Rattle.ls_desk.specs.Machine.{start, step, first_ticket, is_queued, ticket_of, rest}
+use Rattle.ls_desk.specs.Faults.{finish_fault, take_fault}
+use Rattle.ls_desk.specs.Stands.{Seen}
+use Rattle.ls_desk.proofs.Grows.{replay-push}
+use Rattle.ls_steps.specs.Runs.{Going, Held, IsSent, Steps, bytes_in, desk_of, finish_job, finished_by, is_filled, ran, runs, send, state_at, take_job, takes, took, unless_full}
+use Rattle.ls_steps.specs.Plain.{AreFramesFor, RunsOne, Works, is_idle, sent_all}
+
+-- ---- a job is taken
+
+abbrev pub IsTaken : Bool → Going → Going → Type 0
+IsTaken taken g t = taken ≡ not (is_idle g) && not (is_filled t.status)
+
+both : (a b : Bool) → true ≡ not a && not b → (a ≡ false) × (b ≡ false)
+both true b e = absurd (cc)
+both false true e = absurd (cc)
+both false false e = (refl, refl)
+
+either : (a b : Bool) → false ≡ not a && not b → a ≡ false → b ≡ true
+either true b e f = absurd (cc)
+either false true e f = refl
+either false false e f = absurd (cc)
+
+pub job-runs : (g t m : Going) → Steps g take_job t [] → IsTaken true g t → Steps t (finish_job 0) m [] → (is_idle g ≡ false) × RunsOne true g m
+unfolding Steps
+job-runs g t m p taken q =
+    ((both (is_idle g) (is_filled t.status) taken).0, record { taken = t; takes = p; answer = q.0; answered = λ e. absurd (cc); h_is = q.1 })
+
+pub works-more : (g t m h : Going) (n : ℕ) → Steps g take_job t [] → IsTaken true g t → Steps t (finish_job 0) m [] → Works true n m h → Works true (suc n) g h
+unfolding Works
+works-more g t m h n p taken q w = let job = job-runs g t m p taken q in (job.0, (m, job.1, w))
+
+idle-by : (g t : Going) (b : Bool) (o : Option Waiting) → is_filled g.status ≡ b → find is_queued (state_at g).waiting ≡ o → b || is_none o ≡ true → t ≡ unless_full g.status g (takes g o) → t ≡ g
+idle-by g t true o f w e p = p ∙ ap (λ b. if b then g else takes g o) f
+idle-by g t false None f w e p = p ∙ ap (λ b. if b then g else g) f
+idle-by g t false (Some x) f w e p = absurd (cc)
+
+idle-take : (g t : Going) → Steps g take_job t [] → is_idle g ≡ true → t ≡ g
+unfolding Steps
+idle-take g t p e = idle-by g t (is_filled g.status) (find is_queued (state_at g).waiting) refl refl e p.0
+
+filled-ends : (t : Going) → is_filled t.status ≡ true → t ≡ unless_full t.status t (runs t 0 None (slice_get t.held 0))
+filled-ends t e = sym (ap (λ b. if b then t else runs t 0 None (slice_get t.held 0)) e)
+
+works-by : (g t : Going) (b : Bool) → is_idle g ≡ b → Steps g take_job t [] → IsTaken false g t → (n : ℕ) × Works true n g t
+unfolding Works
+works-by g t true e p taken = (0, (e, idle-take g t p e))
+works-by g t false e p taken =
+    let full = either (is_idle g) (is_filled t.status) taken e in
+    (1, (e, (t, record { taken = t; takes = p; answer = None; answered = λ e. absurd (cc); h_is = filled-ends t full }, (ap (λ b. b || is_none (find is_queued (state_at t).waiting)) full, refl))))
+
+-- none was taken, so nothing is left to run
+pub works-end : (g t : Going) → Steps g take_job t [] → IsTaken false g t → (n : ℕ) × Works true n g t
+works-end g t p taken = works-by g t (is_idle g) refl p taken
+
+-- ---- the journal grows
+
+pub record Grew (g t : Going) (by : ℕ) : Type 0 where
+  pub longer : by + length g.journal ≤ length t.journal
+  pub most : t.max_events ≡ g.max_events
+
+took-grew : (g : Going) (w : Waiting) (o : Option DeskFault) → is_filled (took g w o).status ≡ false → Grew g (took g w o) 1
+took-grew g w None e = record { longer = omega (arith, length-append g.journal (Took 0 ∷ [])); most = refl }
+took-grew g w (Some f) e = absurd (cc)
+
+take-grew-by : (g t : Going) (b : Bool) (o : Option Waiting) → is_filled g.status ≡ b → b || is_none o ≡ false → is_filled t.status ≡ false → t ≡ unless_full g.status g (takes g o) → Grew g t 1
+take-grew-by g t true o f e s p = absurd (cc)
+take-grew-by g t false None f e s p = absurd (cc)
+take-grew-by g t false (Some w) f e s p =
+    let same : t ≡ took g w (take_fault (desk_of g)) = p ∙ ap (λ b. if b then g else takes g (Some w)) f in
+    subst (λ (x : Going). Grew g x 1) (sym same) (took-grew g w (take_fault (desk_of g)) (subst (λ (x : Going). is_filled x.status ≡ false) same s))
+
+pub take-grew : (g t : Going) → Steps g take_job t [] → IsTaken true g t → Grew g t 1
+unfolding Steps
+take-grew g t p taken =
+    let parts = both (is_idle g) (is_filled t.status) taken in
+    take-grew-by g t (is_filled g.status) (find is_queued (state_at g).waiting) refl parts.0 parts.1 p.0
+
+finished-grew : (d : Seen) (done : Told) (o : Option DeskFault) → length d.journal ≤ length (finished_by d done o).journal
+finished-grew d done None = omega (arith, length-append d.journal (Finished done.ticket (is_none done.answer) ∷ []))
+finished-grew d done (Some fault.SessionFull) = omega arith
+finished-grew d done (Some fault.NotOpen) = omega arith
+finished-grew d done (Some fault.AlreadyOpen) = omega arith
+finished-grew d done (Some fault.TooManyDocuments) = omega arith
+finished-grew d done (Some fault.TooManyWaiting) = omega arith
+finished-grew d done (Some fault.IdInUse) = omega arith
+finished-grew d done (Some fault.TooLarge) = omega arith
+finished-grew d done (Some fault.UnknownTicket) = omega arith
+finished-grew d done (Some fault.OtherText) = omega arith
+finished-grew d done (Some fault.Memory) = omega arith
+
+runs-grew : (t : Going) (answer : Option Answer) (o : Option Held) → Grew t (runs t 0 answer o) 0
+runs-grew t answer None = record { longer = omega arith; most = refl }
+runs-grew t answer (Some job) =
+    record { longer = omega (arith, finished-grew (desk_of t) (ran job answer) (finish_fault (desk_of t) (ran job answer))); most = refl }
+
+unless-grew : (t : Going) (x : Going) (b : Bool) → Grew t x 0 → Grew t (if b then t else x) 0
+unless-grew t x true g = record { longer = omega arith; most = refl }
+unless-grew t x false g = g
+
+finish-grew : (t m : Going) → Steps t (finish_job 0) m [] → Grew t m 0
+unfolding Steps
+finish-grew t m p =
+    subst (λ (x : Going). Grew t x 0) (sym p.1) (unless-grew t (runs t 0 p.0 (slice_get t.held 0)) (is_filled t.status) (runs-grew t p.0 (slice_get t.held 0)))
+
+-- what is left of the journal's room
+pub room-shrinks : (g t m : Going) → Steps g take_job t [] → IsTaken true g t → length t.journal ≤ t.max_events → Steps t (finish_job 0) m []
+    → m.max_events - length m.journal < g.max_events - length g.journal
+room-shrinks g t m p taken fits q =
+    let first = take-grew g t p taken in
+    let then_ = finish-grew t m q in
+    omega (arith, first.longer, first.most, then_.longer, then_.most, fits)
+
+-- ---- what leaves
+
+pub record OneSent (g m : Going) (frame : List ℕ) : Type 0 where
+  pub frames : (later : List ℕ) → AreFramesFor (state_at m).unsent later → AreFramesFor (state_at g).unsent (frame ++ later)
+  pub ends : sent_all m (state_at m).unsent ≡ sent_all g (state_at g).unsent
+  pub fewer : length (state_at m).unsent < length (state_at g).unsent
+
+left-is : (g m : Going) (e : Entry) (es : List Entry) → (state_at g).unsent ≡ e ∷ es → m ≡ record g { journal = g.journal ++ Sent (ticket_of e) ∷ [] } → (state_at m).unsent ≡ es
+unfolding step
+left-is g m e es u s =
+    ap (λ (x : Going). (state_at x).unsent) s ∙ (ap (λ x. x.unsent) (replay-push start g.journal (Sent (ticket_of e))) ∙ ap rest u)
+
+sent-by : (g m : Going) (es : List Entry) (frame : List ℕ) → (state_at g).unsent ≡ es → is_some (first_ticket es) ≡ true → IsSent g es m frame → OneSent g m frame
+unfolding AreFramesFor
+sent-by g m [] frame u some s = absurd (cc)
+sent-by g m (e ∷ es) frame u some s =
+    let left = left-is g m e es u s.0 in
+    let o = s.2 in
+    record {
+      frames = λ later are. subst (λ l. AreFramesFor l (frame ++ later)) (sym u) (o.0, o.1, later, (o.2, o.3, subst (λ l. AreFramesFor l later) left are, ap (λ f. f ++ later) o.4));
+      ends =
+          ap (sent_all m) left
+          ∙ (ap (λ (x : Going). sent_all x es) s.0
+          ∙ (ap (λ j. record g { journal = j }) (append_assoc g.journal (Sent (ticket_of e) ∷ []) (map (λ e. Sent (ticket_of e)) es)) ∙ ap (sent_all g) (sym u)));
+      fewer = omega (arith, ap length left, ap length u);
+    }
+
+pub one-sent : (g m : Going) (frame : List ℕ) → Steps g send m frame → is_some (first_ticket (state_at g).unsent) ≡ true → OneSent g m frame
+unfolding Steps
+one-sent g m frame s some = sent-by g m (state_at g).unsent frame refl some s
+
+pub append_nil : {A : Type 0} (xs : List A) → xs ++ [] ≡ xs
+append_nil [] = refl
+append_nil (x ∷ xs) = ap (λ l. x ∷ l) (append_nil xs)
+
+-- nothing is left to send
+pub record NoneLeft (g m : Going) : Type 0 where
+  pub frames : AreFramesFor (state_at g).unsent []
+  pub same : m ≡ sent_all g (state_at g).unsent
+
+none-sent : (g m : Going) → Steps g send m [] → (state_at g).unsent ≡ [] → NoneLeft g m
+unfolding Steps AreFramesFor
+none-sent g m s u =
+    let P : List Entry → Type 0 = λ es. IsSent g es m [] in
+    record {
+      frames = subst (λ l. AreFramesFor l []) (sym u) refl;
+      same = (subst P u s).0 ∙ sym (ap (sent_all g) u ∙ ap (λ j. record g { journal = j }) (append_nil g.journal));
+    }
+
+pub none-left : (g m : Going) (o : Option (Vec ℕ Global)) → ((frame : Vec ℕ Global) → o ≡ Some frame → ⊥) → Steps g send m (bytes_in o) → IfNone o ((state_at g).unsent ≡ []) → NoneLeft g m
+none-left g m None n s u = none-sent g m s u
+none-left g m (Some frame) n s u = absurd (n frame refl)
+
+pub frame-sent : (g m : Going) (o : Option (Vec ℕ Global)) (frame : Vec ℕ Global) → o ≡ Some frame → Steps g send m (bytes_in o) → IfSome o (λ _. is_some (first_ticket (state_at g).unsent) ≡ true) → OneSent g m frame.items
+frame-sent g m None frame e s some = absurd (cc)
+frame-sent g m (Some x) frame e s some =
+    let same : x ≡ frame = cc in
+    subst (λ (v : Vec ℕ Global). OneSent g m v.items) same (one-sent g m x.items s some)

@@ -1,0 +1,224 @@
+-- The texts at a desk stay short, whatever happens there, so that each question about them has an answer.
+use Rattle.std.proofs.Common.{◌≡◌, ℕ, zero, suc, ◌+◌, ◌-◌, ◌*◌, ◌^◌, ◌<◌, ◌≤◌, ⊎_elim, Bool, true, false, List, [], ◌∷◌, ◌++◌, length, Option, Some, None, refl, sym, ap, subst, ◌∙◌, append_assoc, arith}
+use Rattle.std.specs.Prelude.{ℤ, filter, find, nat_lt, map, if◌then◌else◌}
+use Rattle.std.specs.Str.{chars, chars_after, continuation_len, lead_bits, encode_utf8_all}
+use Rattle.std.proofs.lemmas.Bool.{cases_lt, lt-ltb, false≢true}
+use Rattle.std.proofs.lemmas.Str.{length-le-encodes}
+use Rattle.ls_text.specs.Edits.{edited, edited_all, is_too_large}
+use Rattle.ls_text.specs.Lines.{utf16_len}
+use Rattle.ls_text.specs.declared.edit.Edit.{Edit}
+use Rattle.ls_rpc.specs.declared.message.Id.{Id}
+use Rattle.ls_answers.specs.declared.ask.Ask.{Ask}
+use Rattle.ls_desk.specs.declared.event.Event.{Event}
+use Rattle.ls_desk.specs.declared.event.Event.TheVariants.{Opened, Changed, Closed, Asked, Cancelled, Said, Took, Returned, Finished, Sent}
+use Rattle.ls_desk.specs.declared.state.Document.{Document}
+use Rattle.ls_desk.specs.declared.state.Request.{Request}
+use Rattle.ls_desk.specs.declared.state.Waiting.{Waiting}
+use Rattle.ls_desk.specs.declared.state.Entry.{Entry}
+use Rattle.ls_desk.specs.declared.state.Entry.TheVariants.{Body, Failure, Outcome}
+use Rattle.ls_desk.specs.Machine.{State, start, step, is_named, document_of, edited_at, asks_with, is_held, is_queued, on_first, without_first, with_taken, told_to, told_end, told_at, end_of, ends, is_ended, left_at, rest, put_text, close_text, ask_at, content_modified, request_cancelled, internal_error, ticket_of}
+use Rattle.ls_desk.specs.Journal.{replay}
+use Rattle.ls_desk.proofs.Grows.{replay-push}
+
+-- ---- lists of which each element has a property
+
+abbrev pub Each : {A : Type 0} → (A → Type 0) → List A → Type 0
+Each P [] = Unit {0}
+Each P (x ∷ xs) = P x × Each P xs
+
+abbrev pub At : {A : Type 0} → (A → Type 0) → Option A → Type 0
+At P None = Unit {0}
+At P (Some x) = P x
+
+pub each_append : {A : Type 0} (P : A → Type 0) (xs ys : List A) → Each P xs → Each P ys → Each P (xs ++ ys)
+each_append P [] ys p q = q
+each_append P (x ∷ xs) ys p q = (p.0, each_append P xs ys p.1 q)
+
+each_filter : {A : Type 0} (P : A → Type 0) (test : A → Bool) (xs : List A) → Each P xs → Each P (filter test xs)
+each_filter P test [] p = tt
+each_filter P test (x ∷ xs) p = by (test x) refl (each_filter P test xs p.1)
+  where
+    by : (b : Bool) → test x ≡ b → Each P (filter test xs) → Each P (filter test (x ∷ xs))
+    by true e more = rw e (p.0, more)
+    by false e more = rw e more
+
+each_find : {A : Type 0} (P : A → Type 0) (test : A → Bool) (xs : List A) → Each P xs → At P (find test xs)
+each_find P test [] p = tt
+each_find P test (x ∷ xs) p = by (test x) refl (each_find P test xs p.1)
+  where
+    by : (b : Bool) → test x ≡ b → At P (find test xs) → At P (find test (x ∷ xs))
+    by true e later = rw e p.0
+    by false e later = rw e later
+
+each_without : (P : Waiting → Type 0) (test : Waiting → Bool) (xs : List Waiting) → Each P xs → Each P (without_first test xs)
+each_without P test [] p = tt
+each_without P test (x ∷ xs) p = by (test x) refl (each_without P test xs p.1)
+  where
+    by : (b : Bool) → test x ≡ b → Each P (without_first test xs) → Each P (without_first test (x ∷ xs))
+    by true e more = rw e p.1
+    by false e more = rw e (p.0, more)
+
+each_on : (P : Waiting → Type 0) (test : Waiting → Bool) (f : Waiting → Waiting) → ((w : Waiting) → P w → P (f w)) → (xs : List Waiting) → Each P xs → Each P (on_first test f xs)
+each_on P test f keeps [] p = tt
+each_on P test f keeps (x ∷ xs) p = by (test x) refl (each_on P test f keeps xs p.1)
+  where
+    by : (b : Bool) → test x ≡ b → Each P (on_first test f xs) → Each P (on_first test f (x ∷ xs))
+    by true e more = rw e (keeps x p.0, p.1)
+    by false e more = rw e (p.0, more)
+
+each_if : {A : Type 0} (P : A → Type 0) (b : Bool) (xs ys : List A) → Each P xs → Each P ys → Each P (if b then xs else ys)
+each_if P true xs ys p q = p
+each_if P false xs ys p q = q
+
+each_rest : (P : Entry → Type 0) (es : List Entry) → Each P es → Each P (rest es)
+each_rest P [] p = tt
+each_rest P (e ∷ es) p = p.1
+
+-- ---- short texts
+
+abbrev pub IsShort : List ℕ → Type 0
+IsShort text = length text < 2 ^ 62
+
+abbrev pub IsShortEntry : Entry → Type 0
+IsShortEntry (Body body) = Unit {0}
+IsShortEntry (Failure ticket id code) = Unit {0}
+IsShortEntry (Outcome w) = IsShort w.text
+
+abbrev HasShortText : Document → Type 0
+HasShortText d = IsShort d.text
+
+abbrev IsShortJob : Waiting → Type 0
+IsShortJob w = IsShort w.text
+
+pub record AreShort (s : State) : Type 0 where
+  pub documents : Each HasShortText s.documents
+  pub waiting : Each IsShortJob s.waiting
+  pub unsent : Each IsShortEntry s.unsent
+
+-- an event that opens a document has a short text
+abbrev pub IsShortEvent : Event → Type 0
+IsShortEvent (Opened uri label text version) = IsShort text
+IsShortEvent _ = Unit {0}
+
+after_short : (n c : ℕ) (bs : List ℕ) → length (chars_after n c bs) ≤ suc (length bs)
+after_short zero c [] = omega arith
+after_short zero c (b ∷ bs) = omega (arith, after_short (continuation_len b) (lead_bits b) bs)
+after_short (suc n) c [] = omega arith
+after_short (suc n) c (b ∷ bs) = omega (arith, after_short n (c * 64 + (b - 128)) bs)
+
+-- a text has no more characters than bytes
+chars_short : (bs : List ℕ) → length (chars bs) ≤ length bs
+unfolding chars
+chars_short [] = omega arith
+chars_short (b ∷ bs) = omega (arith, after_short (continuation_len b) (lead_bits b) bs)
+
+at_most : (m n : ℕ) → nat_lt m n ≡ false → n ≤ m
+at_most m n e = ⊎_elim (λ less. absurd (false≢true (sym e ∙ lt-ltb m n less))) (λ ge. ge) (cases_lt m n)
+
+pub short_chars : (text : List ℕ) → nat_lt 4194304 (length text) ≡ false → IsShort (chars text)
+short_chars text e = omega (arith, at_most 4194304 (length text) e, chars_short text)
+
+short_edited : (t : List ℕ) (es : List Edit) → IsShort t → At IsShort (edited_all utf16_len t es)
+unfolding edited_all
+short_edited t [] small = small
+short_edited t (e ∷ es) small = by (is_too_large (edited utf16_len t e)) (λ s. short_edited (edited utf16_len t e) es s) refl
+  where
+    by : (b : Bool) → (IsShort (edited utf16_len t e) → At IsShort (edited_all utf16_len (edited utf16_len t e) es)) → is_too_large (edited utf16_len t e) ≡ b → At IsShort (if is_too_large (edited utf16_len t e) then None else edited_all utf16_len (edited utf16_len t e) es)
+    by true later large = rw large tt
+    by false later large =
+        let few = at_most 4_194_304 (length (encode_utf8_all (edited utf16_len t e))) large in
+        rw large (later (omega (arith, few, length-le-encodes (edited utf16_len t e))))
+
+short_edited_at : (o : Option Document) (edits : List Edit) → At HasShortText o → At IsShort (edited_at o edits)
+short_edited_at None edits h = tt
+short_edited_at (Some d) edits h = short_edited d.text edits h
+
+-- ---- what is told
+
+short_told : (ticket : ℕ) (code : ℤ) (r : Option Request) → Each IsShortEntry (told_to ticket code r)
+short_told ticket code None = tt
+short_told ticket code (Some r) = (tt, tt)
+
+short_told_at : (code : ℤ) (o : Option Waiting) → Each IsShortEntry (told_at code o)
+short_told_at code None = tt
+short_told_at code (Some w) = short_told w.ticket code w.request
+
+short_ends : (uri : List ℕ) (ws : List Waiting) → Each IsShortEntry (ends uri ws)
+short_ends uri [] = tt
+short_ends uri (w ∷ ws) =
+    each_append IsShortEntry (end_of uri w) (ends uri ws)
+    (each_if IsShortEntry (is_ended uri w) (told_end content_modified w) [] (short_told w.ticket content_modified w.request) tt) (short_ends uri ws)
+
+short_left : (failed : Bool) (o : Option Waiting) → At IsShortJob o → Each IsShortEntry (left_at failed o)
+short_left failed None h = tt
+short_left failed (Some w) h = each_if IsShortEntry failed (told_end internal_error w) (Outcome w ∷ []) (short_told w.ticket internal_error w.request) (h, tt)
+
+-- ---- events
+
+short_put : (s : State) (uri : List ℕ) (label : ℤ) (o : Option (List ℕ)) → AreShort s → At IsShort o → AreShort (put_text s uri label o)
+short_put s uri label None h t = h
+short_put s uri label (Some text) h t = record {
+  documents = each_append HasShortText s.documents _ h.documents (t, tt);
+  waiting = each_append IsShortJob s.waiting _ h.waiting (t, tt);
+  unsent = h.unsent;
+}
+
+short_close : (s : State) (uri : List ℕ) → AreShort s → AreShort (close_text s uri)
+short_close s uri h = record {
+  documents = each_filter HasShortText _ s.documents h.documents;
+  waiting = each_filter IsShortJob _ s.waiting h.waiting;
+  unsent = each_append IsShortEntry s.unsent (ends uri s.waiting) h.unsent (short_ends uri s.waiting);
+}
+
+short_ask : (s : State) (id : Id) (o : Option Document) (ask : Ask) (links : Bool) → AreShort s → At HasShortText o → AreShort (ask_at s id o ask links)
+short_ask s id None ask links h d = h
+short_ask s id (Some d) ask links h t = record { documents = h.documents; waiting = each_append IsShortJob s.waiting _ h.waiting (t, tt); unsent = h.unsent }
+
+short_step : (s : State) (e : Event) → AreShort s → IsShortEvent e → AreShort (step s e)
+unfolding step
+short_step s (Opened uri label text version) h t = short_put s uri label (Some text) h t
+short_step s (Changed uri label edits version) h t =
+    short_put (close_text s uri) uri label (edited_at (document_of uri s.documents) edits) (short_close s uri h)
+    (short_edited_at (document_of uri s.documents) edits (each_find HasShortText (is_named uri) s.documents h.documents))
+short_step s (Closed uri) h t = short_close s uri h
+short_step s (Asked id uri ask links ticket) h t =
+    short_ask s id (document_of uri s.documents) ask links h (each_find HasShortText (is_named uri) s.documents h.documents)
+short_step s (Cancelled id found) h t = record {
+  documents = h.documents;
+  waiting = each_without IsShortJob (asks_with id) s.waiting h.waiting;
+  unsent = each_append IsShortEntry s.unsent _ h.unsent (short_told_at request_cancelled (find (asks_with id) s.waiting));
+}
+short_step s (Said body) h t = record { documents = h.documents; waiting = h.waiting; unsent = each_append IsShortEntry s.unsent (Body body ∷ []) h.unsent (tt, tt) }
+short_step s (Took worker) h t = record {
+  documents = h.documents;
+  waiting = each_on IsShortJob is_queued (with_taken true) (λ w p. p) s.waiting h.waiting;
+  unsent = h.unsent;
+}
+short_step s (Returned ticket) h t = record {
+  documents = h.documents;
+  waiting = each_on IsShortJob (is_held ticket) (with_taken false) (λ w p. p) s.waiting h.waiting;
+  unsent = h.unsent;
+}
+short_step s (Finished ticket failed) h t = record {
+  documents = h.documents;
+  waiting = each_without IsShortJob (is_held ticket) s.waiting h.waiting;
+  unsent = each_append IsShortEntry s.unsent _ h.unsent (short_left failed (find (is_held ticket) s.waiting) (each_find IsShortJob (is_held ticket) s.waiting h.waiting));
+}
+short_step s (Sent ticket) h t = record { documents = h.documents; waiting = h.waiting; unsent = each_rest IsShortEntry s.unsent h.unsent }
+
+-- the state that a journal leads to has short texts
+abbrev pub IsFine : List Event → Type 0
+IsFine journal = AreShort (replay journal)
+
+pub fine_pushed : (journal : List Event) (e : Event) → IsFine journal → IsShortEvent e → IsFine (journal ++ e ∷ [])
+fine_pushed journal e h t = subst AreShort (sym (replay-push start journal e)) (short_step (replay journal) e h t)
+
+append_nil : (es : List Event) → es ++ [] ≡ es
+append_nil [] = refl
+append_nil (e ∷ es) = ap (λ l. e ∷ l) (append_nil es)
+
+pub fine_sent : (es : List Entry) (journal : List Event) → IsFine journal → IsFine (journal ++ map (λ e. Sent (ticket_of e)) es)
+fine_sent [] journal h = subst IsFine (sym (append_nil journal)) h
+fine_sent (e ∷ es) journal h =
+    subst IsFine (append_assoc journal (Sent (ticket_of e) ∷ []) (map (λ e. Sent (ticket_of e)) es))
+    (fine_sent es (journal ++ Sent (ticket_of e) ∷ []) (fine_pushed journal (Sent (ticket_of e)) h tt))

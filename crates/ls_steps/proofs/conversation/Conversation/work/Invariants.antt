@@ -1,0 +1,10 @@
+use Rattle.std.proofs.Common.{ℕ, ◌-◌, true, length}
+use Rattle.ls_steps.specs.Runs.{Going}
+use Rattle.ls_steps.specs.Plain.{Works}
+use Rattle.ls_steps.proofs.conversation.Conversation.work.Given as goal
+
+abbrev pub invariant-jobs : goal.invariant-jobs
+invariant-jobs l = record { goes_on : (n : ℕ) (h : Going) → Works true n l.self h → (k : ℕ) × Works true k l.initial.self h }
+
+abbrev pub decreases-jobs : goal.decreases-jobs
+decreases-jobs l = l.self.max_events - length l.self.journal

@@ -1,0 +1,40 @@
+//! One message after the other, each answered before the next.
+ghost use Rattle.std.specs.Prelude.{◌≡◌, ℕ, true, IfOk, OnOk};
+ghost use Rattle.ls_steps.specs.Plain.{AreFramesFor, Serves, Works, sent_all};
+ghost use Rattle.ls_steps.specs.Runs.{state_at};
+
+use crate::conversation::Conversation;
+use std::alloc::{AllocError as Memory, Global};
+
+impl Conversation {
+    /// Hears a message of the client, runs the jobs that wait, one after the other, and gives the frames of all that is to be said.
+    pub fn serve(&mut self, alloc: Global, body: &[u8]) -> Result<Vec<u8>, Memory>
+        ensures { IfOk result (λ bytes. Serves true self.old body.now self.new bytes.items) }
+    {
+        self.hear(body)?;
+        self.work()?;
+        self.send_all(alloc)
+    }
+
+    /// Runs the jobs that wait, until none does or the session is full.
+    fn work(&mut self) -> Result<(), Memory>
+        ensures { OnOk result ((jobs : ℕ) × Works true jobs self.old self.new) }
+    {
+        'jobs: while self.take()? {
+            self.finish(0)?;
+        }
+        Ok(())
+    }
+
+    /// The frames of all that is to be said, which counts as sent from now on.
+    fn send_all(&mut self, alloc: Global) -> Result<Vec<u8>, Memory>
+        ensures { IfOk result (λ bytes. AreFramesFor (state_at self.old).unsent bytes.items
+            × (self.new ≡ sent_all self.old (state_at self.old).unsent)) }
+    {
+        let mut bytes = Vec::new(alloc);
+        'frames: while let Some(frame) = self.send()? {
+            bytes.extend_from_slice(&frame)?;
+        }
+        Ok(bytes)
+    }
+}
