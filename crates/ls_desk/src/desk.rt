@@ -2,7 +2,7 @@
 //!
 //! Each call has three steps: it makes all that needs memory and finds its refusal, it makes room, and it writes what changes, where nothing
 //! can fail any more.
-ghost use Rattle.std.specs.Prelude.{◌≢◌, is_some, slice_get, false, is_none, find, position, ◌≡◌, ◌+◌, ◌<◌, ◌≤◌, ◌⊎◌, IfOk, IfErr, OnOk, IfSome, IfNone, Some, None, [], length, true};
+ghost use Rattle.std.specs.Prelude.{◌≢◌, is_some, slice_get, false, is_none, find, position, ◌≡◌, ◌==◌, ◌+◌, ◌<◌, ◌≤◌, ◌⊎◌, IfOk, IfErr, OnOk, IfSome, IfNone, Some, None, [], length, true};
 ghost use Rattle.std.specs.Option.{option_map};
 ghost use Rattle.std.specs.Str.{chars};
 ghost use Rattle.ls_text.specs.Edits.{is_too_large};
@@ -429,6 +429,20 @@ impl Desk {
         ensures { result ≡ waits ticket (state_of self.now).waiting }
     {
         find::waits(self.waiting.as_slice(), ticket)
+    }
+
+    /// Whether a job is queued, so that a take would find one.
+    pub fn has_queued(&self) -> bool
+        ensures { result ≡ is_some (find is_queued (state_of self.now).waiting) }
+    {
+        find::queued(self.waiting.as_slice()).is_some()
+    }
+
+    /// Whether no job waits, queued or taken.
+    pub fn is_idle(&self) -> bool
+        ensures { result ≡ (length (state_of self.now).waiting == 0) }
+    {
+        self.waiting.is_empty()
     }
 
     /// The reply with this number, from 0 for the oldest, of those that wait to be sent. It is what the unsent entry with that number stands

@@ -34,5 +34,6 @@ mod state;
 pub use desk::Desk;
 pub use event::{DeskFault, Event, Kept, Out};
 pub use laws::legal_journals_are_ordered;
+pub use outs::{shared_text, ticket_of};
 pub use shared::SharedSnapshot;
 pub use state::{Document, Entry, Request, Waiting};

@@ -486,7 +486,9 @@ pub fn say(outbox: &mut VecDeque<Out>, journal: &mut Vec<Event>, body: List<u8>,
     journal.push_reserved(Event::Said { body });
 }
 
-/// The text of a document that is to be opened, which isn't too large.
+/// The text of a document that is to be opened, which isn't too large, as the desk keeps it.
+///
+/// The error says that an allocation was refused.
 pub fn shared_text(alloc: Global, text: Text) -> Result<SharedSnapshot, AllocError>
     requires { length text ≤ 4194304 }
     ensures text { IfOk result (λ shared. shared ≡ chars text) }
