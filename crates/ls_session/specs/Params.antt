@@ -8,8 +8,8 @@ use Rattle.ls_text.specs.declared.position.Range.{Range}
 use Rattle.ls_text.specs.declared.edit.Edit.{Edit}
 use Rattle.ls_answers.specs.declared.ask.Ask.{Ask}
 use Rattle.ls_answers.specs.declared.ask.Ask.TheVariants as ask
-use Rattle.ls_session.specs.declared.event.ClientEvent.{ClientEvent}
-use Rattle.ls_session.specs.declared.event.ClientEvent.TheVariants as event
+use Rattle.ls_workers.specs.declared.client.ClientEvent.{ClientEvent}
+use Rattle.ls_workers.specs.declared.client.ClientEvent.TheVariants as event
 use Rattle.ls_session.specs.declared.kind.RequestKind.{RequestKind}
 use Rattle.ls_session.specs.declared.kind.RequestKind.TheVariants as request
 use Rattle.ls_session.specs.declared.kind.NoticeKind.{NoticeKind}

@@ -10,8 +10,8 @@ use Rattle.ls_session.specs.Kind.{request_named, notice_named}
 use Rattle.ls_session.specs.Params.{cancel_of, event_of, question_of, links_of}
 use Rattle.ls_session.specs.Refusal.{error_body, refusal_of_code}
 use Rattle.ls_answers.specs.declared.ask.Ask.{Ask}
-use Rattle.ls_session.specs.declared.event.ClientEvent.{ClientEvent}
-use Rattle.ls_session.specs.declared.event.ClientEvent.TheVariants as event
+use Rattle.ls_workers.specs.declared.client.ClientEvent.{ClientEvent}
+use Rattle.ls_workers.specs.declared.client.ClientEvent.TheVariants as event
 use Rattle.ls_session.specs.declared.event.Turn.{Turn}
 use Rattle.ls_session.specs.declared.event.Turn.TheVariants.{Nothing, Event, Exit}
 use Rattle.ls_session.specs.declared.event.Status.TheVariants.{Clean, Unclean}

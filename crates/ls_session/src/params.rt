@@ -4,12 +4,12 @@ ghost use Rattle.serde_json.specs.View.{view, items_view};
 ghost use Rattle.serde_json.specs.Data.{null};
 ghost use Rattle.ls_session.specs.Params.{document_member, uri_of, label_of, count_of, position_of, range_of, range_or_none, edit_of, edits_of, changes_of, did_open_of, did_change_of, did_close_of, cancel_of, event_of, position_in, named_declarations, declarations_of, references_of, rename_of, action_of, ask_of, question_of, named_links, links_of};
 
-use crate::event::ClientEvent;
 use crate::kind::{NoticeKind, RequestKind};
 use ls_answers::Ask;
 use ls_lists::{List, Text};
 use ls_rpc::read_id;
 use ls_text::{Edit, Position, Range};
+use ls_workers::ClientEvent;
 use serde_json::Value;
 use std::alloc::{AllocError as Memory, Global};
 

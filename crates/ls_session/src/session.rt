@@ -7,7 +7,7 @@ ghost use Rattle.ls_rpc.specs.Reply.{result_json};
 ghost use Rattle.ls_session.specs.Session.{turn_of, request_turn, running_turn, first_turn, notice_turn, exit_turn, stage_event, late_event, bad_turn, asked, refused, said};
 ghost use Rattle.ls_session.specs.declared.session.Stage.TheVariants.{BeforeInitialize};
 
-use crate::event::{ClientEvent, Status, Turn};
+use crate::event::{Status, Turn};
 use crate::initialize::initialize_value;
 use crate::kind::{NoticeKind, RequestKind, notice_kind, request_kind};
 use crate::params;
@@ -15,6 +15,7 @@ use crate::refusal::Refusal;
 use ls_answers::Ask;
 use ls_lists::{List, Text};
 use ls_rpc::{Id, Message, read_message, result_text};
+use ls_workers::ClientEvent;
 use serde_json::Value;
 use std::alloc::{AllocError as Memory, Global};
 use std::marker::Model;

@@ -11,8 +11,8 @@ use Rattle.ls_answers.specs.declared.ask.Ask.{Ask}
 use Rattle.ls_answers.specs.declared.ask.Ask.TheVariants.{Hover, Definition, References, Rename, Action, Diagnose}
 use Rattle.ls_session.specs.Params.{◌>>=◌, ask_of, changes_of, declarations_of, document_member, event_of, label_of, position_in, question_of, range_of, uri_of}
 use Rattle.ls_session.specs.Session.{asked, bad_turn, event_or_nothing, exit_turn, first_turn, late_event, notice_turn, request_turn, running_turn, stage_event, turn_of}
-use Rattle.ls_session.specs.declared.event.ClientEvent.{ClientEvent}
-use Rattle.ls_session.specs.declared.event.ClientEvent.TheVariants as event
+use Rattle.ls_workers.specs.declared.client.ClientEvent.{ClientEvent}
+use Rattle.ls_workers.specs.declared.client.ClientEvent.TheVariants as event
 use Rattle.ls_session.specs.declared.event.Turn.{Turn}
 use Rattle.ls_session.specs.declared.event.Turn.TheVariants.{Event}
 use Rattle.ls_session.specs.declared.kind.RequestKind.{RequestKind}
@@ -22,7 +22,8 @@ use Rattle.ls_session.specs.declared.kind.NoticeKind.TheVariants as note
 use Rattle.ls_session.specs.declared.session.Stage.{Stage}
 use Rattle.ls_session.specs.declared.session.Stage.TheVariants.{BeforeInitialize, Running, ShutDown, Ended}
 use Rattle.ls_session.specs.Kind.{request_named, notice_named}
-use Rattle.ls_steps.specs.Leaves.{IsAllowed, IsAllowedOn}
+use Rattle.ls_steps.specs.Leaves.{IsAllowedOn}
+use Rattle.ls_workers.specs.Client.{IsAllowed}
 
 -- ---- questions
 

@@ -5,6 +5,7 @@ pub mod Going
 pub mod Inputs
 pub mod OneSession
 pub mod Serving
+pub mod Settled
 pub mod ShortTexts
 pub mod SomeSession
 pub mod Talks

@@ -19,7 +19,7 @@ use Rattle.ls_frame.specs.Frames.{frame_of}
 use Rattle.ls_session.specs.Bodies.{body_of, reply_body, findings_body}
 use Rattle.ls_session.proofs.WithoutCert.{same_findings, same_reply}
 use Rattle.ls_steps.specs.Runs.{Going, Held, Steps, desk_of, finished_by, finishes, hear, leaving, ran, runs, state_at, take_job, unless_full}
-use Rattle.ls_steps.specs.Plain.{RunsOne, Works, AreFramesFor, Serves, Says, is_idle, sent_all}
+use Rattle.ls_steps.specs.Plain.{RunsOne, Works, AreFramesFor, Serves, Says, has_run_all, sent_all}
 
 -- ---- jobs
 
@@ -74,8 +74,8 @@ not_both b p q = absurd (cc)
 one_work : (n m : ℕ) (g h k : Going) → Works false n g h → Works false m g k → h ≡ k
 unfolding Works
 one_work zero zero g h k p q = p.1 ∙ sym q.1
-one_work zero (suc m) g h k p q = not_both (is_idle g) p.0 q.0
-one_work (suc n) zero g h k p q = not_both (is_idle g) q.0 p.0
+one_work zero (suc m) g h k p q = not_both (has_run_all g) p.0 q.0
+one_work (suc n) zero g h k p q = not_both (has_run_all g) q.0 p.0
 one_work (suc n) (suc m) g h k p q =
     one_work n m q.1.0 h k (subst (λ t. Works false n t h) (one_job g p.1.0 q.1.0 p.1.1 q.1.1) p.1.2) q.1.2
 

@@ -14,12 +14,12 @@ use Rattle.ls_desk.specs.Faults.{finish_fault, take_fault}
 use Rattle.ls_desk.specs.Stands.{Seen}
 use Rattle.ls_desk.proofs.Grows.{replay-push}
 use Rattle.ls_steps.specs.Runs.{Going, Held, IsSent, Steps, bytes_in, desk_of, finish_job, finished_by, is_filled, ran, runs, send, state_at, take_job, takes, took, unless_full}
-use Rattle.ls_steps.specs.Plain.{AreFramesFor, RunsOne, Works, is_idle, sent_all}
+use Rattle.ls_steps.specs.Plain.{AreFramesFor, RunsOne, Works, has_run_all, sent_all}
 
 -- ---- a job is taken
 
 abbrev pub IsTaken : Bool → Going → Going → Type 0
-IsTaken taken g t = taken ≡ not (is_idle g) && not (is_filled t.status)
+IsTaken taken g t = taken ≡ not (has_run_all g) && not (is_filled t.status)
 
 both : (a b : Bool) → true ≡ not a && not b → (a ≡ false) × (b ≡ false)
 both true b e = absurd (cc)
@@ -31,10 +31,10 @@ either true b e f = absurd (cc)
 either false true e f = refl
 either false false e f = absurd (cc)
 
-pub job-runs : (g t m : Going) → Steps g take_job t [] → IsTaken true g t → Steps t (finish_job 0) m [] → (is_idle g ≡ false) × RunsOne true g m
+pub job-runs : (g t m : Going) → Steps g take_job t [] → IsTaken true g t → Steps t (finish_job 0) m [] → (has_run_all g ≡ false) × RunsOne true g m
 unfolding Steps
 job-runs g t m p taken q =
-    ((both (is_idle g) (is_filled t.status) taken).0, record { taken = t; takes = p; answer = q.0; answered = λ e. absurd (cc); h_is = q.1 })
+    ((both (has_run_all g) (is_filled t.status) taken).0, record { taken = t; takes = p; answer = q.0; answered = λ e. absurd (cc); h_is = q.1 })
 
 pub works-more : (g t m h : Going) (n : ℕ) → Steps g take_job t [] → IsTaken true g t → Steps t (finish_job 0) m [] → Works true n m h → Works true (suc n) g h
 unfolding Works
@@ -45,23 +45,23 @@ idle-by g t true o f w e p = p ∙ ap (λ b. if b then g else takes g o) f
 idle-by g t false None f w e p = p ∙ ap (λ b. if b then g else g) f
 idle-by g t false (Some x) f w e p = absurd (cc)
 
-idle-take : (g t : Going) → Steps g take_job t [] → is_idle g ≡ true → t ≡ g
+idle-take : (g t : Going) → Steps g take_job t [] → has_run_all g ≡ true → t ≡ g
 unfolding Steps
 idle-take g t p e = idle-by g t (is_filled g.status) (find is_queued (state_at g).waiting) refl refl e p.0
 
 filled-ends : (t : Going) → is_filled t.status ≡ true → t ≡ unless_full t.status t (runs t 0 None (slice_get t.held 0))
 filled-ends t e = sym (ap (λ b. if b then t else runs t 0 None (slice_get t.held 0)) e)
 
-works-by : (g t : Going) (b : Bool) → is_idle g ≡ b → Steps g take_job t [] → IsTaken false g t → (n : ℕ) × Works true n g t
+works-by : (g t : Going) (b : Bool) → has_run_all g ≡ b → Steps g take_job t [] → IsTaken false g t → (n : ℕ) × Works true n g t
 unfolding Works
 works-by g t true e p taken = (0, (e, idle-take g t p e))
 works-by g t false e p taken =
-    let full = either (is_idle g) (is_filled t.status) taken e in
+    let full = either (has_run_all g) (is_filled t.status) taken e in
     (1, (e, (t, record { taken = t; takes = p; answer = None; answered = λ e. absurd (cc); h_is = filled-ends t full }, (ap (λ b. b || is_none (find is_queued (state_at t).waiting)) full, refl))))
 
 -- none was taken, so nothing is left to run
 pub works-end : (g t : Going) → Steps g take_job t [] → IsTaken false g t → (n : ℕ) × Works true n g t
-works-end g t p taken = works-by g t (is_idle g) refl p taken
+works-end g t p taken = works-by g t (has_run_all g) refl p taken
 
 -- ---- the journal grows
 
@@ -83,7 +83,7 @@ take-grew-by g t false (Some w) f e s p =
 pub take-grew : (g t : Going) → Steps g take_job t [] → IsTaken true g t → Grew g t 1
 unfolding Steps
 take-grew g t p taken =
-    let parts = both (is_idle g) (is_filled t.status) taken in
+    let parts = both (has_run_all g) (is_filled t.status) taken in
     take-grew-by g t (is_filled g.status) (find is_queued (state_at g).waiting) refl parts.0 parts.1 p.0
 
 finished-grew : (d : Seen) (done : Told) (o : Option DeskFault) → length d.journal ≤ length (finished_by d done o).journal

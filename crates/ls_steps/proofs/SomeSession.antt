@@ -24,18 +24,18 @@ use Rattle.ls_rpc.specs.Message.{message_of}
 use Rattle.ls_rpc.specs.declared.message.Id.{Id}
 use Rattle.ls_session.specs.Bodies.{body_of, failure_body}
 use Rattle.ls_session.specs.Session.{turn_of}
-use Rattle.ls_session.specs.declared.event.ClientEvent.{ClientEvent}
-use Rattle.ls_session.specs.declared.event.ClientEvent.TheVariants.{DidOpen, DidChange, DidClose, Request, Cancel, Say}
+use Rattle.ls_workers.specs.declared.client.ClientEvent.{ClientEvent}
+use Rattle.ls_workers.specs.declared.client.ClientEvent.TheVariants.{DidOpen, DidChange, DidClose, Request, Cancel, Say}
 use Rattle.ls_session.specs.declared.event.Status.{Status}
 use Rattle.ls_session.specs.declared.event.Turn.{Turn}
 use Rattle.ls_session.specs.declared.event.Turn.TheVariants.{Nothing, Event as Happens, Exit}
 use Rattle.ls_session.specs.declared.session.Stage.{Stage}
 use Rattle.ls_steps.specs.Runs.{Going, Held, Left, Steps, asker_of, begun, desk_of, entry_at, fault_at, finished_by, finishes, heard, is_filled, leaving, met, on_turn, ran, refused, runs, said_by, state_at, status_by, takes, tells, told_of, took, turned, unless_full, while_open}
-use Rattle.ls_steps.specs.Plain.{RunsOne, Works, AreFramesFor, Serves, Says, is_idle, sent_all}
+use Rattle.ls_steps.specs.Plain.{RunsOne, Works, AreFramesFor, Serves, Says, has_run_all, sent_all}
 use Rattle.ls_steps.proofs.OneSession.{body_for, body_told}
 use Rattle.ls_steps.proofs.ShortTexts.{Each, IsFine, IsShortEntry, IsShortEvent, fine_pushed, fine_sent, short_chars}
 
-abbrev Fine : Going → Type 0
+abbrev pub Fine : Going → Type 0
 Fine g = IsFine g.journal
 
 abbrev FineLeft : Left → Type 0
@@ -87,16 +87,16 @@ fine_turn g Nothing h = h
 fine_turn g (Happens event) h = fine_met (desk_of g) event (fault_at (desk_of g) event) refl h
 fine_turn g (Exit status) h = h
 
-fine_turned : (g : Going) (t : Turn × Stage) → Fine g → Fine (turned g t)
+pub fine_turned : (g : Going) (t : Turn × Stage) → Fine g → Fine (turned g t)
 fine_turned g t h = fine_turn (record g { stage = t.1 }) t.0 h
 
-fine_open : (o : Option Status) (g k : Going) → Fine g → Fine k → Fine (while_open o g k)
+pub fine_open : (o : Option Status) (g k : Going) → Fine g → Fine k → Fine (while_open o g k)
 fine_open None g k p q = q
 fine_open (Some status) g k p q = p
 
 -- ---- jobs
 
-fine_unless : (o : Option Status) (g k : Going) → Fine g → Fine k → Fine (unless_full o g k)
+pub fine_unless : (o : Option Status) (g k : Going) → Fine g → Fine k → Fine (unless_full o g k)
 fine_unless o g k p q = by (is_filled o)
   where
     by : (b : Bool) → Fine (if b then g else k)
@@ -107,7 +107,7 @@ fine_took : (g : Going) (w : Waiting) (o : Option DeskFault) → Fine g → Fine
 fine_took g w None h = fine_pushed g.journal (Took 0) h tt
 fine_took g w (Some f) h = h
 
-fine_takes : (g : Going) (o : Option Waiting) → Fine g → Fine (takes g o)
+pub fine_takes : (g : Going) (o : Option Waiting) → Fine g → Fine (takes g o)
 fine_takes g None h = h
 fine_takes g (Some w) h = fine_took g w (take_fault (desk_of g)) h
 
@@ -124,7 +124,7 @@ fine_finished d done (Some fault.UnknownTicket) h = h
 fine_finished d done (Some fault.OtherText) h = h
 fine_finished d done (Some fault.Memory) h = h
 
-fine_runs : (g : Going) (answer : Option Answer) (o : Option Held) → Fine g → Fine (runs g 0 answer o)
+pub fine_runs : (g : Going) (answer : Option Answer) (o : Option Held) → Fine g → Fine (runs g 0 answer o)
 fine_runs g answer None h = h
 fine_runs g answer (Some job) h = fine_finished (desk_of g) (ran job answer) (finish_fault (desk_of g) (ran job answer)) h
 
@@ -255,11 +255,11 @@ some_found : (o : Option Waiting) → is_none o ≡ false → (w : Waiting) × (
 some_found None e = absurd (cc)
 some_found (Some w) e = (w, refl)
 
-idle : (g : Going) → is_idle g ≡ true → Fine g → Worked g
+idle : (g : Going) → has_run_all g ≡ true → Fine g → Worked g
 unfolding Works
 idle g e fine = record { jobs = 0; left = g; works = (e, refl); fine = fine }
 
-work_by : (g : Going) (b : Bool) → is_idle g ≡ b → Fine g → ((mid : Going) → Fine mid → Progress g mid → Worked mid) → Worked g
+work_by : (g : Going) (b : Bool) → has_run_all g ≡ b → Fine g → ((mid : Going) → Fine mid → Progress g mid → Worked mid) → Worked g
 unfolding Works
 work_by g true e fine more = idle g e fine
 work_by g false e fine more =
@@ -274,8 +274,8 @@ onward g mid fine (inl full) more = idle mid (ap (λ b. b || is_none (find is_qu
 onward g mid fine (inr less) more = more less
 
 some_work : (fuel : ℕ) (g : Going) → Fine g → queued_at g ≤ fuel → Worked g
-some_work zero g fine le = work_by g (is_idle g) refl fine (λ mid f p. onward g mid f p (λ less. absurd (omega (arith, le, less))))
-some_work (suc fuel) g fine le = work_by g (is_idle g) refl fine (λ mid f p. onward g mid f p (λ less. some_work fuel mid f (omega (arith, le, less))))
+some_work zero g fine le = work_by g (has_run_all g) refl fine (λ mid f p. onward g mid f p (λ less. absurd (omega (arith, le, less))))
+some_work (suc fuel) g fine le = work_by g (has_run_all g) refl fine (λ mid f p. onward g mid f p (λ less. some_work fuel mid f (omega (arith, le, less))))
 
 -- ---- what leaves
 
@@ -336,7 +336,7 @@ some_message g body fine =
       fine = fine_sent (state_at work.left).unsent work.left.journal work.fine;
     }
 
-said : (g : Going) (bodies : List (List ℕ)) → Fine g → (h : Going) × (bytes : List ℕ) × Says false g bodies h bytes
+pub said : (g : Going) (bodies : List (List ℕ)) → Fine g → (h : Going) × (bytes : List ℕ) × Says false g bodies h bytes
 unfolding Says
 said g [] fine = (g, [], (refl, refl))
 said g (body ∷ bodies) fine =

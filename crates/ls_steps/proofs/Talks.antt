@@ -20,8 +20,8 @@ use Rattle.ls_desk.specs.Stands.{AreOutsFor, IsSound, Seen, Sends, state_of, tic
 use Rattle.ls_desk.specs.Faults.{IsJobOf, Refuses, Takes, is_full, or_else, take_fault}
 use Rattle.ls_session.specs.Bodies.{body_of}
 use Rattle.ls_session.specs.Session.{turn_of}
-use Rattle.ls_session.specs.declared.event.ClientEvent.{ClientEvent}
-use Rattle.ls_session.specs.declared.event.ClientEvent.TheVariants as event
+use Rattle.ls_workers.specs.declared.client.ClientEvent.{ClientEvent}
+use Rattle.ls_workers.specs.declared.client.ClientEvent.TheVariants as event
 use Rattle.ls_session.specs.declared.event.Status.{Status}
 use Rattle.ls_session.specs.declared.event.Status.TheVariants.{Full}
 use Rattle.ls_session.specs.declared.event.Turn.{Turn}

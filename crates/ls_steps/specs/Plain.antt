@@ -12,8 +12,8 @@ use Rattle.ls_session.specs.Bodies.{body_of}
 use Rattle.ls_steps.specs.Runs.{Going, Steps, hear, take_job, is_filled, runs, state_at, unless_full}
 
 -- nothing is left to run: no job is queued, or the session is full
-abbrev pub is_idle : Going → Bool
-is_idle g = is_filled g.status || is_none (find is_queued (state_at g).waiting)
+abbrev pub has_run_all : Going → Bool
+has_run_all g = is_filled g.status || is_none (find is_queued (state_at g).waiting)
 
 -- The first queued job is taken, run and handed in. Where `may_fail` is false, no memory was refused in it.
 pub record RunsOne (may_fail : Bool) (g h : Going) : Type 0 where
@@ -25,8 +25,8 @@ pub record RunsOne (may_fail : Bool) (g h : Going) : Type 0 where
 
 -- so many jobs, until none is left to run
 unfoldable pub Works : Bool → ℕ → Going → Going → Type 0
-Works may_fail zero g h = (is_idle g ≡ true) × (h ≡ g)
-Works may_fail (suc n) g h = (is_idle g ≡ false) × ((mid : Going) × RunsOne may_fail g mid × Works may_fail n mid h)
+Works may_fail zero g h = (has_run_all g ≡ true) × (h ≡ g)
+Works may_fail (suc n) g h = (has_run_all g ≡ false) × ((mid : Going) × RunsOne may_fail g mid × Works may_fail n mid h)
 
 -- the session once these entries, which are all that is kept, have left
 abbrev pub sent_all : Going → List Entry → Going
@@ -53,3 +53,8 @@ unfoldable pub Says : Bool → Going → List (List ℕ) → Going → List ℕ 
 Says may_fail g [] h bytes = (h ≡ g) × (bytes ≡ [])
 Says may_fail g (body ∷ bodies) h bytes = (mid : Going) × (now : List ℕ) × (later : List ℕ)
     × (Serves may_fail g body mid now × Says may_fail mid bodies h later × (bytes ≡ now ++ later))
+
+-- Nothing is left to run or to send, as between two messages.
+pub record IsSettled (g : Going) : Type 0 where
+  pub idle : has_run_all g ≡ true
+  pub sent : (state_at g).unsent ≡ []

@@ -27,8 +27,8 @@ use Rattle.ls_desk.specs.Stands.{Seen, IsOutFor, state_of}
 use Rattle.ls_desk.specs.Faults.{open_fault, end_fault, request_fault, cancel_fault, full_fault, take_fault, finish_fault}
 use Rattle.ls_session.specs.Bodies.{body_of, refusal_of}
 use Rattle.ls_session.specs.Session.{turn_of}
-use Rattle.ls_session.specs.declared.event.ClientEvent.{ClientEvent}
-use Rattle.ls_session.specs.declared.event.ClientEvent.TheVariants.{DidOpen, DidChange, DidClose, Request, Cancel, Say}
+use Rattle.ls_workers.specs.declared.client.ClientEvent.{ClientEvent}
+use Rattle.ls_workers.specs.declared.client.ClientEvent.TheVariants.{DidOpen, DidChange, DidClose, Request, Cancel, Say}
 use Rattle.ls_session.specs.declared.event.Turn.{Turn}
 use Rattle.ls_session.specs.declared.event.Turn.TheVariants.{Nothing, Event as Happens, Exit}
 use Rattle.ls_session.specs.declared.event.Status.{Status}

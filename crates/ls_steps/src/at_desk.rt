@@ -3,7 +3,8 @@ ghost use Rattle.std.specs.Prelude.{◌≡◌, ◌≢◌, IfOk, IfErr, OnOk};
 ghost use Rattle.ls_desk.specs.Stands.{IsSound, state_of};
 ghost use Rattle.ls_desk.specs.Faults.{Accepts, Refuses, cancel_fault, end_fault, open_fault, request_fault};
 ghost use Rattle.ls_steps.specs.Runs.{asker_of, entry_at, fault_at, finishes, meets, refused};
-ghost use Rattle.ls_steps.specs.Leaves.{IsAllowed, Leaves};
+ghost use Rattle.ls_steps.specs.Leaves.{Leaves};
+ghost use Rattle.ls_workers.specs.Client.{IsAllowed};
 
 use ls_answers::{Ask, Done};
 use ls_desk::{Desk, DeskFault};

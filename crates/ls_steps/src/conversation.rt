@@ -1,7 +1,7 @@
 //! A client's session, over a desk.
 ghost use Rattle.std.specs.Prelude.{◌≡◌, ◌≤◌, ◌&&◌, ℕ, List, [], length, not, is_some, true, IfOk, IfNone, IfSome, OnOk, Some};
 ghost use Rattle.ls_desk.specs.Machine.{first_ticket};
-ghost use Rattle.ls_steps.specs.Plain.{is_idle};
+ghost use Rattle.ls_steps.specs.Plain.{has_run_all};
 ghost use Rattle.ls_desk.specs.Stands.{IsSound};
 ghost use Rattle.ls_frame.specs.Frames.{frame_of};
 ghost use Rattle.ls_session.specs.Bodies.{body_of};
@@ -120,7 +120,7 @@ impl Conversation {
     #[tactic(auto, unfolding(crate::specs::Runs::Steps))]
     pub fn take(&mut self) -> Result<bool, Memory>
         ensures steps { OnOk result (Steps self.old take_job self.new []) }
-        ensures taken { IfOk result (λ taken. taken ≡ not (is_idle self.old) && not (is_filled self.new.status)) }
+        ensures taken { IfOk result (λ taken. taken ≡ not (has_run_all self.old) && not (is_filled self.new.status)) }
         ensures fits { OnOk result (length self.new.journal ≤ self.new.max_events) }
     {
         if self.is_full() {

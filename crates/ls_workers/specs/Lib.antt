@@ -1,0 +1,4 @@
+pub mod Count
+pub mod Client
+pub mod Ends
+pub mod Seats

@@ -1,0 +1,224 @@
+//! What lies behind the lock.
+ghost use Rattle.std.specs.Prelude.{◌≡◌, ◌+◌, ◌++◌, ◌∷◌, ◌<◌, ◌⊎◌, [], IfOk, IfErr, OnOk, OnErr, IfNone, IfSome, OnSome, None, find, vec_len, vec_capacity, true, false};
+ghost use Rattle.ls_desk.specs.Machine.{is_queued, waits};
+ghost use Rattle.ls_desk.specs.Stands.{state_of, ticket_of_out};
+ghost use Rattle.ls_workers.specs.Count.{Counts};
+ghost use Rattle.ls_workers.specs.Client.{IsAllowed, Notes, note_of, is_too_long};
+ghost use Rattle.ls_workers.specs.Ends.{is_over, ended_by, has_job, has_news};
+
+use crate::calls::{enter, finish, give_back, journal_len, next_out, take};
+use crate::client::{ClientAnswer, ClientEvent};
+use crate::ledgers::{Ledgers, OfClient, OfFinished, OfReturned, OfSent, OfTook};
+use crate::notes::filled;
+use crate::seats::{ClientSeat, WorkerSeat, WriterSeat};
+use ls_answers::{Done, Job};
+use ls_desk::{Desk, DeskFault, Event, Kept, Out, ticket_of};
+use std::sync::ledger::{Book, Share};
+
+/// How a board ends.
+#[derive(Clone, Copy, PartialEq, Eq, Debug, Drop)]
+pub enum Stop {
+    /// Once all that is there has run and is sent.
+    Drain,
+    /// At once. It is final.
+    Now,
+}
+
+/// Why a board isn't closed.
+#[derive(Drop)]
+pub enum SeatFault {
+    /// A seat's mark isn't the board's, or the workers' numbers aren't all there, each once. The desk is gone.
+    SeatMissing,
+    /// What the seats were told isn't what the journal of this desk, the board's, has.
+    Strayed(Desk),
+}
+
+/// The desk, a book for each kind of event, which has the number of that kind in the desk's journal, and how the board ends.
+#[derive(Drop)]
+pub struct Behind<C: Ledgers> {
+    pub desk: Desk,
+    pub asked: Book<OfClient<C>>,
+    pub took: Book<OfTook<C>>,
+    pub returned: Book<OfReturned<C>>,
+    pub finished: Book<OfFinished<C>>,
+    pub sent: Book<OfSent<C>>,
+    pub stop: Option<Stop>,
+    pub ghost counts: { Counts asked.total took.total returned.total finished.total sent.total desk.journal },
+}
+
+impl<C: Ledgers> Behind<C> {
+    /// Ends the board, unless it has ended at once.
+    pub fn stop(&mut self, stop: Stop)
+        ensures stop { self.new.stop ≡ ended_by self.old.stop stop }
+        ensures desk { self.new.desk ≡ self.old.desk }
+    {
+        if !self.is_over() {
+            self.stop = Some(stop);
+        }
+    }
+
+    /// Whether the board has ended at once.
+    fn is_over(&self) -> bool
+        ensures { result ≡ is_over self.now.stop }
+    {
+        match self.stop {
+            Some(Stop::Now) => true,
+            Some(Stop::Drain) => false,
+            None => false,
+        }
+    }
+
+    /// Whether a worker has nothing to wait for.
+    pub fn has_job(&self) -> bool
+        ensures { result ≡ has_job self.now.stop self.now.desk }
+    {
+        self.stop.is_some() || self.desk.has_queued()
+    }
+
+    /// Whether the writer has nothing to wait for.
+    pub fn has_news(&self) -> bool
+        ensures { result ≡ has_news self.now.stop self.now.desk }
+    {
+        match self.stop {
+            Some(Stop::Now) => true,
+            Some(Stop::Drain) => self.desk.unsent() > 0 || self.desk.is_idle(),
+            None => self.desk.unsent() > 0,
+        }
+    }
+
+    /// Whether a ticket waits, queued or taken.
+    pub fn wanted(&self, ticket: u64) -> bool
+        ensures { result ≡ waits ticket (state_of self.now.desk).waiting }
+    {
+        self.desk.wanted(ticket)
+    }
+
+    /// Enters a client's event. The seat has room for one entry more, and the note is the event's.
+    pub fn client(
+        &mut self,
+        seat: &mut ClientSeat<C>,
+        event: ClientEvent,
+        note: Option<Event>,
+    ) -> Result<ClientAnswer, DeskFault>
+        requires allowed { IsAllowed event }
+        requires some { IfSome note (λ noted. noted ≡ note_of event) }
+        requires none { IfNone note (is_too_long event ≡ true) }
+        requires room { vec_len seat.old.list < vec_capacity seat.old.list }
+        ensures ok { OnOk result (seat.new.asked.share.amount ≡ seat.old.asked.share.amount + 1) }
+        ensures list { IfOk result (λ answer. Notes event answer seat.old.list.items seat.new.list.items) }
+        ensures journal { IfOk result (λ answer. Notes event answer self.old.desk.journal self.new.desk.journal) }
+        ensures err { OnErr result ((seat.new.asked.share.amount ≡ seat.old.asked.share.amount) × (seat.new.list.items ≡ seat.old.list.items)) }
+        ensures same { OnErr result ((self.new.desk ≡ self.old.desk) × (self.new.asked.total ≡ self.old.asked.total)) }
+        ensures mark { seat.new.mark ≡ seat.old.mark }
+    {
+        let Behind { desk, asked, .. } = self;
+        let answer = enter(desk, event)?;
+        let _length = journal_len(desk);
+        let Some(note) = note else { unreachable!() };
+        seat.asked.one_more(asked);
+        seat.list.push_reserved(filled(note, answer));
+        Ok(answer)
+    }
+
+    /// Takes the first queued job. `None` where the board has ended at once, or where none is queued.
+    pub fn take(&mut self, seat: &mut WorkerSeat<C>) -> Result<Option<Job>, DeskFault>
+        ensures some { IfOk result (λ job. OnSome job (seat.new.took.share.amount ≡ seat.old.took.share.amount + 1)) }
+        ensures journal { IfOk result (λ job. OnSome job (self.new.desk.journal ≡ self.old.desk.journal ++ Event.Took seat.old.number ∷ [])) }
+        ensures none { IfOk result (λ job. IfNone job (seat.new.took.share.amount ≡ seat.old.took.share.amount)) }
+        ensures nothing { IfOk result (λ job. IfNone job ((self.new.desk ≡ self.old.desk) × (self.new.took.total ≡ self.old.took.total)
+            × ((is_over self.old.stop ≡ true) ⊎ (find is_queued (state_of self.old.desk).waiting ≡ None)))) }
+        ensures err { OnErr result (seat.new.took.share.amount ≡ seat.old.took.share.amount) }
+        ensures same { OnErr result ((self.new.desk ≡ self.old.desk) × (self.new.took.total ≡ self.old.took.total)) }
+        ensures others { (seat.new.returned.share.amount ≡ seat.old.returned.share.amount) × (seat.new.finished.share.amount ≡ seat.old.finished.share.amount) }
+        ensures kept { (seat.new.mark ≡ seat.old.mark) × (seat.new.number ≡ seat.old.number) }
+    {
+        if self.is_over() {
+            return Ok(None);
+        }
+        let Behind { desk, took, .. } = self;
+        let job = take(desk, seat.number)?;
+        if job.is_some() {
+            let _length = journal_len(desk);
+            seat.took.one_more(took);
+        }
+        Ok(job)
+    }
+
+    /// Gives a job back that wasn't run.
+    pub fn give_back(&mut self, seat: &mut WorkerSeat<C>, ticket: u64) -> Result<(), DeskFault>
+        ensures ok { OnOk result (seat.new.returned.share.amount ≡ seat.old.returned.share.amount + 1) }
+        ensures journal { OnOk result (self.new.desk.journal ≡ self.old.desk.journal ++ Event.Returned ticket ∷ []) }
+        ensures err { OnErr result (seat.new.returned.share.amount ≡ seat.old.returned.share.amount) }
+        ensures same { OnErr result ((self.new.desk ≡ self.old.desk) × (self.new.returned.total ≡ self.old.returned.total)) }
+        ensures others { (seat.new.took.share.amount ≡ seat.old.took.share.amount) × (seat.new.finished.share.amount ≡ seat.old.finished.share.amount) }
+        ensures kept { (seat.new.mark ≡ seat.old.mark) × (seat.new.number ≡ seat.old.number) }
+    {
+        let Behind { desk, returned, .. } = self;
+        give_back(desk, ticket)?;
+        let _length = journal_len(desk);
+        seat.returned.one_more(returned);
+        Ok(())
+    }
+
+    /// Brings a job back that has run.
+    pub fn finish(
+        &mut self,
+        seat: &mut WorkerSeat<C>,
+        done: Done,
+    ) -> Result<Kept, (DeskFault, Done)>
+        ensures ok { OnOk result (seat.new.finished.share.amount ≡ seat.old.finished.share.amount + 1) }
+        ensures err { IfErr result (λ refused. (seat.new.finished.share.amount ≡ seat.old.finished.share.amount) × (refused.1 ≡ done)) }
+        ensures same { OnErr result ((self.new.desk ≡ self.old.desk) × (self.new.finished.total ≡ self.old.finished.total)) }
+        ensures others { (seat.new.took.share.amount ≡ seat.old.took.share.amount) × (seat.new.returned.share.amount ≡ seat.old.returned.share.amount) }
+        ensures kept { (seat.new.mark ≡ seat.old.mark) × (seat.new.number ≡ seat.old.number) }
+    {
+        let Behind { desk, finished, .. } = self;
+        let kept = finish(desk, done)?;
+        let _length = journal_len(desk);
+        seat.finished.one_more(finished);
+        Ok(kept)
+    }
+
+    /// The oldest reply, which leaves. `None` where the board has ended at once, or where none is unsent. The seat has room for one ticket
+    /// more.
+    pub fn next_out(&mut self, seat: &mut WriterSeat<C>) -> Option<Out>
+        requires { vec_len seat.old.tickets < vec_capacity seat.old.tickets }
+        ensures some { IfSome result (λ out. (seat.new.sent.share.amount ≡ seat.old.sent.share.amount + 1) × (seat.new.tickets.items ≡ seat.old.tickets.items ++ ticket_of_out out ∷ [])) }
+        ensures journal { IfSome result (λ out. self.new.desk.journal ≡ self.old.desk.journal ++ Event.Sent (ticket_of_out out) ∷ []) }
+        ensures none { IfNone result ((seat.new.sent.share.amount ≡ seat.old.sent.share.amount) × (seat.new.tickets.items ≡ seat.old.tickets.items)) }
+        ensures nothing { IfNone result ((self.new.desk ≡ self.old.desk) × (self.new.sent.total ≡ self.old.sent.total) × ((is_over self.old.stop ≡ true) ⊎ (self.old.desk.outbox ≡ []))) }
+        ensures mark { seat.new.mark ≡ seat.old.mark }
+    {
+        if self.is_over() {
+            return None;
+        }
+        let Behind { desk, sent, .. } = self;
+        let out = next_out(desk)?;
+        let _length = journal_len(desk);
+        seat.sent.one_more(sent);
+        seat.tickets.push_reserved(ticket_of(&out));
+        Some(out)
+    }
+
+    /// The desk, whose journal has as many events of each kind as the gathered shares.
+    pub fn audited(
+        mut self,
+        asked: &mut Share<OfClient<C>>,
+        took: &mut Share<OfTook<C>>,
+        returned: &mut Share<OfReturned<C>>,
+        finished: &mut Share<OfFinished<C>>,
+        sent: &mut Share<OfSent<C>>,
+    ) -> Desk
+        requires one { (asked.old.parts ≡ 1) × (sent.old.parts ≡ 1) }
+        requires all { (took.old.parts ≡ C.parts) × (returned.old.parts ≡ C.parts) × (finished.old.parts ≡ C.parts) }
+        ensures { Counts asked.old.amount took.old.amount returned.old.amount finished.old.amount sent.old.amount result.journal }
+    {
+        self.asked.audit(asked);
+        self.took.audit(took);
+        self.returned.audit(returned);
+        self.finished.audit(finished);
+        self.sent.audit(sent);
+        let Behind { desk, .. } = self;
+        desk
+    }
+}

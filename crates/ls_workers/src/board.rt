@@ -1,0 +1,259 @@
+//! The board, and the calls of its seats.
+ghost use Rattle.std.specs.Prelude.{◌≡◌, ◌+◌, ◌<◌, ◌≤◌, ◌++◌, ◌∷◌, [], IfOk, IfErr, OnOk, OnErr, IfNone, IfSome, OnSome, vec_len, sum_by};
+ghost use Rattle.ls_desk.specs.Stands.{ticket_of_out};
+ghost use Rattle.ls_workers.specs.Count.{Counts};
+ghost use Rattle.ls_workers.specs.Seats.{Agrees, AreAll, HasCause};
+ghost use Rattle.ls_workers.specs.Client.{IsAllowed, Notes};
+
+use crate::agree::agrees;
+use crate::behind::{Behind, SeatFault, Stop};
+use crate::client::{ClientAnswer, ClientEvent};
+use crate::crew::{are_all, gathered, seats_of};
+use crate::ledgers::{Blanks, Crew, OfClient, OfFinished, OfReturned, OfSent, OfTook};
+use crate::notes::note_of;
+use crate::seats::{ClientSeat, WorkerSeat, WriterSeat};
+use ls_answers::{Done, Job};
+use ls_desk::{Desk, DeskFault, Kept, Out};
+use std::alloc::{AllocError as Memory, Global};
+use std::sync::{Condvar, Mutex, Wait};
+
+/// A desk that several threads use, each through its seat, under one lock.
+///
+/// Whenever the lock is free, the desk is what its legal journal leads to, as each desk is, and the book of each kind of event has the number
+/// of that kind in the journal.
+#[derive(Drop)]
+pub struct Board<C: Crew> {
+    /// Which board it is. Whoever makes boards gives each a mark of its own.
+    mark: u64,
+    workers: u32,
+    behind: Mutex<Behind<C>>,
+    /// Something behind the lock has changed.
+    changed: Condvar,
+    ghost all: { workers ≡ C.workers },
+}
+
+impl<C: Crew> Board<C> {
+    /// A board over a desk on which nothing has happened, with its seats: the client's, the writer's, and those of 1 to 8 workers in the
+    /// order of their numbers.
+    ///
+    /// `Memory` says that an allocation was refused.
+    pub fn new(
+        alloc: Global,
+        blanks: Blanks,
+        mark: u64,
+        desk: Desk,
+        workers: u32,
+    ) -> Result<(Board<C>, ClientSeat<C>, WriterSeat<C>, Vec<WorkerSeat<C>>), Memory>
+        requires names { (blanks.client.name ≡ C.client) × (blanks.took.name ≡ C.took) × (blanks.returned.name ≡ C.returned) × (blanks.finished.name ≡ C.finished) × (blanks.sent.name ≡ C.sent) }
+        requires parts { (blanks.client.parts ≡ 1) × (blanks.took.parts ≡ C.parts) × (blanks.returned.parts ≡ C.parts) × (blanks.finished.parts ≡ C.parts) × (blanks.sent.parts ≡ 1) }
+        requires workers { (workers ≡ C.workers) × (workers ≡ C.parts) × (0 < workers) × (workers ≤ 8) }
+        requires empty { desk.journal ≡ [] }
+        ensures client { IfOk result (λ made. (made.1.mark ≡ mark) × (made.1.asked.share.amount ≡ 0) × (made.1.list.items ≡ [])) }
+        ensures writer { IfOk result (λ made. (made.2.mark ≡ mark) × (made.2.sent.share.amount ≡ 0) × (made.2.tickets.items ≡ [])) }
+        ensures workers { IfOk result (λ made. AreAll (λ seat. seat.mark) (λ seat. seat.number) mark workers made.3.items) }
+        ensures none { IfOk result (λ made. (sum_by (λ seat. seat.took.share.amount) made.3.items ≡ 0) × (sum_by (λ seat. seat.returned.share.amount) made.3.items ≡ 0)
+            × (sum_by (λ seat. seat.finished.share.amount) made.3.items ≡ 0)) }
+        ensures board { IfOk result (λ made. (made.0.mark ≡ mark) × (made.0.workers ≡ workers)) }
+    {
+        let Blanks {
+            client,
+            took,
+            returned,
+            finished,
+            sent,
+        } = blanks;
+        let (asked_book, asked) = client.open::<OfClient<C>>();
+        let (took_book, took) = took.open::<OfTook<C>>();
+        let (returned_book, returned) = returned.open::<OfReturned<C>>();
+        let (finished_book, finished) = finished.open::<OfFinished<C>>();
+        let (sent_book, sent) = sent.open::<OfSent<C>>();
+        let seats = seats_of(alloc, mark, workers, took, returned, finished)?;
+        let behind = Behind {
+            desk,
+            asked: asked_book,
+            took: took_book,
+            returned: returned_book,
+            finished: finished_book,
+            sent: sent_book,
+            stop: None,
+        };
+        let board = Board {
+            mark,
+            workers,
+            behind: Mutex::new(behind),
+            changed: Condvar::new(),
+        };
+        let client = ClientSeat::new(alloc, mark, asked);
+        let writer = WriterSeat::new(alloc, mark, sent);
+        Ok((board, client, writer, seats))
+    }
+
+    /// Enters a client's event, and notes it with its answer in the seat. What it needs memory for in the seat it makes before it takes the
+    /// lock.
+    ///
+    /// It waits for the lock alone. The faults are those of the desk's call; after one the seat is as it was.
+    pub fn client(
+        &self,
+        rt: &impl Wait,
+        seat: &mut ClientSeat<C>,
+        event: ClientEvent,
+    ) -> Result<ClientAnswer, DeskFault>
+        requires { IsAllowed event }
+        ensures ok { OnOk result (seat.new.asked.share.amount ≡ seat.old.asked.share.amount + 1) }
+        ensures list { IfOk result (λ answer. Notes event answer seat.old.list.items seat.new.list.items) }
+        ensures err { OnErr result ((seat.new.asked.share.amount ≡ seat.old.asked.share.amount) × (seat.new.list.items ≡ seat.old.list.items)) }
+        ensures mark { seat.new.mark ≡ seat.old.mark }
+    {
+        let note = note_of(*seat.list.allocator(), &event)?;
+        seat.list.reserve(1)?;
+        let result = self.behind.lock(rt).client(seat, event, note);
+        self.changed.notify_all();
+        result
+    }
+
+    /// Waits for a job, and takes the queued one with the least ticket. `None` once the board has ended by `Now`, or has ended by `Drain` and
+    /// none is queued.
+    ///
+    /// The faults are `SessionFull` and `Memory`; after one the seat is as it was.
+    pub fn take(&self, rt: &impl Wait, seat: &mut WorkerSeat<C>) -> Result<Option<Job>, DeskFault>
+        ensures some { IfOk result (λ job. OnSome job (seat.new.took.share.amount ≡ seat.old.took.share.amount + 1)) }
+        ensures none { IfOk result (λ job. IfNone job (seat.new.took.share.amount ≡ seat.old.took.share.amount)) }
+        ensures err { OnErr result (seat.new.took.share.amount ≡ seat.old.took.share.amount) }
+        ensures others { (seat.new.returned.share.amount ≡ seat.old.returned.share.amount) × (seat.new.finished.share.amount ≡ seat.old.finished.share.amount) }
+        ensures kept { (seat.new.mark ≡ seat.old.mark) × (seat.new.number ≡ seat.old.number) }
+    {
+        let behind = self.behind.lock(rt);
+        let mut behind = self
+            .changed
+            .wait_while(rt, behind, |behind| !behind.has_job());
+        behind.take(seat)
+    }
+
+    /// Gives a job back that wasn't run. It is queued again.
+    ///
+    /// It waits for the lock alone. The faults are `UnknownTicket`, `SessionFull` and `Memory`; after one the seat is as it was.
+    pub fn give_back(
+        &self,
+        rt: &impl Wait,
+        seat: &mut WorkerSeat<C>,
+        ticket: u64,
+    ) -> Result<(), DeskFault>
+        ensures ok { OnOk result (seat.new.returned.share.amount ≡ seat.old.returned.share.amount + 1) }
+        ensures err { OnErr result (seat.new.returned.share.amount ≡ seat.old.returned.share.amount) }
+        ensures others { (seat.new.took.share.amount ≡ seat.old.took.share.amount) × (seat.new.finished.share.amount ≡ seat.old.finished.share.amount) }
+        ensures kept { (seat.new.mark ≡ seat.old.mark) × (seat.new.number ≡ seat.old.number) }
+    {
+        let result = self.behind.lock(rt).give_back(seat, ticket);
+        self.changed.notify_all();
+        result
+    }
+
+    /// Brings a job back that has run. A refusal hands the run back.
+    ///
+    /// It waits for the lock alone. The faults are `UnknownTicket`, `OtherText`, `SessionFull` and `Memory`; after one the seat is as it was.
+    pub fn finish(
+        &self,
+        rt: &impl Wait,
+        seat: &mut WorkerSeat<C>,
+        done: Done,
+    ) -> Result<Kept, (DeskFault, Done)>
+        ensures ok { OnOk result (seat.new.finished.share.amount ≡ seat.old.finished.share.amount + 1) }
+        ensures err { IfErr result (λ refused. (seat.new.finished.share.amount ≡ seat.old.finished.share.amount) × (refused.1 ≡ done)) }
+        ensures others { (seat.new.took.share.amount ≡ seat.old.took.share.amount) × (seat.new.returned.share.amount ≡ seat.old.returned.share.amount) }
+        ensures kept { (seat.new.mark ≡ seat.old.mark) × (seat.new.number ≡ seat.old.number) }
+    {
+        let result = self.behind.lock(rt).finish(seat, done);
+        self.changed.notify_all();
+        result
+    }
+
+    /// Waits for a reply, the oldest, which leaves, and notes its ticket in the seat. `None` once the board has ended by `Now`, or has ended
+    /// by `Drain`, nothing is unsent and no job waits.
+    ///
+    /// `Memory` says that an allocation was refused; after it the seat is as it was, and no reply has left.
+    pub fn next_out(&self, rt: &impl Wait, seat: &mut WriterSeat<C>) -> Result<Option<Out>, Memory>
+        ensures some { IfOk result (λ next. IfSome next (λ out. (seat.new.sent.share.amount ≡ seat.old.sent.share.amount + 1) × (seat.new.tickets.items ≡ seat.old.tickets.items ++ ticket_of_out out ∷ []))) }
+        ensures none { IfOk result (λ next. IfNone next ((seat.new.sent.share.amount ≡ seat.old.sent.share.amount) × (seat.new.tickets.items ≡ seat.old.tickets.items))) }
+        ensures err { OnErr result ((seat.new.sent.share.amount ≡ seat.old.sent.share.amount) × (seat.new.tickets.items ≡ seat.old.tickets.items)) }
+        ensures mark { seat.new.mark ≡ seat.old.mark }
+    {
+        seat.tickets.reserve(1)?;
+        let behind = self.behind.lock(rt);
+        let mut behind = self
+            .changed
+            .wait_while(rt, behind, |behind| !behind.has_news());
+        Ok(behind.next_out(seat))
+    }
+
+    /// Whether a ticket waits now, queued or taken.
+    ///
+    /// It waits for the lock alone, and takes no memory.
+    pub fn wanted(&self, rt: &impl Wait, ticket: u64) -> bool {
+        self.behind.lock(rt).wanted(ticket)
+    }
+
+    /// Ends the board: by `Drain` its seats are served until there is nothing left, by `Now` they are given nothing more. `Now` is final.
+    ///
+    /// It waits for the lock alone, and takes no memory.
+    pub fn stop(&self, rt: &impl Wait, stop: Stop) {
+        self.behind.lock(rt).stop(stop);
+        self.changed.notify_all();
+    }
+
+    /// Takes all seats back, and gives the desk. Its journal has as many events of each kind as the seats counted, the client's events with
+    /// the answers that its seat was given, and the tickets that the writer's seat was given.
+    ///
+    /// `SeatMissing`: a seat isn't of this board, or not all workers' are here. `Strayed`: the seats are all here, and the journal isn't what
+    /// they were told. It waits for nothing, and takes no memory.
+    pub fn close(
+        self,
+        client: ClientSeat<C>,
+        writer: WriterSeat<C>,
+        workers: Vec<WorkerSeat<C>>,
+    ) -> Result<Desk, SeatFault>
+        requires { (C.workers ≡ C.parts) × (0 < C.parts) }
+        ensures marks { OnOk result ((client.mark ≡ self.mark) × (writer.mark ≡ self.mark)
+            × AreAll (λ seat. seat.mark) (λ seat. seat.number) self.mark self.workers workers.items) }
+        ensures counts { IfOk result (λ desk. Counts client.asked.share.amount (sum_by (λ seat. seat.took.share.amount) workers.items)
+            (sum_by (λ seat. seat.returned.share.amount) workers.items) (sum_by (λ seat. seat.finished.share.amount) workers.items)
+            writer.sent.share.amount desk.journal) }
+        ensures agrees { IfOk result (λ desk. Agrees desk.journal client.list.items writer.tickets.items) }
+        ensures err { IfErr result (λ fault. HasCause ((client.mark ≡ self.mark) × (writer.mark ≡ self.mark)
+            × AreAll (λ seat. seat.mark) (λ seat. seat.number) self.mark self.workers workers.items)
+            (λ journal. Counts client.asked.share.amount (sum_by (λ seat. seat.took.share.amount) workers.items)
+            (sum_by (λ seat. seat.returned.share.amount) workers.items) (sum_by (λ seat. seat.finished.share.amount) workers.items)
+            writer.sent.share.amount journal)
+            client.list.items writer.tickets.items fault) }
+    {
+        let own = client.mark == self.mark && writer.mark == self.mark;
+        if !own || !are_all(&workers, self.mark, self.workers) {
+            return Err(SeatFault::SeatMissing);
+        }
+        let ClientSeat {
+            mark: _,
+            asked,
+            list,
+        } = client;
+        let WriterSeat {
+            mark: _,
+            sent,
+            tickets,
+        } = writer;
+        let mut asked = asked.share;
+        let mut sent = sent.share;
+        let (mut took, mut returned, mut finished) = gathered(workers);
+        let Board { behind, .. } = self;
+        let behind = behind.into_inner();
+        let desk = behind.audited(
+            &mut asked,
+            &mut took,
+            &mut returned,
+            &mut finished,
+            &mut sent,
+        );
+        if !agrees(desk.journal(), &list, &tickets) {
+            return Err(SeatFault::Strayed(desk));
+        }
+        Ok(desk)
+    }
+}

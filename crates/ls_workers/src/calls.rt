@@ -1,0 +1,90 @@
+//! The desk's calls, by what they enter into its journal.
+//!
+//! What lies behind the lock counts the entries of a journal, and needs no more of a desk than this.
+ghost use Rattle.std.specs.Prelude.{◌≡◌, ◌++◌, ◌∷◌, [], IfOk, IfErr, IfNone, IfSome, OnOk, OnErr, OnSome, length, find, Some, None, false};
+ghost use Rattle.ls_workers.specs.Count.{Adds};
+ghost use Rattle.ls_workers.specs.Client.{Notes, IsAllowed, entry_of, filled, note_of, is_too_long};
+ghost use Rattle.ls_desk.specs.Machine.{is_queued};
+ghost use Rattle.ls_desk.specs.Stands.{state_of, ticket_of_out};
+
+use crate::client::{ClientAnswer, ClientEvent};
+use ls_answers::{Done, Job};
+use ls_desk::{Desk, DeskFault, Event, Kept, Out};
+
+/// How many events the journal has.
+pub fn journal_len(desk: &Desk) -> usize
+    ensures { result ≡ length desk.now.journal }
+{
+    desk.journal().len()
+}
+
+/// Enters a client's event.
+pub fn enter(desk: &mut Desk, event: ClientEvent) -> Result<ClientAnswer, DeskFault>
+    requires { IsAllowed event }
+    ensures ok { IfOk result (λ answer. Notes event answer desk.old.journal desk.new.journal) }
+    ensures told { IfOk result (λ answer. entry_of event answer ≡ Some (filled (note_of event) answer)) }
+    ensures fits { OnOk result (is_too_long event ≡ false) }
+    ensures err { OnErr result (desk.new ≡ desk.old) }
+{
+    match event {
+        ClientEvent::DidOpen(uri, label, text) => match desk.did_open(uri, label, text) {
+            Ok(version) => Ok(ClientAnswer::Version(version)),
+            Err(fault) => Err(fault),
+        },
+        ClientEvent::DidChange(uri, label, edits) => match desk.did_change(uri, label, edits) {
+            Ok(Some(version)) => Ok(ClientAnswer::Version(version)),
+            Ok(None) => Ok(ClientAnswer::Closed),
+            Err(fault) => Err(fault),
+        },
+        ClientEvent::DidClose(uri) => match desk.did_close(uri) {
+            Ok(()) => Ok(ClientAnswer::Closed),
+            Err(fault) => Err(fault),
+        },
+        ClientEvent::Request(id, uri, ask, links) => match desk.request(id, uri, ask, links) {
+            Ok(ticket) => Ok(ClientAnswer::Ticket(ticket)),
+            Err(fault) => Err(fault),
+        },
+        ClientEvent::Cancel(id) => match desk.cancel(&id) {
+            Ok(found) => Ok(ClientAnswer::Cancelled(found)),
+            Err(fault) => Err(fault),
+        },
+        ClientEvent::Say(body) => match desk.say(body) {
+            Ok(()) => Ok(ClientAnswer::Said),
+            Err(fault) => Err(fault),
+        },
+    }
+}
+
+/// Takes the first queued job.
+pub fn take(desk: &mut Desk, worker: u32) -> Result<Option<Job>, DeskFault>
+    ensures some { IfOk result (λ job. OnSome job (desk.new.journal ≡ desk.old.journal ++ Event.Took worker ∷ [])) }
+    ensures none { IfOk result (λ job. IfNone job ((desk.new ≡ desk.old) × (find is_queued (state_of desk.old).waiting ≡ None))) }
+    ensures err { OnErr result (desk.new ≡ desk.old) }
+{
+    desk.take(worker)
+}
+
+/// Gives a job back that wasn't run.
+pub fn give_back(desk: &mut Desk, ticket: u64) -> Result<(), DeskFault>
+    ensures ok { OnOk result (desk.new.journal ≡ desk.old.journal ++ Event.Returned ticket ∷ []) }
+    ensures err { OnErr result (desk.new ≡ desk.old) }
+{
+    desk.give_back(ticket)
+}
+
+/// Brings a job back that has run.
+pub fn finish(desk: &mut Desk, done: Done) -> Result<Kept, (DeskFault, Done)>
+    ensures ok { OnOk result (Adds 0 0 0 1 0 desk.old.journal desk.new.journal) }
+    ensures same { OnErr result (desk.new ≡ desk.old) }
+    ensures done { IfErr result (λ refused. refused.1 ≡ done) }
+{
+    desk.finish(done)
+}
+
+/// The oldest reply, which leaves.
+pub fn next_out(desk: &mut Desk) -> Option<Out>
+    ensures some { IfSome result (λ out. desk.new.journal ≡ desk.old.journal ++ Event.Sent (ticket_of_out out) ∷ []) }
+    ensures none { IfNone result ((desk.new ≡ desk.old) × (desk.old.outbox ≡ [])) }
+{
+    desk.next_out()
+}

@@ -1,0 +1,128 @@
+//! The ledgers of a board, under one type parameter.
+ghost use Rattle.std.specs.Prelude.{◌≡◌, ℕ};
+
+use std::marker::{Brand, PhantomData};
+use std::sync::ledger::{Blank, Ledger};
+
+/// The ledgers of a board, one for each kind of event: their names, and into how many shares those of the workers are cut.
+///
+/// A function that is generic in this is called with [`Brand`], and picks its members there.
+pub trait Ledgers {
+    /// The ledger of the client's events.
+    ghost client: { ℕ };
+
+    /// The ledger of jobs that were taken.
+    ghost took: { ℕ };
+
+    /// The ledger of jobs that were given back.
+    ghost returned: { ℕ };
+
+    /// The ledger of jobs that have run.
+    ghost finished: { ℕ };
+
+    /// The ledger of replies that left.
+    ghost sent: { ℕ };
+
+    /// The shares of each of the workers' three ledgers.
+    ghost parts: { ℕ };
+}
+
+impl Ledgers for Brand {
+    ghost client = { 0 };
+
+    ghost took = { 0 };
+
+    ghost returned = { 0 };
+
+    ghost finished = { 0 };
+
+    ghost sent = { 0 };
+
+    ghost parts = { 0 };
+}
+
+/// The ledgers of a board, and how many workers it has.
+///
+/// The number stands here once more beside `parts`, which no field beside a token of these ledgers can name.
+pub trait Crew: Ledgers {
+    /// How many workers the board has.
+    ghost workers: { ℕ };
+}
+
+impl Crew for Brand {
+    ghost workers = { 0 };
+}
+
+/// The ledger of the client's events. It is whole: one seat has all of it.
+pub struct OfClient<C: Ledgers>(PhantomData<C>);
+
+impl<C: Ledgers> Ledger for OfClient<C> {
+    ghost name = { C.client };
+
+    ghost parts = { 1 };
+}
+
+/// The ledger of jobs that were taken. Each worker has a share.
+pub struct OfTook<C: Ledgers>(PhantomData<C>);
+
+impl<C: Ledgers> Ledger for OfTook<C> {
+    ghost name = { C.took };
+
+    ghost parts = { C.parts };
+}
+
+/// The ledger of jobs that were given back. Each worker has a share.
+pub struct OfReturned<C: Ledgers>(PhantomData<C>);
+
+impl<C: Ledgers> Ledger for OfReturned<C> {
+    ghost name = { C.returned };
+
+    ghost parts = { C.parts };
+}
+
+/// The ledger of jobs that have run. Each worker has a share.
+pub struct OfFinished<C: Ledgers>(PhantomData<C>);
+
+impl<C: Ledgers> Ledger for OfFinished<C> {
+    ghost name = { C.finished };
+
+    ghost parts = { C.parts };
+}
+
+/// The ledger of replies that left. It is whole: one seat has all of it.
+pub struct OfSent<C: Ledgers>(PhantomData<C>);
+
+impl<C: Ledgers> Ledger for OfSent<C> {
+    ghost name = { C.sent };
+
+    ghost parts = { 1 };
+}
+
+/// A new ledger for each kind of event, none of which has a type yet. A board is made of them.
+#[derive(Drop)]
+pub struct Blanks {
+    pub client: Blank,
+    pub took: Blank,
+    pub returned: Blank,
+    pub finished: Blank,
+    pub sent: Blank,
+}
+
+impl Blanks {
+    /// New ledgers, those of the workers for so many of them. Takes no memory.
+    pub fn new(workers: u32) -> Blanks
+        ensures client { result.client.parts ≡ 1 }
+        ensures took { result.took.parts ≡ workers }
+        ensures returned { result.returned.parts ≡ workers }
+        ensures finished { result.finished.parts ≡ workers }
+        ensures sent { result.sent.parts ≡ 1 }
+    {
+        Blanks {
+            client: Blank::new(1),
+            took: Blank::new(u64::from(workers)),
+            returned: Blank::new(u64::from(workers)),
+            finished: Blank::new(u64::from(workers)),
+            sent: Blank::new(1),
+        }
+    }
+}

@@ -1,0 +1,36 @@
+//! A board: a desk that several threads use under one lock, the seats through which they do, and what a worker does.
+//!
+//! A [`Board`] has a desk behind its lock. What a thread does there it does through its seat: the client's events through the one
+//! [`ClientSeat`], takes, returns and finishes of jobs through a [`WorkerSeat`] each, sending through the one [`WriterSeat`]. A seat isn't
+//! copied, so nobody else writes its kinds of event.
+//!
+//! - Each kind of event (the client's events, `Took`, `Returned`, `Finished`, `Sent`) has a ledger. Its book lies behind the lock and always
+//!   has the number of events of that kind in the desk's journal. Its shares are in the seats, and a share rises by one with each call
+//!   through its seat that wrote such an event, and with no other.
+//! - The client's seat also lists each event that it entered, with the answer that it got, and the writer's seat the ticket of each reply
+//!   that it was given.
+//! - [`Board::close`] takes all seats back and tests their lists against the journal. It gives the desk only where both agree, and then the
+//!   journal has as many events of each kind as the seats counted.
+//!
+//! Nothing is computed under the lock: [`work`] passes its gate and runs its job while the lock is free, and what a call needs memory for
+//! in its seat it makes before it takes the lock. A thread that waits for a job or a reply sleeps until something has changed.
+#![tactic(auto)]
+
+mod agree;
+mod behind;
+mod board;
+mod calls;
+mod client;
+mod crew;
+mod ledgers;
+mod notes;
+mod same;
+mod seats;
+mod worker;
+
+pub use behind::{SeatFault, Stop};
+pub use board::Board;
+pub use client::{ClientAnswer, ClientEvent};
+pub use ledgers::{Blanks, Crew, Ledgers, OfClient, OfFinished, OfReturned, OfSent, OfTook};
+pub use seats::{ClientSeat, Count, WorkerSeat, WriterSeat};
+pub use worker::{Gate, work};

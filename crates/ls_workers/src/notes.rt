@@ -1,0 +1,113 @@
+//! The entry of a client's event, made before its answer is known.
+ghost use Rattle.std.specs.Prelude.{◌≡◌, IfOk, IfNone, IfSome, true};
+ghost use Rattle.ls_workers.specs.Client.{filled, note_of, is_too_long};
+
+use crate::client::{ClientAnswer, ClientEvent, copy_of};
+use ls_desk::{Event, shared_text};
+use ls_text::MAX_BYTES;
+use std::alloc::{AllocError, Global};
+
+/// The entry that an event will be, its answer aside. `None` where its text is too large for any desk.
+pub fn note_of(alloc: Global, event: &ClientEvent) -> Result<Option<Event>, AllocError>
+    ensures some { IfOk result (λ noted. IfSome noted (λ note. note ≡ note_of event.now)) }
+    ensures none { IfOk result (λ noted. IfNone noted (is_too_long event.now ≡ true)) }
+{
+    match event {
+        ClientEvent::DidOpen(uri, label, text) => {
+            if text.len() > MAX_BYTES {
+                return Ok(None);
+            }
+            let text = shared_text(alloc, text.copy()?)?;
+            Ok(Some(Event::Opened {
+                uri: uri.copy()?,
+                label: *label,
+                text,
+                version: 0,
+            }))
+        }
+        ClientEvent::DidChange(uri, label, edits) => {
+            let edits = copy_of(edits)?;
+            Ok(Some(Event::Changed {
+                uri: uri.copy()?,
+                label: *label,
+                edits,
+                version: None,
+            }))
+        }
+        ClientEvent::DidClose(uri) => Ok(Some(Event::Closed { uri: uri.copy()? })),
+        ClientEvent::Request(id, uri, ask, links) => Ok(Some(Event::Asked {
+            id: id.copy()?,
+            uri: uri.copy()?,
+            ask: ask.copy()?,
+            links: *links,
+            ticket: 0,
+        })),
+        ClientEvent::Cancel(id) => Ok(Some(Event::Cancelled {
+            id: id.copy()?,
+            found: false,
+        })),
+        ClientEvent::Say(body) => Ok(Some(Event::Said { body: body.copy()? })),
+    }
+}
+
+/// The entry with its answer. Takes no memory.
+pub fn filled(note: Event, answer: ClientAnswer) -> Event
+    ensures { result ≡ filled note answer }
+{
+    match (note, answer) {
+        (
+            Event::Opened {
+                uri,
+                label,
+                text,
+                ..
+            },
+            ClientAnswer::Version(version),
+        ) => {
+            Event::Opened {
+                uri,
+                label,
+                text,
+                version,
+            }
+        }
+        (
+            Event::Changed {
+                uri,
+                label,
+                edits,
+                ..
+            },
+            ClientAnswer::Version(version),
+        ) => {
+            Event::Changed {
+                uri,
+                label,
+                edits,
+                version: Some(version),
+            }
+        }
+        (
+            Event::Asked {
+                id,
+                uri,
+                ask,
+                links,
+                ..
+            },
+            ClientAnswer::Ticket(ticket),
+        ) => {
+            Event::Asked {
+                id,
+                uri,
+                ask,
+                links,
+                ticket,
+            }
+        }
+        (Event::Cancelled { id, .. }, ClientAnswer::Cancelled(found)) => {
+            Event::Cancelled { id, found }
+        }
+        (note, _) => note,
+    }
+}

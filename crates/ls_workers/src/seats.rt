@@ -1,0 +1,116 @@
+//! Seats: what the client's reader, the workers and the writer hold.
+ghost use Rattle.std.specs.Prelude.{◌≡◌, ◌+◌, ◌<◌, ◌^◌, []};
+
+use crate::ledgers::{Ledgers, OfClient, OfFinished, OfReturned, OfSent, OfTook};
+use ls_desk::Event;
+use std::alloc::Global;
+use std::sync::ledger::{Book, Ledger, Share};
+
+/// How many events of a kind a seat has written: a number, and the share of the kind's ledger that bears it out.
+#[derive(Drop)]
+pub struct Count<L: Ledger> {
+    number: u64,
+    pub share: Share<L>,
+    pub ghost is: { number ≡ share.amount },
+}
+
+impl<L: Ledger> Count<L> {
+    /// Nothing has been counted.
+    pub fn new(share: Share<L>) -> Count<L>
+        requires { share.amount ≡ 0 }
+        ensures { result.share ≡ share }
+    {
+        Count { number: 0, share }
+    }
+
+    /// How many events the seat has written.
+    pub fn get(&self) -> u64
+        ensures { result ≡ self.now.share.amount }
+    {
+        self.number
+    }
+
+    /// The seat has written one event more, which the book has too.
+    pub fn one_more(&mut self, book: &mut Book<L>)
+        requires parts { 0 < self.old.share.parts }
+        requires room { book.old.total + 1 < 2 ^ 64 }
+        ensures total { book.new.total ≡ book.old.total + 1 }
+        ensures amount { self.new.share.amount ≡ self.old.share.amount + 1 }
+        ensures parts { self.new.share.parts ≡ self.old.share.parts }
+    {
+        let Count { number, share } = self;
+        book.audit(share);
+        *number += 1;
+        book.add(share, 1);
+    }
+}
+
+/// The seat of a board's client: whoever has it enters the client's events.
+#[derive(Drop)]
+pub struct ClientSeat<C: Ledgers> {
+    /// The mark of its board.
+    pub mark: u64,
+    /// How many events it has entered.
+    pub asked: Count<OfClient<C>>,
+    /// The events that it has entered, each with the answer that it got, as they stand in the journal.
+    pub list: Vec<Event>,
+    pub ghost whole: { asked.share.parts ≡ 1 },
+}
+
+impl<C: Ledgers> ClientSeat<C> {
+    /// A seat that has entered nothing.
+    pub fn new(alloc: Global, mark: u64, share: Share<OfClient<C>>) -> ClientSeat<C>
+        requires { (share.parts ≡ 1) × (share.amount ≡ 0) }
+        ensures { (result.mark ≡ mark) × (result.asked.share.amount ≡ 0) × (result.list.items ≡ []) }
+    {
+        ClientSeat {
+            mark,
+            asked: Count::new(share),
+            list: Vec::new(alloc),
+        }
+    }
+}
+
+/// The seat of a board's writer: whoever has it is given the replies.
+#[derive(Drop)]
+pub struct WriterSeat<C: Ledgers> {
+    /// The mark of its board.
+    pub mark: u64,
+    /// How many replies it was given.
+    pub sent: Count<OfSent<C>>,
+    /// The tickets of the replies that it was given, 0 for a body.
+    pub tickets: Vec<u64>,
+    pub ghost whole: { sent.share.parts ≡ 1 },
+}
+
+impl<C: Ledgers> WriterSeat<C> {
+    /// A seat that was given nothing.
+    pub fn new(alloc: Global, mark: u64, share: Share<OfSent<C>>) -> WriterSeat<C>
+        requires { (share.parts ≡ 1) × (share.amount ≡ 0) }
+        ensures { (result.mark ≡ mark) × (result.sent.share.amount ≡ 0) × (result.tickets.items ≡ []) }
+    {
+        WriterSeat {
+            mark,
+            sent: Count::new(share),
+            tickets: Vec::new(alloc),
+        }
+    }
+}
+
+/// The seat of one of a board's workers: whoever has it takes jobs, and brings them back.
+#[derive(Drop)]
+pub struct WorkerSeat<C: Ledgers> {
+    /// The mark of its board.
+    pub mark: u64,
+    /// Which worker it is, from 0.
+    pub number: u32,
+    /// How many jobs it has taken.
+    pub took: Count<OfTook<C>>,
+    /// How many jobs it has given back unrun.
+    pub returned: Count<OfReturned<C>>,
+    /// How many jobs that it brought back have run.
+    pub finished: Count<OfFinished<C>>,
+    pub ghost one_took: { took.share.parts ≡ 1 },
+    pub ghost one_returned: { returned.share.parts ≡ 1 },
+    pub ghost one_finished: { finished.share.parts ≡ 1 },
+}

@@ -1,0 +1,50 @@
+//! What a worker does.
+ghost use Rattle.std.specs.Prelude.{◌≡◌};
+
+use crate::board::Board;
+use crate::ledgers::Crew;
+use crate::seats::WorkerSeat;
+use ls_answers::run;
+use ls_desk::DeskFault;
+use std::alloc::Global;
+use std::sync::Wait;
+
+/// What a worker passes between the take of a job and its run. It may hold the worker back for a while.
+pub trait Gate {
+    /// Lets the worker that took the job with this ticket pass. No lock is held. It may wait.
+    fn pass<R: Wait>(&self, rt: &R, ticket: u64);
+}
+
+/// Works at a board through a seat: takes a job, passes the gate, runs the job if it is still wanted and brings it back, until there is
+/// none. The seat comes back, and what ended the work early: the session is full, the desk doesn't know what ran (`OtherText`), or memory
+/// was refused. Where a job ended meanwhile its run is dropped.
+///
+/// It waits for jobs, and for the lock.
+pub fn work<C: Crew, R: Wait, G: Gate>(
+    rt: &R,
+    alloc: Global,
+    board: &Board<C>,
+    seat: WorkerSeat<C>,
+    gate: &G,
+) -> (WorkerSeat<C>, Option<DeskFault>)
+    ensures { (result.0.mark ≡ seat.mark) × (result.0.number ≡ seat.number) }
+{
+    let mut seat = seat;
+    for _ in rt.forever() {
+        let job = match board.take(rt, &mut seat) {
+            Ok(Some(job)) => job,
+            Ok(None) => return (seat, None),
+            Err(fault) => return (seat, Some(fault)),
+        };
+        gate.pass(rt, job.ticket);
+        if !board.wanted(rt, job.ticket) {
+            continue;
+        }
+        match board.finish(rt, &mut seat, run(alloc, job)) {
+            Ok(_) => {}
+            Err((DeskFault::UnknownTicket, _)) => {}
+            Err((fault, _)) => return (seat, Some(fault)),
+        }
+    }
+    unreachable!()
+}

@@ -1,0 +1,181 @@
+//! What the client, the workers and the writer do, with plain arguments. All are about one document.
+ghost use Rattle.std.specs.Prelude.{IfOk};
+ghost use Rattle.ls_workers.specs.Client.{IsAllowed};
+
+use abnf_least::Shortest;
+use ls_answers::{Answer, Ask, Done, run};
+use ls_desk::{DeskFault, Event, Kept, Out, ticket_of};
+use ls_lists::Text;
+use ls_rpc::Id;
+use ls_text::Position;
+use ls_workers::{Board, ClientAnswer, ClientEvent, ClientSeat, Crew, WorkerSeat, WriterSeat};
+use std::alloc::{AllocError, Global};
+use std::sync::Wait;
+
+const URI: &str = "file:///g";
+
+// The start of the document, where the name of its first rule stands.
+const START: Position = Position {
+    line: 0,
+    character: 0,
+};
+
+fn uri(alloc: Global) -> Result<Text, AllocError> {
+    Text::from_str(alloc, URI)
+}
+
+/// The document is opened with one rule, whose shortest string is `x`: a copy of that event.
+pub(crate) fn opening(alloc: Global) -> Result<ClientEvent, AllocError>
+    ensures { IfOk result (λ event. IsAllowed event) }
+{
+    let text = Text::from_str(alloc, "a = \"x\"")?;
+    let event = ClientEvent::DidOpen(uri(alloc)?, 1, text);
+    event.copy()
+}
+
+/// A hover on that rule: a copy of that event.
+pub(crate) fn hover(alloc: Global, id: i64) -> Result<ClientEvent, AllocError>
+    ensures { IfOk result (λ event. IsAllowed event) }
+{
+    let event = ClientEvent::Request(Id::Number(id), uri(alloc)?, Ask::Hover(START), false);
+    event.copy()
+}
+
+/// Takes a job and brings it back, and says its ticket.
+pub(crate) fn run_one<C: Crew, R: Wait>(
+    rt: &R,
+    alloc: Global,
+    board: &Board<C>,
+    seat: &mut WorkerSeat<C>,
+) -> Result<u64, DeskFault> {
+    let job = board.take(rt, seat)?.ok_or(DeskFault::UnknownTicket)?;
+    let ticket = job.ticket;
+    match board.finish(rt, seat, run(alloc, job)) {
+        Ok(Kept::Reply) => Ok(ticket),
+        Ok(Kept::Failure) => Err(DeskFault::Memory),
+        Ok(Kept::Nothing) => Err(DeskFault::Memory),
+        Err((fault, _)) => Err(fault),
+    }
+}
+
+/// Takes a job and gives it back unrun, and says its ticket.
+pub(crate) fn return_one<C: Crew, R: Wait>(
+    rt: &R,
+    board: &Board<C>,
+    seat: &mut WorkerSeat<C>,
+) -> Result<u64, DeskFault> {
+    let job = board.take(rt, seat)?.ok_or(DeskFault::UnknownTicket)?;
+    board.give_back(rt, seat, job.ticket)?;
+    Ok(job.ticket)
+}
+
+/// The document is opened, its findings are found by the first worker and sent, and two hovers are asked: the client's answers and the
+/// tickets are as they must be.
+pub(crate) fn begin<C: Crew, R: Wait>(
+    rt: &R,
+    alloc: Global,
+    board: &Board<C>,
+    client: &mut ClientSeat<C>,
+    writer: &mut WriterSeat<C>,
+    worker: &mut WorkerSeat<C>,
+) -> Result<bool, DeskFault> {
+    let opened = board.client(rt, client, opening(alloc)?)?;
+    let found = run_one(rt, alloc, board, worker)?;
+    let sent = match board.next_out(rt, writer)? {
+        Some(out) => ticket_of(&out),
+        None => 0,
+    };
+    let first = board.client(rt, client, hover(alloc, 1)?)?;
+    let second = board.client(rt, client, hover(alloc, 2)?)?;
+    let answers = opened == ClientAnswer::Version(1)
+        && first == ClientAnswer::Ticket(2)
+        && second == ClientAnswer::Ticket(3);
+    Ok(answers && found == 1 && sent == 1)
+}
+
+// Whether the answer has the example `x`.
+fn shows_x(done: &Done) -> bool {
+    let Ok(Answer::Hover(Some(hover))) = done.answer() else {
+        return false;
+    };
+    match &hover.example {
+        Some((Shortest::Shown { length, text }, _)) => {
+            *length == 1 && matches!(text.as_slice(), [120])
+        }
+        _ => false,
+    }
+}
+
+/// Whether this is the answer to the hover with this ticket and this id.
+pub(crate) fn answers_hover(out: &Out, ticket: u64, number: i64) -> bool {
+    match out {
+        Out::Replied {
+            id: Id::Number(id),
+            version,
+            done,
+            ..
+        } => { *id == number && *version == 1 && done.ticket() == ticket && shows_x(done) }
+        _ => false,
+    }
+}
+
+// The letter of an entry: that of its name, small.
+fn letter(event: &Event) -> u8 {
+    match event {
+        Event::Opened { .. } => b'o',
+        Event::Changed { .. } => b'c',
+        Event::Closed { .. } => b'l',
+        Event::Asked { .. } => b'a',
+        Event::Cancelled { .. } => b'n',
+        Event::Said { .. } => b'i',
+        Event::Took { .. } => b't',
+        Event::Returned { .. } => b'r',
+        Event::Finished { .. } => b'f',
+        Event::Sent { .. } => b's',
+    }
+}
+
+/// Whether a journal has these kinds of entries, each by its letter, in whatever order they came.
+pub(crate) fn has_kinds(
+    alloc: Global,
+    journal: &[Event],
+    sorted: &[u8],
+) -> Result<bool, AllocError> {
+    let mut letters = Vec::new(alloc);
+    for event in journal {
+        letters.push(letter(event))?;
+    }
+    letters.sort()?;
+    Ok(letters.as_slice() == sorted)
+}
+
+// The number that an entry tells the client or the writer: a version, a ticket, or the ticket of what left.
+fn told(event: &Event) -> (Option<u64>, Option<u64>) {
+    match event {
+        Event::Opened { version, .. } => (Some(*version), None),
+        Event::Asked { ticket, .. } => (Some(*ticket), None),
+        Event::Sent { ticket } => (None, Some(*ticket)),
+        _ => (None, None),
+    }
+}
+
+/// Whether a journal told the client these versions and tickets, and the writer these tickets, in this order.
+pub(crate) fn has_told(
+    alloc: Global,
+    journal: &[Event],
+    answers: &[u64],
+    tickets: &[u64],
+) -> Result<bool, AllocError> {
+    let mut answered = Vec::new(alloc);
+    let mut sent = Vec::new(alloc);
+    for event in journal {
+        let (answer, ticket) = told(event);
+        if let Some(answer) = answer {
+            answered.push(answer)?;
+        }
+        if let Some(ticket) = ticket {
+            sent.push(ticket)?;
+        }
+    }
+    Ok(answered.as_slice() == answers && sent.as_slice() == tickets)
+}
