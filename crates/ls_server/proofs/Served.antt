@@ -7,15 +7,17 @@ use Rattle.ls_frame.proofs.Streams.{frames-append, stream-append, none-yet}
 use Rattle.ls_frame.specs.declared.fault.FrameFault.{FrameFault}
 use Rattle.ls_frame.specs.declared.fault.FrameFault.TheVariants.{Truncated}
 use Rattle.ls_frame.specs.Feeds.{EndIs}
-use Rattle.ls_server.specs.Talk.{Talk, start}
+use Rattle.ls_steps.specs.Runs.{Going, begun}
 use Rattle.ls_server.specs.Runs.{end_status}
-use Rattle.ls_server.specs.Runs.{GoesOn, Stops, PieceIs, ServedIs, is_write}
+use Rattle.ls_server.specs.Runs.{GoesOn, Stops, PieceIs, ServedIs, Written, is_write}
 use Rattle.ls_server.specs.declared.serve.ServeFault.{ServeFault}
 use Rattle.ls_server.specs.declared.serve.ServeFault.TheVariants.{Read, Write, Memory}
 use Rattle.ls_session.specs.declared.event.Status.{Status}
 use Rattle.ls_session.specs.declared.event.Status.TheVariants.{Unclean, BadFrame}
 use Rattle.ls_server.proofs.Known.{append-nil}
-use Rattle.ls_server.proofs.Writing.{answers-more, exited-append, front-append, front-none, written-append, written-none}
+use Rattle.ls_steps.specs.Plain.{IsSettled}
+use Rattle.ls_steps.proofs.Settled.{settled-begun, settled-said}
+use Rattle.ls_server.proofs.Writing.{answers-more, front-append, front-none, written-append, written-none}
 use Rattle.ls_server.proofs.Pieces.{no-stream}
 
 pub consumes-consumes : (a b c : Option (List ℕ)) (x y : List ℕ) → Consumes a b x → Consumes b c y → Consumes a c (x ++ y)
@@ -44,7 +46,7 @@ stream-behind frames bytes last xs ys f s = record {
 }
 
 -- what is written of a piece is a front of what all the bytes ask for
-pub stops-more : (read rest piece : List ℕ) (state : Talk) (a b c : Option (List ℕ)) → GoesOn [] read start a rest state b → Stops rest piece state b c → Stops [] (read ++ piece) start a c
+pub stops-more : (read rest piece : List ℕ) (state : Going) (a b c : Option (List ℕ)) → GoesOn [] read begun a rest state b → Stops rest piece state b c → Stops [] (read ++ piece) begun a c
 stops-more read rest piece state a b c g p = record {
   part = g.stream.frames ++ p.part;
   more = p.more;
@@ -53,54 +55,55 @@ stops-more read rest piece state a b c g p = record {
   contents = g.contents ++ p.contents;
   last = p.last;
   stream = stream-behind g.stream.frames p.part p.last g.contents p.contents g.stream.whole p.stream;
-  written = front-append start state g.contents p.contents a b c g.answered.0 g.answered.1 g.answered.2 p.written;
+  written = front-append begun state g.contents p.contents a b c g.answered.1 p.written;
 }
 
 -- a piece comes after what has been read
-pub piece-more : (read rest piece last : List ℕ) (state now : Talk) (r : Result (Option Status) ServeFault) (a b c : Option (List ℕ))
-    → GoesOn [] read start a rest state b → PieceIs rest piece state b r last now c → PieceIs [] (read ++ piece) start a r last now c
+pub piece-more : (read rest piece last : List ℕ) (state now : Going) (r : Result (Option Status) ServeFault) (a b c : Option (List ℕ))
+    → GoesOn [] read begun a rest state b → PieceIs rest piece state b r last now c → PieceIs [] (read ++ piece) begun a r last now c
 piece-more read rest piece last state now (Ok None) a b c g p = record {
   contents = g.contents ++ p.contents;
   stream = stream-append read piece rest last g.contents p.contents g.stream p.stream;
   fault = p.fault;
-  answered = answers-more start state g.contents p.contents (Ok None) now a b c g.answered.0 g.answered.1 g.answered.2 p.answered;
+  answered = answers-more begun state g.contents p.contents (Ok None) now a b c g.answered.1 p.answered;
 }
 piece-more read rest piece last state now (Ok (Some status)) a b c g p = record {
   contents = g.contents ++ p.contents;
   last = p.last;
   stream = stream-append read piece rest p.last g.contents p.contents g.stream p.stream;
-  status = rw (exited-append start g.contents p.contents g.answered.0, ← g.answered.1) p.status;
-  written = written-append start state g.contents p.contents a b c g.answered.0 g.answered.1 g.answered.2 p.written;
+  after = p.after;
+  status = p.status;
+  written = written-append begun state p.after g.contents p.contents a b c g.answered.1 p.written;
 }
 piece-more read rest piece last state now (Err Read) a b c g p = absurd p
 piece-more read rest piece last state now (Err Write) a b c g p = stops-more read rest piece state a b c g p
 piece-more read rest piece last state now (Err Memory) a b c g p = stops-more read rest piece state a b c g p
 
--- at the start nothing has been read
-pub begins : (rest : List ℕ) (state : Talk) (a : Option (List ℕ)) → rest ≡ [] → state ≡ start → GoesOn [] [] start a rest state a
+-- at the begun nothing has been read
+pub begins : (rest : List ℕ) (state : Going) (a : Option (List ℕ)) → rest ≡ [] → state ≡ begun → GoesOn [] [] begun a rest state a
 unfolding fault_of first_shown shown ended has_stray_cr
 begins rest state a e s = record {
   contents = [];
   stream = rw e (no-stream [] none-yet);
   fault = rw e refl;
-  answered = (refl, s, written-none start a);
+  answered = (ap (λ (g : Going). g.status) s, subst (λ (g : Going). Written begun [] g a a) (sym s) (written-none begun a));
 }
 
 -- a front of nothing is written
-pub stops-start : (a : Option (List ℕ)) → Stops [] [] start a a
-stops-start a = record {
+pub stops-begun : (a : Option (List ℕ)) → Stops [] [] begun a a
+stops-begun a = record {
   part = [];
   more = [];
   bytes_are = refl;
   contents = [];
   last = [];
   stream = no-stream [] none-yet;
-  written = front-none start [] a;
+  written = front-none begun [] a;
 }
 
 -- the input ends in a good rest
-pub finished : (input before left : Option (List ℕ)) (spent failed : Type 0) (read none rest : List ℕ) (state : Talk) (a b : Option (List ℕ)) (answer : Status) → none ≡ []
-    → Consumes input before read → GoesOn [] read start a rest state b → Consumes before left none → IsAtEnd left → answer ≡ end_status None rest
+pub finished : (input before left : Option (List ℕ)) (spent failed : Type 0) (read none rest : List ℕ) (state : Going) (a b : Option (List ℕ)) (answer : Status) → none ≡ []
+    → Consumes input before read → GoesOn [] read begun a rest state b → Consumes before left none → IsAtEnd left → answer ≡ end_status None rest
     → ServedIs input left spent failed a (Ok answer) b
 finished input before left spent failed read none rest state a b answer n c g d at_end e = (
   read,
@@ -110,10 +113,11 @@ finished input before left spent failed read none rest state a b answer n c g d 
     record {
       contents = g.contents;
       last = rest;
+      after = state;
       stream = g.stream;
       runs = rw (g.answered.0, g.fault) refl;
       status = e;
-      written = g.answered.2;
+      written = g.answered.1;
     },
   ),
 )
@@ -141,15 +145,15 @@ end-err [] fault e h = let P : Option FrameFault → Type 0 = λ o. EndIs o [] (
 end-err (b ∷ rest) fault e h = let P : Option FrameFault → Type 0 = λ o. EndIs o (b ∷ rest) (Err fault) in ap BadFrame (err-err fault Truncated (subst P e h))
 
 -- a piece gives a status
-pub served-status : (input before left : Option (List ℕ)) (spent failed : Type 0) (read piece rest last : List ℕ) (state now : Talk) (status : Status) (a b c : Option (List ℕ))
-    → Consumes input before read → GoesOn [] read start a rest state b → Consumes before left piece → PieceIs rest piece state b (Ok (Some status)) last now c
+pub served-status : (input before left : Option (List ℕ)) (spent failed : Type 0) (read piece rest last : List ℕ) (state now : Going) (status : Status) (a b c : Option (List ℕ))
+    → Consumes input before read → GoesOn [] read begun a rest state b → Consumes before left piece → PieceIs rest piece state b (Ok (Some status)) last now c
     → ServedIs input left spent failed a (Ok status) c
 served-status input before left spent failed read piece rest last state now status a b c q g d p =
     (read ++ piece, consumes-consumes input before left read piece q d, inl (piece-more read rest piece last state now (Ok (Some status)) a b c g p))
 
 -- a piece gives a fault
-pub served-fault : (input before left : Option (List ℕ)) (spent failed : Type 0) (read piece rest last : List ℕ) (state now : Talk) (fault : ServeFault) (a b c : Option (List ℕ))
-    → Consumes input before read → GoesOn [] read start a rest state b → Consumes before left piece → PieceIs rest piece state b (Err fault) last now c
+pub served-fault : (input before left : Option (List ℕ)) (spent failed : Type 0) (read piece rest last : List ℕ) (state now : Going) (fault : ServeFault) (a b c : Option (List ℕ))
+    → Consumes input before read → GoesOn [] read begun a rest state b → Consumes before left piece → PieceIs rest piece state b (Err fault) last now c
     → (fault ≡ Write → failed) → ServedIs input left spent failed a (Err fault) c
 served-fault input before left spent failed read piece rest last state now Read a b c q g d p f = absurd p
 served-fault input before left spent failed read piece rest last state now Write a b c q g d p f =
@@ -174,3 +178,10 @@ pub not-write : (fault : ServeFault) → is_write {A = Status} (Err fault) ≡ f
 not-write Read e = refl
 not-write Write e = e
 not-write Memory e = refl
+
+-- where a run goes on it has nothing left to run or to send, and hasn't ended
+pub still-settled : (read rest : List ℕ) (state : Going) (a b : Option (List ℕ)) → GoesOn [] read begun a rest state b → IsSettled state
+still-settled read rest state a b g = settled-said true begun state g.contents g.answered.1.bytes settled-begun g.answered.1.said
+
+pub still-open : (read rest : List ℕ) (state : Going) (a b : Option (List ℕ)) → GoesOn [] read begun a rest state b → state.status ≡ None
+still-open read rest state a b g = g.answered.0

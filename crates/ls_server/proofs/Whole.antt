@@ -7,23 +7,24 @@ use Rattle.ls_frame.proofs.Streams.{fault-sticks}
 use Rattle.ls_frame.proofs.Unique.{stream-front, rest-alone}
 use Rattle.ls_frame.proofs.Wholes.{fault-no_frame}
 use Rattle.ls_frame.specs.declared.fault.FrameFault.{FrameFault}
-use Rattle.ls_server.specs.Talk.{start}
-use Rattle.ls_server.specs.Runs.{exited, end_status}
+use Rattle.ls_steps.specs.Runs.{Going, begun}
+use Rattle.ls_steps.proofs.Settled.{settled-begun}
+use Rattle.ls_server.specs.Runs.{end_status}
 use Rattle.ls_server.specs.Runs.{Written, WrittenFront, GoesOn, Ends, Stops, Finishes, ServedIs, or_else, last_status}
 use Rattle.ls_server.specs.declared.serve.ServeFault.{ServeFault}
 use Rattle.ls_server.specs.declared.serve.ServeFault.TheVariants.{Read, Write, Memory}
 use Rattle.ls_session.specs.declared.event.Status.{Status}
 use Rattle.ls_session.specs.declared.event.Status.TheVariants.{BadFrame}
 use Rattle.ls_server.proofs.Known.{append-nil}
-use Rattle.ls_server.proofs.Writing.{lists-nil, exited-stays, written-stays, front-longer}
+use Rattle.ls_server.proofs.Writing.{lists-nil, written-stays, front-longer}
 
 -- A run on a whole input that is a stream with these contents and this rest: what is left of it, and what is written.
 abbrev pub RunsOn : List ℕ → List (List ℕ) → List ℕ → Option (List ℕ) → Option (List ℕ) → Result Status ServeFault → Option (List ℕ) → Type 0
-RunsOn input contents rest left old (Ok status) new = (status ≡ last_status contents rest) × Written start contents old new
-RunsOn input contents rest left old (Err Read) new = (read : List ℕ) × (unread : List ℕ) × (answered : List (List ℕ)) × (last : List ℕ) × (more : List (List ℕ))
-    × ((left ≡ Some unread) × (input ≡ read ++ unread) × Stream read answered last × (contents ≡ answered ++ more) × Written start answered old new)
-RunsOn input contents rest left old (Err Write) new = WrittenFront start contents old new
-RunsOn input contents rest left old (Err Memory) new = WrittenFront start contents old new
+RunsOn input contents rest left old (Ok status) new = (after : Going) × ((status ≡ last_status after rest) × Written begun contents after old new)
+RunsOn input contents rest left old (Err Read) new = (read : List ℕ) × (unread : List ℕ) × (answered : List (List ℕ)) × (last : List ℕ) × (more : List (List ℕ)) × (after : Going)
+    × ((left ≡ Some unread) × (input ≡ read ++ unread) × Stream read answered last × (contents ≡ answered ++ more) × Written begun answered after old new)
+RunsOn input contents rest left old (Err Write) new = WrittenFront begun contents old new
+RunsOn input contents rest left old (Err Memory) new = WrittenFront begun contents old new
 
 consumed : (input read : List ℕ) (left : Option (List ℕ)) → Consumes (Some input) left read → (unread : List ℕ) × (left ≡ Some unread) × (input ≡ read ++ unread)
 consumed input read None c = absurd c
@@ -37,32 +38,31 @@ none-some x e = cc
 
 -- what a whole run is where it ends with a status
 abbrev EndsIs : List (List ℕ) → List ℕ → Option (List ℕ) → Status → Option (List ℕ) → Type 0
-EndsIs contents rest old status new = (status ≡ last_status contents rest) × Written start contents old new
+EndsIs contents rest old status new = (after : Going) × ((status ≡ last_status after rest) × Written begun contents after old new)
 
 -- nothing stands behind what has been read
-at-last : (contents known zs : List (List ℕ)) (rest last : List ℕ) (status : Status) (old new : Option (List ℕ)) → contents ≡ known ++ zs → zs ≡ []
-    → exited start known ≡ None → status ≡ end_status (fault_of rest) rest → Written start known old new → EndsIs contents rest old status new
-at-last contents known zs rest last status old new e none x s w =
+at-last : (contents known zs : List (List ℕ)) (rest last : List ℕ) (after : Going) (status : Status) (old new : Option (List ℕ)) → contents ≡ known ++ zs → zs ≡ []
+    → after.status ≡ None → status ≡ end_status (fault_of rest) rest → Written begun known after old new → EndsIs contents rest old status new
+at-last contents known zs rest last after status old new e none x s w =
     let same : contents ≡ known = e ∙ (ap (λ l. known ++ l) none ∙ lists-nil known) in
     let P : List (List ℕ) → Type 0 = λ l. EndsIs l rest old status new in
-    subst P (sym same) (rw x s, w)
+    subst P (sym same) (after, (rw x s, w))
 
-by-fault : (contents known zs : List (List ℕ)) (rest last more : List ℕ) (o : Option FrameFault) (status : Status) (old new : Option (List ℕ)) → contents ≡ known ++ zs
-    → Stream (last ++ more) zs rest → exited start known ≡ None → fault_of last ≡ o → or_else None o ≡ Some status → Written start known old new → EndsIs contents rest old status new
-by-fault contents known zs rest last more None status old new e s x f h w = absurd (none-some status h)
-by-fault contents known zs rest last more (Some fault) status old new e s x f h w =
+by-fault : (contents known zs : List (List ℕ)) (rest last more : List ℕ) (after : Going) (o : Option FrameFault) (status : Status) (old new : Option (List ℕ)) → contents ≡ known ++ zs
+    → Stream (last ++ more) zs rest → after.status ≡ None → fault_of last ≡ o → or_else None o ≡ Some status → Written begun known after old new → EndsIs contents rest old status new
+by-fault contents known zs rest last more after None status old new e s x f h w = absurd (none-some status h)
+by-fault contents known zs rest last more after (Some fault) status old new e s x f h w =
     let sticks : fault_of (last ++ more) ≡ Some fault = fault-sticks last more fault f in
     let alone : (zs ≡ []) × (rest ≡ last ++ more) = rest-alone (last ++ more) rest zs (fault-no_frame (last ++ more) fault sticks) s in
     let here : fault_of rest ≡ Some fault = ap fault_of alone.1 ∙ sticks in
-    at-last contents known zs rest last status old new e alone.0 x (sym (some-same (BadFrame fault) status h) ∙ sym (ap (λ o. end_status o rest) here)) w
+    at-last contents known zs rest last after status old new e alone.0 x (sym (some-same (BadFrame fault) status h) ∙ sym (ap (λ o. end_status o rest) here)) w
 
-by-exit : (contents known zs : List (List ℕ)) (rest last more : List ℕ) (o : Option Status) (status : Status) (old new : Option (List ℕ)) → contents ≡ known ++ zs
-    → Stream (last ++ more) zs rest → exited start known ≡ o → or_else o (fault_of last) ≡ Some status → Written start known old new → EndsIs contents rest old status new
-by-exit contents known zs rest last more None status old new e s x h w = by-fault contents known zs rest last more (fault_of last) status old new e s x refl h w
-by-exit contents known zs rest last more (Some other) status old new e s x h w =
-    let stays : exited start (known ++ zs) ≡ Some other = exited-stays start known zs other x in
+by-exit : (contents known zs : List (List ℕ)) (rest last more : List ℕ) (after : Going) (o : Option Status) (status : Status) (old new : Option (List ℕ)) → contents ≡ known ++ zs
+    → Stream (last ++ more) zs rest → after.status ≡ o → or_else o (fault_of last) ≡ Some status → Written begun known after old new → EndsIs contents rest old status new
+by-exit contents known zs rest last more after None status old new e s x h w = by-fault contents known zs rest last more after (fault_of last) status old new e s x refl h w
+by-exit contents known zs rest last more after (Some other) status old new e s x h w =
     let P : List (List ℕ) → Type 0 = λ l. EndsIs l rest old status new in
-    subst P (sym e) (rw stays (sym (some-same other status h)), written-stays start known zs other old new x w)
+    subst P (sym e) (after, (rw x (sym (some-same other status h)), written-stays begun after known zs other old new settled-begun x w))
 
 behind : (input read more rest last : List ℕ) (contents known : List (List ℕ)) → Stream input contents rest → input ≡ read ++ more → Stream read known last
     → (zs : List (List ℕ)) × (contents ≡ known ++ zs) × Stream (last ++ more) zs rest
@@ -82,24 +82,24 @@ by-end input contents rest read more status old new s e none f =
     let P : List ℕ → Type 0 = λ l. HasNoFrame l in
     let alone : (parts.0 ≡ []) × (rest ≡ f.last ++ more) = rest-alone (f.last ++ more) rest parts.0 (subst P (sym last) f.stream.partial) parts.2 in
     let same : rest ≡ f.last = alone.1 ∙ last in
-    let runs : (exited start f.contents ≡ None) × (fault_of f.last ≡ None) = or-none (exited start f.contents) (fault_of f.last) f.runs in
+    let runs : (f.after.status ≡ None) × (fault_of f.last ≡ None) = or-none f.after.status (fault_of f.last) f.runs in
     let status_is : status ≡ end_status (fault_of f.last) f.last = f.status ∙ sym (ap (λ o. end_status o f.last) runs.1) in
-    at-last contents f.contents parts.0 rest f.last status old new parts.1 alone.0 runs.0 (status_is ∙ sym (ap (λ l. end_status (fault_of l) l) same)) f.written
+    at-last contents f.contents parts.0 rest f.last f.after status old new parts.1 alone.0 runs.0 (status_is ∙ sym (ap (λ l. end_status (fault_of l) l) same)) f.written
 
 -- a front of what all the contents ask for
-by-stop : (input rest read more : List ℕ) (contents : List (List ℕ)) (old new : Option (List ℕ)) → Stream input contents rest → input ≡ read ++ more → Stops [] read start old new
-    → WrittenFront start contents old new
+by-stop : (input rest read more : List ℕ) (contents : List (List ℕ)) (old new : Option (List ℕ)) → Stream input contents rest → input ≡ read ++ more → Stops [] read begun old new
+    → WrittenFront begun contents old new
 by-stop input rest read more contents old new s e t =
     let all : input ≡ t.part ++ (t.more ++ more) = e ∙ (ap (λ l. l ++ more) t.bytes_are ∙ append_assoc t.part t.more more) in
     let parts : (zs : List (List ℕ)) × (contents ≡ t.contents ++ zs) × Stream (t.last ++ (t.more ++ more)) zs rest = behind input t.part (t.more ++ more) rest t.last contents t.contents s all t.stream in
-    let P : List (List ℕ) → Type 0 = λ l. WrittenFront start l old new in
-    subst P (sym parts.1) (front-longer start t.contents parts.0 old new t.written)
+    let P : List (List ℕ) → Type 0 = λ l. WrittenFront begun l old new in
+    subst P (sym parts.1) (front-longer begun t.contents parts.0 old new t.written)
 
 by-status : (input rest : List ℕ) (contents : List (List ℕ)) (read unread : List ℕ) (left : Option (List ℕ)) (status : Status) (old new : Option (List ℕ)) → Stream input contents rest
-    → left ≡ Some unread → input ≡ read ++ unread → Ends [] read start old status new ⊎ (IsAtEnd left × Finishes read old status new) → EndsIs contents rest old status new
+    → left ≡ Some unread → input ≡ read ++ unread → Ends [] read begun old status new ⊎ (IsAtEnd left × Finishes read old status new) → EndsIs contents rest old status new
 by-status input rest contents read unread left status old new s l e (inl h) =
     let parts : (zs : List (List ℕ)) × (contents ≡ h.contents ++ zs) × Stream (h.last ++ unread) zs rest = behind input read unread rest h.last contents h.contents s e h.stream in
-    by-exit contents h.contents parts.0 rest h.last unread (exited start h.contents) status old new parts.1 parts.2 refl h.status h.written
+    by-exit contents h.contents parts.0 rest h.last unread h.after h.after.status status old new parts.1 parts.2 refl h.status h.written
 by-status input rest contents read unread left status old new s l e (inr h) =
     let P : Option (List ℕ) → Type 0 = λ o. IsAtEnd o in
     by-end input contents rest read unread status old new s e (subst P l h.0) h.1
@@ -111,10 +111,10 @@ whole input rest contents left spent failed old (Ok status) new s h =
     let c : (unread : List ℕ) × (left ≡ Some unread) × (input ≡ h.0 ++ unread) = consumed input h.0 left h.1 in
     by-status input rest contents h.0 c.0 left status old new s c.1 c.2 h.2
 whole input rest contents left spent failed old (Err Read) new s h =
-    let g : GoesOn [] h.1.0 start old h.1.1 h.1.2 new = h.1.4 in
+    let g : GoesOn [] h.1.0 begun old h.1.1 h.1.2 new = h.1.4 in
     let c : (unread : List ℕ) × (left ≡ Some unread) × (input ≡ h.1.0 ++ unread) = consumed input h.1.0 left h.1.3 in
     let parts : (zs : List (List ℕ)) × (contents ≡ g.contents ++ zs) × Stream (h.1.1 ++ c.0) zs rest = behind input h.1.0 c.0 rest h.1.1 contents g.contents s c.2 g.stream in
-    (h.1.0, c.0, g.contents, h.1.1, parts.0, (c.1, c.2, g.stream, parts.1, g.answered.2))
+    (h.1.0, c.0, g.contents, h.1.1, parts.0, h.1.2, (c.1, c.2, g.stream, parts.1, g.answered.1))
 whole input rest contents left spent failed old (Err Write) new s h =
     let c : (unread : List ℕ) × (left ≡ Some unread) × (input ≡ h.1.0 ++ unread) = consumed input h.1.0 left h.1.1 in
     by-stop input rest h.1.0 c.0 contents old new s c.2 h.1.2

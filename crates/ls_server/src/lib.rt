@@ -1,13 +1,11 @@
-//! The server: it reads frames from a source, keeps the documents that the client opens, and writes its
+//! The server: it reads frames from a source, answers each message by a session over a desk, and writes its
 //! answers to a sink. Beside it the program's two commands, which read a grammar from a file: [`example_text`] and [`check_text`].
 #![tactic(auto)]
 
 mod commands;
-mod conversation;
 mod device;
 mod ending;
 mod file;
-mod keeper;
 mod laws;
 mod serve;
 
@@ -15,11 +13,9 @@ pub use commands::{cert_part, check_text, example_text};
 pub use device::{DeviceFault, ReadFrom, Sink, Source, WriteTo};
 pub use ending::Ending;
 pub use file::{FileFault, MAX_CERT_BYTES, read_cert_file, read_text};
-pub use laws::{
-    example_texts_are_accepted, example_texts_exist, inputs_have_one_output, sessions_are_unique,
-    sessions_exist,
-};
+pub use laws::{example_texts_are_accepted, example_texts_exist, inputs_have_one_output};
 pub use ls_desk::{DeskFault, Out};
 pub use ls_session::{ClientEvent, Session, Status, Turn, body_of, refusal_body};
+pub use ls_steps::{Run, Step, run_steps, sessions_are_unique, sessions_exist};
 pub use ls_text::Snapshot;
 pub use serve::{ServeFault, serve_limited, serve_plain};

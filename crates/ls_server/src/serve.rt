@@ -1,19 +1,20 @@
 //! The run on one thread: frames in, frames out.
 ghost use Rattle.std.specs.Prelude.{◌≡◌, ◌+◌, ◌<◌, ◌⊎◌, ◌||◌, true, false, List, [], ◌∷◌, ℕ, length, Some, OnOk, IfErr, None, IfOk};
 ghost use Rattle.std.specs.Io.KnownBytes.{Appends};
-ghost use Rattle.ls_frame.specs.Frames.{HasNoFrame, frame_of};
+ghost use Rattle.ls_frame.specs.Frames.{HasNoFrame};
 ghost use Rattle.ls_frame.specs.Faults.{fault_of};
 ghost use Rattle.ls_frame.specs.Feeds.{contents_of};
 ghost use Rattle.ls_server.specs.Devices.{is_failed};
 ghost use Rattle.ls_server.specs.Runs.{AnswersIs, AppendsFront, IsOutput, PieceIs, RunIs, ServedIs, is_write, outcome};
-ghost use Rattle.ls_server.specs.Talk.{start};
+ghost use Rattle.ls_steps.specs.Plain.{IsSettled};
+ghost use Rattle.ls_steps.specs.Runs.{begun};
 ghost use Rattle.ls_session.specs.declared.event.Status.{Status};
 
-use crate::conversation::{Conversation, Reply};
 use crate::device::{DeviceFault, Sink, Source};
-use ls_frame::{FrameFault, Framer, write_frame};
+use ls_frame::{FrameFault, Framer};
 use ls_session::Status;
-use std::alloc::{AllocError, Global};
+use ls_steps::Conversation;
+use std::alloc::Global;
 use thiserror::Error;
 
 /// The most bytes that one read takes.
@@ -47,17 +48,6 @@ fn write_all<W: Sink>(writer: &mut W, bytes: &[u8]) -> Result<(), DeviceFault>
     Ok(())
 }
 
-/// The frame with this content.
-fn framed(alloc: Global, body: &[u8]) -> Result<Vec<u8>, AllocError>
-    ensures { IfOk result (λ bytes. bytes.items ≡ frame_of body.now) }
-{
-    let mut bytes = Vec::new(alloc);
-    match write_frame(alloc, body, &mut bytes) {
-        Ok(()) => Ok(bytes),
-        Err(_) => Err(AllocError),
-    }
-}
-
 /// Answers one body.
 fn answer<W: Sink>(
     alloc: Global,
@@ -70,34 +60,30 @@ fn answer<W: Sink>(
     ensures failed { W.failed writer.new ≡ (W.failed writer.old || is_write result) }
     ensures flushed { is_write result ≡ false → W.unflushed writer.old ≡ false → W.unflushed writer.new ≡ false }
 {
-    let Ok(reply) = talk.turn(body) else {
+    let Ok(bytes) = talk.serve(alloc, body) else {
         return Err(ServeFault::Memory);
     };
-    match reply {
-        Reply::Nothing => Ok(None),
-        Reply::Exit(status) => Ok(Some(status)),
-        Reply::Body(body) => {
-            let Ok(bytes) = framed(alloc, &body) else {
-                return Err(ServeFault::Memory);
-            };
-            if write_all(writer, &bytes).is_err() {
-                return Err(ServeFault::Write);
-            }
-            if writer.flush().is_err() {
-                return Err(ServeFault::Write);
-            }
-            Ok(None)
-        }
+    if bytes.is_empty() {
+        return Ok(talk.status());
     }
+    if write_all(writer, &bytes).is_err() {
+        return Err(ServeFault::Write);
+    }
+    if writer.flush().is_err() {
+        return Err(ServeFault::Write);
+    }
+    Ok(talk.status())
 }
 
-/// Answers the bodies in order, up to an exit.
+/// Answers the bodies in order, up to the end of the session.
 fn answer_all<W: Sink>(
     alloc: Global,
     talk: &mut Conversation,
     bodies: &[Vec<u8>],
     writer: &mut W,
 ) -> Result<Option<Status>, ServeFault>
+    requires settled { IsSettled talk.old }
+    requires open { talk.old.status ≡ None }
     ensures answers { AnswersIs talk.old (contents_of bodies.now) (W.contents writer.old) result talk.new
         (W.contents writer.new) }
     ensures failed { W.failed writer.new ≡ (W.failed writer.old || is_write result) }
@@ -134,6 +120,8 @@ fn serve_piece<W: Sink>(
 ) -> Result<Option<Status>, ServeFault>
     requires partial { HasNoFrame framer.old }
     requires fault { fault_of framer.old ≡ None }
+    requires settled { IsSettled talk.old }
+    requires open { talk.old.status ≡ None }
     ensures piece { PieceIs framer.old piece.now talk.old (W.contents writer.old) result framer.new talk.new
         (W.contents writer.new) }
     ensures failed { W.failed writer.new ≡ (W.failed writer.old || is_write result) }
@@ -160,7 +148,7 @@ fn serve_from<R: Source, W: Sink>(
     reads: u64,
 ) -> Result<Status, ServeFault>
     requires start { framer.old ≡ [] }
-    requires state { talk.old ≡ start }
+    requires state { talk.old ≡ begun }
     requires none { R.reads reader.old ≡ 0 }
     requires source { R.failed reader.old ≡ false }
     requires sink { W.failed writer.old ≡ false }
@@ -209,7 +197,7 @@ pub fn serve_limited<R: Source, W: Sink>(
         ((R.failed reader.new ≡ true) ⊎ (R.reads reader.new + 1 ≡ reads)) (W.failed writer.new ≡ true)
         (W.contents writer.old) result (W.contents writer.new) }
     ensures whole { (input : List ℕ) → R.remaining reader.old ≡ Some input → (status : Status) × (bytes : List ℕ)
-        × IsOutput input status bytes
+        × IsOutput true input status bytes
         × RunIs input status bytes (R.remaining reader.new) (W.contents writer.old) result (W.contents writer.new) }
     ensures flushed { is_write result ≡ false → W.unflushed writer.old ≡ false → W.unflushed writer.new ≡ false }
 {
@@ -243,7 +231,7 @@ pub fn serve_plain<R: Source, W: Sink>(
         ((R.failed reader.new ≡ true) ⊎ (R.reads reader.new + 1 ≡ READS_END)) (W.failed writer.new ≡ true)
         (W.contents writer.old) result (W.contents writer.new) }
     ensures whole { (input : List ℕ) → R.remaining reader.old ≡ Some input → (status : Status) × (bytes : List ℕ)
-        × IsOutput input status bytes
+        × IsOutput true input status bytes
         × RunIs input status bytes (R.remaining reader.new) (W.contents writer.old) result (W.contents writer.new) }
     ensures flushed { is_write result ≡ false → W.unflushed writer.old ≡ false → W.unflushed writer.new ≡ false }
 {

@@ -1,4 +1,4 @@
-use Rattle.ls_server.proofs.Exist.{some_output, one_output}
+use Rattle.ls_server.proofs.Outputs.{some_output, one_output}
 use Rattle.ls_server.proofs.laws.inputs_have_one_output.Goals as goal
 
 pub returns-clause-some : goal.returns-clause-some

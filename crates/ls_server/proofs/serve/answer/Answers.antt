@@ -1,27 +1,25 @@
-use Rattle.std.proofs.Common.{rules, ap, ◌∙◌}
-use Rattle.ls_frame.specs.Frames.{frame_of}
-use Rattle.ls_server.proofs.Known.{front-keeps}
-use Rattle.ls_server.proofs.Writing.{one-front, one-nothing, one-reply}
+use Rattle.std.proofs.Common.{rules, sym}
+use Rattle.ls_server.proofs.Known.{front-keeps, no-bytes}
+use Rattle.ls_server.proofs.Writing.{front-none, one-answer, one-front, one-silent}
 use Rattle.ls_server.proofs.serve.answer.Goals as goal
+
+pub returns-in_default-clause-answers : goal.returns-in_default-clause-answers
+returns-in_default-clause-answers g c = front-none _ _ _
+
+pub returns-then-is_empty-clause-answers : goal.returns-then-is_empty-clause-answers
+returns-then-is_empty-clause-answers g c =
+    one-silent c.args.talk.now c.serve.new.self c.args.body.now c.in-Ok.bytes.items c.status.result (g.W.Sink.contents c.args.writer.now) c.in-Ok.ensures c.status.ensures
+    (no-bytes c.in-Ok.bytes.items c.in-Ok.bytes.len c.in-Ok.bytes.ok.0 (sym c.if-is_empty.ensures))
 
 pub returns-then-is_err-clause-answers : goal.returns-then-is_err-clause-answers
 returns-then-is_err-clause-answers g c =
-    let turn = rw c.in-Body.is at c.in-Ok.ensures in
-    one-front _ c.args.body.now _ _ _ _ turn.0 turn.1 (c.in-Ok-framed.ensures ∙ ap frame_of c.deref.ensures.value)
-    (rw c.deref-in-Body.ensures.value at c.write_all.ensures.front)
+    one-front c.args.talk.now c.serve.new.self c.args.body.now c.in-Ok.bytes.items _ _ c.in-Ok.ensures (rw c.deref.ensures.value at c.write_all.ensures.front)
 
 pub returns-then-is_err-2-clause-answers : goal.returns-then-is_err-2-clause-answers
 returns-then-is_err-2-clause-answers g c =
-    let turn = rw c.in-Body.is at c.in-Ok.ensures in
-    one-front _ c.args.body.now _ _ _ _ turn.0 turn.1 (c.in-Ok-framed.ensures ∙ ap frame_of c.deref.ensures.value)
-    (front-keeps _ _ _ _ (rw c.deref-in-Body.ensures.value at c.write_all.ensures.front) c.flush.ensures.bytes)
+    one-front c.args.talk.now c.serve.new.self c.args.body.now c.in-Ok.bytes.items _ _ c.in-Ok.ensures
+    (front-keeps _ _ _ _ (rw c.deref.ensures.value at c.write_all.ensures.front) c.flush.ensures.bytes)
 
-pub returns-in-Nothing-clause-answers : goal.returns-in-Nothing-clause-answers
-returns-in-Nothing-clause-answers g c =
-    let turn = rw c.in-Nothing.is at c.in-Ok.ensures in
-    one-nothing c.args.talk.now _ c.args.body.now _ turn.0 turn.1 turn.2
-
-pub returns-else-is_err-2-clause-answers : goal.returns-else-is_err-2-clause-answers
-returns-else-is_err-2-clause-answers g c =
-    let turn = rw c.in-Body.is at c.in-Ok.ensures in
-    one-reply c.args.talk.now _ c.args.body.now _ _ _ _ _ turn.0 turn.1 turn.2 (c.in-Ok-framed.ensures ∙ ap frame_of c.deref.ensures.value) (search rules) c.flush.ensures.bytes
+pub returns-clause-answers : goal.returns-clause-answers
+returns-clause-answers g c =
+    one-answer c.args.talk.now c.serve.new.self c.args.body.now c.in-Ok.bytes.items c.status-2.result _ _ _ c.in-Ok.ensures c.status-2.ensures (search rules) c.flush.ensures.bytes

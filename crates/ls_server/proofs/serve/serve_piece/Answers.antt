@@ -11,10 +11,10 @@ returns-in-Ok-None-clause-piece g c =
 
 pub returns-clause-piece : goal.returns-clause-piece
 returns-clause-piece g c =
-    piece-stopped _ c.args.piece.now _ _ _ (contents_of c.new-bodies.result.items) (contents_of c.feed-fed.new.out.items) (contents_of c.deref.result.now) c.feed-fed.result (Err c.in-Err.fault) _ _ c.requires.partial c.requires.fault
+    piece-stopped _ c.args.piece.now _ _ _ (contents_of c.new-bodies.result.items) (contents_of c.feed-fed.new.out.items) (contents_of c.deref.result.now) c.feed-fed.result (Err c.in-Err.fault) _ _ c.requires.open c.requires.partial c.requires.fault
     c.feed-fed.ensures.taken (ap contents_of c.new-bodies.ensures.items) (ap contents_of c.deref.ensures.value) tt c.in-Err.ensures.answers
 
 pub returns-in-Ok-Some-clause-piece : goal.returns-in-Ok-Some-clause-piece
 returns-in-Ok-Some-clause-piece g c =
-    piece-stopped _ c.args.piece.now _ c.args.talk.now c.answer_all.new.talk (contents_of c.new-bodies.result.items) (contents_of c.feed-fed.new.out.items) (contents_of c.deref.result.now) c.feed-fed.result (Ok (Some c.in-Ok-Some.status)) _ _ c.requires.partial c.requires.fault
+    piece-stopped _ c.args.piece.now _ c.args.talk.now c.answer_all.new.talk (contents_of c.new-bodies.result.items) (contents_of c.feed-fed.new.out.items) (contents_of c.deref.result.now) c.feed-fed.result (Ok (Some c.in-Ok-Some.status)) _ _ c.requires.open c.requires.partial c.requires.fault
     c.feed-fed.ensures.taken (ap contents_of c.new-bodies.ensures.items) (ap contents_of c.deref.ensures.value) tt (rw c.in-Ok-Some.field-0-is at c.in-Ok-Some.ensures.answers)
