@@ -1,5 +1,6 @@
 #!/usr/bin/env python3
-"""Runs the program that `rt ci` has built as a user would, and checks how it ends: its status, its line and what it wrote.
+"""Runs the program that `rt ci` has built as a user would, and checks how it ends: its status, its line and what it wrote; and the session
+of `refused_memory` with each allocation refused.
 
     tools/program_ends.py ['N passed, M failed']
 
@@ -14,6 +15,7 @@ import tempfile
 
 import command_rows
 import random_texts
+import refused_memory
 import session_rows
 
 TOP = os.path.dirname(os.path.dirname(os.path.abspath(__file__)))
@@ -71,6 +73,9 @@ def cases(program):
     os.close(folder)
     status, said, wrote = ended(program, INITIALIZE + SHUTDOWN + EXIT)
     yield "shutdown and exit", (status, said, wrote[-len(IS_SHUT_DOWN):]), (0, b"", IS_SHUT_DOWN)
+    # each of these is an event when it is answered, and one more when the answer is written
+    status, said, wrote = ended(program, NO_REQUEST * 500_001)
+    yield "an event too many", (status, said, wrote == IS_NO_REQUEST * 500_000), (3, b"session full\n", True)
     for arguments in (["example", "x"], ["example", "x", "a", "a"], ["Example", "x", "a"], ["example", "x", b"\xff"]):
         yield f"the arguments {arguments}", ended(program, None, arguments), (5, USAGE, b"")
 
@@ -187,17 +192,24 @@ def all_cases(program):
             yield from some(program, files)
 
 
+def programs_and_cases():
+    for program in filter(os.path.isfile, PROGRAMS):
+        yield from ((program, *case) for case in all_cases(program))
+    for program in filter(os.path.isfile, refused_memory.PROGRAMS):
+        yield from ((program, *case) for case in refused_memory.cases(program))
+
+
 def main(words):
     counts = re.fullmatch(r"(\d+) passed, (\d+) failed", words[0]) if words else None
     passed, failed = map(int, counts.groups()) if counts else (0, 0)
-    if not os.path.isfile(BUILT):
-        print(f"program_ends: there is no program {BUILT}", file=sys.stderr)
-        failed += 1
-    for program in filter(os.path.isfile, PROGRAMS):
-        for what, found, wanted in all_cases(program):
-            is_good = found == wanted
-            print(f"{os.path.basename(program)}, {what}: {'ended as it must' if is_good else f'FAILED: {found}, and not {wanted}'}")
-            passed, failed = passed + is_good, failed + (not is_good)
+    for built in (BUILT, refused_memory.BUILT):
+        if not os.path.isfile(built):
+            print(f"program_ends: there is no program {built}", file=sys.stderr)
+            failed += 1
+    for program, what, found, wanted in programs_and_cases():
+        is_good = found == wanted
+        print(f"{os.path.basename(program)}, {what}: {'ended as it must' if is_good else f'FAILED: {found}, and not {wanted}'}")
+        passed, failed = passed + is_good, failed + (not is_good)
     print(f"{passed} passed, {failed} failed")
     return 1 if failed else 0
 

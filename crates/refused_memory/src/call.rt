@@ -1,0 +1,180 @@
+//! The calls of a desk, with plain arguments. All are about one document.
+
+use crate::worker::Worker;
+use ls_answers::Ask;
+use ls_desk::{Desk, DeskFault, Kept, Out};
+use ls_lists::{List, Text};
+use ls_rpc::Id;
+use ls_text::{Edit, Position};
+use std::alloc::{AllocError, Global};
+
+/// A call, with the text of the document or the id of the request.
+#[derive(Clone, Copy)]
+pub enum Call {
+    Open(&'static str),
+    Change(&'static str),
+    Close,
+    Hover(i64),
+    Rename(i64),
+    Symbols(i64),
+    Cancel(i64),
+    Say,
+    Take,
+    GiveBack,
+    Finish,
+    NextOut,
+}
+
+/// What a call answers.
+#[derive(Clone, Copy, Debug)]
+pub enum Answer {
+    /// A version or a ticket.
+    Number(u64),
+    Done,
+    Found(bool),
+    Held(Kept),
+    Said,
+    Replied(u64),
+    Failed(i32),
+    Findings(u64),
+    Nothing,
+    Refused(DeskFault),
+}
+
+const START: Position = Position {
+    line: 0,
+    character: 0,
+};
+
+fn uri(alloc: Global) -> Result<Text, AllocError> {
+    Text::from_str(alloc, "file:///g")
+}
+
+fn open(desk: &mut Desk, alloc: Global, text: &str) -> Result<u64, DeskFault> {
+    desk.did_open(uri(alloc)?, 1, Text::from_str(alloc, text)?)
+}
+
+// One edit that replaces the whole text.
+fn whole(alloc: Global, text: &str) -> Result<List<Edit>, AllocError> {
+    let text = Text::from_str(alloc, text)?;
+    let mut edits = List::new(alloc);
+    edits.push(Edit { range: None, text })?;
+    Ok(edits)
+}
+
+fn change(desk: &mut Desk, alloc: Global, text: &str) -> Result<Option<u64>, DeskFault> {
+    desk.did_change(uri(alloc)?, 2, whole(alloc, text)?)
+}
+
+fn close(desk: &mut Desk, alloc: Global) -> Result<(), DeskFault> {
+    desk.did_close(uri(alloc)?)
+}
+
+fn hover(desk: &mut Desk, alloc: Global, id: i64) -> Result<u64, DeskFault> {
+    desk.request(Id::Number(id), uri(alloc)?, Ask::Hover(START), false)
+}
+
+fn rename(desk: &mut Desk, alloc: Global, id: i64) -> Result<u64, DeskFault> {
+    let ask = Ask::Rename(START, Text::from_str(alloc, "b")?);
+    desk.request(Id::Number(id), uri(alloc)?, ask, false)
+}
+
+fn symbols(desk: &mut Desk, alloc: Global, id: i64) -> Result<u64, DeskFault> {
+    desk.request(Id::Number(id), uri(alloc)?, Ask::Symbols, false)
+}
+
+fn say(desk: &mut Desk, alloc: Global) -> Result<(), DeskFault> {
+    desk.say(List::from_slice(alloc, b"{}")?)
+}
+
+// What the oldest reply is.
+fn first(desk: &Desk) -> Answer {
+    match desk.out_at(0) {
+        Some(Out::Said(_)) => Answer::Said,
+        Some(Out::Replied { version, .. }) => Answer::Replied(*version),
+        Some(Out::Failed { code, .. }) => Answer::Failed(*code),
+        Some(Out::Findings { version, .. }) => Answer::Findings(*version),
+        None => Answer::Nothing,
+    }
+}
+
+fn sent(desk: &mut Desk) -> Answer {
+    let first = first(desk);
+    if desk.next_out().is_some() {
+        first
+    } else {
+        Answer::Nothing
+    }
+}
+
+fn numbered(answer: Result<u64, DeskFault>) -> Answer {
+    match answer {
+        Ok(number) => Answer::Number(number),
+        Err(fault) => Answer::Refused(fault),
+    }
+}
+
+fn changed(answer: Result<Option<u64>, DeskFault>) -> Answer {
+    match answer {
+        Ok(Some(version)) => Answer::Number(version),
+        Ok(None) => Answer::Nothing,
+        Err(fault) => Answer::Refused(fault),
+    }
+}
+
+fn done(answer: Result<(), DeskFault>) -> Answer {
+    match answer {
+        Ok(()) => Answer::Done,
+        Err(fault) => Answer::Refused(fault),
+    }
+}
+
+fn found(answer: Result<bool, DeskFault>) -> Answer {
+    match answer {
+        Ok(found) => Answer::Found(found),
+        Err(fault) => Answer::Refused(fault),
+    }
+}
+
+fn kept(answer: Result<Kept, DeskFault>) -> Answer {
+    match answer {
+        Ok(kept) => Answer::Held(kept),
+        Err(fault) => Answer::Refused(fault),
+    }
+}
+
+impl Call {
+    /// Makes the call.
+    pub fn made(&self, desk: &mut Desk, worker: &mut Worker, alloc: Global) -> Answer {
+        match self {
+            Call::Open(text) => numbered(open(desk, alloc, text)),
+            Call::Change(text) => changed(change(desk, alloc, text)),
+            Call::Close => done(close(desk, alloc)),
+            Call::Hover(id) => numbered(hover(desk, alloc, *id)),
+            Call::Rename(id) => numbered(rename(desk, alloc, *id)),
+            Call::Symbols(id) => numbered(symbols(desk, alloc, *id)),
+            Call::Cancel(id) => found(desk.cancel(&Id::Number(*id))),
+            Call::Say => done(say(desk, alloc)),
+            Call::Take => numbered(worker.take(desk)),
+            Call::GiveBack => done(worker.give_back(desk)),
+            Call::Finish => kept(worker.finish(desk, alloc)),
+            Call::NextOut => sent(desk),
+        }
+    }
+
+    /// Its name.
+    pub fn name(&self) -> &'static str {
+        match self {
+            Call::Open(_) => "did_open",
+            Call::Change(_) => "did_change",
+            Call::Close => "did_close",
+            Call::Hover(_) | Call::Rename(_) | Call::Symbols(_) => "request",
+            Call::Cancel(_) => "cancel",
+            Call::Say => "say",
+            Call::Take => "take",
+            Call::GiveBack => "give_back",
+            Call::Finish => "finish",
+            Call::NextOut => "next_out",
+        }
+    }
+}
