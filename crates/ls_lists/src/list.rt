@@ -107,11 +107,14 @@ impl<T: Drop> List<T> {
         self.vec[at] = item;
     }
 
-    /// Puts an item at the end.
+    /// Puts an item at the end. The first item gets room for itself alone, as most lists have one.
     pub fn push(&mut self, item: T) -> Result<(), AllocError>
         ensures ok { OnOk result (self.new ≡ self.old ++ item ∷ []) }
         ensures err { OnErr result (self.new ≡ self.old) }
     {
+        if self.vec.capacity() == 0 {
+            self.vec.reserve_exact(1)?;
+        }
         self.vec.push(item)?;
         Ok(())
     }
