@@ -27,6 +27,12 @@ is_full d need = nat_lt d.max_events (length d.journal + length (state_of d).uns
 abbrev pub full_fault : Seen → ℕ → Option DeskFault
 full_fault d need = or_else (is_full d need) SessionFull None
 
+-- of an open whose text is made already, which isn't too large then
+abbrev pub open_shared_fault : Seen → List ℕ → Option DeskFault
+open_shared_fault d uri =
+    or_else (is_open uri (state_of d).documents) AlreadyOpen
+    (or_else (nat_le 256 (length (state_of d).documents)) TooManyDocuments (full_fault d 1))
+
 abbrev pub open_fault : Seen → List ℕ → List ℕ → Option DeskFault
 open_fault d uri text =
     or_else (is_open uri (state_of d).documents) AlreadyOpen

@@ -8,7 +8,7 @@ ghost use Rattle.std.specs.Str.{chars};
 ghost use Rattle.ls_text.specs.Edits.{is_too_large};
 ghost use Rattle.ls_desk.specs.Machine.{is_open, document_of, edited_at, is_held, is_queued, left_at, asked, asks_with, requests, id_waits, told_at, request_cancelled, waits};
 ghost use Rattle.ls_desk.specs.Stands.{Sends, IsSound, StandsAt, failures, state_of};
-ghost use Rattle.ls_desk.specs.Faults.{Accepts, open_fault, Refuses, end_fault, is_full, finish_fault, request_fault, take_fault, give_back_fault, cancel_fault, full_fault, is_for, kept_of, IsJobOf, Takes};
+ghost use Rattle.ls_desk.specs.Faults.{Accepts, open_fault, open_shared_fault, Refuses, end_fault, is_full, finish_fault, request_fault, take_fault, give_back_fault, cancel_fault, full_fault, is_for, kept_of, IsJobOf, Takes};
 ghost use Rattle.ls_desk.specs.Puts.{next_of};
 
 use crate::event::{DeskFault, Event, Kept, Out};
@@ -18,6 +18,7 @@ use crate::outs::{
     give_back, has_failed, job_of, next_text, open, remove_at, say, shared_text, take, ticket_of,
 };
 use crate::room::{put_replies, room_for_event, room_for_reply, room_for_text};
+use crate::shared::SharedSnapshot;
 use crate::state::{Document, Waiting};
 use ls_answers::{Ask, Done, Job};
 use ls_lists::{List, Text};
@@ -455,14 +456,11 @@ impl Desk {
         self.outbox.get(at)
     }
 
-    // What opening a document puts down, or the refusal that comes first.
-    fn opening(&self, uri: &Text, label: i64, text: Text) -> Result<Opening, DeskFault>
-        ensures text { IfOk result (λ opening. opening.text ≡ chars text) }
+    // The text of a document that is to be opened, or the refusal that comes first.
+    fn made(&self, uri: &Text, text: Text) -> Result<SharedSnapshot, DeskFault>
+        ensures text { IfOk result (λ made. made ≡ chars text) }
         ensures none { OnOk result (open_fault self.now uri.now text ≡ None) }
-        ensures fits { IfOk result (λ opening. is_too_large opening.text ≡ false) }
-        ensures next { IfOk result (λ opening. Some opening.next ≡ next_of (state_of self.now).next_version (state_of self.now).next_ticket uri.now label (Some opening.text)) }
-        ensures possible { OnOk result ((is_open uri.now (state_of self.now).documents ≡ false) × (length (state_of self.now).documents < 256)) }
-        ensures room { OnOk result (length self.now.journal + length self.now.outbox + 1 ≤ self.now.max_events) }
+        ensures fits { IfOk result (λ made. is_too_large made ≡ false) }
         ensures err { IfErr result (λ fault. (fault ≡ DeskFault.Memory) ⊎ (open_fault self.now uri.now text ≡ Some fault)) }
     {
         if find::document_of(self.documents.as_slice(), uri).is_some() {
@@ -477,15 +475,43 @@ impl Desk {
         if self.is_full(0) {
             return Err(DeskFault::SessionFull);
         }
-        let text = shared_text(self.alloc, text)?;
+        Ok(shared_text(self.alloc, text)?)
+    }
+
+    // What opening a document puts down, or the refusal that comes first.
+    fn opening(&self, uri: &Text, label: i64, text: SharedSnapshot) -> Result<Opening, DeskFault>
+        requires { is_too_large text ≡ false }
+        ensures text { IfOk result (λ opening. opening.text ≡ text) }
+        ensures none { OnOk result (open_shared_fault self.now uri.now ≡ None) }
+        ensures fits { IfOk result (λ opening. is_too_large opening.text ≡ false) }
+        ensures next { IfOk result (λ opening. Some opening.next ≡ next_of (state_of self.now).next_version (state_of self.now).next_ticket uri.now label (Some opening.text)) }
+        ensures possible { OnOk result ((is_open uri.now (state_of self.now).documents ≡ false) × (length (state_of self.now).documents < 256)) }
+        ensures room { OnOk result (length self.now.journal + length self.now.outbox + 1 ≤ self.now.max_events) }
+        ensures err { IfErr result (λ fault. (fault ≡ DeskFault.Memory) ⊎ (open_shared_fault self.now uri.now ≡ Some fault)) }
+    {
+        if find::document_of(self.documents.as_slice(), uri).is_some() {
+            return Err(DeskFault::AlreadyOpen);
+        }
+        if self.documents.len() >= MOST_DOCUMENTS {
+            return Err(DeskFault::TooManyDocuments);
+        }
+        if self.is_full(0) {
+            return Err(DeskFault::SessionFull);
+        }
         let next = next_text(uri, label, &text, self.next_version, self.next_ticket)?;
         Ok(Opening { text, next })
     }
 
-    /// Opens a document.
-    pub fn did_open(&mut self, uri: Text, label: i64, text: Text) -> Result<u64, DeskFault>
-        ensures ok { IfOk result (λ version. Accepts (open_fault self.old uri text) self.old self.new (Event.Opened uri label (chars text) version)) }
-        ensures err { IfErr result (λ fault. Refuses (open_fault self.old uri text) self.old self.new fault) }
+    /// Opens a document whose text is made already. It isn't copied, so this takes no longer for a large text.
+    pub fn open_shared(
+        &mut self,
+        uri: Text,
+        label: i64,
+        text: SharedSnapshot,
+    ) -> Result<u64, DeskFault>
+        requires { is_too_large text ≡ false }
+        ensures ok { IfOk result (λ version. Accepts (open_shared_fault self.old uri) self.old self.new (Event.Opened uri label text version)) }
+        ensures err { IfErr result (λ fault. Refuses (open_shared_fault self.old uri) self.old self.new fault) }
     {
         let opening = self.opening(&uri, label, text)?;
         room_for_text(
@@ -505,6 +531,15 @@ impl Desk {
             opening,
         );
         Ok(version)
+    }
+
+    /// Opens a document.
+    pub fn did_open(&mut self, uri: Text, label: i64, text: Text) -> Result<u64, DeskFault>
+        ensures ok { IfOk result (λ version. Accepts (open_fault self.old uri text) self.old self.new (Event.Opened uri label (chars text) version)) }
+        ensures err { IfErr result (λ fault. Refuses (open_fault self.old uri text) self.old self.new fault) }
+    {
+        let text = self.made(&uri, text)?;
+        self.open_shared(uri, label, text)
     }
 
     /// The oldest reply, which leaves the outbox. It is what the first unsent entry stands for. Takes no memory.

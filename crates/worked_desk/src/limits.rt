@@ -1,7 +1,7 @@
 //! The limits of a session.
 
 use super::steps::{START, change, open, opened, symbols};
-use ls_desk::{Desk, DeskFault};
+use ls_desk::{Desk, DeskFault, shared_text};
 use ls_lists::{List, Text};
 use ls_text::{Edit, MAX_BYTES, Range};
 use std::alloc::{AllocError, Global};
@@ -29,6 +29,27 @@ fn of_documents(rt: HostRuntime) -> Result<(), Fail> {
     let more = open(&mut desk, rt.alloc(), "");
     drop(desk);
     assert_eq!(rt; version?, 256);
+    assert!(rt; more == Err(DeskFault::TooManyDocuments));
+    Ok(())
+}
+
+// Opens a document whose text is made already.
+fn open_made(desk: &mut Desk, alloc: Global, uri: &str) -> Result<u64, DeskFault> {
+    let text = shared_text(alloc, Text::from_str(alloc, "")?)?;
+    desk.open_shared(Text::from_str(alloc, uri)?, 1, text)
+}
+
+#[test]
+fn of_documents_whose_text_is_made(rt: HostRuntime) -> Result<(), Fail> {
+    let mut desk = Desk::new(rt.alloc(), 1_000_000);
+    let first = open_made(&mut desk, rt.alloc(), "file:///g");
+    let again = open_made(&mut desk, rt.alloc(), "file:///g");
+    let others = open_many(&mut desk, rt.alloc(), 255);
+    let more = open_made(&mut desk, rt.alloc(), "file:///h");
+    drop(desk);
+    assert_eq!(rt; first?, 1);
+    assert!(rt; again == Err(DeskFault::AlreadyOpen));
+    assert_eq!(rt; others?, 256);
     assert!(rt; more == Err(DeskFault::TooManyDocuments));
     Ok(())
 }

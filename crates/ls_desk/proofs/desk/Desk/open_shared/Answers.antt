@@ -1,6 +1,5 @@
 use Rattle.std.proofs.Common.{◌≡◌, ◌+◌, ◌≤◌, ◌<◌, ◌++◌, ◌∷◌, [], false, List, ℕ, length, sym, ap, ◌∙◌, subst, refl, arith}
 use Rattle.std.specs.Prelude.{vec_capacity, Some}
-use Rattle.std.specs.Str.{chars}
 use Rattle.std.proofs.lemmas.Int.{to_z-of_z}
 use Rattle.ls_desk.specs.declared.event.Event.{Event}
 use Rattle.ls_desk.specs.declared.event.Event.TheVariants.{Opened}
@@ -12,8 +11,8 @@ use Rattle.ls_desk.specs.Stands.{Seen, Enters, state_of}
 use Rattle.ls_desk.specs.Puts.{next_of, documents_of, jobs_of}
 use Rattle.ls_desk.proofs.Grows.{Goes, enters, kept-room, seen}
 use Rattle.ls_desk.proofs.Events.{opened}
-use Rattle.ls_desk.proofs.desk.Desk.did_open.Goals as goal
-use Rattle.ls_desk.proofs.desk.Desk.did_open.Goals.{After-open-version}
+use Rattle.ls_desk.proofs.desk.Desk.open_shared.Goals as goal
+use Rattle.ls_desk.proofs.desk.Desk.open_shared.Goals.{After-open-version}
 
 pub invariant_of-self : goal.invariant_of-self
 invariant_of-self c =
@@ -65,5 +64,5 @@ returns-clause-ok c =
     let new = seen c.open-version.new.journal.items c.self.inside.outbox.items c.self.inside.max_events in
     let P : Seen → Type 0 = λ d. Enters d new (Opened c.args.uri c.args.label c.in_ok-opening.opening.text c.self.inside.next_version) in
     let Q : List ℕ → Type 0 = λ text. Enters c.args.self.now new (Opened c.args.uri c.args.label text c.self.inside.next_version) in
-    let R : ℕ → Type 0 = λ version. Enters c.args.self.now new (Opened c.args.uri c.args.label (chars c.args.text) version) in
+    let R : ℕ → Type 0 = λ version. Enters c.args.self.now new (Opened c.args.uri c.args.label c.args.text version) in
     record { none = c.in_ok-opening.ensures.none; enters = subst R (sym c.open-version.ensures.result) (subst Q c.in_ok-opening.ensures.text (subst P c.self.view_is (enters _ c.self.inside.outbox.items _ _ _ _ _ _ _ _ _ (went c)))) }
