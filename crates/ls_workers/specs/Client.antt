@@ -2,6 +2,8 @@
 use Rattle.ls_answers.specs.declared.ask.Ask.TheVariants.{Diagnose}
 use Rattle.std.specs.Prelude.{◌≡◌, ◌≢◌, ◌++◌, ◌∷◌, [], ℕ, List, Option, Some, None, Bool, false, nat_lt, length, filter_map}
 use Rattle.std.specs.Str.{chars}
+use Rattle.ls_text.specs.Edits.{is_too_large}
+use Rattle.ls_rpc.specs.declared.message.Id.{Id}
 use Rattle.ls_desk.specs.declared.event.Event.{Event}
 use Rattle.ls_desk.specs.declared.event.Event.TheVariants as event
 use Rattle.ls_workers.specs.declared.client.ClientEvent.{ClientEvent}
@@ -28,6 +30,11 @@ Notes e answer old new = (entry : Event) × (entry_of e answer ≡ Some entry) �
 abbrev pub IsAllowed : ClientEvent → Type 0
 IsAllowed (Request id uri question links) = question ≢ Diagnose
 IsAllowed _ = Unit {0}
+
+-- whom a refusal of this event concerns
+abbrev pub asker_of : ClientEvent → Option Id
+asker_of (Request id uri question links) = Some id
+asker_of _ = None
 
 abbrev pub client_event : Event → Option Event
 client_event (event.Opened uri label text version) = Some (event.Opened uri label text version)
@@ -68,6 +75,11 @@ filled (event.Changed uri label edits blank) (answer.Version version) = event.Ch
 filled (event.Asked id uri ask links blank) (answer.Ticket ticket) = event.Asked id uri ask links ticket
 filled (event.Cancelled id blank) (answer.Cancelled found) = event.Cancelled id found
 filled note _ = note
+
+-- the text that an entry opens isn't too large
+abbrev pub HasSmallText : Event → Type 0
+HasSmallText (event.Opened uri label text version) = is_too_large text ≡ false
+HasSmallText entry = Unit {0}
 
 -- a text that is too large for any desk
 abbrev pub is_too_long : ClientEvent → Bool

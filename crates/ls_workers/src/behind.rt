@@ -3,7 +3,7 @@ ghost use Rattle.std.specs.Prelude.{◌≡◌, ◌+◌, ◌++◌, ◌∷◌, ◌
 ghost use Rattle.ls_desk.specs.Machine.{is_queued, waits};
 ghost use Rattle.ls_desk.specs.Stands.{state_of, ticket_of_out};
 ghost use Rattle.ls_workers.specs.Count.{Counts};
-ghost use Rattle.ls_workers.specs.Client.{IsAllowed, Notes, note_of, is_too_long};
+ghost use Rattle.ls_workers.specs.Client.{HasSmallText, IsAllowed, Notes, note_of, is_too_long};
 ghost use Rattle.ls_workers.specs.Ends.{is_over, ended_by, has_job, has_news};
 
 use crate::calls::{enter, finish, give_back, journal_len, next_out, take};
@@ -101,7 +101,7 @@ impl<C: Ledgers> Behind<C> {
         note: Option<Event>,
     ) -> Result<ClientAnswer, DeskFault>
         requires allowed { IsAllowed event }
-        requires some { IfSome note (λ noted. noted ≡ note_of event) }
+        requires some { IfSome note (λ noted. (noted ≡ note_of event) × (is_too_long event ≡ false) × HasSmallText noted) }
         requires none { IfNone note (is_too_long event ≡ true) }
         requires room { vec_len seat.old.list < vec_capacity seat.old.list }
         ensures ok { OnOk result (seat.new.asked.share.amount ≡ seat.old.asked.share.amount + 1) }
@@ -112,7 +112,7 @@ impl<C: Ledgers> Behind<C> {
         ensures mark { seat.new.mark ≡ seat.old.mark }
     {
         let Behind { desk, asked, .. } = self;
-        let answer = enter(desk, event)?;
+        let answer = enter(desk, event, note.as_ref())?;
         let _length = journal_len(desk);
         let Some(note) = note else { unreachable!() };
         seat.asked.one_more(asked);

@@ -89,7 +89,7 @@ impl<C: Crew> Board<C> {
     }
 
     /// Enters a client's event, and notes it with its answer in the seat. What it needs memory for in the seat it makes before it takes the
-    /// lock.
+    /// lock, and the text of a document that is opened: the desk shares that text with the note.
     ///
     /// It waits for the lock alone. The faults are those of the desk's call; after one the seat is as it was.
     pub fn client(

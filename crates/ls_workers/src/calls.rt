@@ -2,14 +2,16 @@
 //!
 //! What lies behind the lock counts the entries of a journal, and needs no more of a desk than this.
 ghost use Rattle.std.specs.Prelude.{◌≡◌, ◌++◌, ◌∷◌, [], IfOk, IfErr, IfNone, IfSome, OnOk, OnErr, OnSome, length, find, Some, None, false};
+ghost use Rattle.std.specs.Str.{chars};
 ghost use Rattle.ls_workers.specs.Count.{Adds};
-ghost use Rattle.ls_workers.specs.Client.{Notes, IsAllowed, entry_of, filled, note_of, is_too_long};
+ghost use Rattle.ls_workers.specs.Client.{HasSmallText, Notes, IsAllowed, entry_of, filled, note_of, is_too_long};
 ghost use Rattle.ls_desk.specs.Machine.{is_queued};
 ghost use Rattle.ls_desk.specs.Stands.{state_of, ticket_of_out};
 
 use crate::client::{ClientAnswer, ClientEvent};
 use ls_answers::{Done, Job};
 use ls_desk::{Desk, DeskFault, Event, Kept, Out};
+use ls_lists::Text;
 
 /// How many events the journal has.
 pub fn journal_len(desk: &Desk) -> usize
@@ -18,16 +20,40 @@ pub fn journal_len(desk: &Desk) -> usize
     desk.journal().len()
 }
 
-/// Enters a client's event.
-pub fn enter(desk: &mut Desk, event: ClientEvent) -> Result<ClientAnswer, DeskFault>
-    requires { IsAllowed event }
+/// Opens a document, by the text of its note: that one is made already. A text that is too large has no note.
+fn open(
+    desk: &mut Desk,
+    uri: Text,
+    label: i64,
+    text: Text,
+    note: Option<&Event>,
+) -> Result<u64, DeskFault>
+    requires some { IfSome note (λ noted. (noted.now ≡ note_of (ClientEvent.DidOpen uri label text)) × (is_too_long (ClientEvent.DidOpen uri label text) ≡ false) × HasSmallText noted.now) }
+    ensures ok { IfOk result (λ version. desk.new.journal ≡ desk.old.journal ++ Event.Opened uri label (chars text) version ∷ []) }
+    ensures fits { OnOk result (is_too_long (ClientEvent.DidOpen uri label text) ≡ false) }
+    ensures err { OnErr result (desk.new ≡ desk.old) }
+{
+    match note {
+        Some(Event::Opened { text, .. }) => desk.open_shared(uri, label, text.again()?),
+        _ => desk.did_open(uri, label, text),
+    }
+}
+
+/// Enters a client's event, whose note it is.
+pub fn enter(
+    desk: &mut Desk,
+    event: ClientEvent,
+    note: Option<&Event>,
+) -> Result<ClientAnswer, DeskFault>
+    requires allowed { IsAllowed event }
+    requires some { IfSome note (λ noted. (noted.now ≡ note_of event) × (is_too_long event ≡ false) × HasSmallText noted.now) }
     ensures ok { IfOk result (λ answer. Notes event answer desk.old.journal desk.new.journal) }
     ensures told { IfOk result (λ answer. entry_of event answer ≡ Some (filled (note_of event) answer)) }
     ensures fits { OnOk result (is_too_long event ≡ false) }
     ensures err { OnErr result (desk.new ≡ desk.old) }
 {
     match event {
-        ClientEvent::DidOpen(uri, label, text) => match desk.did_open(uri, label, text) {
+        ClientEvent::DidOpen(uri, label, text) => match open(desk, uri, label, text, note) {
             Ok(version) => Ok(ClientAnswer::Version(version)),
             Err(fault) => Err(fault),
         },

@@ -1,5 +1,6 @@
 //! What a client does at a desk.
 ghost use Rattle.std.specs.Prelude.{◌≡◌, IfOk};
+ghost use Rattle.ls_workers.specs.Client.{asker_of};
 
 use ls_answers::Ask;
 use ls_lists::{List, Text};
@@ -65,6 +66,22 @@ impl ClientEvent {
             }
             ClientEvent::Cancel(id) => Ok(ClientEvent::Cancel(id.copy()?)),
             ClientEvent::Say(body) => Ok(ClientEvent::Say(body.copy()?)),
+        }
+    }
+
+    /// The id of the request, where the event is one: a refusal concerns whoever asked.
+    ///
+    /// `Memory` says that an allocation was refused.
+    pub fn asker(&self) -> Result<Option<Id>, Memory>
+        ensures { IfOk result (λ id. id ≡ asker_of self.now) }
+    {
+        match self {
+            ClientEvent::Request(id, _, _, _) => Ok(Some(id.copy()?)),
+            ClientEvent::DidOpen(_, _, _)
+            | ClientEvent::DidChange(_, _, _)
+            | ClientEvent::DidClose(_)
+            | ClientEvent::Cancel(_)
+            | ClientEvent::Say(_) => Ok(None),
         }
     }
 }

@@ -12,8 +12,8 @@
 //! - [`Board::close`] takes all seats back and tests their lists against the journal. It gives the desk only where both agree, and then the
 //!   journal has as many events of each kind as the seats counted.
 //!
-//! Nothing is computed under the lock: [`work`] passes its gate and runs its job while the lock is free, and what a call needs memory for
-//! in its seat it makes before it takes the lock. A thread that waits for a job or a reply sleeps until something has changed.
+//! Nothing is computed under the lock: [`work`] passes its gate and runs its job while the lock is free, and the text of a document that is
+//! opened is made before the lock is taken, as all that a call needs memory for in its seat. A thread that waits for a job or a reply sleeps until something has changed.
 #![tactic(auto)]
 
 mod agree;

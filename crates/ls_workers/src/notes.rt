@@ -1,6 +1,6 @@
 //! The entry of a client's event, made before its answer is known.
-ghost use Rattle.std.specs.Prelude.{◌≡◌, IfOk, IfNone, IfSome, true};
-ghost use Rattle.ls_workers.specs.Client.{filled, note_of, is_too_long};
+ghost use Rattle.std.specs.Prelude.{◌≡◌, IfOk, IfNone, IfSome, true, false};
+ghost use Rattle.ls_workers.specs.Client.{HasSmallText, filled, note_of, is_too_long};
 
 use crate::client::{ClientAnswer, ClientEvent, copy_of};
 use ls_desk::{Event, shared_text};
@@ -11,6 +11,7 @@ use std::alloc::{AllocError, Global};
 pub fn note_of(alloc: Global, event: &ClientEvent) -> Result<Option<Event>, AllocError>
     ensures some { IfOk result (λ noted. IfSome noted (λ note. note ≡ note_of event.now)) }
     ensures none { IfOk result (λ noted. IfNone noted (is_too_long event.now ≡ true)) }
+    ensures fits { IfOk result (λ noted. IfSome noted (λ note. (is_too_long event.now ≡ false) × HasSmallText note)) }
 {
     match event {
         ClientEvent::DidOpen(uri, label, text) => {
