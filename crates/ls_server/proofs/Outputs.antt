@@ -12,7 +12,7 @@ use Rattle.ls_steps.proofs.SomeSession.{some_session}
 use Rattle.ls_steps.proofs.Settled.{goes-on, says-more, weaker}
 use Rattle.ls_server.specs.Runs.{AppendsFront, IsOutput, RunIs, ServedIs, last_status}
 use Rattle.ls_server.specs.declared.serve.ServeFault.{ServeFault}
-use Rattle.ls_server.specs.declared.serve.ServeFault.TheVariants.{Read, Write, Memory}
+use Rattle.ls_server.specs.declared.serve.ServeFault.TheVariants.{Read, Write, Strayed, Memory}
 use Rattle.ls_server.proofs.Known.{append-nil}
 use Rattle.ls_server.proofs.Writing.{lists-nil}
 use Rattle.ls_server.proofs.Whole.{RunsOn, whole-told}
@@ -74,6 +74,7 @@ run_by input rest contents left old (Err Read) new s h =
 run_by input rest contents left old (Err Write) new s h =
     let c = completed h.answered h.left contents h.after h.bytes h.contents_are h.said in
     (last_status c.after rest, h.bytes ++ c.later, (contents, rest, c.after, (s, c.said, refl)), front_more old new h.bytes c.later h.written)
+run_by input rest contents left old (Err Strayed) new s h = absurd h
 run_by input rest contents left old (Err Memory) new s h =
     let c = completed h.answered h.left contents h.after h.bytes h.contents_are h.said in
     (last_status c.after rest, h.bytes ++ c.later, (contents, rest, c.after, (s, c.said, refl)), front_more old new h.bytes c.later h.written)

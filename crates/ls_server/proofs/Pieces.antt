@@ -9,7 +9,7 @@ use Rattle.ls_steps.specs.Runs.{Going}
 use Rattle.ls_steps.specs.Plain.{Says}
 use Rattle.ls_server.specs.Runs.{AnswersIs, WrittenFront, Ends, Stops, PieceIs, outcome}
 use Rattle.ls_server.specs.declared.serve.ServeFault.{ServeFault}
-use Rattle.ls_server.specs.declared.serve.ServeFault.TheVariants.{Read, Write, Memory}
+use Rattle.ls_server.specs.declared.serve.ServeFault.TheVariants.{Read, Write, Strayed, Memory}
 use Rattle.ls_session.specs.declared.event.Status.{Status}
 use Rattle.ls_session.specs.declared.event.Status.TheVariants.{BadFrame}
 use Rattle.ls_server.proofs.Known.{append-nil}
@@ -130,6 +130,7 @@ stopped old piece new state now after (Ok None) a b open_ p f s h = absurd s
 stopped old piece new state now after (Ok (Some status)) a b open_ p f s h = exits old piece new state now after status a b open_ f h
 stopped old piece new state now after (Err Read) a b open_ p f s h = absurd h
 stopped old piece new state now after (Err Write) a b open_ p f s h = stops-there old piece new state after a b p f h
+stopped old piece new state now after (Err Strayed) a b open_ p f s h = absurd h
 stopped old piece new state now after (Err Memory) a b open_ p f s h = stops-there old piece new state after a b p f h
 
 -- an exit or a fault came before all was answered

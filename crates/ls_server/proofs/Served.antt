@@ -11,7 +11,7 @@ use Rattle.ls_steps.specs.Runs.{Going, begun}
 use Rattle.ls_server.specs.Runs.{end_status}
 use Rattle.ls_server.specs.Runs.{GoesOn, Stops, PieceIs, ServedIs, Written, is_write}
 use Rattle.ls_server.specs.declared.serve.ServeFault.{ServeFault}
-use Rattle.ls_server.specs.declared.serve.ServeFault.TheVariants.{Read, Write, Memory}
+use Rattle.ls_server.specs.declared.serve.ServeFault.TheVariants.{Read, Write, Strayed, Memory}
 use Rattle.ls_session.specs.declared.event.Status.{Status}
 use Rattle.ls_session.specs.declared.event.Status.TheVariants.{Unclean, BadFrame}
 use Rattle.ls_server.proofs.Known.{append-nil}
@@ -77,6 +77,7 @@ piece-more read rest piece last state now (Ok (Some status)) a b c g p = record 
 }
 piece-more read rest piece last state now (Err Read) a b c g p = absurd p
 piece-more read rest piece last state now (Err Write) a b c g p = stops-more read rest piece state a b c g p
+piece-more read rest piece last state now (Err Strayed) a b c g p = absurd p
 piece-more read rest piece last state now (Err Memory) a b c g p = stops-more read rest piece state a b c g p
 
 -- at the begun nothing has been read
@@ -158,6 +159,7 @@ pub served-fault : (input before left : Option (List ℕ)) (spent failed : Type 
 served-fault input before left spent failed read piece rest last state now Read a b c q g d p f = absurd p
 served-fault input before left spent failed read piece rest last state now Write a b c q g d p f =
     (f refl, (read ++ piece, consumes-consumes input before left read piece q d, stops-more read rest piece state a b c g p))
+served-fault input before left spent failed read piece rest last state now Strayed a b c q g d p f = absurd p
 served-fault input before left spent failed read piece rest last state now Memory a b c q g d p f =
     (read ++ piece, consumes-consumes input before left read piece q d, stops-more read rest piece state a b c g p)
 
@@ -172,11 +174,13 @@ or-false a false f e = e
 pub write-failed : (fault : ServeFault) (a b : Bool) → a ≡ (b || is_write {A = Option Status} (Err fault)) → fault ≡ Write → a ≡ true
 write-failed Read a b e f = absurd (cc)
 write-failed Write a b e f = or-true a b e
+write-failed Strayed a b e f = absurd (cc)
 write-failed Memory a b e f = absurd (cc)
 
 pub not-write : (fault : ServeFault) → is_write {A = Status} (Err fault) ≡ false → is_write {A = Option Status} (Err fault) ≡ false
 not-write Read e = refl
 not-write Write e = e
+not-write Strayed e = refl
 not-write Memory e = refl
 
 -- where a run goes on it has nothing left to run or to send, and hasn't ended

@@ -12,7 +12,7 @@ use Rattle.ls_steps.proofs.Settled.{settled-begun}
 use Rattle.ls_server.specs.Runs.{end_status}
 use Rattle.ls_server.specs.Runs.{Written, WrittenFront, GoesOn, Ends, Stops, Finishes, ServedIs, or_else, last_status}
 use Rattle.ls_server.specs.declared.serve.ServeFault.{ServeFault}
-use Rattle.ls_server.specs.declared.serve.ServeFault.TheVariants.{Read, Write, Memory}
+use Rattle.ls_server.specs.declared.serve.ServeFault.TheVariants.{Read, Write, Strayed, Memory}
 use Rattle.ls_session.specs.declared.event.Status.{Status}
 use Rattle.ls_session.specs.declared.event.Status.TheVariants.{BadFrame}
 use Rattle.ls_server.proofs.Known.{append-nil}
@@ -24,6 +24,7 @@ RunsOn input contents rest left old (Ok status) new = (after : Going) × ((statu
 RunsOn input contents rest left old (Err Read) new = (read : List ℕ) × (unread : List ℕ) × (answered : List (List ℕ)) × (last : List ℕ) × (more : List (List ℕ)) × (after : Going)
     × ((left ≡ Some unread) × (input ≡ read ++ unread) × Stream read answered last × (contents ≡ answered ++ more) × Written begun answered after old new)
 RunsOn input contents rest left old (Err Write) new = WrittenFront begun contents old new
+RunsOn input contents rest left old (Err Strayed) new = ⊥
 RunsOn input contents rest left old (Err Memory) new = WrittenFront begun contents old new
 
 consumed : (input read : List ℕ) (left : Option (List ℕ)) → Consumes (Some input) left read → (unread : List ℕ) × (left ≡ Some unread) × (input ≡ read ++ unread)
@@ -118,6 +119,7 @@ whole input rest contents left spent failed old (Err Read) new s h =
 whole input rest contents left spent failed old (Err Write) new s h =
     let c : (unread : List ℕ) × (left ≡ Some unread) × (input ≡ h.1.0 ++ unread) = consumed input h.1.0 left h.1.1 in
     by-stop input rest h.1.0 c.0 contents old new s c.2 h.1.2
+whole input rest contents left spent failed old (Err Strayed) new s h = absurd h
 whole input rest contents left spent failed old (Err Memory) new s h =
     let c : (unread : List ℕ) × (left ≡ Some unread) × (input ≡ h.0 ++ unread) = consumed input h.0 left h.1 in
     by-stop input rest h.0 c.0 contents old new s c.2 h.2

@@ -10,7 +10,7 @@ use Rattle.ls_steps.specs.Plain.{IsSettled, Says, Serves}
 use Rattle.ls_steps.proofs.Settled.{says-more, says-one, says-stays}
 use Rattle.ls_server.specs.Runs.{AppendsFront, AnswersIs, Written, WrittenFront}
 use Rattle.ls_server.specs.declared.serve.ServeFault.{ServeFault}
-use Rattle.ls_server.specs.declared.serve.ServeFault.TheVariants.{Read, Write, Memory}
+use Rattle.ls_server.specs.declared.serve.ServeFault.TheVariants.{Read, Write, Strayed, Memory}
 use Rattle.ls_session.specs.declared.event.Status.{Status}
 use Rattle.ls_server.proofs.Known.{appends-appends, appends-keeps, appends-none, as-front}
 
@@ -91,6 +91,7 @@ pub answers-more : (state now : Going) (xs ys : List (List ℕ)) (r : Result (Op
 answers-more state now xs ys (Ok status) after_it first old new w a = (a.0, written-append state now after_it xs ys first old new w a.1)
 answers-more state now xs ys (Err Read) after_it first old new w a = absurd a
 answers-more state now xs ys (Err Write) after_it first old new w a = front-append state now xs ys first old new w a
+answers-more state now xs ys (Err Strayed) after_it first old new w a = absurd a
 answers-more state now xs ys (Err Memory) after_it first old new w a = front-append state now xs ys first old new w a
 
 -- the answer isn't that all were answered
@@ -106,6 +107,7 @@ answers-stay state now xs ys (Ok None) old new settled s a = absurd s
 answers-stay state now xs ys (Ok (Some status)) old new settled s a = (a.0, written-stays state now xs ys status old new settled a.0 a.1)
 answers-stay state now xs ys (Err Read) old new settled s a = absurd a
 answers-stay state now xs ys (Err Write) old new settled s a = front-longer state xs ys old new a
+answers-stay state now xs ys (Err Strayed) old new settled s a = absurd a
 answers-stay state now xs ys (Err Memory) old new settled s a = front-longer state xs ys old new a
 
 take-next : (bodies : List (Vec ℕ Global)) (i : ℕ) (body : Vec ℕ Global) (text : List ℕ) → i < length bodies → body ≡ get_or bodies i body → text ≡ body.items

@@ -7,11 +7,11 @@ use Rattle.abnf_cert.specs.declared.fault.CertFault.TheVariants as cert
 use Rattle.ls_session.specs.declared.event.Status.{Status}
 use Rattle.ls_session.specs.declared.event.Status.TheVariants as status
 use Rattle.ls_server.specs.declared.serve.ServeFault.{ServeFault}
-use Rattle.ls_server.specs.declared.serve.ServeFault.TheVariants.{Read, Write, Memory}
+use Rattle.ls_server.specs.declared.serve.ServeFault.TheVariants.{Read, Write, Strayed, Memory}
 use Rattle.ls_server.specs.declared.file.FileFault.{FileFault}
 use Rattle.ls_server.specs.declared.file.FileFault.TheVariants as file
 use Rattle.ls_server.specs.declared.ending.Ending.{Ending}
-use Rattle.ls_server.specs.declared.ending.Ending.TheVariants.{Good, Not, Framing, Full, ReadFailed, WriteFailed, CannotRead, NotText, Certificate, Usage, OutOfMemory}
+use Rattle.ls_server.specs.declared.ending.Ending.TheVariants.{Good, Not, Framing, Full, ReadFailed, WriteFailed, CannotRead, NotText, Certificate, HasStrayed, Usage, OutOfMemory}
 
 -- the ending of a session
 abbrev pub ending_of : Result Status ServeFault → Ending
@@ -21,6 +21,7 @@ ending_of (Ok (status.BadFrame fault)) = Framing fault
 ending_of (Ok status.Full) = Full
 ending_of (Err Read) = ReadFailed
 ending_of (Err Write) = WriteFailed
+ending_of (Err Strayed) = HasStrayed
 ending_of (Err Memory) = OutOfMemory
 
 -- the ending of a command that can't use the file with this path
@@ -55,6 +56,7 @@ status_of_ending WriteFailed = 2
 status_of_ending (CannotRead path) = 2
 status_of_ending (NotText path) = 2
 status_of_ending (Certificate fault) = 2
+status_of_ending HasStrayed = 4
 status_of_ending Usage = 5
 status_of_ending OutOfMemory = 6
 
@@ -87,5 +89,6 @@ line_of_ending WriteFailed = codes "write failed"
 line_of_ending (CannotRead path) = codes "cannot read " ++ path
 line_of_ending (NotText path) = codes "not a text: " ++ path
 line_of_ending (Certificate fault) = codes "certificate fault " ++ cert_fault_text fault
+line_of_ending HasStrayed = codes "strayed"
 line_of_ending Usage = codes "usage: abnf_ls [example FILE RULE | check FILE CERT]"
 line_of_ending OutOfMemory = codes "out of memory"

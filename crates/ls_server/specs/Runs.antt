@@ -10,7 +10,7 @@ use Rattle.ls_steps.specs.Plain.{Says}
 use Rattle.ls_session.specs.declared.event.Status.{Status}
 use Rattle.ls_session.specs.declared.event.Status.TheVariants.{BadFrame, Unclean}
 use Rattle.ls_server.specs.declared.serve.ServeFault.{ServeFault}
-use Rattle.ls_server.specs.declared.serve.ServeFault.TheVariants.{Read, Write, Memory}
+use Rattle.ls_server.specs.declared.serve.ServeFault.TheVariants.{Read, Write, Strayed, Memory}
 
 -- the status where no exit comes before the end of the stream
 abbrev pub end_status : Option FrameFault → List ℕ → Status
@@ -48,12 +48,14 @@ abbrev pub AnswersIs : Going → List (List ℕ) → Option (List ℕ) → Resul
 AnswersIs state contents old (Ok status) after new = (after.status ≡ status) × Written state contents after old new
 AnswersIs state contents old (Err Read) after new = ⊥
 AnswersIs state contents old (Err Write) after new = WrittenFront state contents old new
+AnswersIs state contents old (Err Strayed) after new = ⊥
 AnswersIs state contents old (Err Memory) after new = WrittenFront state contents old new
 
 abbrev pub is_write : {A : Type 0} → Result A ServeFault → Bool
 is_write (Ok x) = false
 is_write (Err Read) = false
 is_write (Err Write) = true
+is_write (Err Strayed) = false
 is_write (Err Memory) = false
 
 -- Bytes come after a rest, and the run goes on with this rest.
@@ -88,6 +90,7 @@ PieceIs rest piece state old (Ok None) after_rest after_state new = GoesOn rest 
 PieceIs rest piece state old (Ok (Some status)) after_rest after_state new = Ends rest piece state old status new
 PieceIs rest piece state old (Err Read) after_rest after_state new = ⊥
 PieceIs rest piece state old (Err Write) after_rest after_state new = Stops rest piece state old new
+PieceIs rest piece state old (Err Strayed) after_rest after_state new = ⊥
 PieceIs rest piece state old (Err Memory) after_rest after_state new = Stops rest piece state old new
 
 -- what a fed piece means for the run, where its contents have been answered
@@ -112,6 +115,7 @@ ServedIs input left spent failed old (Ok status) new = (read : List ℕ) × Cons
     × (Ends [] read begun old status new ⊎ (IsAtEnd left × Finishes read old status new))
 ServedIs input left spent failed old (Err Read) new = spent × ((read : List ℕ) × (rest : List ℕ) × (state : Going) × Consumes input left read × GoesOn [] read begun old rest state new)
 ServedIs input left spent failed old (Err Write) new = failed × ((read : List ℕ) × Consumes input left read × Stops [] read begun old new)
+ServedIs input left spent failed old (Err Strayed) new = ⊥
 ServedIs input left spent failed old (Err Memory) new = (read : List ℕ) × Consumes input left read × Stops [] read begun old new
 
 -- the status of a run that leaves this state, with this rest behind the frames
@@ -131,4 +135,5 @@ RunIs input status bytes left old (Ok answer) new = (answer ≡ status) × Appen
 RunIs input status bytes left old (Err Read) new = (read : List ℕ) × (unread : List ℕ) × (contents : List (List ℕ)) × (rest : List ℕ) × (after : Going)
     × ((left ≡ Some unread) × (input ≡ read ++ unread) × Stream read contents rest × Written begun contents after old new × AppendsFront old new bytes)
 RunIs input status bytes left old (Err Write) new = AppendsFront old new bytes
+RunIs input status bytes left old (Err Strayed) new = ⊥
 RunIs input status bytes left old (Err Memory) new = AppendsFront old new bytes

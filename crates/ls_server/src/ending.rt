@@ -26,6 +26,8 @@ pub enum Ending {
     /// A file is too large, or the one with the grammar isn't UTF-8.
     NotText(Text),
     Certificate(CertFault),
+    /// What was done at the desk isn't what its journal has.
+    HasStrayed,
     Usage,
     OutOfMemory,
 }
@@ -69,6 +71,7 @@ impl Ending {
             Ok(Status::Full) => Ending::Full,
             Err(ServeFault::Read) => Ending::ReadFailed,
             Err(ServeFault::Write) => Ending::WriteFailed,
+            Err(ServeFault::Strayed) => Ending::HasStrayed,
             Err(ServeFault::Memory) => Ending::OutOfMemory,
         }
     }
@@ -110,6 +113,7 @@ impl Ending {
             | Ending::NotText(_)
             | Ending::Certificate(_) => 2,
             Ending::Full => 3,
+            Ending::HasStrayed => 4,
             Ending::Usage => 5,
             Ending::OutOfMemory => 6,
         }
@@ -127,6 +131,7 @@ impl Ending {
             Ending::CannotRead(path) => return ("cannot read ", path.as_str()),
             Ending::NotText(path) => return ("not a text: ", path.as_str()),
             Ending::Certificate(fault) => ("certificate fault ", numbered_cert_fault(*fault)),
+            Ending::HasStrayed => ("strayed", ""),
             Ending::Usage => ("usage: abnf_ls [example FILE RULE | check FILE CERT]", ""),
             Ending::OutOfMemory => ("out of memory", ""),
         }

@@ -18,4 +18,4 @@ pub use ls_desk::{DeskFault, Out};
 pub use ls_session::{ClientEvent, Session, Status, Turn, body_of, refusal_body};
 pub use ls_steps::{Run, Step, run_steps, sessions_are_unique, sessions_exist};
 pub use ls_text::Snapshot;
-pub use serve::{ServeFault, serve_limited, serve_plain};
+pub use serve::{READ_MOST, READS_END, ServeFault, serve_limited, serve_plain, write_all};

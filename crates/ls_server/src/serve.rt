@@ -18,7 +18,7 @@ use std::alloc::Global;
 use thiserror::Error;
 
 /// The most bytes that one read takes.
-const READ_MOST: usize = 65_536;
+pub const READ_MOST: usize = 65_536;
 
 /// A session makes fewer reads than this: the read with this number is answered as `Read`.
 pub const READS_END: u64 = 1_099_511_627_776;
@@ -30,12 +30,15 @@ pub enum ServeFault {
     Read,
     #[error("the sink failed")]
     Write,
+    /// What was done at the desk isn't what its journal has. Only a run by several threads tests that.
+    #[error("strayed")]
+    Strayed,
     #[error("out of memory")]
     Memory,
 }
 
-/// Writes all the bytes.
-fn write_all<W: Sink>(writer: &mut W, bytes: &[u8]) -> Result<(), DeviceFault>
+/// Writes all the bytes, unless the sink fails. Its one fault is `Failed`; a front of the bytes has been written then.
+pub fn write_all<W: Sink>(writer: &mut W, bytes: &[u8]) -> Result<(), DeviceFault>
     ensures ok { OnOk result (Appends (W.contents writer.old) (W.contents writer.new) bytes.now) }
     ensures front { AppendsFront (W.contents writer.old) (W.contents writer.new) bytes.now }
     ensures failed { W.failed writer.new ≡ (W.failed writer.old || is_failed result) }

@@ -30,7 +30,8 @@ use Rattle.ls_session.specs.declared.event.Status.{Status}
 use Rattle.ls_session.specs.declared.event.Turn.{Turn}
 use Rattle.ls_session.specs.declared.event.Turn.TheVariants.{Nothing, Event as Happens, Exit}
 use Rattle.ls_session.specs.declared.session.Stage.{Stage}
-use Rattle.ls_steps.specs.Runs.{Going, Held, Left, Steps, asker_of, begun, desk_of, entry_at, fault_at, finished_by, finishes, heard, is_filled, leaving, met, on_turn, ran, refused, runs, said_by, state_at, status_by, takes, tells, told_of, took, turned, unless_full, while_open}
+use Rattle.ls_workers.specs.Client.{asker_of}
+use Rattle.ls_steps.specs.Runs.{Going, Held, Left, Steps, begun, desk_of, entry_at, fault_at, finished_by, finishes, heard, is_filled, leaving, met, on_turn, ran, refused, runs, said_by, state_at, status_by, takes, tells, told_of, took, turned, unless_full, while_open}
 use Rattle.ls_steps.specs.Plain.{RunsOne, Works, AreFramesFor, Serves, Says, has_run_all, sent_all}
 use Rattle.ls_steps.proofs.OneSession.{body_for, body_told}
 use Rattle.ls_steps.proofs.ShortTexts.{Each, IsFine, IsShortEntry, IsShortEvent, fine_pushed, fine_sent, short_chars}

@@ -29,6 +29,7 @@ use Rattle.ls_session.specs.Bodies.{body_of, refusal_of}
 use Rattle.ls_session.specs.Session.{turn_of}
 use Rattle.ls_workers.specs.declared.client.ClientEvent.{ClientEvent}
 use Rattle.ls_workers.specs.declared.client.ClientEvent.TheVariants.{DidOpen, DidChange, DidClose, Request, Cancel, Say}
+use Rattle.ls_workers.specs.Client.{asker_of}
 use Rattle.ls_session.specs.declared.event.Turn.{Turn}
 use Rattle.ls_session.specs.declared.event.Turn.TheVariants.{Nothing, Event as Happens, Exit}
 use Rattle.ls_session.specs.declared.event.Status.{Status}
@@ -106,15 +107,6 @@ entry_at s (DidClose uri) = Closed uri
 entry_at s (Request id uri ask links) = Asked id uri ask links s.next_ticket
 entry_at s (Cancel id) = Cancelled id (id_waits id s.waiting)
 entry_at s (Say body) = Said body
-
--- whom a refusal concerns: a request has an id, all else is dropped
-abbrev pub asker_of : ClientEvent → Option Id
-asker_of (DidOpen uri label text) = None
-asker_of (DidChange uri label edits) = None
-asker_of (DidClose uri) = None
-asker_of (Request id uri ask links) = Some id
-asker_of (Cancel id) = None
-asker_of (Say body) = None
 
 abbrev pub told_of : Option Id → DeskFault → Option (List ℕ)
 told_of None fault = None

@@ -2,7 +2,7 @@
 ghost use Rattle.std.specs.Prelude.{◌≡◌, ◌≢◌, IfOk, IfErr, OnOk};
 ghost use Rattle.ls_desk.specs.Stands.{IsSound, state_of};
 ghost use Rattle.ls_desk.specs.Faults.{Accepts, Refuses, cancel_fault, end_fault, open_fault, request_fault};
-ghost use Rattle.ls_steps.specs.Runs.{asker_of, entry_at, fault_at, finishes, meets, refused};
+ghost use Rattle.ls_steps.specs.Runs.{entry_at, fault_at, finishes, meets, refused};
 ghost use Rattle.ls_steps.specs.Leaves.{Leaves};
 ghost use Rattle.ls_workers.specs.Client.{IsAllowed};
 
@@ -67,20 +67,6 @@ fn enter(desk: &mut Desk, event: ClientEvent) -> Result<(), DeskFault>
     }
 }
 
-/// Whom a refusal of this event concerns.
-fn asker(event: &ClientEvent) -> Result<Option<Id>, Memory>
-    ensures { IfOk result (λ id. id ≡ asker_of event.now) }
-{
-    match event {
-        ClientEvent::Request(id, _, _, _) => Ok(Some(id.copy()?)),
-        ClientEvent::DidOpen(_, _, _)
-        | ClientEvent::DidChange(_, _, _)
-        | ClientEvent::DidClose(_)
-        | ClientEvent::Cancel(_)
-        | ClientEvent::Say(_) => Ok(None),
-    }
-}
-
 /// Tells a refused request so, and answers whether the session is full.
 fn tell(alloc: Global, desk: &mut Desk, id: Option<Id>, fault: DeskFault) -> Result<bool, Memory>
     ensures left { IfOk result (λ full. Leaves (refused desk.old id fault) full desk.old desk.new) }
@@ -108,7 +94,7 @@ pub fn meet(alloc: Global, desk: &mut Desk, event: ClientEvent) -> Result<bool, 
     ensures left { IfOk result (λ full. Leaves (meets desk.old event) full desk.old desk.new) }
     ensures sound { IsSound desk.old → IsSound desk.new }
 {
-    let id = asker(&event)?;
+    let id = event.asker()?;
     match enter(desk, event) {
         Ok(()) => Ok(false),
         Err(DeskFault::Memory) => Err(Memory),

@@ -22,7 +22,9 @@ const MOST_EVENTS: usize = 1_000_000;
 const WORKER: u32 = 0;
 
 /// The frame of what is to be said.
-fn framed(alloc: Global, out: Out) -> Result<Vec<u8>, Memory>
+///
+/// `Memory` says that an allocation was refused.
+pub fn framed(alloc: Global, out: Out) -> Result<Vec<u8>, Memory>
     ensures { IfOk result (λ frame. (body : List ℕ) × (body_of out ≡ Some body) × (frame.items ≡ frame_of body)) }
 {
     let body = body_of(alloc, &out)?;

@@ -10,6 +10,6 @@ mod laws;
 mod plain;
 mod steps;
 
-pub use conversation::Conversation;
+pub use conversation::{Conversation, framed};
 pub use laws::{sessions_are_unique, sessions_exist};
 pub use steps::{Run, Step, run_steps};
