@@ -16,11 +16,15 @@ import tempfile
 import command_rows
 import random_texts
 import refused_memory
+import refused_threads
 import session_rows
 
 TOP = os.path.dirname(os.path.dirname(os.path.abspath(__file__)))
 BUILT = os.path.join(TOP, "crates", "abnf_ls", "out", "abnf_ls")
 PROGRAMS = (BUILT, BUILT + ".by-rattle")
+# The server on one thread, whose output is known to the last byte: the sessions run on it.
+PLAIN = os.path.join(TOP, "crates", "served_plainly", "out", "served_plainly")
+PLAIN_PROGRAMS = (PLAIN, PLAIN + ".by-rattle")
 USAGE = b"usage: abnf_ls [example FILE RULE | check FILE CERT]\n"
 
 
@@ -182,10 +186,14 @@ def random_cases(program):
     yield f"the tokens after {len(session.renames)} renames in random texts", session.renames.count(False), 0
 
 
-def all_cases(program):
-    yield from cases(program)
+def plain_cases(program):
     yield from session_cases(program)
     yield from random_cases(program)
+
+
+def all_cases(program):
+    yield from cases(program)
+    yield from refused_threads.cases(program)
     with tempfile.TemporaryDirectory() as folder:
         files = Files(folder)
         for some in (example_cases, check_cases, file_cases):
@@ -195,6 +203,8 @@ def all_cases(program):
 def programs_and_cases():
     for program in filter(os.path.isfile, PROGRAMS):
         yield from ((program, *case) for case in all_cases(program))
+    for program in filter(os.path.isfile, PLAIN_PROGRAMS):
+        yield from ((program, *case) for case in plain_cases(program))
     for program in filter(os.path.isfile, refused_memory.PROGRAMS):
         yield from ((program, *case) for case in refused_memory.cases(program))
 
@@ -202,7 +212,7 @@ def programs_and_cases():
 def main(words):
     counts = re.fullmatch(r"(\d+) passed, (\d+) failed", words[0]) if words else None
     passed, failed = map(int, counts.groups()) if counts else (0, 0)
-    for built in (BUILT, refused_memory.BUILT):
+    for built in (BUILT, PLAIN, refused_memory.BUILT):
         if not os.path.isfile(built):
             print(f"program_ends: there is no program {built}", file=sys.stderr)
             failed += 1

@@ -7,10 +7,11 @@ It must print the same in each run, and end by itself: a call at the desk that i
 goes through when it is made once more. A small library in front of the C library's refuses the allocation with the number that it is told.
 """
 import os
-import shutil
 import subprocess
 import sys
 import tempfile
+
+import preload
 
 TOP = os.path.dirname(os.path.dirname(os.path.abspath(__file__)))
 CRATE = os.path.join(TOP, "crates", "refused_memory")
@@ -44,20 +45,6 @@ void *realloc(void *block, unsigned long size) { return is_refused() ? 0 : __lib
 """
 
 
-def compiler():
-    """The C compiler of the toolchain."""
-    kit = os.path.dirname(os.path.dirname(os.path.realpath(shutil.which("rt"))))
-    return os.path.join(kit, "toolchain", "bin", "clang")
-
-
-def library(folder):
-    source, made = os.path.join(folder, "refuses.c"), os.path.join(folder, "refuses.so")
-    with open(source, "w", encoding="ascii") as file:
-        file.write(LIBRARY)
-    subprocess.run([compiler(), "-shared", "-fPIC", "-nostdlib", "-fuse-ld=lld", "-o", made, source], check=True)
-    return made
-
-
 def runs(program, made):
     """The status, the output and the standard error of a run with each allocation refused, and at last with none."""
     for number in range(1, MOST):
@@ -73,7 +60,7 @@ def cases(program):
     with open(os.path.join(CRATE, "stdout"), "rb") as file:
         wanted = file.read()
     with tempfile.TemporaryDirectory() as folder:
-        found = list(runs(program, library(folder)))
+        found = list(runs(program, preload.library(folder, "refuses", LIBRARY)))
     refused = len(found) - 1
     kinds = sorted(set(found[:-1]))
     yield f"{refused} allocations refused in turn", (refused > 100, kinds), (True, [(0, wanted, REFUSED)])

@@ -4,12 +4,26 @@
 
 use ls_server::{
     Ending, FileFault, ReadFrom, Snapshot, WriteTo, check_text, example_text, read_cert_file,
-    read_text, serve_plain,
+    read_text,
 };
+use ls_threads::{Gate, Served, serve_threads};
 use std::fs::File;
 use std::io::{ErrorKind, Write};
 use std::process::ExitCode;
+use std::sync::Wait;
+use std::thread::Threads;
 use std::{env, fs, io};
+
+/// How many threads work.
+const WORKERS: u32 = 4;
+
+/// Holds no worker back.
+#[derive(Drop)]
+struct Open;
+
+impl Gate for Open {
+    fn pass<R: Wait>(&self, _rt: &R, _ticket: u64) {}
+}
 
 /// Opens the file with this path.
 fn opened(rt: &HostRuntime, path: &str) -> Result<File, FileFault> {
@@ -70,21 +84,22 @@ fn check(rt: &HostRuntime, file: String, cert: String) -> Result<Ending, Ending>
 }
 
 /// Serves standard input and output.
-fn serve(rt: &HostRuntime) -> Ending {
-    let mut reader = ReadFrom::new(rt.stdin());
-    let mut writer = WriteTo::new(rt.stdout());
-    Ending::of(serve_plain(rt.alloc(), &mut reader, &mut writer))
+fn serve<R: Threads + Wait + Sync>(rt: &HostRuntime, threads: &R) -> Ending {
+    let source = ReadFrom::new(rt.stdin());
+    let sink = WriteTo::new(rt.stdout());
+    let Served { answer, .. } = serve_threads(threads, rt.alloc(), source, sink, WORKERS, &Open);
+    Ending::of(answer)
 }
 
 /// Does what the arguments ask for. One that isn't a text asks for nothing that there is.
-fn run(rt: &HostRuntime) -> Result<Ending, Ending> {
+fn run<R: Threads + Wait + Sync>(rt: &HostRuntime, threads: &R) -> Result<Ending, Ending> {
     let mut arguments = match env::args(rt) {
         Ok(arguments) => arguments.skip(1),
         Err(error) if error.kind() == ErrorKind::OutOfMemory => return Err(Ending::OutOfMemory),
         Err(_) => return Err(Ending::Usage),
     };
     let Some(command) = arguments.next() else {
-        return Ok(serve(rt));
+        return Ok(serve(rt, threads));
     };
     let (Some(file), Some(other), None) = (arguments.next(), arguments.next(), arguments.next())
     else {
@@ -98,7 +113,7 @@ fn run(rt: &HostRuntime) -> Result<Ending, Ending> {
 }
 
 fn main(rt: HostRuntime) -> ExitCode {
-    let ending = match run(&rt) {
+    let ending = match run(&rt, &rt) {
         Ok(ending) => ending,
         Err(ending) => ending,
     };

@@ -1,0 +1,83 @@
+//! How the threads end, and what that makes of the run.
+ghost use Rattle.std.specs.Prelude.{◌≡◌};
+ghost use Rattle.ls_threads.specs.Ends.{result_of};
+
+use ls_server::{ServeFault, Status};
+use std::alloc::AllocError;
+
+/// Why the reader broke off before the end of its input.
+#[derive(Clone, Copy, Debug, Drop, PartialEq, Eq)]
+pub enum Early {
+    /// The session has had as many events as it may have.
+    Full,
+    Memory,
+    /// Another thread ended the run.
+    Halted,
+}
+
+impl From<AllocError> for Early {
+    fn from(_: AllocError) -> Early {
+        Early::Memory
+    }
+}
+
+/// How the reader ended.
+#[derive(Clone, Copy, Debug, Drop, PartialEq, Eq)]
+pub enum Heard {
+    /// By an exit, the end of the input or a framing fault.
+    Ended(Status),
+    /// The source failed, or was read as often as one session may.
+    Failed,
+    Broken(Early),
+}
+
+/// How the writer ended.
+#[derive(Clone, Copy, Debug, Drop, PartialEq, Eq)]
+pub enum Wrote {
+    /// All that it was given is written.
+    All,
+    /// The sink failed.
+    Failed,
+    Memory,
+}
+
+/// How the workers ended.
+#[derive(Clone, Copy, Debug, Drop, PartialEq, Eq)]
+pub enum Worked {
+    /// They were given nothing more.
+    All,
+    /// The session has had as many events as it may have.
+    Full,
+    Memory,
+    /// The desk doesn't know what ran.
+    Strayed,
+}
+
+/// What the run answers: of several faults the one that comes first in [`ServeFault`], else `Full`, else the reader's status. `audited` says
+/// that the board was closed and gave its desk.
+pub fn result_of(
+    heard: Heard,
+    wrote: Wrote,
+    worked: Worked,
+    audited: bool,
+) -> Result<Status, ServeFault>
+    ensures { result ≡ result_of heard wrote worked audited }
+{
+    if let Heard::Failed = heard {
+        return Err(ServeFault::Read);
+    }
+    if let Wrote::Failed = wrote {
+        return Err(ServeFault::Write);
+    }
+    if !audited {
+        return Err(ServeFault::Strayed);
+    }
+    match (heard, wrote, worked) {
+        (_, _, Worked::Strayed) => Err(ServeFault::Strayed),
+        (Heard::Broken(Early::Memory), _, _) | (_, Wrote::Memory, _) | (_, _, Worked::Memory) =>
+            Err(ServeFault::Memory),
+        (Heard::Broken(Early::Full), _, _) | (_, _, Worked::Full) => Ok(Status::Full),
+        (Heard::Ended(status), _, Worked::All) => Ok(status),
+        (_, _, Worked::All) => Ok(Status::Unclean),
+    }
+}

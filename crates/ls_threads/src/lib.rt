@@ -1,0 +1,18 @@
+//! The server on several threads.
+//!
+//! The caller's thread reads, one thread writes, and each of 1 to 8 others works, all at one [`ls_workers::Board`]. An exit, the end of the
+//! input and a framing fault drain the board: what waits is run and sent. Where a device fails, memory is refused, the session is full or a
+//! run isn't the desk's, it is ended at once, and the reader learns it by a flag before the next message. Then all threads are joined and the
+//! board is closed, which tests the seats' lists against the journal: [`serve_threads`] answers `Ok` only after that.
+#![tactic(auto)]
+
+mod ending;
+mod halt;
+mod reading;
+mod serve;
+mod working;
+mod writing;
+
+pub use ending::{Early, Heard, Worked, Wrote, result_of};
+pub use ls_workers::Gate;
+pub use serve::{Served, serve_threads};

@@ -1,0 +1,162 @@
+//! What the reader does.
+ghost use Rattle.std.specs.Prelude.{◌≡◌, false, true};
+ghost use Rattle.ls_threads.specs.Ends.{has_cause};
+ghost use Rattle.ls_workers.specs.Client.{IsAllowed};
+
+use crate::ending::{Early, Heard};
+use ls_desk::DeskFault;
+use ls_frame::{FrameFault, Framer};
+use ls_lists::List;
+use ls_rpc::Id;
+use ls_server::{DeviceFault, READ_MOST, READS_END, Source, Status};
+use ls_session::{ClientEvent, Session, Turn, refusal_body};
+use ls_workers::{Board, ClientSeat, Crew};
+use std::alloc::Global;
+use std::sync::Wait;
+use std::sync::atomic::{AtomicU64, Ordering};
+
+/// The client's seat, and its session.
+#[derive(Drop)]
+pub struct Reader<C: Crew> {
+    pub alloc: Global,
+    pub seat: ClientSeat<C>,
+    pub session: Session,
+}
+
+/// The status where the input ends here.
+fn at_end(framer: &Framer) -> Status {
+    match framer.end() {
+        Ok(()) => Status::Unclean,
+        Err(fault) => Status::BadFrame(fault),
+    }
+}
+
+impl<C: Crew> Reader<C> {
+    /// Tells whoever asked that the desk refused it. Where no request did, nothing is said.
+    fn tell<R: Wait>(
+        &mut self,
+        rt: &R,
+        board: &Board<C>,
+        id: Option<Id>,
+        fault: DeskFault,
+    ) -> Result<(), Early> {
+        let Some(id) = id else {
+            return Ok(());
+        };
+        let Some(body) = refusal_body(self.alloc, &id, fault)? else {
+            return Ok(());
+        };
+        match board.client(rt, &mut self.seat, ClientEvent::Say(List::from_vec(body))) {
+            Ok(_) => Ok(()),
+            Err(DeskFault::SessionFull) => Err(Early::Full),
+            Err(_) => Err(Early::Memory),
+        }
+    }
+
+    /// Enters an event of the client. A refused request is told so.
+    fn meet<R: Wait>(&mut self, rt: &R, board: &Board<C>, event: ClientEvent) -> Result<(), Early>
+        requires { IsAllowed event }
+    {
+        let id = event.asker()?;
+        match board.client(rt, &mut self.seat, event) {
+            Ok(_) => Ok(()),
+            Err(DeskFault::SessionFull) => Err(Early::Full),
+            Err(DeskFault::Memory) => Err(Early::Memory),
+            Err(fault) => self.tell(rt, board, id, fault),
+        }
+    }
+
+    /// Hears a message by its body, and answers the status of an exit.
+    fn hear<R: Wait>(
+        &mut self,
+        rt: &R,
+        board: &Board<C>,
+        body: &[u8],
+    ) -> Result<Option<Status>, Early> {
+        match self.session.event(body)? {
+            Turn::Nothing => Ok(None),
+            Turn::Event(event) => {
+                self.meet(rt, board, event)?;
+                Ok(None)
+            }
+            Turn::Exit(status) => Ok(Some(status)),
+        }
+    }
+
+    /// Hears the bodies in order, up to an exit. Once the run is ended none is heard.
+    fn hear_all<R: Wait>(
+        &mut self,
+        rt: &R,
+        board: &Board<C>,
+        bodies: &[Vec<u8>],
+        halted: &AtomicU64,
+    ) -> Result<Option<Status>, Early> {
+        for body in bodies {
+            if halted.load(Ordering::SeqCst) != 0 {
+                return Err(Early::Halted);
+            }
+            if let Some(status) = self.hear(rt, board, body)? {
+                return Ok(Some(status));
+            }
+        }
+        Ok(None)
+    }
+
+    /// Takes a piece of the input and hears what it completes. An exit and a framing fault have a status.
+    fn take_piece<R: Wait>(
+        &mut self,
+        rt: &R,
+        board: &Board<C>,
+        framer: &mut Framer,
+        piece: &[u8],
+        halted: &AtomicU64,
+    ) -> Result<Option<Status>, Early> {
+        let mut bodies = Vec::new(self.alloc);
+        let fed = framer.feed(piece, &mut bodies);
+        if let Some(status) = self.hear_all(rt, board, &bodies, halted)? {
+            return Ok(Some(status));
+        }
+        match fed {
+            Ok(_) => Ok(None),
+            Err(FrameFault::Memory) => Err(Early::Memory),
+            Err(fault) => Ok(Some(Status::BadFrame(fault))),
+        }
+    }
+
+    /// Reads and hears the input up to an exit, its end or a fault.
+    ///
+    /// It waits for the lock alone, beside what the source waits for.
+    pub fn read_on<R: Wait, I: Source>(
+        &mut self,
+        rt: &R,
+        board: &Board<C>,
+        source: &mut I,
+        halted: &AtomicU64,
+    ) -> Heard
+        requires none { I.reads source.old ≡ 0 }
+        requires good { I.failed source.old ≡ false }
+        ensures { has_cause result (I.failed source.new) (I.reads source.new) ≡ true }
+    {
+        let Ok(mut buffer) = vec![in self.alloc; 0u8; READ_MOST] else {
+            return Heard::Broken(Early::Memory);
+        };
+        let mut framer = Framer::new(self.alloc);
+        for i in 1..READS_END {
+            let _ = i;
+            let count = match source.read(&mut buffer) {
+                Ok(count) => count,
+                Err(DeviceFault::Interrupted) => continue,
+                Err(DeviceFault::Failed) => return Heard::Failed,
+            };
+            if count == 0 {
+                return Heard::Ended(at_end(&framer));
+            }
+            match self.take_piece(rt, board, &mut framer, &buffer[..count], halted) {
+                Ok(None) => {}
+                Ok(Some(status)) => return Heard::Ended(status),
+                Err(early) => return Heard::Broken(early),
+            }
+        }
+        Heard::Failed
+    }
+}

@@ -1,0 +1,18 @@
+//! The server on one thread over standard input and output: each message is answered before the next one is read. The sessions of the gate
+//! run on it, since their bytes are known to the last.
+#![tactic(auto)]
+
+use ls_server::{Ending, ReadFrom, WriteTo, serve_plain};
+use std::process::ExitCode;
+
+fn main(rt: HostRuntime) -> ExitCode {
+    let mut reader = ReadFrom::new(rt.stdin());
+    let mut writer = WriteTo::new(rt.stdout());
+    let ending = Ending::of(serve_plain(rt.alloc(), &mut reader, &mut writer));
+    let (kind, detail) = ending.line();
+    if !kind.is_empty() {
+        // A line that can't be printed leaves the status to tell the ending.
+        let _ = eprintln!(&rt; "{kind}{detail}");
+    }
+    ExitCode::from(ending.status())
+}

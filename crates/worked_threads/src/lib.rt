@@ -1,0 +1,17 @@
+//! Worked sessions on several threads: what a client sends, what is written, and how the run ends.
+//!
+//! They stand above the crate that they test, since a crate with tests is proved twice. No clause says that several threads ran, that one
+//! that waits wakes, or that all that was asked is answered: here each session is served by 1, 2, 4 and 8 workers, and one of them can only
+//! end where a hover is answered while another worker holds an earlier one.
+#![tactic(auto)]
+
+#[cfg(test)]
+mod bodies;
+#[cfg(test)]
+mod devices;
+#[cfg(test)]
+mod many;
+#[cfg(test)]
+mod overtaking;
+#[cfg(test)]
+mod sessions;

@@ -1,0 +1,65 @@
+#!/usr/bin/env python3
+"""Runs the server with one thread refused, for each thread that it makes.
+
+    tools/refused_threads.py [PROGRAM]
+
+It must end by itself as it does where memory is refused, and write nothing. A small library in front of the C library's refuses the thread
+with the number that it is told.
+"""
+import os
+import subprocess
+import sys
+import tempfile
+
+import preload
+
+TOP = os.path.dirname(os.path.dirname(os.path.abspath(__file__)))
+BUILT = os.path.join(TOP, "crates", "abnf_ls", "out", "abnf_ls")
+# The writer's, and those of the workers.
+THREADS = 5
+NO_REQUEST = b"Content-Length: 2\r\n\r\n{}"
+
+LIBRARY = r"""
+extern char *getenv(const char *name);
+extern void *dlsym(void *handle, const char *name);
+
+static int made;
+
+int pthread_create(void *thread, const void *attributes, void *(*start)(void *), void *argument) {
+  const char *refused = getenv("REFUSED_THREAD");
+  int (*create)(void *, const void *, void *(*)(void *), void *) = dlsym((void *)-1, "pthread_create");
+  made++;
+  if (refused && *refused - '0' == made) return 11;
+  return create(thread, attributes, start, argument);
+}
+"""
+
+
+def ended(program, made, number):
+    """The status, the standard error and the output of a run in which this thread is refused."""
+    environment = {"LD_PRELOAD": made, "REFUSED_THREAD": str(number)}
+    ran = subprocess.run([program], env=environment, input=NO_REQUEST, stdout=subprocess.PIPE, stderr=subprocess.PIPE, timeout=60,
+                         check=False)
+    return ran.returncode, ran.stderr, len(ran.stdout)
+
+
+def cases(program):
+    """What was tried, how the program ended, and how it must end: the last run is one in which no thread is refused."""
+    with tempfile.TemporaryDirectory() as folder:
+        made = preload.library(folder, "refuses_threads", LIBRARY)
+        for number in range(1, THREADS + 1):
+            yield f"thread {number} refused", ended(program, made, number), (6, b"out of memory\n", 0)
+        yield "no thread refused", ended(program, made, THREADS + 1), (1, b"", 101)
+
+
+def main(words):
+    program = words[0] if words else BUILT
+    bad = [(what, found, wanted) for what, found, wanted in cases(program) if found != wanted]
+    for what, found, wanted in bad:
+        print(f"{what}: {found}, and not {wanted}")
+    print("ok" if not bad else "FAILED")
+    return 1 if bad else 0
+
+
+if __name__ == "__main__":
+    sys.exit(main(sys.argv[1:]))
