@@ -1,8 +1,9 @@
 #!/usr/bin/env python3
-"""Drives the built program over pipes and prints how long it takes.
+"""Drives the server on one thread over pipes and prints how long it takes.
 
-Run it from anywhere: bench/bench.py [PROGRAM], where PROGRAM is out/abnf_ls if left out. Times are wall-clock
-milliseconds, the best of five runs; sizes are bytes. Beside each time stands that of a plain measure of the same
+Run it from anywhere: bench/bench.py [PROGRAM], where PROGRAM is that of the crate served_plainly if left out, which is built where it isn't: on
+one thread a reply stands behind those of all requests before it, so the last one tells the end. (bench/threads.py times the program with its
+workers.) Times are wall-clock milliseconds, the best of five runs; sizes are bytes. Beside each time stands that of a plain measure of the same
 bytes: `cat` through the same pipes, or one copy in memory.
 """
 import json
@@ -13,8 +14,19 @@ import threading
 import time
 
 TOP = os.path.dirname(os.path.dirname(os.path.abspath(__file__)))
-PROGRAM = sys.argv[1] if len(sys.argv) > 1 else os.path.join(TOP, "out", "abnf_ls")
+PLAIN = os.path.join(TOP, "crates", "served_plainly")
 RUNS = 5
+
+
+def built(folder):
+    """The program of a crate, which is built where it isn't: on no input it ends at once."""
+    program = os.path.join(folder, "out", os.path.basename(folder))
+    if not os.path.isfile(program):
+        subprocess.run(["rt", "run"], cwd=folder, stdin=subprocess.DEVNULL, check=False)
+    return program
+
+
+PROGRAM = sys.argv[1] if len(sys.argv) > 1 else built(PLAIN)
 
 
 def frame(message):

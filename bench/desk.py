@@ -1,7 +1,7 @@
 #!/usr/bin/env python3
-"""Drives the built program through long sessions and prints what a request and an edit cost, and what a session keeps.
+"""Drives the server on one thread through long sessions and prints what a request and an edit cost, and what a session keeps.
 
-Run it from anywhere: bench/desk.py [PROGRAM], where PROGRAM is out/abnf_ls if left out. Times are wall-clock, from the first byte sent to
+Run it from anywhere: bench/desk.py [PROGRAM], where PROGRAM is that of the crate served_plainly if left out. Times are wall-clock, from the first byte sent to
 the last reply, with all messages sent as fast as they are read: the least of three sessions. Memory is the most that the program has had
 (peak resident set), in units of 1,000,000 bytes.
 
