@@ -1,7 +1,7 @@
 //! How a board ends, and that lists which aren't those of the journal are found out. It has one worker, and one document is opened.
 ghost use Rattle.std.specs.Prelude.{◌≡◌, ◌<◌};
 
-use super::calls::{has_kinds, opening, run_one};
+use super::calls::{has_kinds, hover, opening, run_one};
 use ls_desk::{Desk, DeskFault, ticket_of};
 use ls_workers::{
     Blanks, Board, ClientAnswer, ClientSeat, Crew, SeatFault, Stop, WorkerSeat, WriterSeat,
@@ -38,24 +38,40 @@ fn opens<C: Crew, R: Wait>(
     Ok(first == ClientAnswer::Version(1) && refused && counted)
 }
 
-// After `Drain` the job that is queued is given and its reply is sent, and nothing more.
+// The ticket of the next reply, if there is one.
+fn next_ticket<C: Crew, R: Wait>(
+    rt: &R,
+    board: &Board<C>,
+    writer: &mut WriterSeat<C>,
+) -> Result<Option<u64>, DeskFault> {
+    match board.next_out(rt, writer)? {
+        Some(out) => Ok(Some(ticket_of(&out))),
+        None => Ok(None),
+    }
+}
+
+// A hover is asked beside the findings. After `Drain` both jobs are given, and their replies, both of which wait, are sent in
+// their order, and nothing more.
 fn drains<C: Crew, R: Wait>(
     rt: &R,
     alloc: Global,
     board: &Board<C>,
+    client: &mut ClientSeat<C>,
     worker: &mut WorkerSeat<C>,
     writer: &mut WriterSeat<C>,
-) -> bool {
+) -> Result<bool, DeskFault> {
+    let asked = board.client(rt, client, hover(alloc, 1)?)?;
     board.stop(rt, Stop::Drain);
-    let ran = run_one(rt, alloc, board, worker) == Ok(1);
+    let findings = run_one(rt, alloc, board, worker)?;
+    let shown = run_one(rt, alloc, board, worker)?;
     let no_job = matches!(board.take(rt, worker), Ok(None));
     let unknown = board.give_back(rt, worker, 1) == Err(DeskFault::UnknownTicket);
-    let sent = match board.next_out(rt, writer) {
-        Ok(Some(out)) => ticket_of(&out) == 1,
-        _ => false,
-    };
-    let no_reply = matches!(board.next_out(rt, writer), Ok(None));
-    ran && no_job && unknown && sent && no_reply
+    let first = next_ticket(rt, board, writer)?;
+    let second = next_ticket(rt, board, writer)?;
+    let last = next_ticket(rt, board, writer)?;
+    let ran = asked == ClientAnswer::Ticket(2) && findings == 1 && shown == 2;
+    let sent = first == Some(1) && second == Some(2) && last == None;
+    Ok(ran && no_job && unknown && sent)
 }
 
 // After `Now` nothing is given, though a job is queued, and `Drain` doesn't undo it.
@@ -90,7 +106,7 @@ fn closes<C: Crew>(
     }
     match board.close(client, writer, workers) {
         Ok(desk) => {
-            let drained = has_kinds(alloc, desk.journal(), b"fost");
+            let drained = has_kinds(alloc, desk.journal(), b"affosstt");
             let stopped = has_kinds(alloc, desk.journal(), b"o");
             drop(desk);
             match session {
@@ -101,7 +117,7 @@ fn closes<C: Crew>(
         }
         Err(SeatFault::SeatMissing) => Ok(false),
         Err(SeatFault::Strayed(desk)) => {
-            let drained = has_kinds(alloc, desk.journal(), b"fost");
+            let drained = has_kinds(alloc, desk.journal(), b"affosstt");
             let stopped = has_kinds(alloc, desk.journal(), b"o");
             drop(desk);
             match session {
@@ -128,7 +144,9 @@ fn one_worker<C: Crew, R: Wait>(
     let opened = opens(rt, alloc, &board, &mut client) == Ok(true);
     let worker = &mut workers[0];
     let ended = match session {
-        Session::Drained | Session::Unsent => drains(rt, alloc, &board, worker, &mut writer),
+        Session::Drained | Session::Unsent => {
+            drains(rt, alloc, &board, &mut client, worker, &mut writer) == Ok(true)
+        }
         Session::Stopped | Session::Forgotten => stops(rt, &board, worker, &mut writer),
     };
     let closed = closes(alloc, board, client, writer, workers, session)?;
