@@ -1,23 +1,22 @@
 -- What a grammar's fields hold once they were made.
-use Rattle.std.proofs.Common.{◌≡◌, ℕ, List, [], map, refl, sym, ap, subst, ◌∙◌}
+use Rattle.std.proofs.Common.{◌≡◌, ℕ, List, [], map, length, sym, ap, subst, ◌∙◌}
 use Rattle.std.specs.Prelude.{fold, filter}
 use Rattle.ls_text.specs.declared.position.Place.{Place}
 use Rattle.abnf_syntax.specs.declared.fault.SyntaxFault.{SyntaxFault}
 use Rattle.abnf_parts.specs.declared.node.Node.{Node}
 use Rattle.abnf_parts.specs.declared.core_rule.Core.{Core}
-use Rattle.abnf_names.specs.declared.parsed.Parsed.{Parsed}
-use Rattle.abnf_names.specs.declared.place.Spot.{Spot}
 use Rattle.abnf_names.specs.declared.grammar.Grammar.TheInside.{Inside}
 use Rattle.abnf_parts.specs.Part.{Part}
 use Rattle.abnf_parts.specs.Core.{core_rules, core_name, is_needed}
 use Rattle.abnf_parts.specs.CoreTable.{core_of}
 use Rattle.abnf_names.specs.Said.{Block, AreSaid}
-use Rattle.abnf_parts.specs.Names.{Name, all_names, with_name}
+use Rattle.abnf_parts.specs.Names.{Name, all_names, names_beside, with_name}
 use Rattle.abnf_names.specs.Places.{Named, named_at, places_of}
 use Rattle.abnf_parts.specs.Nodes.{trees_at, AreNumbered}
 use Rattle.abnf_parts.specs.Reach.{AreReaching}
 use Rattle.abnf_names.specs.Rules.{defined, needed, undefined, names_of, rules_of, faults_of, Grammar}
-use Rattle.abnf_names.specs.Passes.{block_of, spot_name, is_unknown, AreNames, ArePlaced, AreRules}
+use Rattle.abnf_names.specs.Passes.{stated, AreDefined, AreNames, AreOwn, ArePlaced, AreRules, Grouped}
+use Rattle.abnf_names.specs.declared.definition.Definition.{Definition}
 use Rattle.abnf_names.specs.declared.rules.Rules.{Rules}
 use Rattle.abnf_names.specs.Excerpts.{excerpt, excerpt_of}
 use Rattle.abnf_names.specs.Inside.{IsGrammarInside}
@@ -41,20 +40,24 @@ same_grammar text names ns rules rs places ps faults fs n r p f =
 pub numbered : (blocks : List Block) (nodes : List Node) (roots : List ℕ) → AddsTrees (rules_of blocks) [] nodes [] roots → AreNumbered nodes roots
 numbered blocks nodes roots added = (tied (rules_of blocks) nodes roots added (rules_closed blocks)).numbered
 
--- what was taken apart are the rules of the blocks that were read
-pub rules_added : (ps qs : List Parsed) (names : List Name × List Name) (given cores : List Core) (nodes : List Node) (roots : List ℕ)
-    → ((blocks : List Block) → blocks ≡ map block_of ps → AreNames blocks names → map core_of given ≡ needed blocks → AddsTrees (rules_of blocks) [] nodes [] roots)
-    → qs ≡ ps → AreNames (map block_of qs) names → given ≡ cores → map core_of cores ≡ needed (map block_of qs) → AddsTrees (rules_of (map block_of ps)) [] nodes [] roots
-rules_added ps qs names given cores nodes roots adds read are given_from needs =
-    adds (map block_of ps) refl (subst (λ (ps : List Parsed). AreNames (map block_of ps) names) read are)
-    (ap (map core_of) given_from ∙ (needs ∙ ap (λ (ps : List Parsed). needed (map block_of ps)) read))
+-- names that were parted from what stands beside them
+defined_parts : (blocks : List Block) (groups : Grouped Definition) (own : List Name) (definitions : List (List Definition)) → AreOwn blocks groups → own ≡ groups.0 → definitions ≡ groups.1 → length groups.0 ≡ length groups.1 →
+    AreDefined blocks own definitions
+defined_parts blocks groups own definitions are o d l =
+    subst (λ ns. AreDefined blocks ns definitions) (sym o) (subst (λ ds. AreDefined blocks groups.0 ds) (sym d) (record { groups = are; beside = l }))
 
--- the same, with what leads to an opaque part
-pub rules_made : (rules : Rules) (ps qs : List Parsed) (ns : List Node) (ts : List ℕ) → qs ≡ ps → AreNames (map block_of qs) rules.names
-    → AddsTrees (rules_of (map block_of ps)) [] rules.nodes.items [] rules.roots.items → ns ≡ rules.nodes.items → ts ≡ rules.roots.items
-    → AreReaching (trees_at ns ts) rules.opaque.items → map excerpt rules.sections ≡ map excerpt_of (map block_of ps) → AreRules (map block_of ps) rules
-rules_made rules ps qs ns ts read names added nodes_from roots_from reaching excerpts = record {
-  names = subst (λ (ps : List Parsed). AreNames (map block_of ps) rules.names) read names;
+-- what was pushed by these parts are the rules of the blocks
+pub rules_added : (blocks : List Block) (groups : Grouped Definition) (definitions said : List (List Definition)) (names : List Name × List Name) (given cores : List Core) (nodes : List Node) (roots : List ℕ)
+    → ((blocks : List Block) → AreDefined blocks names.0 said → AreNames blocks names → map core_of given ≡ needed blocks → AddsTrees (rules_of blocks) [] nodes [] roots)
+    → AreOwn blocks groups → definitions ≡ groups.1 → length groups.0 ≡ length groups.1 → said ≡ definitions → AreNames blocks names × (map core_of cores ≡ needed blocks) → given ≡ cores → AddsTrees (rules_of blocks) [] nodes [] roots
+rules_added blocks groups definitions said names given cores nodes roots adds own d l s are g =
+    adds blocks (defined_parts blocks groups names.0 said own (are.0.own ∙ sym own.names) (s ∙ d) l) are.0 (ap (map core_of) g ∙ are.1)
+
+-- the rules with what leads to an opaque part
+pub rules_made : (rules : Rules) (blocks : List Block) (ns : List Node) (ts : List ℕ) → AreNames blocks rules.names → AddsTrees (rules_of blocks) [] rules.nodes.items [] rules.roots.items → ns ≡ rules.nodes.items → ts ≡ rules.roots.items →
+    AreReaching (trees_at ns ts) rules.opaque.items → map excerpt rules.sections ≡ map excerpt_of blocks → AreRules blocks rules
+rules_made rules blocks ns ts names added nodes_from roots_from reaching excerpts = record {
+  names = names;
   nodes = added;
   reaching =
       subst (λ (ns : List Node). AreReaching (trees_at ns rules.roots.items) rules.opaque.items) nodes_from
@@ -78,11 +81,11 @@ kept g blocks said are added places faults placed reaching excerpts =
     }
 
 -- the names of the rules, by the passes that made them
-pub names_made : (blocks : List Block) (own unknown core : List Name) (spots : List Spot) (cores : List Core) → own ≡ defined blocks → map named_at spots ≡ places_of blocks →
-    unknown ≡ fold with_name [] (filter (is_unknown own) (map spot_name spots)) → map core_of cores ≡ filter (is_needed unknown) core_rules → core ≡ fold with_name [] (map (λ c. core_name (core_of c)) cores) →
+pub names_made : (blocks : List Block) (own names core : List Name) (cores : List Core) → own ≡ defined blocks → names ≡ stated (places_of blocks) →
+    map core_of cores ≡ filter (is_needed (names_beside own names)) core_rules → core ≡ fold with_name [] (map (λ c. core_name (core_of c)) cores) →
     AreNames blocks (own, core) × (map core_of cores ≡ needed blocks)
-names_made blocks own unknown core spots cores o p u n c =
-    let all : map core_of cores ≡ needed blocks = n ∙ needed_all own unknown spots blocks o p u in (
+names_made blocks own names core cores o s n c =
+    let all : map core_of cores ≡ needed blocks = n ∙ needed_all own names blocks o s in (
       record {
         own = o;
         core = c ∙ (ap (fold with_name []) (map_both core_name core_of cores ∙ ap (map core_name) all) ∙ needed_names (is_needed (undefined blocks)));

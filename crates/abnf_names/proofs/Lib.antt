@@ -10,6 +10,7 @@ pub mod RulePass
 pub mod Closed
 pub mod Kept
 pub mod Within
+pub mod Once
 pub mod OneGrammar
 pub mod Exist
 pub mod Ascending

@@ -1,15 +1,14 @@
 -- Blocks and places under their names.
-use Rattle.std.proofs.Common.{◌≡◌, ◌<◌, ◌+◌, ℕ, suc, Bool, true, false, cond, List, [], ◌∷◌, ◌++◌, map, take, drop, length, get_or, refl, sym, ap, subst, ◌∙◌, append-nil, append_assoc, arith}
-use Rattle.std.specs.Option.{is_some, option_map_or}
-use Rattle.std.specs.Prelude.{not, position, Result, Ok, Err, IfOk, Option, Some, None, option_map, fold, filter, filter_map, if◌then◌else◌}
-use Rattle.std.proofs.Math.Seq.{take-suc, drop-cons}
+use Rattle.std.proofs.Common.{◌≡◌, ◌<◌, ◌+◌, ℕ, suc, Bool, true, false, List, [], ◌∷◌, ◌++◌, map, take, length, get_or, refl, sym, ap, subst, ◌∙◌, append-nil, append_assoc, arith}
+use Rattle.std.specs.Option.{option_map_or}
+use Rattle.std.specs.Prelude.{Result, Ok, Err, IfOk, Option, Some, None, option_map, fold, filter, filter_map, if◌then◌else◌}
+use Rattle.std.proofs.Math.Seq.{take-suc}
 use Rattle.std.proofs.lemmas.List.{map-append}
 use Rattle.std.proofs.lemmas.List.Elements.{filter-append, filter_map-append}
 use Rattle.std.proofs.lemmas.List.Sums.{fold-append}
 use Rattle.abnf_token.specs.Folded.{lowercase}
 use Rattle.abnf_names.specs.declared.parsed.Parsed.{Parsed}
 use Rattle.abnf_names.specs.declared.place.NamePlace.{NamePlace}
-use Rattle.abnf_names.specs.declared.place.Spot.{Spot}
 use Rattle.std.specs.Str.{bytes_eq}
 use Rattle.abnf_parts.specs.Names.{Name, with_name}
 use Rattle.abnf_syntax.specs.declared.block.Head.{Head}
@@ -17,11 +16,11 @@ use Rattle.abnf_syntax.specs.Heads.{head_of}
 use Rattle.abnf_names.specs.Said.{Block, name_of}
 use Rattle.abnf_names.specs.Places.{Named, name_place, places_of_name}
 use Rattle.abnf_names.specs.Rules.{defined, defines, head_name}
-use Rattle.abnf_names.specs.Passes.{block_of, definition, definition_of, spot_name, members_of, if_same, is_unknown, Grouped, AreOwn, ArePlaced}
+use Rattle.abnf_names.specs.Passes.{block_of, definition, definition_of, members_of, if_same, Grouped, AreOwn, ArePlaced, AreStated}
 use Rattle.abnf_names.specs.Excerpts.{excerpt, excerpt_of}
 use Rattle.abnf_names.specs.declared.definition.Definition.{Definition}
 use Rattle.abnf_names.specs.declared.section.Section.{Section}
-use Rattle.abnf_parts.proofs.NameLaws.{same_sym, position_any}
+use Rattle.abnf_parts.proofs.NameLaws.{same_sym}
 
 -- one more item that a loop has seen
 pub map_take-next : {X Y : Type 0} (f : X → Y) (xs : List X) (i : ℕ) (x d : X) → i < length xs → x ≡ get_or xs i d → map f (take (i + 1) xs) ≡ map f (take i xs) ++ f x ∷ []
@@ -75,7 +74,7 @@ own_same groups b e blocks own = record {
 }
 
 -- a place is put under its name
-pub placed_more : (old new : Grouped NamePlace) (n : Named) → ((m : Name) → members_of new m ≡ members_of old m ++ if_same (lowercase n.text) m (name_place n)) →
+placed_more : (old new : Grouped NamePlace) (n : Named) → ((m : Name) → members_of new m ≡ members_of old m ++ if_same (lowercase n.text) m (name_place n)) →
     (places : List Named) → ArePlaced places old → ArePlaced (places ++ n ∷ []) new
 placed_more old new n members places h m =
     members m
@@ -84,38 +83,21 @@ placed_more old new n members places h m =
     ∙ (sym (map-append name_place (places_of_name m places) (places_of_name m (n ∷ [])))
     ∙ ap (map name_place) (sym (filter-append (λ x. bytes_eq m (lowercase x.text)) places (n ∷ []))))))
 
+-- a place is put under its name, which is one of the names now
+pub stated_more : (old new : Grouped NamePlace) (n : Named) → new.0 ≡ with_name old.0 (lowercase n.text) →
+    ((m : Name) → members_of new m ≡ members_of old m ++ if_same (lowercase n.text) m (name_place n)) → (places : List Named) → AreStated places old → AreStated (places ++ n ∷ []) new
+stated_more old new n names members places are = record {
+  names =
+      names
+      ∙ (ap (λ ns. with_name ns (lowercase n.text)) are.names
+      ∙ sym (ap (fold with_name []) (map-append (λ (place : Named). lowercase place.text) places (n ∷ [])) ∙ fold-append with_name [] (map (λ (place : Named). lowercase place.text) places) (lowercase n.text ∷ [])));
+  placed = placed_more old new n members places are.placed;
+}
+
 -- what is known of two clauses together
 pub ok_both : {A E : Type 0} (r : Result A E) (P Q R : A → Type 0) → ((x : A) → P x → Q x → R x) → IfOk r P → IfOk r Q → IfOk r R
 ok_both (Ok x) P Q R f p q = f x p q
 ok_both (Err e) P Q R f p q = tt
-
-pub ok_one : {A E : Type 0} (r : Result A E) (P R : A → Type 0) → ((x : A) → P x → R x) → IfOk r P → IfOk r R
-ok_one (Ok x) P R f p = f x p
-ok_one (Err e) P R f p = tt
-
--- a name that no rule has is added
-pub unknown_next : (test : Name → Bool) (names : List Name) (n : Name) (rest : List Name) →
-    fold with_name names (filter test (n ∷ rest)) ≡ fold with_name (fold with_name names (filter test (n ∷ []))) (filter test rest)
-unknown_next test names n rest = by (test n)
-  where
-    by : (b : Bool) → fold with_name names (cond b (n ∷ filter test rest) (filter test rest)) ≡ fold with_name (fold with_name names (cond b (n ∷ []) [])) (filter test rest)
-    by true = refl
-    by false = refl
-
-pub known : (own names : List Name) (n : Name) (k : ℕ) → position (bytes_eq n) own ≡ Some k → names ≡ fold with_name names (filter (is_unknown own) (n ∷ []))
-known own names n k h = sym (ap (λ b. fold with_name names (cond (not b) (n ∷ []) [])) (position_any n own ∙ ap is_some h))
-
-pub unknown : (own names : List Name) (n : Name) → position (bytes_eq n) own ≡ None → with_name names n ≡ fold with_name names (filter (is_unknown own) (n ∷ []))
-unknown own names n h = sym (ap (λ b. fold with_name names (cond (not b) (n ∷ []) [])) (position_any n own ∙ ap is_some h))
-
-pub unknown_step : (own : List Name) (spots : List Spot) (i : ℕ) (spot d : Spot) → i < length spots → spot ≡ get_or spots i d → (all names now : List Name) →
-    all ≡ fold with_name names (filter (is_unknown own) (map spot_name (drop i spots))) → now ≡ fold with_name names (filter (is_unknown own) (spot_name spot ∷ [])) →
-    all ≡ fold with_name now (filter (is_unknown own) (map spot_name (drop (i + 1) spots)))
-unknown_step own spots i spot d lt is all names now h e =
-    h
-    ∙ (ap (λ left. fold with_name names (filter (is_unknown own) (map spot_name left))) (drop-cons spots i d lt ∙ (ap (λ s. s ∷ drop (suc i) spots) (sym is) ∙ ap (λ k. spot ∷ drop k spots) (let one : suc i ≡ i + 1 = omega arith in one)))
-    ∙ (unknown_next (is_unknown own) names (spot_name spot) (map spot_name (drop (i + 1) spots))
-    ∙ ap (λ ns. fold with_name ns (filter (is_unknown own) (map spot_name (drop (i + 1) spots)))) (sym e)))
 
 -- the names and the sections of those blocks that were seen
 pub record IsSplit (all done rest : List Parsed) (groups : Grouped Definition) (sections : List Section) : Type 0 where

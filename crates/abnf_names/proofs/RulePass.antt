@@ -5,17 +5,17 @@ use Rattle.std.proofs.lemmas.Grind.{flat_map-append}
 use Rattle.std.specs.Prelude.{Option, flat_map, filter, not, ◌||◌, if◌then◌else◌}
 use Rattle.abnf_parts.specs.declared.node.Node.{Node}
 use Rattle.abnf_names.specs.declared.definition.Definition.{Definition}
-use Rattle.abnf_parts.specs.Part.{Part, alt, subparts}
+use Rattle.abnf_parts.specs.Part.{Part, alt}
 use Rattle.abnf_parts.specs.Tree.{parts}
 use Rattle.abnf_names.specs.Said.{Block}
-use Rattle.abnf_parts.specs.Names.{Name, rule_number, folded_text, all_names}
+use Rattle.abnf_parts.specs.Names.{Name, rule_number, all_names}
 use Rattle.abnf_names.specs.Rules.{counted, adds, defines, names_of, rule_tree, rules_of, core_tree, needed, defined, said_alternatives}
 use Rattle.abnf_parts.specs.CoreTable.{core_of, number_in}
 use Rattle.abnf_parts.specs.declared.core_rule.Core.{Core}
-use Rattle.abnf_token.specs.declared.folded.Folded.{Folded}
 use Rattle.abnf_parts.proofs.ApartLaws.{map_both}
-use Rattle.abnf_names.specs.Passes.{alternatives_of, counted_among, definition_of, is_adding, members_of, Grouped, AreOwn, AreNames}
-use Rattle.abnf_parts.specs.Pushed.{Adds, AddsTrees}
+use Rattle.abnf_names.specs.Passes.{alternatives_of, counted_among, definition_of, is_adding, members_in, members_of, tree_of, Grouped, AreDefined, AreOwn, AreNames}
+use Rattle.abnf_names.proofs.Once.{IsOnce, defined_once, members_are, map_same}
+use Rattle.abnf_parts.specs.Pushed.{AddsTrees}
 use Rattle.abnf_parts.proofs.Pushing.{trees_none, trees_both}
 
 -- the alternatives of those definitions in front that count, where it is known whether one with `=` was among them
@@ -84,26 +84,36 @@ said_of number [] = refl
 said_of number (b ∷ bs) = ap (λ ps. said_alternatives number b ++ ps) (said_of number bs)
 
 -- the tree of a name's rule by the definitions that stand under it
-pub rule_is : (blocks : List Block) (groups : Grouped Definition) (names : List Name) (n : Name) (members : List Definition) (old new : List Node) → members ≡ members_of groups n → AreOwn blocks groups → names_of blocks ≡ names →
-    Adds (subparts (alt (parts (flat_map (alternatives_of (rule_number names)) (counted_among members))))) old new → Adds (subparts (rule_tree blocks n)) old new
-rule_is blocks groups names n members old new m own e h =
+rule_is : (blocks : List Block) (groups : Grouped Definition) (number : Name → Option ℕ) → AreOwn blocks groups → number ≡ rule_number (names_of blocks) →
+    (n : Name) → tree_of number (members_of groups n) ≡ rule_tree blocks n
+rule_is blocks groups number own e n =
     let bs = filter (defines n) blocks in
-    let said : flat_map (alternatives_of (rule_number names)) (counted_among members) ≡ flat_map (said_alternatives (rule_number names)) (counted bs) =
-    ap (λ ds. flat_map (alternatives_of (rule_number names)) (counted_among ds)) (m ∙ own.members n) ∙ (ap (flat_map (alternatives_of (rule_number names))) (counted_of bs) ∙ said_of (rule_number names) (counted bs)) in
-    subst (λ ns. Adds (subparts (alt (parts (flat_map (said_alternatives (rule_number ns)) (counted bs))))) old new) (sym e)
-    (subst (λ ps. Adds (subparts (alt (parts ps))) old new) said h)
+    ap (λ ds. tree_of number ds) (own.members n)
+    ∙ (ap (λ ds. alt (parts (flat_map (alternatives_of number) ds))) (counted_of bs)
+    ∙ (ap (λ ps. alt (parts ps)) (said_of number (counted bs))
+    ∙ ap (λ (it : Name → Option ℕ). alt (parts (flat_map (said_alternatives it) (counted bs)))) e))
 
--- the rules of the text, and then the core rules
-pub rules_added : (blocks : List Block) (own : List Folded) (names : List Name × List Name) (cores : List Core) (first : ℕ) (old mid new : List Node) (a b c : List ℕ) → AreNames blocks names →
-    map folded_text own ≡ names.0 → first ≡ length names.0 → map core_of cores ≡ needed blocks →
-    AddsTrees (map (λ name. rule_tree blocks (folded_text name)) own) old mid a b → AddsTrees (map (λ core. (core_of core).tree (number_in first names.1)) cores) mid new b c → AddsTrees (rules_of blocks) old new a c
-rules_added blocks own names cores first old mid new a b c are o f n h k =
-    subst (λ trees. AddsTrees trees old new a c)
-    (ap (λ front. front ++ map (λ core. (core_of core).tree (number_in first names.1)) cores) (map_both (rule_tree blocks) folded_text own ∙ ap (map (rule_tree blocks)) (o ∙ are.own))
-    ∙ ap (λ back. map (rule_tree blocks) (defined blocks) ++ back)
-    (ap (λ (number : Name → Option ℕ). map (λ core. (core_of core).tree number) cores) (ap (λ k. number_in k names.1) (f ∙ ap length are.own) ∙ ap (number_in (length (defined blocks))) are.core)
-    ∙ (map_both (core_tree blocks) core_of cores ∙ ap (map (core_tree blocks)) n)))
-    (trees_both (map (λ name. rule_tree blocks (folded_text name)) own) (map (λ core. (core_of core).tree (number_in first names.1)) cores) old mid new a b c h k)
+-- the trees of the text's rules by the definitions that stand beside their names
+own_trees : (blocks : List Block) (own : List Name) (definitions : List (List Definition)) (number : Name → Option ℕ) → AreDefined blocks own definitions → number ≡ rule_number (names_of blocks) →
+    map (tree_of number) definitions ≡ map (rule_tree blocks) (defined blocks)
+own_trees blocks own definitions number are e =
+    ap (map (tree_of number)) (sym (members_are own definitions (subst IsOnce (sym are.groups.names) (defined_once blocks)) are.beside))
+    ∙ (sym (map_both (tree_of number) (members_in own definitions) own)
+    ∙ (map_same (λ n. tree_of number (members_in own definitions n)) (rule_tree blocks) (rule_is blocks (own, definitions) number are.groups e) own
+    ∙ ap (map (rule_tree blocks)) are.groups.names))
 
 pub names_are : (blocks : List Block) (names : List Name × List Name) → AreNames blocks names → names_of blocks ≡ all_names names
 names_are blocks names are = sym (ap (λ own. own ++ names.1) are.own ∙ ap (λ core. defined blocks ++ core) are.core)
+
+-- the rules of the text, and then the core rules
+pub rules_added : (blocks : List Block) (names : List Name × List Name) (definitions : List (List Definition)) (cores : List Core) (first : ℕ) (old mid new : List Node) (a b c : List ℕ) → AreDefined blocks names.0 definitions →
+    AreNames blocks names → first ≡ length names.0 → map core_of cores ≡ needed blocks →
+    AddsTrees (map (tree_of (rule_number (all_names names))) definitions) old mid a b → AddsTrees (map (λ core. (core_of core).tree (number_in first names.1)) cores) mid new b c → AddsTrees (rules_of blocks) old new a c
+rules_added blocks names definitions cores first old mid new a b c defined_are are f n h k =
+    let said = tree_of (rule_number (all_names names)) in
+    subst (λ trees. AddsTrees trees old new a c)
+    (ap (λ front. front ++ map (λ core. (core_of core).tree (number_in first names.1)) cores) (own_trees blocks names.0 definitions (rule_number (all_names names)) defined_are (ap rule_number (sym (names_are blocks names are))))
+    ∙ ap (λ back. map (rule_tree blocks) (defined blocks) ++ back)
+    (ap (λ (number : Name → Option ℕ). map (λ core. (core_of core).tree number) cores) (ap (λ k. number_in k names.1) (f ∙ ap length are.own) ∙ ap (number_in (length (defined blocks))) are.core)
+    ∙ (map_both (core_tree blocks) core_of cores ∙ ap (map (core_tree blocks)) n)))
+    (trees_both (map said definitions) (map (λ core. (core_of core).tree (number_in first names.1)) cores) old mid new a b c h k)

@@ -1,10 +1,12 @@
 -- Spots that were found are the places of names that are found.
-use Rattle.std.proofs.Common.{◌≡◌, Bool, true, false, List, [], ◌∷◌, map, Option, Some, None, option_map, refl, ◌∙◌}
+use Rattle.std.proofs.Common.{◌≡◌, ℕ, Bool, true, false, List, [], ◌∷◌, map, Option, Some, None, option_map, refl, sym, ap, ◌∙◌}
+use Rattle.std.specs.Borrow.{Bor}
+use Rattle.ls_text.specs.Positions.{place_at}
 use Rattle.std.specs.Prelude.{find, if◌then◌else◌}
 use Rattle.std.specs.Option.{option_or}
 use Rattle.ls_text.specs.declared.position.Place.{Place}
 use Rattle.abnf_names.specs.declared.place.Spot.{Spot}
-use Rattle.abnf_names.specs.Places.{Named, named_at, holds, ends_at, found_at}
+use Rattle.abnf_names.specs.Places.{Named, named_at, holds, ends_at, found_at, at_offset, place_and_text}
 use Rattle.abnf_names.specs.Passes.{spot_at}
 
 find-map : (test : Named → Bool) (spots : List Spot) → option_map named_at (find (λ spot. test (named_at spot)) spots) ≡ find test (map named_at spots)
@@ -25,3 +27,13 @@ pub spot_is : (at : Place) (spots : List Spot) → option_map named_at (spot_at 
 spot_is at spots =
     or-map (find (λ spot. holds at (named_at spot)) spots) (find (λ spot. ends_at at (named_at spot)) spots)
     ∙ (λ i. option_or (find-map (holds at) spots i) (find-map (ends_at at) spots i))
+
+abbrev seen : Bor Spot → Spot
+seen spot = spot.now
+
+-- what was found among the spots stands at the offset
+pub told : (own : List ℕ) (places : List Named) (text : List ℕ) (spots given : List Spot) (at : Place) (offset : ℕ) (o p : Option (Bor Spot)) → text ≡ own → map named_at spots ≡ places → given ≡ spots →
+    at ≡ place_at text offset → option_map seen o ≡ spot_at at given → o ≡ p → option_map place_and_text (option_map named_at (option_map seen p)) ≡ option_map place_and_text (at_offset own places offset)
+told own places text spots given at offset o p text_is places_are given_is at_is found is =
+    ap (λ x. option_map place_and_text (option_map named_at (option_map seen x))) (sym is)
+    ∙ ap (option_map place_and_text) (ap (option_map named_at) found ∙ spot_is at given ∙ (λ i. found_at (at_is i) (map named_at (given_is i))) ∙ (λ i. at_offset (text_is i) (places_are i) offset))

@@ -19,7 +19,7 @@ numbers_code = coded× coded_ℕ (coded× coded_ℕ coded_ℕ)
 abbrev place_code : Coded Place
 place_code = code_by Numbers numbers_code (λ p. (p.line, (p.start, p.end))) (λ n. record { line = n.0; start = n.1.0; end = n.1.1 }) (λ p. refl)
 
-abbrev named_code : Coded Named
+abbrev pub named_code : Coded Named
 named_code = code_by (List ℕ × (Place × Bool)) (coded× (coded_list coded_ℕ) (coded× place_code coded_bool)) (λ n. (n.text, (n.place, n.defines))) (λ t. record { text = t.0; place = t.1.0; defines = t.1.1 }) (λ n. refl)
 
 abbrev numbered : SyntaxFault → ℕ × Place

@@ -1,6 +1,5 @@
 -- What the passes over a text's blocks hold. Only contracts of private functions speak of it.
-use Rattle.std.specs.Prelude.{◌≡◌, ℕ, Bool, not, List, [], ◌∷◌, map, filter, find, Option, Result, if◌then◌else◌}
-use Rattle.std.specs.List.{list_any}
+use Rattle.std.specs.Prelude.{◌≡◌, ℕ, Bool, List, [], ◌∷◌, map, flat_map, fold, filter, find, length, Option, Result, if◌then◌else◌}
 use Rattle.std.specs.Option.{option_or}
 use Rattle.ls_text.specs.declared.position.Place.{Place}
 use Rattle.abnf_syntax.specs.declared.item.Item.{Item}
@@ -10,7 +9,8 @@ use Rattle.abnf_names.specs.declared.definition.Definition.{Definition}
 use Rattle.abnf_names.specs.declared.parsed.Parsed.{Parsed}
 use Rattle.abnf_names.specs.declared.place.Spot.{Spot}
 use Rattle.abnf_names.specs.declared.place.NamePlace.{NamePlace}
-use Rattle.abnf_parts.specs.Names.{folded_text, Name}
+use Rattle.abnf_token.specs.Folded.{lowercase}
+use Rattle.abnf_parts.specs.Names.{Name, with_name}
 use Rattle.std.specs.Str.{bytes_eq}
 use Rattle.abnf_names.specs.Said.{Block}
 use Rattle.abnf_names.specs.Places.{Named, named_at, name_place, holds, ends_at, places_of, places_of_name}
@@ -21,7 +21,8 @@ use Rattle.abnf_names.specs.declared.rules.Rules.{Rules}
 use Rattle.abnf_parts.specs.Nodes.{trees_at}
 use Rattle.abnf_parts.specs.Pushed.{AddsTrees}
 use Rattle.abnf_parts.specs.Reach.{AreReaching}
-use Rattle.abnf_parts.specs.Part.{Part}
+use Rattle.abnf_parts.specs.Part.{Part, alt}
+use Rattle.abnf_parts.specs.Tree.{parts}
 use Rattle.abnf_parts.specs.Core.{core_name}
 
 abbrev pub block_saying : List Item → Result Rule SyntaxFault → Block
@@ -47,6 +48,10 @@ counted_among (d ∷ ds) = d ∷ (if is_adding d then counted_among ds else filt
 
 abbrev pub alternatives_of : (Name → Option ℕ) → Definition → List Part
 alternatives_of number d = alternatives_said number d.said
+
+-- the rule whose name has these definitions
+abbrev pub tree_of : (Name → Option ℕ) → List Definition → Part
+tree_of number definitions = alt (parts (flat_map (alternatives_of number) (counted_among definitions)))
 
 -- the first spot that holds what stands behind that point, else the first that ends there
 abbrev pub spot_at : Place → List Spot → Option Spot
@@ -74,16 +79,23 @@ pub record AreOwn (blocks : List Block) (groups : Grouped Definition) : Type 0 w
   pub names : groups.0 ≡ defined blocks
   pub members : (name : Name) → members_of groups name ≡ map definition_of (filter (defines name) blocks)
 
+-- the names that these blocks define, and beside each what its blocks say
+pub record AreDefined (blocks : List Block) (own : List Name) (definitions : List (List Definition)) : Type 0 where
+  pub groups : AreOwn blocks (own, definitions)
+  pub beside : length own ≡ length definitions
+
 -- under each name its places
 abbrev pub ArePlaced : List Named → Grouped NamePlace → Type 0
 ArePlaced places groups = (name : Name) → members_of groups name ≡ map name_place (places_of_name name places)
 
--- the names that no rule of the text has
-abbrev pub is_unknown : List Name → Name → Bool
-is_unknown own name = not (list_any (bytes_eq name) own)
+-- the names that stand at these places, each where it stands first
+abbrev pub stated : List Named → List Name
+stated places = fold with_name [] (map (λ place. lowercase place.text) places)
 
-abbrev pub spot_name : Spot → Name
-spot_name spot = folded_text spot.name
+-- the names that stand at these places, and under each its places
+pub record AreStated (places : List Named) (groups : Grouped NamePlace) : Type 0 where
+  pub names : groups.0 ≡ stated places
+  pub placed : ArePlaced places groups
 
 -- the names of the rules of the text, and those of the needed core rules
 pub record AreNames (blocks : List Block) (names : List Name × List Name) : Type 0 where
@@ -93,7 +105,7 @@ pub record AreNames (blocks : List Block) (names : List Name × List Name) : Typ
 -- the places of the names of these blocks
 pub record AreNamePlaces (blocks : List Block) (found : NamePlaces) : Type 0 where
   pub spots : map named_at found.spots ≡ places_of blocks
-  pub by_name : ArePlaced (map named_at found.spots) found.by_name
+  pub by_name : AreStated (map named_at found.spots) found.by_name
 
 -- the rules of these blocks, and the blocks without them
 pub record AreRules (blocks : List Block) (rules : Rules) : Type 0 where

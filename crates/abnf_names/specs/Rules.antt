@@ -112,3 +112,10 @@ pub record IsGrammar (g : Grammar) : Type 0 where
   pub blocks : List Block
   pub of_text : AreSaid g.text blocks
   pub is : g ≡ grammar_of g.text blocks
+
+-- These are the places of names in the text, those of its grammar.
+pub record HasPlaces (text : List ℕ) (places : List Named) : Type 0 where
+  pub grammar : Grammar
+  pub of_text : grammar.text ≡ text
+  pub right : IsGrammar grammar
+  pub are : grammar.places ≡ places

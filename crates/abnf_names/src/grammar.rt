@@ -75,7 +75,7 @@ impl<'t> Grammar<'t> {
         let parsed = parsed_blocks(alloc, snapshot)?;
         let faults = faults_of(alloc, parsed.as_slice())?;
         let places = name_places(alloc, parsed.as_slice())?;
-        let rules = rules_said(alloc, parsed, places.spots.as_slice())?;
+        let rules = rules_said(alloc, parsed, &places)?;
         Ok(Grammar {
             source: snapshot,
             nodes: rules.nodes,

@@ -1,6 +1,6 @@
 //! Things that are put under names.
 
-ghost use Rattle.std.specs.Prelude.{◌≡◌, ◌++◌, [], IfOk};
+ghost use Rattle.std.specs.Prelude.{◌≡◌, ◌++◌, [], length, IfOk};
 ghost use Rattle.abnf_parts.specs.Names.{Name, with_name, folded_text};
 ghost use Rattle.abnf_names.specs.Passes.{members_of, if_same};
 
@@ -41,6 +41,22 @@ impl<'t, T> Groups<'t, T> {
         }
     }
 
+    /// The names.
+    pub fn names(&self) -> &Names<'t>
+        ensures { result.now ≡ self.now.0 }
+    {
+        &self.names
+    }
+
+    /// The names, and beside each the list of its things.
+    pub fn into_parts(self) -> (Names<'t>, Vec<List<T>>)
+        ensures names { result.0 ≡ self.entry.0 }
+        ensures members { result.1.items ≡ self.entry.1 }
+        ensures beside { length self.entry.0 ≡ length self.entry.1 }
+    {
+        (self.names, self.members)
+    }
+
     /// The things under a name.
     pub fn members_of(&self, name: Folded<'t>) -> &[T]
         ensures { result.now ≡ members_of self.now (folded_text name.entry) }
@@ -62,7 +78,7 @@ impl<'t, T: Drop> Groups<'t, T> {
             mut names,
             mut members,
         } = self;
-        match names.index_of(name) {
+        match names.add(name)? {
             Some(at) => {
                 members[at].push(item)?;
                 Ok(Groups { names, members })
@@ -70,7 +86,6 @@ impl<'t, T: Drop> Groups<'t, T> {
             None => {
                 let mut list = List::new(alloc);
                 list.push(item)?;
-                names.add(name)?;
                 members.push(list)?;
                 Ok(Groups { names, members })
             }

@@ -2,7 +2,7 @@
 //!
 //! [`Grammar::of`] reads a text. Contracts see a grammar as its text, the names and trees of its rules, the places of names and the
 //! faults of blocks, all of which are functions of the text's blocks; the code has numbered nodes and hashed names, so that no call
-//! looks through all names. A text has at most one grammar ([`grammars_are_unique`]).
+//! looks through all names. [`Places::of`] reads the places alone. A text has at most one grammar ([`grammars_are_unique`]).
 #![tactic(auto)]
 
 mod definition;
@@ -12,6 +12,7 @@ mod laws;
 mod own;
 mod parsed;
 mod place;
+mod places;
 mod reach;
 mod rules;
 mod section;
@@ -20,4 +21,5 @@ pub use abnf_parts::{Node, NodeNo, RuleNo};
 pub use grammar::Grammar;
 pub use laws::{grammars_are_unique, grammars_exist, places_ascend};
 pub use place::{NamePlace, Spot, is_touched};
+pub use places::Places;
 pub use section::Section;

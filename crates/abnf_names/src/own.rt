@@ -1,13 +1,11 @@
 //! The names of a text: those that its blocks define, and those that stand in it.
 
-ghost use Rattle.std.specs.Prelude.{◌≡◌, ◌++◌, ◌∷◌, [], List, map, fold, filter, filter_map, option_map, IfOk, OnOk};
+ghost use Rattle.std.specs.Prelude.{◌≡◌, ◌++◌, ◌∷◌, [], List, map, IfOk};
 ghost use Rattle.abnf_names.specs.Said as said;
-ghost use Rattle.abnf_names.specs.Rules.{defined, needed, head_name, faults_of, fault_place, block_fault};
-ghost use Rattle.abnf_parts.specs.Names.{with_name};
+ghost use Rattle.abnf_names.specs.Rules.{defined, needed, faults_of, fault_place, block_fault};
 ghost use Rattle.abnf_names.specs.Places.{Named, named_at, places_of};
 ghost use Rattle.abnf_names.specs.Passes as spec;
 ghost use Rattle.abnf_names.specs.Excerpts as excerpts;
-ghost use Rattle.abnf_parts.specs.Core.{core_rules, is_needed};
 ghost use Rattle.abnf_parts.specs.CoreTable as table;
 
 use crate::definition::Definition;
@@ -21,30 +19,6 @@ use abnf_token::Folded;
 use ls_lists::List;
 use ls_text::Place;
 use std::alloc::{AllocError, Global};
-
-/// Adds the name that a block defines, if it defines one.
-fn add_own<'t>(names: &mut Names<'t>, parsed: &Parsed<'t>) -> Result<(), AllocError>
-    ensures { OnOk result (names.new ≡ fold with_name names.old (filter_map head_name (spec.block_of parsed.now ∷ []))) }
-{
-    match parsed.block.head() {
-        Some(head) => {
-            names.add(Folded(head.name.text))?;
-            Ok(())
-        }
-        None => Ok(()),
-    }
-}
-
-/// The names that the blocks define.
-fn own_names<'t>(alloc: Global, parsed: &[Parsed<'t>]) -> Result<Names<'t>, AllocError>
-    ensures { IfOk result (λ names. names ≡ defined (map spec.block_of parsed.now)) }
-{
-    let mut names = Names::new(alloc);
-    for p in parsed {
-        add_own(&mut names, p)?;
-    }
-    Ok(names)
-}
 
 /// What a block says under the name that it defines, if it defines one.
 fn with_block<'t>(
@@ -92,7 +66,7 @@ fn with_spot<'t>(
     groups: Groups<'t, NamePlace>,
     spot: &Spot<'t>,
 ) -> Result<Groups<'t, NamePlace>, AllocError>
-    ensures { IfOk result (λ g. (places : List Named) → spec.ArePlaced places groups.entry → spec.ArePlaced (places ++ named_at spot.now ∷ []) g) }
+    ensures { IfOk result (λ g. (places : List Named) → spec.AreStated places groups.entry → spec.AreStated (places ++ named_at spot.now ∷ []) g) }
 {
     let place = NamePlace {
         place: spot.place,
@@ -101,9 +75,9 @@ fn with_spot<'t>(
     groups.with(alloc, spot.name, place)
 }
 
-/// Under each name its places.
+/// The names that stand in the text, and under each its places.
 fn placed<'t>(alloc: Global, spots: &[Spot<'t>]) -> Result<Groups<'t, NamePlace>, AllocError>
-    ensures { IfOk result (λ g. spec.ArePlaced (map named_at spots.now) g) }
+    ensures { IfOk result (λ g. spec.AreStated (map named_at spots.now) g) }
 {
     let mut groups = Groups::new(alloc);
     for spot in spots {
@@ -131,62 +105,16 @@ pub(crate) fn name_places<'t>(
     Ok(NamePlaces { spots, by_name })
 }
 
-/// Adds a name that no block defines.
-fn add_unknown<'t>(
-    own: &Names<'t>,
-    names: &mut Names<'t>,
-    spot: &Spot<'t>,
-) -> Result<(), AllocError>
-    ensures { OnOk result (names.new ≡ fold with_name names.old (filter (spec.is_unknown own.now) (spec.spot_name spot.now ∷ []))) }
-{
-    match own.index_of(spot.name) {
-        Some(_) => Ok(()),
-        None => {
-            names.add(spot.name)?;
-            Ok(())
-        }
-    }
-}
-
-/// The names that stand in the text and that no block defines.
-fn unknown_names<'t>(
-    alloc: Global,
-    own: &Names<'t>,
-    spots: &[Spot<'t>],
-) -> Result<Names<'t>, AllocError>
-    ensures { IfOk result (λ names. names ≡ fold with_name [] (filter (spec.is_unknown own.now) (map spec.spot_name spots.now))) }
-{
-    let mut names = Names::new(alloc);
-    for spot in spots {
-        add_unknown(own, &mut names, spot)?;
-    }
-    Ok(names)
-}
-
-/// The core rules that are needed for the names that stand in the text and that no block defines.
-fn needed_for<'t>(
-    alloc: Global,
-    own: &Names<'t>,
-    spots: &[Spot<'t>],
-) -> Result<List<Core>, AllocError>
-    ensures { IfOk result (λ needed. map table.core_of needed ≡ filter (is_needed (fold with_name [] (filter (spec.is_unknown own.now) (map spec.spot_name spots.now)))) core_rules) }
-{
-    let unknown = unknown_names(alloc, own, spots)?;
-    needed_rules(alloc, &unknown)
-}
-
-/// The names of the rules of the text and of the core rules that it needs, and these core rules.
+/// The names of the rules of the text, which are these, and of the core rules that it needs, and these core rules.
 pub(crate) fn rule_names<'t>(
     alloc: Global,
-    parsed: &[Parsed<'t>],
-    spots: &[Spot<'t>],
+    own: Names<'t>,
+    places: &NamePlaces<'t>,
 ) -> Result<(RuleNames<'t>, List<Core>), AllocError>
-    requires { map named_at spots.now ≡ places_of (map spec.block_of parsed.now) }
-    ensures names { IfOk result (λ r. spec.AreNames (map spec.block_of parsed.now) r.0) }
-    ensures needed { IfOk result (λ r. map table.core_of r.1 ≡ needed (map spec.block_of parsed.now)) }
+    ensures { IfOk result (λ r. (blocks : List said.Block) → own.entry ≡ defined blocks → spec.AreNamePlaces blocks places.now
+        → spec.AreNames blocks r.0 × (map table.core_of r.1 ≡ needed blocks)) }
 {
-    let own = own_names(alloc, parsed)?;
-    let needed = needed_for(alloc, &own, spots)?;
+    let needed = needed_rules(alloc, &own, places.by_name.names())?;
     let core = core_names(alloc, needed.as_slice())?;
     Ok((RuleNames::new(own, core), needed))
 }

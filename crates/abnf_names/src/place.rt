@@ -69,7 +69,10 @@ fn push_use<'t>(spots: &mut List<Spot<'t>>, before: Kind, item: Item<'t>) -> Res
 }
 
 /// Adds the places in a block.
-fn push_places<'t>(spots: &mut List<Spot<'t>>, block: &Block<'t>) -> Result<(), AllocError>
+pub(crate) fn push_places<'t>(
+    spots: &mut List<Spot<'t>>,
+    block: &Block<'t>,
+) -> Result<(), AllocError>
     ensures { OnOk result (map places.named_at spots.new ≡ map places.named_at spots.old ++ places.places_in block.now.items) }
 {
     let Some((first, rest)) = block.items.as_slice().split_first() else {

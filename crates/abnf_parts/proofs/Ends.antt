@@ -1,6 +1,6 @@
 -- The ends of a range are the first two of its numbers.
 use Rattle.std.proofs.Common.{◌≡◌, ◌∙◌, ℕ, true, false, List, [], ◌∷◌, Some, None, refl, sym, ap}
-use Rattle.std.specs.Prelude.{Option, fold, if◌then◌else◌}
+use Rattle.std.specs.Prelude.{fold, if◌then◌else◌}
 use Rattle.abnf_parts.specs.Part.{series}
 use Rattle.abnf_parts.specs.Leaf.{both_ends, ends_of, has, number_in, numbers_from, span_of, with_end}
 

@@ -109,3 +109,26 @@ with_there n names k h = ap (λ b. if b then names else names ++ n ∷ []) (posi
 
 pub with_new : (n : Name) (names : List Name) → position (bytes_eq n) names ≡ None → with_name names n ≡ names ++ n ∷ []
 with_new n names h = ap (λ b. if b then names else names ++ n ∷ []) (position_any n names ∙ ap is_some h)
+
+-- the place that a name has, or would get
+pub no_place : (n : Name) (names : List Name) → list_any (bytes_eq n) names ≡ false → None ≡ position (bytes_eq n) names
+no_place n names h = by (position (bytes_eq n) names) (sym (position_any n names) ∙ h)
+  where
+    by : (o : Option ℕ) → is_some o ≡ false → None ≡ o
+    by None e = refl
+    by (Some k) e = absurd (cc e)
+
+pub old_place : {X : Type 0} (test : X → Bool) (xs : List X) (k : ℕ) → is_some (position test xs) ≡ true → k ≡ position_or_len test xs → Some k ≡ position test xs
+old_place test xs k h e = ap Some e ∙ by (nat_lt (position_or_len test xs) (length xs)) h
+  where
+    by : (b : Bool) → is_some (cond b (Some (position_or_len test xs)) None) ≡ true → Some (position_or_len test xs) ≡ cond b (Some (position_or_len test xs)) None
+    by true g = refl
+    by false g = absurd (cc g)
+
+pub is_off : (b : Bool) → not b ≡ true → b ≡ false
+is_off true e = absurd (cc e)
+is_off false e = refl
+
+pub is_on : (b : Bool) → not b ≡ false → b ≡ true
+is_on true e = refl
+is_on false e = absurd (cc e)

@@ -1,12 +1,12 @@
 -- Which core rules are needed.
 use Rattle.std.proofs.Common.{◌≡◌, ◌⊎◌, ⊎_elim, inl, inr, ℕ, suc, Bool, true, false, cond, List, [], ◌∷◌, ◌++◌, refl, sym, ap, subst, ◌∙◌}
-use Rattle.std.specs.Prelude.{Some, None, find, fold, flat_map, ◌||◌, if◌then◌else◌, length}
+use Rattle.std.specs.Prelude.{Some, None, find, filter, fold, flat_map, not, ◌&&◌, ◌||◌, if◌then◌else◌, length}
 use Rattle.std.specs.List.{list_any, AllByRecursion}
 use Rattle.std.proofs.lemmas.List.Folds.{list_any-append}
 use Rattle.abnf_parts.specs.declared.core_rule.Core.{Core}
 use Rattle.abnf_parts.specs.declared.core_rule.Core.TheVariants.{Alpha, Bit, Char, Cr, Crlf, Ctl, Digit, Dquote, Hexdig, Htab, Lf, Lwsp, Octet, Sp, Vchar, Wsp}
 use Rattle.std.specs.Str.{bytes_eq}
-use Rattle.abnf_parts.specs.Names.{Name, with_name}
+use Rattle.abnf_parts.specs.Names.{Name, names_beside, with_name}
 use Rattle.abnf_parts.specs.Core.{CoreRule, core_rules, core_name, names_used, needs, is_needed}
 use Rattle.abnf_parts.specs.CoreTable.{core_of, users_of, is_wanted}
 use Rattle.abnf_parts.proofs.NameLaws.{same_is, same_sym, never}
@@ -170,5 +170,44 @@ module _ (test : Name → Bool) where
       or_assoc true b c = refl
       or_assoc false b c = refl
 
-pub needed_folded : (xs : List Name) (core : CoreRule) → is_needed (fold with_name [] xs) core ≡ is_needed xs core
-needed_folded xs core = any_folded (λ name. list_any (bytes_eq (core_name core)) (needs (length core_rules) name)) [] xs
+-- whether a name is among those of a list that aren't in another
+module _ (n : Name) (own : List Name) where
+  beside_by : (b c : Bool) (m : Name) (left found : Bool) → list_any (bytes_eq m) own ≡ b → bytes_eq n m ≡ c → found ≡ (left && not (list_any (bytes_eq n) own)) →
+      (if not b then c || found else found) ≡ ((c || left) && not (list_any (bytes_eq n) own))
+  beside_by false true m left found e f h = ap not (sym (subst (λ x. list_any (bytes_eq x) own ≡ false) (sym (same_is n m f)) e))
+  beside_by false false m left found e f h = h
+  beside_by true true m left found e f h =
+      h ∙ (ap (λ b. left && not b) is ∙ (and_false left ∙ sym (ap not is)))
+    where
+      is : list_any (bytes_eq n) own ≡ true
+      is = subst (λ x. list_any (bytes_eq x) own ≡ true) (sym (same_is n m f)) e
+
+      and_false : (b : Bool) → (b && false) ≡ false
+      and_false true = refl
+      and_false false = refl
+  beside_by true false m left found e f h = h
+
+  moved : (b c : Bool) (m : Name) (rest : List Name) → list_any (bytes_eq n) (if b then m ∷ rest else rest) ≡ (if b then bytes_eq n m || list_any (bytes_eq n) rest else list_any (bytes_eq n) rest)
+  moved true c m rest = refl
+  moved false c m rest = refl
+
+  pub beside_any : (names : List Name) → list_any (bytes_eq n) (names_beside own names) ≡ (list_any (bytes_eq n) names && not (list_any (bytes_eq n) own))
+  beside_any [] = refl
+  beside_any (m ∷ names) =
+      moved (not (list_any (bytes_eq m) own)) true m (names_beside own names)
+      ∙ beside_by (list_any (bytes_eq m) own) (bytes_eq n m) m (list_any (bytes_eq n) names) (list_any (bytes_eq n) (names_beside own names)) refl refl (beside_any names)
+
+-- what passes one test among those that pass another
+any_passed : (test kept : Name → Bool) (names : List Name) → list_any test (filter kept names) ≡ list_any (λ n. kept n && test n) names
+any_passed test kept [] = refl
+any_passed test kept (n ∷ names) = by (kept n) (any_passed test kept names)
+  where
+    by : (b : Bool) → list_any test (filter kept names) ≡ list_any (λ m. kept m && test m) names → list_any test (cond b (n ∷ filter kept names) (filter kept names)) ≡ ((b && test n) || list_any (λ m. kept m && test m) names)
+    by true e = ap (λ b. test n || b) e
+    by false e = e
+
+pub needed_beside : (own xs : List Name) (core : CoreRule) → is_needed (names_beside own (fold with_name [] xs)) core ≡ is_needed (names_beside own xs) core
+needed_beside own xs core =
+    let kept : Name → Bool = λ name. not (list_any (bytes_eq name) own) in
+    let test : Name → Bool = λ name. list_any (bytes_eq (core_name core)) (needs (length core_rules) name) in
+    any_passed test kept (fold with_name [] xs) ∙ (any_folded (λ n. kept n && test n) [] xs ∙ sym (any_passed test kept xs))

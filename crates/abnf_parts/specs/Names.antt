@@ -1,5 +1,5 @@
 -- Names of rules, which are read without case.
-use Rattle.std.specs.Prelude.{ℕ, List, [], ◌∷◌, ◌++◌, Option, position, if◌then◌else◌}
+use Rattle.std.specs.Prelude.{ℕ, List, [], ◌∷◌, ◌++◌, Option, position, filter, not, if◌then◌else◌}
 use Rattle.std.specs.List.{list_any}
 use Rattle.abnf_token.specs.declared.folded.Folded.{Folded}
 use Rattle.abnf_token.specs.Folded.{lowercase}
@@ -23,3 +23,7 @@ with_name names name = if list_any (bytes_eq name) names then names else names +
 -- the number of the rule that a name stands for: the first that has it
 abbrev pub rule_number : List Name → Name → Option ℕ
 rule_number names name = position (bytes_eq name) names
+
+-- those of the second names that aren't among the first
+abbrev pub names_beside : List Name → List Name → List Name
+names_beside names others = filter (λ name. not (list_any (bytes_eq name) names)) others

@@ -4,7 +4,7 @@ ghost use Rattle.std.specs.Prelude.{◌≡◌, ℕ, [], map, fold, filter, Optio
 ghost use Rattle.std.specs.List.{list_any};
 ghost use Rattle.std.specs.Str.{bytes_eq};
 ghost use Rattle.abnf_token.specs.Folded.{lowercase};
-ghost use Rattle.abnf_parts.specs.Names.{Name, folded_text, with_name};
+ghost use Rattle.abnf_parts.specs.Names.{Name, folded_text, names_beside, with_name};
 ghost use Rattle.abnf_parts.specs.Core.{is_core_name, is_needed, core_rules, core_name};
 ghost use Rattle.abnf_parts.specs.CoreTable as table;
 
@@ -149,52 +149,64 @@ impl Core {
     }
 }
 
-/// Whether one of these names is among the names that are defined nowhere.
-fn is_wanted(unknown: &Names<'_>, users: &[&'static str]) -> bool
-    ensures { result ≡ table.is_wanted unknown.now (map (λ user. lowercase user.now) users.now) }
+/// Whether a name is stated and isn't defined.
+fn is_undefined(defined: &Names<'_>, stated: &Names<'_>, name: Folded<'_>) -> bool
+    ensures { result ≡ list_any (bytes_eq (folded_text name.entry)) (names_beside defined.now stated.now) }
+{
+    stated.contains(name) && !defined.contains(name)
+}
+
+/// Whether one of these names is stated and isn't defined.
+fn is_wanted(defined: &Names<'_>, stated: &Names<'_>, users: &[&'static str]) -> bool
+    ensures { result ≡ table.is_wanted (names_beside defined.now stated.now) (map (λ user. lowercase user.now) users.now) }
 {
     for user in users {
-        if unknown.contains(Folded(*user)) {
+        if is_undefined(defined, stated, Folded(*user)) {
             return true;
         }
     }
     false
 }
 
-/// Whether a core rule is needed where these names are defined nowhere.
-fn is_needed(unknown: &Names<'_>, core: Core) -> bool
-    ensures { result ≡ is_needed unknown.now (table.core_of core) }
+/// Whether a core rule is needed where these names are defined and those are stated.
+fn is_needed(defined: &Names<'_>, stated: &Names<'_>, core: Core) -> bool
+    ensures { result ≡ is_needed (names_beside defined.now stated.now) (table.core_of core) }
 {
-    is_wanted(unknown, core.users())
+    is_wanted(defined, stated, core.users())
 }
 
-/// Those of some core rules that are needed where these names are defined nowhere.
+/// Those of some core rules that are needed where these names are defined and those are stated.
 fn needed_among(
     alloc: Global,
-    unknown: &Names<'_>,
+    defined: &Names<'_>,
+    stated: &Names<'_>,
     rules: &[Core],
 ) -> Result<List<Core>, AllocError>
-    ensures { IfOk result (λ needed. map table.core_of needed ≡ filter (is_needed unknown.now) (map table.core_of rules.now)) }
+    ensures { IfOk result (λ needed. map table.core_of needed ≡ filter (is_needed (names_beside defined.now stated.now)) (map table.core_of rules.now)) }
 {
     let mut needed = List::new(alloc);
     for core in rules {
-        if is_needed(unknown, *core) {
+        if is_needed(defined, stated, *core) {
             needed.push(*core)?;
         }
     }
     Ok(needed)
 }
 
-/// The core rules that are needed where these names are defined nowhere: those that they stand for, and those that a needed one
-/// uses. They come in the order of RFC 5234.
+/// The core rules that are needed where a text defines some names, and these are all that stand in it: those that a name stands for
+/// which it doesn't define, and those that a needed one uses. They come in the order of RFC 5234.
 ///
 /// # Errors
 ///
 /// Where an allocation is refused.
-pub fn needed_rules(alloc: Global, unknown: &Names<'_>) -> Result<List<Core>, AllocError>
-    ensures { IfOk result (λ needed. map table.core_of needed ≡ filter (is_needed unknown.now) core_rules) }
+pub fn needed_rules(
+    alloc: Global,
+    defined: &Names<'_>,
+    stated: &Names<'_>,
+) -> Result<List<Core>, AllocError>
+    ensures { IfOk result (λ needed. map table.core_of needed ≡ filter (is_needed (names_beside defined.now stated.now)) core_rules) }
 {
-    needed_among(alloc, unknown, &CORE_RULES)
+    needed_among(alloc, defined, stated, &CORE_RULES)
 }
 
 /// The names of core rules.

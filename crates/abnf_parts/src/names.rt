@@ -1,6 +1,6 @@
 //! The names of the rules.
 
-ghost use Rattle.std.specs.Prelude.{◌≡◌, [], ◌<◌, ◌^◌, ◌++◌, length, map, IfSome, OnOk};
+ghost use Rattle.std.specs.Prelude.{◌≡◌, [], ◌<◌, ◌^◌, ◌++◌, length, map, IfOk, IfSome, OnOk};
 ghost use Rattle.std.specs.List.{list_any};
 ghost use Rattle.std.specs.Str.{bytes_eq};
 ghost use Rattle.abnf_parts.specs.Names.{rule_number, with_name, folded_text, all_names};
@@ -71,16 +71,17 @@ impl<'t> Names<'t> {
         self.names.len()
     }
 
-    /// Adds a name unless it is there.
+    /// Adds a name unless it is there, and gives the place that it had before; `None` if it is new, and so the last one.
     ///
     /// # Errors
     ///
     /// Where an allocation is refused.
-    pub fn add(&mut self, name: Folded<'t>) -> Result<(), AllocFailed<Folded<'t>>>
-        ensures { OnOk result (self.new ≡ with_name self.old (folded_text name.entry)) }
+    pub fn add(&mut self, name: Folded<'t>) -> Result<Option<usize>, AllocFailed<Folded<'t>>>
+        ensures names { OnOk result (self.new ≡ with_name self.old (folded_text name.entry)) }
+        ensures place { IfOk result (λ place. place ≡ rule_number self.old (folded_text name.entry)) }
     {
-        self.names.insert(name)?;
-        Ok(())
+        let (place, is_new) = self.names.insert_full(name)?;
+        Ok(if is_new { None } else { Some(place) })
     }
 }
 

@@ -1,44 +1,17 @@
 -- The names that a text defines, each once.
-use Rattle.std.proofs.Common.{◌≡◌, ℕ, zero, suc, ◌<◌, Bool, true, false, ◌||◌, List, [], ◌∷◌, ◌++◌, length, map, Option, Some, None, option_map, refl, sym, ap, subst, ◌∙◌, arith}
-use Rattle.std.specs.Prelude.{if◌then◌else◌, fold, position, slice_set}
+use Rattle.std.proofs.Common.{◌≡◌, ℕ, zero, suc, ◌<◌, Bool, true, false, List, [], ◌∷◌, ◌++◌, length, map, Option, Some, None, option_map, refl, sym, ap, subst, ◌∙◌, arith}
+use Rattle.std.specs.Prelude.{if◌then◌else◌, position, slice_set}
 use Rattle.std.specs.List.{list_any}
 use Rattle.std.specs.Option.{is_some}
 use Rattle.std.specs.Str.{bytes_eq}
 use Rattle.std.proofs.lemmas.Option.{slice_get_within}
 use Rattle.abnf_token.specs.Classes.{Text}
 use Rattle.abnf_token.specs.Folded.{lowercase}
-use Rattle.abnf_parts.specs.Names.{Name, with_name, rule_number}
-use Rattle.abnf_parts.proofs.NameLaws.{position-cons, position-append, behind, never, same_is, same_sym, position_any}
+use Rattle.abnf_parts.specs.Names.{Name, rule_number}
+use Rattle.abnf_parts.proofs.NameLaws.{position-cons, position-append, behind, never, same_is, position_any}
 use Rattle.abnf_rename.specs.Rules.{name_after}
+use Rattle.abnf_names.proofs.Once.{IsOnce, or_false}
 use Rattle.abnf_rename.proofs.NameLaws.{number_get}
-
-abbrev pub IsOnce : List Name → Type 0
-IsOnce [] = Unit {0}
-IsOnce (n ∷ names) = (list_any (bytes_eq n) names ≡ false) × IsOnce names
-
-or_false : (a b : Bool) → a || b ≡ false → (a ≡ false) × (b ≡ false)
-or_false true b e = never true refl e
-or_false false b e = (refl, e)
-
-any_push : (test : Name → Bool) (names : List Name) (n : Name) → list_any test names ≡ false → test n ≡ false → list_any test (names ++ n ∷ []) ≡ false
-any_push test [] n e f = ap (λ b. b || false) f
-any_push test (m ∷ names) n e f =
-    let h = or_false (test m) (list_any test names) e in
-    (λ i. h.0 i || any_push test names n h.1 f i)
-
-once_push : (names : List Name) (n : Name) → IsOnce names → list_any (bytes_eq n) names ≡ false → IsOnce (names ++ n ∷ [])
-once_push [] n o e = (refl, tt)
-once_push (m ∷ names) n o e =
-    let h = or_false (bytes_eq n m) (list_any (bytes_eq n) names) e in
-    (any_push (bytes_eq m) names n o.0 (same_sym m n ∙ h.0), once_push names n o.1 h.1)
-
-once_if : (b : Bool) (names : List Name) (n : Name) → list_any (bytes_eq n) names ≡ b → IsOnce names → IsOnce (if b then names else names ++ n ∷ [])
-once_if true names n e o = o
-once_if false names n e o = once_push names n o e
-
-pub once_fold : (ns names : List Name) → IsOnce names → IsOnce (fold with_name names ns)
-once_fold [] names o = o
-once_fold (n ∷ ns) names o = once_fold ns (with_name names n) (once_if (list_any (bytes_eq n) names) names n refl o)
 
 -- the place of a name that is there
 abbrev Place : Name → List Name → Type 0

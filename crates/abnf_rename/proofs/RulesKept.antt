@@ -18,7 +18,8 @@ use Rattle.abnf_rename.specs.Rules.{told, AreSameRules}
 use Rattle.abnf_rename.proofs.Rows.{parts_renamed}
 use Rattle.abnf_rename.proofs.Shapes.{place_after}
 use Rattle.abnf_rename.proofs.NameLaws.{Fresh, AreFresh, after, fold_fresh, fold_after, filter_after, number_after}
-use Rattle.abnf_rename.proofs.OwnLaws.{once_fold, OwnRule, own_rule, one_replaced, set_front}
+use Rattle.abnf_names.proofs.Once.{defined_once}
+use Rattle.abnf_rename.proofs.OwnLaws.{OwnRule, own_rule, one_replaced, set_front}
 use Rattle.abnf_rename.proofs.CoreKept.{core_trees_kept}
 use Rattle.abnf_rename.proofs.GrammarLaws.{AreRenamedBlocks, AreFreshHeads, heads_are, fresh_heads, place_names, places_are, filter_defines, counted_are, told_alternatives, agrees, map_map}
 
@@ -47,7 +48,7 @@ module _ (old : Name) (new : Text) (bs cs : List Block) (h : AreRenamedBlocks ol
   names_kept : names_of cs ≡ slice_set (names_of bs) own.rule (lowercase new)
   names_kept =
       names_is
-      ∙ (ap (λ l. l ++ map core_name (needed bs)) (one_replaced old new (defined bs) (once_fold (filter_map head_name bs) [] tt) own.rule own.own_is)
+      ∙ (ap (λ l. l ++ map core_name (needed bs)) (one_replaced old new (defined bs) (defined_once bs) own.rule own.own_is)
       ∙ sym (set_front (defined bs) (map core_name (needed bs)) own.rule (lowercase new) own.within))
 
   tree_kept : (name : Name) → Fresh old new name → rule_tree cs (after old new name) ≡ renamed_part own.rule new (rule_tree bs name)

@@ -1,4 +1,4 @@
-use Rattle.std.proofs.Common.{List, ℕ, sym, subst, map}
+use Rattle.std.proofs.Common.{◌∙◌, List, ℕ, sym, subst, map}
 use Rattle.abnf_parts.specs.declared.node.Node.{Node}
 use Rattle.abnf_parts.specs.Nodes.{AreNumbered}
 use Rattle.abnf_names.specs.Passes.{block_of}
@@ -7,21 +7,24 @@ use Rattle.abnf_names.proofs.rules.rules_said.Goals as goal
 
 pub reaching-requires : goal.reaching-requires
 reaching-requires c =
+    let blocks = map block_of c.args.parsed.items in
     let nodes = c.in_ok-nodes.nodes in
     let roots = c.in_ok-nodes.roots in
+    let own = c.in_ok-groups.ensures.own in
     let added =
-    rules_added c.args.parsed.items c.as_slice.result.now c.in_ok-names.names c.as_slice-2.result.now c.in_ok-names.needed nodes.items roots.items
-    c.in_ok-nodes.ensures.rules c.as_slice.ensures.value c.in_ok-names.ensures.names c.as_slice-2.ensures c.in_ok-names.ensures.needed
-    in
-    let are : AreNumbered nodes.items roots.items = numbered (map block_of c.args.parsed.items) nodes.items roots.items added in
+    rules_added blocks c.in_ok-groups.groups c.into_parts-own.result.1.items c.as_slice.result.now c.in_ok-names.names c.as_slice-2.result.now c.in_ok-names.needed nodes.items roots.items
+    c.in_ok-nodes.ensures own c.into_parts-own.ensures.members c.into_parts-own.ensures.beside c.as_slice.ensures.value
+    (c.in_ok-names.ensures blocks (c.into_parts-own.ensures.names ∙ own.names) c.requires) c.as_slice-2.ensures in
+    let are : AreNumbered nodes.items roots.items = numbered blocks nodes.items roots.items added in
     subst (λ (ns : List Node). AreNumbered ns c.as_slice-4.result.now) (sym c.as_slice-3.ensures.value)
     (subst (λ (rs : List ℕ). AreNumbered nodes.items rs) (sym c.as_slice-4.ensures.value) are)
 
 pub returns : goal.returns
 returns c =
-    let added =
-    rules_added c.args.parsed.items c.as_slice.result.now c.in_ok-names.names c.as_slice-2.result.now c.in_ok-names.needed c.in_ok-nodes.nodes.items c.in_ok-nodes.roots.items
-    c.in_ok-nodes.ensures.rules c.as_slice.ensures.value c.in_ok-names.ensures.names c.as_slice-2.ensures c.in_ok-names.ensures.needed
-    in
-    rules_made _ c.args.parsed.items c.as_slice.result.now c.as_slice-3.result.now c.as_slice-4.result.now c.as_slice.ensures.value c.in_ok-names.ensures.names added
-    c.as_slice-3.ensures.value c.as_slice-4.ensures.value c.in_ok-opaque.ensures c.in_ok-nodes.ensures.sections
+    let blocks = map block_of c.args.parsed.items in
+    let own = c.in_ok-groups.ensures.own in
+    let names = c.in_ok-names.ensures blocks (c.into_parts-own.ensures.names ∙ own.names) c.requires in
+    rules_made _ blocks c.as_slice-3.result.now c.as_slice-4.result.now names.0
+    (rules_added blocks c.in_ok-groups.groups c.into_parts-own.result.1.items c.as_slice.result.now c.in_ok-names.names c.as_slice-2.result.now c.in_ok-names.needed c.in_ok-nodes.nodes.items c.in_ok-nodes.roots.items
+    c.in_ok-nodes.ensures own c.into_parts-own.ensures.members c.into_parts-own.ensures.beside c.as_slice.ensures.value names c.as_slice-2.ensures)
+    c.as_slice-3.ensures.value c.as_slice-4.ensures.value c.in_ok-opaque.ensures c.in_ok-groups.ensures.sections
