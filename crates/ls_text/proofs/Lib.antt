@@ -12,3 +12,4 @@ pub mod PlaceLaws
 pub mod ChunkLaws
 pub mod ScalarLaws
 pub mod PartLaws
+pub mod RulerLaws

@@ -3,6 +3,7 @@ pub mod Cut
 pub mod Parts
 pub mod Chunks
 pub mod Positions
+pub mod Counts
 pub mod Spots
 pub mod Edits
 pub mod Marks

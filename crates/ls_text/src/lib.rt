@@ -19,12 +19,12 @@ mod line_end;
 mod lines;
 mod part;
 mod position;
-mod shared;
+mod ruler;
 mod snapshot;
 mod units;
 
 pub use edit::Edit;
 pub use fault::TextFault;
 pub use position::{Place, Position, Range};
-pub use shared::SharedSnapshot;
+pub use ruler::Ruler;
 pub use snapshot::{MAX_BYTES, Snapshot};

@@ -1,4 +1,4 @@
-ghost use Rattle.std.specs.Prelude.{◌≡◌, ◌+◌, ◌<◌, ◌≤◌, ◌++◌, ◌↔◌, ◌∷◌, [], length, map, Option, true, false, Some, None, Err, All, IsTrue, OnOk, IfOk, IfErr, IfSome, slice_index};
+ghost use Rattle.std.specs.Prelude.{ℕ, ◌≡◌, ◌+◌, ◌<◌, ◌≤◌, ◌++◌, ◌↔◌, ◌∷◌, [], length, map, Option, true, false, Some, None, Err, All, IsTrue, OnOk, IfOk, IfErr, IfSome, slice_index};
 ghost use Rattle.std.specs.Char.{len_utf8, IsScalar};
 ghost use Rattle.std.specs.Str.{chars, encode_utf8_all, IsUtf8};
 ghost use Rattle.std.specs.String.{string_bytes, string_len};
@@ -188,7 +188,7 @@ impl Snapshot {
     }
 
     // The position of so many bytes in a line.
-    fn position_in(&self, line: usize, bytes: usize) -> Position
+    pub fn position_in(&self, line: usize, bytes: usize) -> Position
         ensures position { result ≡ position_of utf16_len self.now (offset_of len_utf8 self.now line bytes) }
         ensures in_line { IfSome (slice_get (lines self.now) line)
             (λ text. result ≡ position_in utf16_len line text bytes) }
@@ -204,6 +204,23 @@ impl Snapshot {
         } else {
             self.position_of(self.lines.char_count())
         }
+    }
+
+    // A line that isn't ASCII, so that its units have to be counted.
+    pub fn wide_line(&self, at: usize) -> Option<&str>
+        ensures line { IfSome result (λ line. slice_get (lines self.now) at ≡ Some (chars line.now)) }
+        ensures small { IfSome result (λ line. length line.now ≤ MAX_BYTES) }
+        ensures fits { IfSome result (λ _. at < 4_294_967_296) }
+        ensures position { IfSome result (λ line. (bytes : ℕ) → position_in utf16_len at (chars line.now) bytes ≡ position_of utf16_len self.now (offset_of len_utf8 self.now at bytes)) }
+    {
+        if at >= self.lines.len() {
+            return None;
+        }
+        let (held, _) = self.lines.line(at);
+        if held.text().len() == held.char_count() {
+            return None;
+        }
+        Some(held.text())
     }
 
     /// The positions of a place's two ends.

@@ -42,7 +42,7 @@ pub fn char_count(text: &str) -> usize
 }
 
 // The characters at the front of the text that fit into these units.
-fn chars_fitting(text: &str, units: Units, limit: usize) -> Fit
+pub fn chars_fitting(text: &str, units: Units, limit: usize) -> Fit
     ensures count { result.count ≡ fitting (width_of units) (chars text.now) limit }
     ensures bytes { result.bytes ≡ length (encode_utf8_all (take result.count (chars text.now))) }
 {

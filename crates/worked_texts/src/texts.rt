@@ -1,6 +1,6 @@
 use super::seams::{Dice, first_other_line};
 use ls_lists::Text;
-use ls_text::{Edit, Place, Position, Range, Snapshot, TextFault};
+use ls_text::{Edit, Place, Position, Range, Ruler, Snapshot, TextFault};
 use std::alloc::{AllocError, Global};
 
 pub fn snapshot(alloc: Global, text: &str) -> Result<Snapshot, TextFault> {
@@ -57,8 +57,13 @@ fn gives_lines(rt: HostRuntime) -> Result<(), TextFault> {
     Ok(())
 }
 
-/// Whether the characters of line 1 between two bytes are those between two positions.
-fn has_range(text: &Snapshot, bytes: (usize, usize), characters: (u32, u32)) -> bool {
+/// Whether the characters of line 1 between two bytes are those between two positions, also by a ruler that has told others.
+fn has_range(
+    text: &Snapshot,
+    ruler: &mut Ruler<'_>,
+    bytes: (usize, usize),
+    characters: (u32, u32),
+) -> bool {
     let place = Place {
         line: 1,
         start: bytes.0,
@@ -68,7 +73,7 @@ fn has_range(text: &Snapshot, bytes: (usize, usize), characters: (u32, u32)) -> 
         start: position((1, characters.0)),
         end: position((1, characters.1)),
     };
-    text.range_of(&place) == range
+    text.range_of(&place) == range && ruler.range_of(&place) == range
 }
 
 /// The bytes of `;`, U+1F600 and `z` are 1, 4 and 1; their UTF-16 units are 1, 2 and 1.
@@ -81,8 +86,9 @@ const RANGES: &[((usize, usize), (u32, u32))] = &[
 ];
 
 fn has_ranges(text: &Snapshot) -> bool {
+    let mut ruler = Ruler::new(text);
     for (bytes, characters) in RANGES {
-        if !has_range(text, *bytes, *characters) {
+        if !has_range(text, &mut ruler, *bytes, *characters) {
             return false;
         }
     }
