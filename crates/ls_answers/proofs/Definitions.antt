@@ -1,29 +1,13 @@
--- The places of a name, as the grammar hands them out.
-use Rattle.std.proofs.Common.{◌≡◌, ℕ, Bool, true, false, List, [], ◌∷◌, map, filter, Option, None, Some, option_map, Result, Ok, Err, IfOk, refl, sym, ◌∙◌, ap}
-use Rattle.abnf_token.specs.Folded.{lowercase}
+-- The ranges of the places of a name.
+use Rattle.std.proofs.Common.{◌≡◌, ℕ, List, map, filter, Option, None, Some, option_map, Result, Ok, Err, IfOk, refl, sym, ◌∙◌, ap, subst}
 use Rattle.ls_text.specs.Lines.{utf16_len, offset_of}
 use Rattle.ls_text.specs.declared.position.Place.{Place}
 use Rattle.ls_text.specs.declared.position.Position.{Position}
 use Rattle.ls_text.specs.declared.position.Range.{Range}
-use Rattle.abnf_names.specs.declared.place.NamePlace.{NamePlace}
-use Rattle.abnf_names.specs.Places.{Named, name_place, at_offset, place_and_text, places_of_name}
-use Rattle.abnf_names.specs.Rules.{Grammar, IsGrammar}
-use Rattle.ls_answers.specs.Places.{ArePlaces, HasPlacesAt, is_wanted, name_at, name_range, places_alike, wanted_ranges}
+use Rattle.abnf_names.specs.Places.{Named, at_offset, place_and_text}
+use Rattle.abnf_names.specs.Rules.{Grammar, HasPlaces, IsGrammar}
+use Rattle.ls_answers.specs.Places.{ArePlaces, is_wanted, name_at, name_range, places_alike, ranges_alike}
 use Rattle.ls_answers.specs.declared.places.Wanted.{Wanted}
-
--- the ranges of those places that are wanted
-abbrev ranges_of : Wanted → List ℕ → List Named → List Range
-ranges_of wanted text places = map (name_range text) (filter (λ n. is_wanted wanted n.defines) places)
-
-one_more : (wanted : Wanted) (text : List ℕ) (n : Named) (ns : List Named) (b : Bool) → is_wanted wanted n.defines ≡ b
-    → wanted_ranges wanted text (map name_place ns) ≡ ranges_of wanted text ns → wanted_ranges wanted text (map name_place (n ∷ ns)) ≡ ranges_of wanted text (n ∷ ns)
-one_more wanted text n ns true e rest = rw (e) (ap (λ l. name_range text n ∷ l) rest)
-one_more wanted text n ns false e rest = rw (e) rest
-
--- a place keeps its range and whether it defines
-same_ranges : (wanted : Wanted) (text : List ℕ) (places : List Named) → wanted_ranges wanted text (map name_place places) ≡ ranges_of wanted text places
-same_ranges wanted text [] = refl
-same_ranges wanted text (n ∷ ns) = one_more wanted text n ns (is_wanted wanted n.defines) refl (same_ranges wanted text ns)
 
 -- the name that is found there
 pub found : (o : Option Named) (s : Place × List ℕ) → Some s ≡ option_map place_and_text o → (n : Named) × (o ≡ Some n) × (n.text ≡ s.1) × (n.place ≡ s.0)
@@ -34,28 +18,38 @@ pub none : (o : Option Named) → None ≡ option_map place_and_text o → o ≡
 none None e = refl
 none (Some n) e = absurd (cc)
 
--- ---- the places of the name
+-- ---- the ranges of its places
 
-pub places-some : (g : Grammar) (at : Position) (offset : ℕ) (s : Place × List ℕ) (places : List NamePlace)
-    → offset ≡ offset_of utf16_len g.text at.line at.character → Some s ≡ option_map place_and_text (at_offset g.text g.places offset)
-    → places ≡ map name_place (places_of_name (lowercase s.1) g.places) → HasPlacesAt g at places
-places-some g at offset s places is_offset is_found are =
-    let n = found (at_offset g.text g.places offset) s is_found in
-    let here : name_at g at ≡ Some n.0 = ap (λ o. at_offset g.text g.places o) (sym is_offset) ∙ n.1 in
-    rw (here, n.2) are
+alike : (wanted : Wanted) (g : Grammar) (o : Option Named) → ranges_alike wanted g.text g.places (option_map place_and_text o) ≡ map (name_range g.text) (filter (λ named. is_wanted wanted named.defines) (places_alike g o))
+alike wanted g None = refl
+alike wanted g (Some n) = refl
 
-pub places-none : (g : Grammar) (at : Position) (offset : ℕ) (places : List NamePlace)
-    → offset ≡ offset_of utf16_len g.text at.line at.character → None ≡ option_map place_and_text (at_offset g.text g.places offset)
-    → places ≡ [] → HasPlacesAt g at places
-places-none g at offset places is_offset is_none are =
-    let here : name_at g at ≡ None = ap (λ o. at_offset g.text g.places o) (sym is_offset) ∙ none (at_offset g.text g.places offset) is_none in
-    rw (here) are
+has_ranges : (wanted : Wanted) (g : Grammar) (at : Position) (text : List ℕ) (places : List Named) (offset : ℕ) (found : Option (Place × List ℕ)) (ranges : List Range) → IsGrammar g → text ≡ g.text → places ≡ g.places →
+    offset ≡ offset_of utf16_len g.text at.line at.character → found ≡ option_map place_and_text (at_offset g.text g.places offset) → ranges ≡ ranges_alike wanted text places found → ArePlaces wanted g.text at ranges
+has_ranges wanted g at text places offset found ranges right of_text are is_offset is_found is = record {
+  grammar = g;
+  of_text = refl;
+  right = right;
+  ranges_are =
+      is
+      ∙ ((λ i. ranges_alike wanted (of_text i) (are i) (is_found i))
+      ∙ (ap (λ o. ranges_alike wanted g.text g.places (option_map place_and_text (at_offset g.text g.places o))) is_offset
+      ∙ alike wanted g (name_at g at)));
+}
 
--- ---- those that are wanted
+pub ranges_there : {E : Type 0} (wanted : Wanted) (g : Grammar) (at : Position) (text : List ℕ) (places : List Named) (offset : ℕ) (found : Option (Place × List ℕ)) (given : Result (List Range) E) → IsGrammar g → text ≡ g.text →
+    places ≡ g.places → offset ≡ offset_of utf16_len g.text at.line at.character → found ≡ option_map place_and_text (at_offset g.text g.places offset) →
+    IfOk given (λ ranges. ranges ≡ ranges_alike wanted text places found) → IfOk given (λ ranges. ArePlaces wanted g.text at ranges)
+ranges_there wanted g at text places offset found (Ok ranges) right of_text are is_offset is_found is = has_ranges wanted g at text places offset found ranges right of_text are is_offset is_found is
+ranges_there wanted g at text places offset found (Err e) right of_text are is_offset is_found is = is
 
-pub found_there : {E : Type 0} (wanted : Wanted) (g : Grammar) (at : Position) (text : List ℕ) (places : List NamePlace) (given : Result (List Range) E)
-    → IsGrammar g → text ≡ g.text → HasPlacesAt g at places
-    → IfOk given (λ ranges. ranges ≡ wanted_ranges wanted text places) → IfOk given (λ ranges. ArePlaces wanted g.text at ranges)
-found_there wanted g at text places (Ok ranges) right of_text are is =
-    record { grammar = g; of_text = refl; right = right; ranges_are = is ∙ ((λ i. wanted_ranges wanted (of_text i) (are i)) ∙ same_ranges wanted g.text (places_alike g (name_at g at))) }
-found_there wanted g at text places (Err e) right of_text are is = is
+-- ---- where the places of a text are known
+
+pub ranges_known : {E : Type 0} (wanted : Wanted) (at : Position) (text t : List ℕ) (places ps : List Named) (offset : ℕ) (found : Option (Place × List ℕ)) (given : Result (List Range) E) → HasPlaces t ps → text ≡ t →
+    places ≡ ps → offset ≡ offset_of utf16_len t at.line at.character → found ≡ option_map place_and_text (at_offset t ps offset) →
+    IfOk given (λ ranges. ranges ≡ ranges_alike wanted text places found) → IfOk given (λ ranges. ArePlaces wanted t at ranges)
+ranges_known wanted at text t places ps offset found given has of_text are is_offset is_found is =
+    subst (λ x. IfOk given (λ ranges. ArePlaces wanted x at ranges)) has.of_text
+    (ranges_there wanted has.grammar at text places offset found given has.right (of_text ∙ sym has.of_text) (are ∙ sym has.are)
+    (is_offset ∙ ap (λ x. offset_of utf16_len x at.line at.character) (sym has.of_text))
+    (is_found ∙ (λ i. option_map place_and_text (at_offset (sym has.of_text i) (sym has.are i) offset))) is)

@@ -5,8 +5,9 @@ use Rattle.ls_text.specs.Lines.{utf16_len, offset_of}
 use Rattle.ls_text.specs.Positions.{place_range}
 use Rattle.ls_text.specs.declared.position.Position.{Position}
 use Rattle.ls_text.specs.declared.position.Range.{Range}
-use Rattle.abnf_names.specs.declared.place.NamePlace.{NamePlace}
-use Rattle.abnf_names.specs.Places.{Named, name_place, at_offset, places_of_name}
+use Rattle.ls_text.specs.declared.position.Place.{Place}
+use Rattle.abnf_parts.specs.Names.{Name}
+use Rattle.abnf_names.specs.Places.{Named, at_offset, places_of_name}
 use Rattle.abnf_names.specs.Rules.{Grammar, IsGrammar}
 use Rattle.ls_answers.specs.declared.places.Wanted.{Wanted}
 use Rattle.ls_answers.specs.declared.places.Wanted.TheVariants.{Definitions, Uses, Both}
@@ -49,10 +50,11 @@ wanted_with false = Uses
 abbrev pub AreReferences : List ℕ → Position → Bool → List Range → Type 0
 AreReferences text at declarations ranges = ArePlaces (wanted_with declarations) text at ranges
 
--- the ranges of those of the places that are wanted
-abbrev pub wanted_ranges : Wanted → List ℕ → List NamePlace → List Range
-wanted_ranges wanted text places = map (λ p. place_range utf16_len text p.place) (filter (λ p. is_wanted wanted p.defines) places)
+-- the ranges of the wanted places of a name
+abbrev pub ranges_of : Wanted → List ℕ → Name → List Named → List Range
+ranges_of wanted text name places = map (name_range text) (filter (λ named. is_wanted wanted named.defines) (places_of_name name places))
 
--- These are the places of the name at the position, as the grammar hands them out.
-abbrev pub HasPlacesAt : Grammar → Position → List NamePlace → Type 0
-HasPlacesAt g at places = places ≡ map name_place (places_alike g (name_at g at))
+-- the same of a name with its place, if there is one
+abbrev pub ranges_alike : Wanted → List ℕ → List Named → Option (Place × List ℕ) → List Range
+ranges_alike wanted text places None = []
+ranges_alike wanted text places (Some found) = ranges_of wanted text (lowercase found.1) places

@@ -8,7 +8,7 @@ use abnf_least::least;
 use abnf_lint::{Finding, findings};
 use abnf_names::Grammar;
 use ls_lists::List;
-use ls_text::Snapshot;
+use ls_text::{Ruler, Snapshot};
 use std::alloc::{AllocError as Memory, Global};
 
 /// What is found in a text, in its order.
@@ -33,20 +33,22 @@ fn found_in(alloc: Global, grammar: &Grammar) -> Result<List<Finding>, Memory>
 fn told(alloc: Global, snapshot: &Snapshot, found: &[Finding]) -> Result<List<Diagnostic>, Memory>
     ensures { IfOk result (λ diagnostics. diagnostics ≡ map (diagnostic_of snapshot.now) found.now) }
 {
+    let mut ruler = Ruler::new(snapshot);
     let mut diagnostics = List::new(alloc);
     for finding in found {
-        diagnostics.push(diagnostic(alloc, snapshot, finding)?)?;
+        diagnostics.push(diagnostic(alloc, &mut ruler, finding)?)?;
     }
     Ok(diagnostics)
 }
 
 /// A finding with its range and its message.
-fn diagnostic(alloc: Global, snapshot: &Snapshot, finding: &Finding) -> Result<Diagnostic, Memory>
-    ensures { IfOk result (λ diagnostic. diagnostic ≡ diagnostic_of snapshot.now finding.now) }
+fn diagnostic(alloc: Global, ruler: &mut Ruler<'_>, finding: &Finding) -> Result<Diagnostic, Memory>
+    ensures text { ruler.new ≡ ruler.old }
+    ensures told { IfOk result (λ diagnostic. diagnostic ≡ diagnostic_of ruler.old finding.now) }
 {
     let message = finding.message(alloc)?;
     Ok(Diagnostic {
-        range: snapshot.range_of(&finding.place),
+        range: ruler.range_of(&finding.place),
         code: finding.code,
         message,
     })

@@ -87,12 +87,19 @@ impl Done {
     }
 }
 
-/// The answer to a question about a text. All but its outline is asked of its grammar.
+/// The answer to a question about a text. An outline and the places of a name need no rules; all else is asked of the text's grammar.
 fn answer_of(alloc: Global, snapshot: &Snapshot, ask: &Ask) -> Result<Answer, Memory>
     ensures { IfOk result (λ answer. IsAnswer snapshot.now ask.now answer) }
 {
     match ask {
         Ask::Symbols => Ok(Answer::Symbols(symbols(alloc, snapshot)?)),
+        Ask::Definition(at) => Ok(Answer::Places(definitions(alloc, snapshot, *at)?)),
+        Ask::References(at, declarations) => Ok(Answer::Places(references(
+            alloc,
+            snapshot,
+            *at,
+            *declarations,
+        )?)),
         _ => by_grammar(alloc, snapshot, ask),
     }
 }
@@ -113,10 +120,10 @@ fn answer_in(alloc: Global, grammar: &Grammar, ask: &Ask) -> Result<Answer, Memo
 {
     match ask {
         Ask::Hover(at) => Ok(Answer::Hover(hover(alloc, grammar, *at)?)),
-        Ask::Definition(at) => Ok(Answer::Places(definitions(alloc, grammar, *at)?)),
+        Ask::Definition(at) => Ok(Answer::Places(definitions(alloc, grammar.source(), *at)?)),
         Ask::References(at, declarations) => Ok(Answer::Places(references(
             alloc,
-            grammar,
+            grammar.source(),
             *at,
             *declarations,
         )?)),

@@ -1,10 +1,13 @@
 //! Where names stand in a text.
-ghost use Rattle.std.specs.Prelude.{◌≡◌, IfOk};
-ghost use Rattle.ls_answers.specs.Places.{AreDefinitions, ArePlaces, AreReferences, HasPlacesAt, is_wanted, wanted_ranges, wanted_with};
+ghost use Rattle.std.specs.Prelude.{◌≡◌, map, option_map, IfOk};
+ghost use Rattle.abnf_names.specs.Places.{named_at, place_and_name};
+ghost use Rattle.abnf_parts.specs.Names.{folded_text};
+ghost use Rattle.ls_answers.specs.Places.{AreDefinitions, ArePlaces, AreReferences, is_wanted, ranges_alike, ranges_of, wanted_with};
 
-use abnf_names::{Grammar, NamePlace};
+use abnf_names::{Grammar, Places, Spot};
+use abnf_token::Folded;
 use ls_lists::List;
-use ls_text::{Position, Range, Snapshot};
+use ls_text::{Place, Position, Range, Ruler, Snapshot};
 use std::alloc::{AllocError as Memory, Global};
 
 /// Which places of a name are wanted.
@@ -44,10 +47,10 @@ impl Wanted {
 /// The places that define the name at a position, in the order of the text. None where no name stands there.
 ///
 /// `Memory` says that an allocation was refused.
-pub fn definitions(alloc: Global, grammar: &Grammar, at: Position) -> Result<List<Range>, Memory>
-    ensures { IfOk result (λ ranges. AreDefinitions grammar.now.text at ranges) }
+pub fn definitions(alloc: Global, snapshot: &Snapshot, at: Position) -> Result<List<Range>, Memory>
+    ensures { IfOk result (λ ranges. AreDefinitions snapshot.now at ranges) }
 {
-    ranges_at(alloc, grammar, at, Wanted::Definitions)
+    ranges_at(alloc, snapshot, at, Wanted::Definitions)
 }
 
 /// The places of the name at a position, with those that define it or without them, in the order of the text. None where no name
@@ -56,51 +59,84 @@ pub fn definitions(alloc: Global, grammar: &Grammar, at: Position) -> Result<Lis
 /// `Memory` says that an allocation was refused.
 pub fn references(
     alloc: Global,
-    grammar: &Grammar,
+    snapshot: &Snapshot,
     at: Position,
     declarations: bool,
 ) -> Result<List<Range>, Memory>
-    ensures { IfOk result (λ ranges. AreReferences grammar.now.text at declarations ranges) }
+    ensures { IfOk result (λ ranges. AreReferences snapshot.now at declarations ranges) }
 {
-    ranges_at(alloc, grammar, at, Wanted::with(declarations))
+    ranges_at(alloc, snapshot, at, Wanted::with(declarations))
 }
 
-/// The wanted places of the name at a position, in the order of the text. None where no name stands there.
-pub fn ranges_at(
+/// The wanted places of the name at a position, in the order of the text. None where no name stands there. They need no rules.
+fn ranges_at(
     alloc: Global,
-    grammar: &Grammar,
+    snapshot: &Snapshot,
     at: Position,
     wanted: Wanted,
 ) -> Result<List<Range>, Memory>
-    ensures { IfOk result (λ ranges. ArePlaces wanted grammar.now.text at ranges) }
+    ensures { IfOk result (λ ranges. ArePlaces wanted snapshot.now at ranges) }
 {
-    wanted_ranges(alloc, grammar.source(), places_at(grammar, at), wanted)
+    let places = Places::of(alloc, snapshot)?;
+    let ranges = ranges_among(alloc, &places, at, wanted);
+    drop(places);
+    ranges
 }
 
-/// All places of the name at a position, in the order of the text. None where no name stands there.
-fn places_at<'g>(grammar: &'g Grammar, at: Position) -> &'g [NamePlace]
-    ensures { HasPlacesAt grammar.now at result.now }
+/// The same, where the places of the text are known.
+fn ranges_among(
+    alloc: Global,
+    places: &Places,
+    at: Position,
+    wanted: Wanted,
+) -> Result<List<Range>, Memory>
+    ensures { IfOk result (λ ranges. ArePlaces wanted places.now.0 at ranges) }
 {
-    let offset = grammar.source().offset_of(at);
-    match grammar.name_at(offset) {
-        Some((_, name)) => grammar.places(name),
-        None => &[],
+    let snapshot = places.source();
+    let found = places.name_at(snapshot.offset_of(at));
+    ranges_alike(alloc, snapshot, places.spots(), found, wanted)
+}
+
+/// All places of the name at a position, in the order of the text, where its grammar is known. None where no name stands there.
+pub fn ranges_in(alloc: Global, grammar: &Grammar, at: Position) -> Result<List<Range>, Memory>
+    ensures { IfOk result (λ ranges. ArePlaces Wanted.Both grammar.now.text at ranges) }
+{
+    let snapshot = grammar.source();
+    let found = grammar.name_at(snapshot.offset_of(at));
+    ranges_alike(alloc, snapshot, grammar.spots(), found, Wanted::Both)
+}
+
+/// The ranges of the wanted places of a name, if there is one.
+fn ranges_alike(
+    alloc: Global,
+    snapshot: &Snapshot,
+    spots: &[Spot<'_>],
+    found: Option<(Place, Folded<'_>)>,
+    wanted: Wanted,
+) -> Result<List<Range>, Memory>
+    ensures { IfOk result (λ ranges. ranges ≡ ranges_alike wanted snapshot.now (map named_at spots.now) (option_map place_and_name found.entry)) }
+{
+    match found {
+        Some((_, name)) => ranges_of(alloc, snapshot, spots, name, wanted),
+        None => Ok(List::new(alloc)),
     }
 }
 
-/// The ranges of those places that are wanted.
-fn wanted_ranges(
+/// The ranges of the wanted places of a name.
+fn ranges_of(
     alloc: Global,
     snapshot: &Snapshot,
-    places: &[NamePlace],
+    spots: &[Spot<'_>],
+    name: Folded<'_>,
     wanted: Wanted,
 ) -> Result<List<Range>, Memory>
-    ensures { IfOk result (λ ranges. ranges ≡ wanted_ranges wanted snapshot.now places.now) }
+    ensures { IfOk result (λ ranges. ranges ≡ ranges_of wanted snapshot.now (folded_text name.entry) (map named_at spots.now)) }
 {
+    let mut ruler = Ruler::new(snapshot);
     let mut ranges = List::new(alloc);
-    for named in places {
-        if wanted.takes(named.defines) {
-            ranges.push(snapshot.range_of(&named.place))?;
+    for spot in spots {
+        if name == spot.name && wanted.takes(spot.defines) {
+            ranges.push(ruler.range_of(&spot.place))?;
         }
     }
     Ok(ranges)

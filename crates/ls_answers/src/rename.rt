@@ -10,7 +10,7 @@ ghost use Rattle.abnf_token.specs.Folded.{lowercase};
 ghost use Rattle.ls_answers.specs.Renames as spec;
 
 use crate::answer::{Answer, RenameFault};
-use crate::places::{Wanted, ranges_at};
+use crate::places::ranges_in;
 use abnf_names::Grammar;
 use abnf_parts::is_core_name;
 use abnf_token::Folded;
@@ -28,7 +28,7 @@ pub fn rename(alloc: Global, grammar: &Grammar, at: Position, new: &Text) -> Res
     match rename_fault(grammar, at, new.as_str()) {
         Some(fault) => Ok(Answer::Refused(fault)),
         None => {
-            let ranges = ranges_at(alloc, grammar, at, Wanted::Both)?;
+            let ranges = ranges_in(alloc, grammar, at)?;
             Ok(Answer::Edits(ranges, new.copy()?))
         }
     }

@@ -11,7 +11,7 @@ ghost use Rattle.ls_answers.specs.Walk as walk;
 use abnf_names::{Grammar, Spot};
 use abnf_token::{Folded, Kind, TokenMark};
 use ls_lists::List;
-use ls_text::{Place, Position, Range, Snapshot};
+use ls_text::{Place, Position, Range, Ruler, Snapshot};
 use std::alloc::{AllocError as Memory, Global};
 
 /// The modifier of a place that defines its name.
@@ -88,11 +88,12 @@ fn told(alloc: Global, grammar: &Grammar) -> Result<List<SemanticToken>, Memory>
 {
     let snapshot = grammar.source();
     let spots = grammar.spots();
+    let mut ruler = Ruler::new(snapshot);
     let mut tokens = List::new(alloc);
     let mut passed = 0;
     for line in 0..snapshot.line_count() {
         let marks = marks_at(snapshot, line);
-        passed = push_line(&mut tokens, grammar, spots, passed, line, marks)?;
+        passed = push_line(&mut tokens, grammar, &mut ruler, spots, passed, line, marks)?;
     }
     Ok(tokens)
 }
@@ -111,12 +112,15 @@ fn marks_at(snapshot: &Snapshot, line: usize) -> &[TokenMark]
 fn push_line(
     tokens: &mut List<SemanticToken>,
     grammar: &Grammar,
+    ruler: &mut Ruler<'_>,
     spots: &[Spot<'_>],
     passed: usize,
     line: usize,
     marks: &[TokenMark],
 ) -> Result<usize, Memory>
-    requires { passed ≤ length spots.now }
+    requires text { ruler.old ≡ grammar.now.text }
+    requires within { passed ≤ length spots.now }
+    ensures text { ruler.new ≡ ruler.old }
     ensures within { IfOk result (λ now. now ≤ length spots.now) }
     ensures left { IfOk result (λ now. map named_at (drop now spots.now) ≡ walk.left_behind line marks.now (map named_at (drop passed spots.now))) }
     ensures told { OnOk result (tokens.new ≡ tokens.old ++ walk.told_in_line grammar.now line marks.now (map named_at (drop passed spots.now))) }
@@ -124,7 +128,7 @@ fn push_line(
     let mut now = passed;
     for mark in marks {
         now = passed_at(spots, now, line, mark.start as usize);
-        if let Some(token) = told_of(grammar, &spots[now..], line, mark) {
+        if let Some(token) = told_of(grammar, ruler, &spots[now..], line, mark) {
             tokens.push(token)?;
         }
     }
@@ -154,11 +158,14 @@ fn begins_before(spot: &Spot<'_>, line: usize, start: usize) -> bool
 /// What is told of the token with this mark, where these places are left.
 fn told_of(
     grammar: &Grammar,
+    ruler: &mut Ruler<'_>,
     left: &[Spot<'_>],
     line: usize,
     mark: &TokenMark,
 ) -> Option<SemanticToken>
-    ensures { result ≡ spec.told_of grammar.now line mark.now (walk.first_at line mark.now.start (map named_at left.now)) }
+    requires { ruler.old ≡ grammar.now.text }
+    ensures text { ruler.new ≡ ruler.old }
+    ensures told { result ≡ spec.told_of grammar.now line mark.now (walk.first_at line mark.now.start (map named_at left.now)) }
 {
     let kind = type_of(mark.kind)?;
     let start = mark.start as usize;
@@ -168,7 +175,7 @@ fn told_of(
         end: mark.end as usize,
     };
     Some(SemanticToken {
-        range: grammar.source().range_of(&place),
+        range: ruler.range_of(&place),
         kind,
         modifiers: modifiers_of(grammar, mark.kind, first_at(left, line, start)),
     })

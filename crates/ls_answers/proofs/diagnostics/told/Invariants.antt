@@ -3,4 +3,7 @@ use Rattle.ls_answers.specs.Diagnostics.{diagnostic_of}
 use Rattle.ls_answers.proofs.diagnostics.told.Given as goal
 
 abbrev pub invariant-loop-finding : goal.invariant-loop-finding
-invariant-loop-finding l = l.diagnostics ≡ map (diagnostic_of l.snapshot) (take l.finding-index l.found)
+invariant-loop-finding l = record {
+  text : l.ruler ≡ l.snapshot;
+  told : l.diagnostics ≡ map (diagnostic_of l.snapshot) (take l.finding-index l.found);
+}

@@ -1,5 +1,6 @@
-use Rattle.ls_answers.proofs.Definitions.{found_there}
+use Rattle.std.proofs.Common.{IfOk, subst}
+use Rattle.ls_answers.specs.Places.{ArePlaces}
 use Rattle.ls_answers.proofs.places.ranges_at.Goals as goal
 
 pub returns : goal.returns
-returns c = found_there c.args.wanted c.args.grammar.now c.args.at c.source.result.now c.places_at.result.now c.wanted_ranges.result c.source.ensures.grammar c.source.ensures.text c.places_at.ensures c.wanted_ranges.ensures
+returns c = subst (λ t. IfOk c.ranges_among-ranges.result (λ ranges. ArePlaces c.args.wanted t c.args.at ranges)) c.in_ok-places.ensures c.ranges_among-ranges.ensures

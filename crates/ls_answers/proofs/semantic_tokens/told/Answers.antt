@@ -13,6 +13,7 @@ loop-line-preserved c = record {
   walked = line_walked c.args.grammar.now c.loop-line.line c.loop-line.tokens c.push_line.new.tokens (map named_at (drop c.loop-line.passed c.spots-spots.result.now)) (map named_at (drop c.in_ok-passed.passed c.spots-spots.result.now)) c.marks_at-marks.result.now
       c.loop-line.invariant.walked (subst (λ t. AreMarks (slice_index_or (line_texts t) c.loop-line.line []) c.marks_at-marks.result.now) c.source-snapshot.ensures.text c.marks_at-marks.ensures)
       c.in_ok-passed.ensures.told c.in_ok-passed.ensures.left;
+  text = c.push_line.ensures.text ∙ c.loop-line.invariant.text;
   within = c.in_ok-passed.ensures.within;
 }
 
