@@ -1,3 +1,4 @@
-pub mod NoFloats
+pub mod Elements
+pub mod Pieces
 pub mod Changes
 pub mod WithoutCert

@@ -1,13 +1,15 @@
-ghost use Rattle.std.specs.Prelude.{◌≡◌, IfOk, Some, None, Ok, option_map, false};
+ghost use Rattle.std.specs.Prelude.{◌≡◌, ◌++◌, IfOk, OnOk, Some, None, Ok, option_map};
 ghost use Rattle.serde_json.specs.View.{view};
-ghost use Rattle.serde_json.specs.Written.{has_float};
+ghost use Rattle.serde_json.specs.Written.{compact_text};
 ghost use Rattle.ls_session.specs.Bodies.{answer_json, body_of, failure_body, findings_body, findings_json, found_in, hover_json, location_json, locations_json, plain_text_json, refusal_of, reply_body, symbol_json, symbols_json};
 
-use crate::diagnostics::diagnostics_value;
-use crate::edits::{actions_value, edits_value, workspace_edit_value};
+use crate::diagnostics::write_diagnostics;
+use crate::edit_text::write_workspace_edit;
+use crate::edits::actions_value;
+use crate::json_text::JsonText;
 use crate::positions::range_value;
 use crate::refusal::Refusal;
-use crate::tokens::tokens_value;
+use crate::tokens::write_tokens;
 use ls_answers::{Answer, Diagnostic, HoverText, Symbol};
 use ls_desk::{DeskFault, Out};
 use ls_rpc::{Id, notice_text, result_text};
@@ -45,7 +47,7 @@ pub fn body_of(alloc: Global, out: &Out) -> Result<Vec<u8>, Memory>
     }
 }
 
-#[tactic(auto, using(crate::proofs::NoFloats::answer_has_no_float), unfolding(crate::specs::Bodies::reply_body))]
+#[tactic(auto, unfolding(crate::specs::Bodies::reply_body))]
 fn reply_body(
     alloc: Global,
     id: &Id,
@@ -59,8 +61,9 @@ fn reply_body(
     if let Answer::Refused(fault) = answer {
         return Refusal::of_rename(*fault).body(alloc, Some(id));
     }
-    let value = answer_value(alloc, uri, label, links, answer)?;
-    result_text(alloc, id, value)
+    let mut text = JsonText::up_to_null(result_text(alloc, id, Value::Null)?);
+    write_answer(&mut text, alloc, uri, label, links, answer)?;
+    text.end_object()
 }
 
 #[tactic(auto, unfolding(crate::specs::Bodies::failure_body))]
@@ -74,8 +77,10 @@ fn failure_body(alloc: Global, id: &Id, code: i32) -> Result<Vec<u8>, Memory>
 fn findings_body(alloc: Global, uri: &str, label: i64, answer: &Answer) -> Result<Vec<u8>, Memory>
     ensures { IfOk result (λ body. body.items ≡ findings_body uri.now label answer.now) }
 {
-    let value = findings_value(alloc, uri, label, answer)?;
-    notice_text(alloc, "textDocument/publishDiagnostics", value)
+    let notice = notice_text(alloc, "textDocument/publishDiagnostics", Value::Null)?;
+    let mut text = JsonText::up_to_null(notice);
+    write_findings(&mut text, alloc, uri, label, answer)?;
+    text.end_object()
 }
 
 /// The body that answers a request which the desk refused. None where there is nothing to
@@ -93,29 +98,41 @@ pub fn refusal_body(alloc: Global, id: &Id, fault: DeskFault) -> Result<Option<V
     }
 }
 
-fn answer_value(
+/// The result that an answer is.
+fn write_answer(
+    text: &mut JsonText,
     alloc: Global,
     uri: &str,
     label: i64,
     links: bool,
     answer: &Answer,
-) -> Result<Value, Memory>
-    ensures { IfOk result (λ value. view value ≡ answer_json uri.now label links answer.now) }
+) -> Result<(), Memory>
+    ensures { OnOk result (text.new ≡ text.old ++ compact_text (answer_json uri.now label links answer.now)) }
 {
     match answer {
-        Answer::Hover(Some(hover)) => hover_value(alloc, hover),
-        Answer::Hover(None) => Ok(Value::Null),
-        Answer::Places(ranges) => locations_value(alloc, uri, ranges.as_slice()),
-        Answer::Symbols(symbols) => symbols_value(alloc, symbols.as_slice()),
+        Answer::Hover(Some(hover)) => text.value(alloc, &hover_value(alloc, hover)?),
+        Answer::Hover(None) => text.value(alloc, &Value::Null),
+        Answer::Places(ranges) => write_locations(text, alloc, uri, ranges.as_slice()),
+        Answer::Symbols(symbols) => write_symbols(text, alloc, symbols.as_slice()),
         Answer::Edits(ranges, new) => {
-            let edits = edits_value(alloc, new.as_str(), ranges.as_slice())?;
-            workspace_edit_value(alloc, uri, label, links, edits)
+            write_workspace_edit(
+                text,
+                alloc,
+                uri,
+                label,
+                links,
+                new.as_str(),
+                ranges.as_slice(),
+            )
         }
-        Answer::Refused(_) => Ok(Value::Null),
-        Answer::Insert(Some(insertion)) => actions_value(alloc, uri, label, links, insertion),
-        Answer::Insert(None) => Ok(Value::Array(Vec::new(alloc))),
-        Answer::Numbers(numbers) => tokens_value(alloc, numbers.as_slice()),
-        Answer::Findings(diagnostics) => diagnostics_value(alloc, diagnostics.as_slice()),
+        Answer::Refused(_) => text.value(alloc, &Value::Null),
+        Answer::Insert(Some(insertion)) => {
+            let actions = actions_value(alloc, uri, label, links, insertion)?;
+            text.value(alloc, &actions)
+        }
+        Answer::Insert(None) => text.value(alloc, &Value::Array(Vec::new(alloc))),
+        Answer::Numbers(numbers) => write_tokens(text, alloc, numbers.as_slice()),
+        Answer::Findings(diagnostics) => write_diagnostics(text, alloc, diagnostics.as_slice()),
     }
 }
 
@@ -129,16 +146,26 @@ fn found_in(answer: &Answer) -> &[Diagnostic]
     }
 }
 
-fn findings_value(alloc: Global, uri: &str, label: i64, answer: &Answer) -> Result<Value, Memory>
-    ensures { IfOk result (λ value. view value ≡ findings_json uri.now label answer.now) }
+/// `PublishDiagnosticsParams`.
+fn write_findings(
+    text: &mut JsonText,
+    alloc: Global,
+    uri: &str,
+    label: i64,
+    answer: &Answer,
+) -> Result<(), Memory>
+    ensures { OnOk result (text.new ≡ text.old ++ compact_text (findings_json uri.now label answer.now)) }
 {
-    let found = diagnostics_value(alloc, found_in(answer))?;
-    let uri = Value::try_from_str(alloc, uri)?;
-    let mut members = Map::new(alloc);
-    put(&mut members, alloc, "diagnostics", found)?;
-    put(&mut members, alloc, "uri", uri)?;
-    put(&mut members, alloc, "version", Value::from(label))?;
-    Ok(Value::Object(members))
+    text.marks(b"{")?;
+    text.key(alloc, "diagnostics")?;
+    write_diagnostics(text, alloc, found_in(answer))?;
+    text.marks(b",")?;
+    text.key(alloc, "uri")?;
+    text.value(alloc, &Value::try_from_str(alloc, uri)?)?;
+    text.marks(b",")?;
+    text.key(alloc, "version")?;
+    text.value(alloc, &Value::from(label))?;
+    text.marks(b"}")
 }
 
 fn hover_value(alloc: Global, hover: &HoverText) -> Result<Value, Memory>
@@ -168,14 +195,16 @@ fn plain_text_value(alloc: Global, text: &str) -> Result<Value, Memory>
     Ok(Value::Object(members))
 }
 
-fn locations_value(alloc: Global, uri: &str, ranges: &[Range]) -> Result<Value, Memory>
-    ensures { IfOk result (λ value. view value ≡ locations_json uri.now ranges.now) }
+/// `Location[]`.
+fn write_locations(
+    text: &mut JsonText,
+    alloc: Global,
+    uri: &str,
+    ranges: &[Range],
+) -> Result<(), Memory>
+    ensures { OnOk result (text.new ≡ text.old ++ compact_text (locations_json uri.now ranges.now)) }
 {
-    let mut list = Vec::new(alloc);
-    for range in ranges {
-        list.push(location_value(alloc, uri, *range)?)?;
-    }
-    Ok(Value::Array(list))
+    text.array(alloc, ranges, |range| location_value(alloc, uri, *range))
 }
 
 fn location_value(alloc: Global, uri: &str, range: Range) -> Result<Value, Memory>
@@ -188,14 +217,11 @@ fn location_value(alloc: Global, uri: &str, range: Range) -> Result<Value, Memor
     Ok(Value::Object(members))
 }
 
-fn symbols_value(alloc: Global, symbols: &[Symbol]) -> Result<Value, Memory>
-    ensures { IfOk result (λ value. view value ≡ symbols_json symbols.now) }
+/// `DocumentSymbol[]`.
+fn write_symbols(text: &mut JsonText, alloc: Global, symbols: &[Symbol]) -> Result<(), Memory>
+    ensures { OnOk result (text.new ≡ text.old ++ compact_text (symbols_json symbols.now)) }
 {
-    let mut list = Vec::new(alloc);
-    for symbol in symbols {
-        list.push(symbol_value(alloc, symbol)?)?;
-    }
-    Ok(Value::Array(list))
+    text.array(alloc, symbols, |symbol| symbol_value(alloc, symbol))
 }
 
 fn symbol_value(alloc: Global, symbol: &Symbol) -> Result<Value, Memory>

@@ -1,22 +1,27 @@
 //! The JSON of what is wrong or doubtful in a document (LSP 3.17, "Diagnostic").
-ghost use Rattle.std.specs.Prelude.{◌≡◌, IfOk};
+ghost use Rattle.std.specs.Prelude.{◌≡◌, ◌++◌, IfOk, OnOk};
 ghost use Rattle.serde_json.specs.View.{view, members_view};
+ghost use Rattle.serde_json.specs.Written.{compact_text};
 ghost use Rattle.ls_session.specs.Bodies.{described, diagnostic_json, diagnostics_json, severity_number};
 
+use crate::json_text::JsonText;
 use crate::positions::range_value;
 use abnf_lint::Severity;
 use ls_answers::Diagnostic;
 use serde_json::{Map, Value, put};
 use std::alloc::{AllocError as Memory, Global};
 
-pub(crate) fn diagnostics_value(alloc: Global, diagnostics: &[Diagnostic]) -> Result<Value, Memory>
-    ensures { IfOk result (λ value. view value ≡ diagnostics_json diagnostics.now) }
+/// `Diagnostic[]`.
+pub(crate) fn write_diagnostics(
+    text: &mut JsonText,
+    alloc: Global,
+    diagnostics: &[Diagnostic],
+) -> Result<(), Memory>
+    ensures { OnOk result (text.new ≡ text.old ++ compact_text (diagnostics_json diagnostics.now)) }
 {
-    let mut list = Vec::new(alloc);
-    for diagnostic in diagnostics {
-        list.push(diagnostic_value(alloc, diagnostic)?)?;
-    }
-    Ok(Value::Array(list))
+    text.array(alloc, diagnostics, |diagnostic| {
+        diagnostic_value(alloc, diagnostic)
+    })
 }
 
 fn diagnostic_value(alloc: Global, diagnostic: &Diagnostic) -> Result<Value, Memory>

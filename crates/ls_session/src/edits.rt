@@ -9,19 +9,8 @@ use ls_text::{Position, Range};
 use serde_json::{Map, Value, put};
 use std::alloc::{AllocError as Memory, Global};
 
-/// The same text in the place of what stands in each range.
-pub(crate) fn edits_value(alloc: Global, text: &str, ranges: &[Range]) -> Result<Value, Memory>
-    ensures { IfOk result (λ value. view value ≡ edits_json text.now ranges.now) }
-{
-    let mut list = Vec::new(alloc);
-    for range in ranges {
-        list.push(edit_value(alloc, text, *range)?)?;
-    }
-    Ok(Value::Array(list))
-}
-
 /// `TextEdit`.
-fn edit_value(alloc: Global, text: &str, range: Range) -> Result<Value, Memory>
+pub(crate) fn edit_value(alloc: Global, text: &str, range: Range) -> Result<Value, Memory>
     ensures { IfOk result (λ value. view value ≡ edit_json text.now range) }
 {
     let text = Value::try_from_str(alloc, text)?;
@@ -32,7 +21,7 @@ fn edit_value(alloc: Global, text: &str, range: Range) -> Result<Value, Memory>
 }
 
 /// `WorkspaceEdit`: these edits of one document.
-pub(crate) fn workspace_edit_value(
+fn workspace_edit_value(
     alloc: Global,
     uri: &str,
     label: i64,
@@ -85,7 +74,7 @@ fn document_edit_value(alloc: Global, uri: &str, label: i64, edits: Value) -> Re
 }
 
 /// `OptionalVersionedTextDocumentIdentifier`.
-fn versioned_value(alloc: Global, uri: &str, label: i64) -> Result<Value, Memory>
+pub(crate) fn versioned_value(alloc: Global, uri: &str, label: i64) -> Result<Value, Memory>
     ensures { IfOk result (λ value. view value ≡ versioned_json uri.now label) }
 {
     let uri = Value::try_from_str(alloc, uri)?;
@@ -141,9 +130,10 @@ fn insertion_value(
         ≡ workspace_edit_json uri.now label links
         (edits_json insertion.now.text (empty_range insertion.now.position ∷ []))) }
 {
-    let ranges = [empty_range(insertion.position)];
-    let edits = edits_value(alloc, insertion.text.as_str(), &ranges)?;
-    workspace_edit_value(alloc, uri, label, links, edits)
+    let range = empty_range(insertion.position);
+    let mut edits = Vec::new(alloc);
+    edits.push(edit_value(alloc, insertion.text.as_str(), range)?)?;
+    workspace_edit_value(alloc, uri, label, links, Value::Array(edits))
 }
 
 /// The range at a position in which nothing stands.

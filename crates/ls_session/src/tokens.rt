@@ -1,22 +1,25 @@
 //! The JSON of semantic tokens (LSP 3.17, "Semantic Tokens").
-ghost use Rattle.std.specs.Prelude.{◌≡◌, map, IfOk};
+ghost use Rattle.std.specs.Prelude.{◌≡◌, ◌++◌, map, IfOk, OnOk};
 ghost use Rattle.serde_json.specs.View.{view};
+ghost use Rattle.serde_json.specs.Written.{compact_text};
 ghost use Rattle.ls_session.specs.Tokens.{legend_json, modifiers_json, texts_json, tokens_json, types_json};
 
+use crate::json_text::JsonText;
 use serde_json::{Map, Value, put};
 use std::alloc::{AllocError as Memory, Global};
 
 /// `SemanticTokens`.
-pub(crate) fn tokens_value(alloc: Global, numbers: &[u32]) -> Result<Value, Memory>
-    ensures { IfOk result (λ value. view value ≡ tokens_json numbers.now) }
+pub(crate) fn write_tokens(
+    text: &mut JsonText,
+    alloc: Global,
+    numbers: &[u32],
+) -> Result<(), Memory>
+    ensures { OnOk result (text.new ≡ text.old ++ compact_text (tokens_json numbers.now)) }
 {
-    let mut list = Vec::new(alloc);
-    for number in numbers {
-        list.push(Value::from(*number))?;
-    }
-    let mut members = Map::new(alloc);
-    put(&mut members, alloc, "data", Value::Array(list))?;
-    Ok(Value::Object(members))
+    text.marks(b"{")?;
+    text.key(alloc, "data")?;
+    text.array(alloc, numbers, |number| Ok(Value::from(*number)))?;
+    text.marks(b"}")
 }
 
 /// `SemanticTokensLegend`.
