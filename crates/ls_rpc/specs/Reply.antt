@@ -21,18 +21,18 @@ result_json id result =
     (member (codes "jsonrpc") (string (codes "2.0"))
     (member (codes "result") result no_members)))
 
--- a reply with an error, by the JSON of its id
-abbrev pub error_object : Data → ℤ → List ℕ → Data
-error_object id code message =
-    object (member (codes "error") (object
-    (member (codes "code") (number (of_integer code))
-    (member (codes "message") (string message) no_members)))
-    (member (codes "id") id
-    (member (codes "jsonrpc") (string (codes "2.0")) no_members)))
+-- what an error says
+abbrev pub fault_json : ℤ → List ℕ → Data
+fault_json code message =
+    object (member (codes "code") (number (of_integer code))
+    (member (codes "message") (string message) no_members))
 
 -- a reply with an error
 abbrev pub error_json : Option Id → ℤ → List ℕ → Data
-error_json id code message = error_object (id_or_null id) code message
+error_json id code message =
+    object (member (codes "error") (fault_json code message)
+    (member (codes "id") (id_or_null id)
+    (member (codes "jsonrpc") (string (codes "2.0")) no_members)))
 
 -- a notice
 abbrev pub notice_json : List ℕ → Data → Data

@@ -1,12 +1,21 @@
-ghost use Rattle.std.specs.Prelude.{◌≡◌, IfOk, false};
+//! The texts of replies and notices. `serde_json` writes each from what it says, with no tree of the whole.
+ghost use Rattle.std.specs.Prelude.{◌≡◌, IfOk, OnOk, false, option_map};
 ghost use Rattle.std.specs.Option.{option_copied};
+ghost use Rattle.serde.specs.Event.{Log};
+ghost use Rattle.serde_json.specs.Data.{Data};
+ghost use Rattle.serde_json.specs.Events.{SendsValue};
 ghost use Rattle.serde_json.specs.View.{view};
 ghost use Rattle.serde_json.specs.Written.{has_float, compact_text};
-ghost use Rattle.ls_rpc.specs.Reply.{id_json, result_json, error_object, error_json, notice_json};
+ghost use Rattle.ls_rpc.specs.Reply.{id_json, id_or_null, result_json, error_json, fault_json, notice_json};
+ghost use Rattle.ls_rpc.specs.Sent.{OpensNotice, OpensReply};
 
 use crate::message::Id;
-use serde_json::{Map, Value, put};
+use serde::{Described, Serialize, Serializer};
+use serde_json::Value;
 use std::alloc::{AllocError as Memory, Global};
+
+/// The version of JSON-RPC that each message names (JSON-RPC 2.0, section 4).
+const VERSION: &str = "2.0";
 
 /// The text of a reply with a result (JSON-RPC 2.0, section 5).
 ///
@@ -16,8 +25,11 @@ pub fn result_text(alloc: Global, id: &Id, result_value: Value) -> Result<Vec<u8
     ensures { IfOk result (λ text.
         text.items ≡ compact_text (result_json id.now (view result_value))) }
 {
-    let reply = result_reply(alloc, id, result_value)?;
-    reply.to_vec(alloc)
+    let reply = Reply {
+        id,
+        result: &result_value,
+    };
+    json_text(alloc, &reply)
 }
 
 /// The text of a reply with an error (JSON-RPC 2.0, section 5.1). Its id is null where the request's isn't known.
@@ -32,12 +44,11 @@ pub fn error_text(
     ensures { IfOk result (λ text.
         text.items ≡ compact_text (error_json (option_copied id.entry) code message.now)) }
 {
-    let id = match id {
-        Some(id) => id_value(alloc, id)?,
-        None => Value::Null,
+    let reply = ErrorReply {
+        id,
+        error: Fault { code, message },
     };
-    let reply = error_reply(alloc, id, code, message)?;
-    reply.to_vec(alloc)
+    json_text(alloc, &reply)
 }
 
 /// The text of a notice, a call that wants no reply (JSON-RPC 2.0, section 4.1).
@@ -47,74 +58,158 @@ pub fn notice_text(alloc: Global, method: &str, params: Value) -> Result<Vec<u8>
     requires { has_float (view params) ≡ false }
     ensures { IfOk result (λ text. text.items ≡ compact_text (notice_json method.now (view params))) }
 {
-    let notice = notice_value(alloc, method, params)?;
-    notice.to_vec(alloc)
+    let notice = Notice {
+        method,
+        params: &params,
+    };
+    json_text(alloc, &notice)
 }
 
-fn result_reply(alloc: Global, id: &Id, result_value: Value) -> Result<Value, Memory>
-    ensures { IfOk result (λ reply. view reply ≡ result_json id.now (view result_value)) }
+/// The compact text of what a value sends to a serializer, by the JSON that this is. No [`Value`] is made of it.
+///
+/// `Memory` says that an allocation was refused. Nothing else can fail, since no key is a number and no integer is
+/// wider than 64 bits.
+pub fn json_text<T: Serialize>(alloc: Global, value: &T) -> Result<Vec<u8>, Memory>
+    ghost json: { Data }
+    requires sends { (old : Log) → (new : Log) → T.writes value.now old new → SendsValue json old new }
+    requires whole { has_float json ≡ false }
+    ensures { IfOk result (λ text. text.items ≡ compact_text json) }
 {
-    let id = id_value(alloc, id)?;
-    let mut members = Map::new(alloc);
-    put(&mut members, alloc, "id", id)?;
-    put(
-        &mut members,
-        alloc,
-        "jsonrpc",
-        Value::try_from_str(alloc, "2.0")?,
-    )?;
-    put(&mut members, alloc, "result", result_value)?;
-    Ok(Value::Object(members))
+    match serde_json::to_vec(alloc, value) {
+        Ok(text) => Ok(text),
+        Err(_) => Err(Memory),
+    }
 }
 
-fn error_reply(alloc: Global, id: Value, code: i32, message: &str) -> Result<Value, Memory>
-    ensures { IfOk result (λ reply. view reply ≡ error_object (view id) code message.now) }
+/// Writes a reply as far as the key of its result (JSON-RPC 2.0, section 5). The result and the end of the object are the
+/// caller's to write.
+pub fn open_reply<S: Serializer>(out: &mut S, id: &Id) -> Result<(), S::Error>
+    ensures { OnOk result (OpensReply id.now (S.written out.old) (S.written out.new)) }
 {
-    let mut error = Map::new(alloc);
-    put(&mut error, alloc, "code", Value::from(code))?;
-    put(
-        &mut error,
-        alloc,
-        "message",
-        Value::try_from_str(alloc, message)?,
-    )?;
-    let mut members = Map::new(alloc);
-    put(&mut members, alloc, "error", Value::Object(error))?;
-    put(&mut members, alloc, "id", id)?;
-    put(
-        &mut members,
-        alloc,
-        "jsonrpc",
-        Value::try_from_str(alloc, "2.0")?,
-    )?;
-    Ok(Value::Object(members))
+    out.begin_map(Some(3))?;
+    out.key("id")?;
+    id.serialize(out)?;
+    out.key("jsonrpc")?;
+    out.str(VERSION)?;
+    out.key("result")
 }
 
-fn notice_value(alloc: Global, method: &str, params: Value) -> Result<Value, Memory>
-    ensures { IfOk result (λ notice. view notice ≡ notice_json method.now (view params)) }
+/// Writes a notice as far as the key of its parameters (JSON-RPC 2.0, section 4.1). The parameters and the end of the object
+/// are the caller's to write.
+pub fn open_notice<S: Serializer>(out: &mut S, method: &str) -> Result<(), S::Error>
+    ensures { OnOk result (OpensNotice method.now (S.written out.old) (S.written out.new)) }
 {
-    let mut members = Map::new(alloc);
-    put(
-        &mut members,
-        alloc,
-        "jsonrpc",
-        Value::try_from_str(alloc, "2.0")?,
-    )?;
-    put(
-        &mut members,
-        alloc,
-        "method",
-        Value::try_from_str(alloc, method)?,
-    )?;
-    put(&mut members, alloc, "params", params)?;
-    Ok(Value::Object(members))
+    out.begin_map(Some(3))?;
+    out.key("jsonrpc")?;
+    out.str(VERSION)?;
+    out.key("method")?;
+    out.str(method)?;
+    out.key("params")
 }
 
-fn id_value(alloc: Global, id: &Id) -> Result<Value, Memory>
-    ensures { IfOk result (λ value. view value ≡ id_json id.now) }
+/// A reply with a result.
+#[derive(Drop)]
+struct Reply<'a> {
+    id: &'a Id,
+    result: &'a Value,
+}
+
+impl Described for Reply<'_> {
+    ghost writes = { λ reply. SendsValue (result_json reply.id.now (view reply.result.now)) };
+}
+
+impl Serialize for Reply<'_> {
+    fn serialize<S: Serializer>(&self, out: &mut S) -> Result<(), S::Error> {
+        open_reply(out, self.id)?;
+        self.result.serialize(out)?;
+        out.end_map()
+    }
+}
+
+/// A notice.
+#[derive(Drop)]
+struct Notice<'a> {
+    method: &'a str,
+    params: &'a Value,
+}
+
+impl Described for Notice<'_> {
+    ghost writes = { λ notice. SendsValue (notice_json notice.method.now (view notice.params.now)) };
+}
+
+impl Serialize for Notice<'_> {
+    fn serialize<S: Serializer>(&self, out: &mut S) -> Result<(), S::Error> {
+        open_notice(out, self.method)?;
+        self.params.serialize(out)?;
+        out.end_map()
+    }
+}
+
+/// A reply with an error.
+#[derive(Drop)]
+struct ErrorReply<'a> {
+    id: Option<&'a Id>,
+    error: Fault<'a>,
+}
+
+impl Described for ErrorReply<'_> {
+    ghost writes = { λ reply. SendsValue (error_json (option_map (λ id. id.now) reply.id) reply.error.code reply.error.message.now) };
+}
+
+impl Serialize for ErrorReply<'_> {
+    fn serialize<S: Serializer>(&self, out: &mut S) -> Result<(), S::Error> {
+        out.begin_map(Some(3))?;
+        out.key("error")?;
+        self.error.serialize(out)?;
+        out.key("id")?;
+        write_id(out, self.id)?;
+        out.key("jsonrpc")?;
+        out.str(VERSION)?;
+        out.end_map()
+    }
+}
+
+/// What an error says.
+#[derive(Drop)]
+struct Fault<'a> {
+    code: i32,
+    message: &'a str,
+}
+
+impl Described for Fault<'_> {
+    ghost writes = { λ fault. SendsValue (fault_json fault.code fault.message.now) };
+}
+
+impl Serialize for Fault<'_> {
+    fn serialize<S: Serializer>(&self, out: &mut S) -> Result<(), S::Error> {
+        out.begin_map(Some(2))?;
+        out.key("code")?;
+        Value::from(self.code).serialize(out)?;
+        out.key("message")?;
+        out.str(self.message)?;
+        out.end_map()
+    }
+}
+
+impl Described for Id {
+    ghost writes = { λ id. SendsValue (id_json id) };
+}
+
+impl Serialize for Id {
+    fn serialize<S: Serializer>(&self, out: &mut S) -> Result<(), S::Error> {
+        match self {
+            Id::Number(number) => Value::from(*number).serialize(out),
+            Id::Text(text) => out.str(text.as_str()),
+        }
+    }
+}
+
+/// The id, or null where it isn't known.
+fn write_id<S: Serializer>(out: &mut S, id: Option<&Id>) -> Result<(), S::Error>
+    ensures { OnOk result (SendsValue (id_or_null (option_copied id.entry)) (S.written out.old) (S.written out.new)) }
 {
     match id {
-        Id::Number(number) => Ok(Value::from(*number)),
-        Id::Text(text) => Value::try_from_str(alloc, text.as_str()),
+        Some(id) => id.serialize(out),
+        None => out.unit(),
     }
 }

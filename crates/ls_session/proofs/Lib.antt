@@ -1,4 +1,4 @@
-pub mod Elements
-pub mod Pieces
+pub mod Arrays
+pub mod Floats
 pub mod Changes
 pub mod WithoutCert

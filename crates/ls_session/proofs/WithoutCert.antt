@@ -4,10 +4,10 @@ use Rattle.ls_rpc.specs.declared.message.Id.{Id}
 use Rattle.ls_answers.specs.Answers.{without_cert}
 use Rattle.ls_answers.specs.declared.answer.Answer.{Answer}
 use Rattle.ls_answers.specs.declared.answer.Answer.TheVariants.{Hover, Places, Symbols, Edits, Refused, Insert, Numbers, Findings}
-use Rattle.ls_session.specs.Bodies.{findings_body, reply_body}
+use Rattle.ls_session.specs.Bodies.{answered_json, published_json, findings_body, reply_body}
 
 reply_without : (id : Id) (uri : List ℕ) (label : ℤ) (links : Bool) (a : Answer) → reply_body id uri label links (without_cert a) ≡ reply_body id uri label links a
-unfolding reply_body
+unfolding reply_body answered_json
 reply_without id uri label links (Hover None) = refl
 reply_without id uri label links (Hover (Some hover)) = refl
 reply_without id uri label links (Places ranges) = refl
@@ -20,7 +20,7 @@ reply_without id uri label links (Numbers numbers) = refl
 reply_without id uri label links (Findings diagnostics) = refl
 
 findings_without : (uri : List ℕ) (label : ℤ) (a : Answer) → findings_body uri label (without_cert a) ≡ findings_body uri label a
-unfolding findings_body
+unfolding findings_body published_json
 findings_without uri label (Hover None) = refl
 findings_without uri label (Hover (Some hover)) = refl
 findings_without uri label (Places ranges) = refl

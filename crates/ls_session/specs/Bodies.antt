@@ -1,6 +1,6 @@
 -- The bodies of what is said. Members of their JSON stand in the order of their keys.
 use Rattle.std.specs.Prelude.{ℕ, ℤ, List, [], map, Bool, codes, Option, Some, None, option_map}
-use Rattle.serde_json.specs.Data.{Data, Members, null, number, string, array, object, unsigned, member, no_members}
+use Rattle.serde_json.specs.Data.{Data, null, number, string, array, object, unsigned, member, no_members}
 use Rattle.serde_json.specs.Find.{of_integer}
 use Rattle.serde_json.specs.View.{items_of}
 use Rattle.serde_json.specs.Written.{compact_text}
@@ -65,10 +65,6 @@ abbrev pub severity_number : Severity → ℕ
 severity_number Error = 1
 severity_number Warning = 2
 
--- the code and the message, and no more
-abbrev pub described : Diagnostic → Members
-described diagnostic = member (codes "code") (string (code_text diagnostic.code)) (member (codes "message") (string diagnostic.message) no_members)
-
 -- what is wrong or doubtful at a place (LSP 3.17, "Diagnostic")
 abbrev pub diagnostic_json : Diagnostic → Data
 diagnostic_json diagnostic =
@@ -110,18 +106,26 @@ abbrev pub fault_in : Answer → Option RenameFault
 fault_in (answer.Refused fault) = Some fault
 fault_in _ = None
 
+-- the reply whose result an answer is
+unfoldable pub answered_json : Id → List ℕ → ℤ → Bool → Answer → Data
+answered_json id uri label links answer = result_json id (answer_json uri label links answer)
+
+-- the notice that publishes what was found
+unfoldable pub published_json : List ℕ → ℤ → Answer → Data
+published_json uri label answer = notice_json (codes "textDocument/publishDiagnostics") (findings_json uri label answer)
+
 -- the error where there is one, else the result
 abbrev pub error_or_result : Id → Option RenameFault → Data → List ℕ
-error_or_result id (Some fault) result = error_body (Some id) (refusal_of_rename fault)
-error_or_result id None result = compact_text (result_json id result)
+error_or_result id (Some fault) reply = error_body (Some id) (refusal_of_rename fault)
+error_or_result id None reply = compact_text reply
 
 -- the body that replies to a request about a document with an answer
 unfoldable pub reply_body : Id → List ℕ → ℤ → Bool → Answer → List ℕ
-reply_body id uri label links answer = error_or_result id (fault_in answer) (answer_json uri label links answer)
+reply_body id uri label links answer = error_or_result id (fault_in answer) (answered_json id uri label links answer)
 
 -- the body that publishes what was found in a document
 unfoldable pub findings_body : List ℕ → ℤ → Answer → List ℕ
-findings_body uri label answer = compact_text (notice_json (codes "textDocument/publishDiagnostics") (findings_json uri label answer))
+findings_body uri label answer = compact_text (published_json uri label answer)
 
 -- the body that replies to a request which the desk gave up, by the code that it keeps
 unfoldable pub failure_body : Id → ℤ → List ℕ

@@ -1,20 +1,20 @@
-ghost use Rattle.std.specs.Prelude.{◌≡◌, ◌++◌, IfOk, OnOk, Some, None, Ok, option_map};
-ghost use Rattle.serde_json.specs.View.{view};
-ghost use Rattle.serde_json.specs.Written.{compact_text};
-ghost use Rattle.ls_session.specs.Bodies.{answer_json, body_of, failure_body, findings_body, findings_json, found_in, hover_json, location_json, locations_json, plain_text_json, refusal_of, reply_body, symbol_json, symbols_json};
+//! The bodies of what the server says. `serde_json` writes each as a whole from the answer: no tree of JSON is made of it.
+ghost use Rattle.std.specs.Prelude.{◌≡◌, IfOk, OnOk, Some, None, Ok, option_map};
+ghost use Rattle.serde_json.specs.Data.{array, no_items};
+ghost use Rattle.serde_json.specs.Events.{SendsValue};
+ghost use Rattle.ls_session.specs.Bodies.{answer_json, answered_json, body_of, failure_body, findings_body, findings_json, found_in, hover_json, location_json, locations_json, plain_text_json, published_json, refusal_of, reply_body, symbol_json, symbols_json};
 
 use crate::diagnostics::write_diagnostics;
-use crate::edit_text::write_workspace_edit;
-use crate::edits::actions_value;
-use crate::json_text::JsonText;
-use crate::positions::range_value;
+use crate::edits::{write_actions, write_workspace_edit};
+use crate::positions::write_range;
 use crate::refusal::Refusal;
 use crate::tokens::write_tokens;
 use ls_answers::{Answer, Diagnostic, HoverText, Symbol};
 use ls_desk::{DeskFault, Out};
-use ls_rpc::{Id, notice_text, result_text};
+use ls_rpc::{Id, open_notice, open_reply};
 use ls_text::Range;
-use serde_json::{Map, Value, put};
+use serde::{Described, Serialize, Serializer};
+use serde_json::Value;
 use std::alloc::{AllocError as Memory, Global};
 
 /// `SymbolKind.Function` (LSP 3.17, "Document Symbols Request").
@@ -61,9 +61,13 @@ fn reply_body(
     if let Answer::Refused(fault) = answer {
         return Refusal::of_rename(*fault).body(alloc, Some(id));
     }
-    let mut text = JsonText::up_to_null(result_text(alloc, id, Value::Null)?);
-    write_answer(&mut text, alloc, uri, label, links, answer)?;
-    text.end_object()
+    let document = Document { uri, label, links };
+    let reply = Reply {
+        id,
+        document,
+        answer,
+    };
+    written(serde_json::to_vec(alloc, &reply))
 }
 
 #[tactic(auto, unfolding(crate::specs::Bodies::failure_body))]
@@ -77,10 +81,18 @@ fn failure_body(alloc: Global, id: &Id, code: i32) -> Result<Vec<u8>, Memory>
 fn findings_body(alloc: Global, uri: &str, label: i64, answer: &Answer) -> Result<Vec<u8>, Memory>
     ensures { IfOk result (λ body. body.items ≡ findings_body uri.now label answer.now) }
 {
-    let notice = notice_text(alloc, "textDocument/publishDiagnostics", Value::Null)?;
-    let mut text = JsonText::up_to_null(notice);
-    write_findings(&mut text, alloc, uri, label, answer)?;
-    text.end_object()
+    let published = Publication { uri, label, answer };
+    written(serde_json::to_vec(alloc, &published))
+}
+
+/// What was written. Nothing but memory can fail: no key is a number, and no integer is wider than 64 bits.
+fn written(text: serde_json::Result<Vec<u8>>) -> Result<Vec<u8>, Memory>
+    ensures { IfOk result (λ body. text ≡ Ok body) }
+{
+    match text {
+        Ok(body) => Ok(body),
+        Err(_) => Err(Memory),
+    }
 }
 
 /// The body that answers a request which the desk refused. None where there is nothing to
@@ -98,42 +110,86 @@ pub fn refusal_body(alloc: Global, id: &Id, fault: DeskFault) -> Result<Option<V
     }
 }
 
-/// The result that an answer is.
-fn write_answer(
-    text: &mut JsonText,
-    alloc: Global,
-    uri: &str,
+/// The document that an answer is about.
+#[derive(Drop)]
+pub(crate) struct Document<'a> {
+    pub(crate) uri: &'a str,
+    /// The client's version of it.
+    pub(crate) label: i64,
+    /// Whether the client takes edits as `documentChanges`.
+    pub(crate) links: bool,
+}
+
+/// A reply with an answer as its result.
+#[derive(Drop)]
+struct Reply<'a> {
+    id: &'a Id,
+    document: Document<'a>,
+    answer: &'a Answer,
+}
+
+impl Described for Reply<'_> {
+    ghost writes = { λ reply. SendsValue (answered_json reply.id.now reply.document.uri.now reply.document.label reply.document.links reply.answer.now) };
+}
+
+impl Serialize for Reply<'_> {
+    fn serialize<S: Serializer>(&self, out: &mut S) -> Result<(), S::Error> {
+        open_reply(out, self.id)?;
+        write_answer(out, &self.document, self.answer)?;
+        out.end_map()
+    }
+}
+
+/// A notice of what was found in a document.
+#[derive(Drop)]
+struct Publication<'a> {
+    uri: &'a str,
     label: i64,
-    links: bool,
+    answer: &'a Answer,
+}
+
+impl Described for Publication<'_> {
+    ghost writes = { λ published. SendsValue (published_json published.uri.now published.label published.answer.now) };
+}
+
+impl Serialize for Publication<'_> {
+    fn serialize<S: Serializer>(&self, out: &mut S) -> Result<(), S::Error> {
+        open_notice(out, "textDocument/publishDiagnostics")?;
+        write_findings(out, self)?;
+        out.end_map()
+    }
+}
+
+/// The result that an answer is.
+fn write_answer<S: Serializer>(
+    out: &mut S,
+    document: &Document<'_>,
     answer: &Answer,
-) -> Result<(), Memory>
-    ensures { OnOk result (text.new ≡ text.old ++ compact_text (answer_json uri.now label links answer.now)) }
+) -> Result<(), S::Error>
+    ensures { OnOk result (SendsValue (answer_json document.now.uri.now document.now.label document.now.links answer.now) (S.written out.old) (S.written out.new)) }
 {
     match answer {
-        Answer::Hover(Some(hover)) => text.value(alloc, &hover_value(alloc, hover)?),
-        Answer::Hover(None) => text.value(alloc, &Value::Null),
-        Answer::Places(ranges) => write_locations(text, alloc, uri, ranges.as_slice()),
-        Answer::Symbols(symbols) => write_symbols(text, alloc, symbols.as_slice()),
+        Answer::Hover(Some(hover)) => write_hover(out, hover),
+        Answer::Hover(None) => out.unit(),
+        Answer::Places(ranges) => write_locations(out, document.uri, ranges.as_slice()),
+        Answer::Symbols(symbols) => write_symbols(out, symbols.as_slice()),
         Answer::Edits(ranges, new) => {
-            write_workspace_edit(
-                text,
-                alloc,
-                uri,
-                label,
-                links,
-                new.as_str(),
-                ranges.as_slice(),
-            )
+            write_workspace_edit(out, document, new.as_str(), ranges.as_slice())
         }
-        Answer::Refused(_) => text.value(alloc, &Value::Null),
-        Answer::Insert(Some(insertion)) => {
-            let actions = actions_value(alloc, uri, label, links, insertion)?;
-            text.value(alloc, &actions)
-        }
-        Answer::Insert(None) => text.value(alloc, &Value::Array(Vec::new(alloc))),
-        Answer::Numbers(numbers) => write_tokens(text, alloc, numbers.as_slice()),
-        Answer::Findings(diagnostics) => write_diagnostics(text, alloc, diagnostics.as_slice()),
+        Answer::Refused(_) => out.unit(),
+        Answer::Insert(Some(insertion)) => write_actions(out, document, insertion),
+        Answer::Insert(None) => write_nothing(out),
+        Answer::Numbers(numbers) => write_tokens(out, numbers.as_slice()),
+        Answer::Findings(diagnostics) => write_diagnostics(out, diagnostics.as_slice()),
     }
+}
+
+/// An empty array.
+fn write_nothing<S: Serializer>(out: &mut S) -> Result<(), S::Error>
+    ensures { OnOk result (SendsValue (array no_items) (S.written out.old) (S.written out.new)) }
+{
+    out.begin_seq(Some(0))?;
+    out.end_seq()
 }
 
 /// The findings that an answer tells.
@@ -147,93 +203,87 @@ fn found_in(answer: &Answer) -> &[Diagnostic]
 }
 
 /// `PublishDiagnosticsParams`.
-fn write_findings(
-    text: &mut JsonText,
-    alloc: Global,
-    uri: &str,
-    label: i64,
-    answer: &Answer,
-) -> Result<(), Memory>
-    ensures { OnOk result (text.new ≡ text.old ++ compact_text (findings_json uri.now label answer.now)) }
+fn write_findings<S: Serializer>(out: &mut S, published: &Publication<'_>) -> Result<(), S::Error>
+    ensures { OnOk result (SendsValue (findings_json published.now.uri.now published.now.label published.now.answer.now) (S.written out.old) (S.written out.new)) }
 {
-    text.marks(b"{")?;
-    text.key(alloc, "diagnostics")?;
-    write_diagnostics(text, alloc, found_in(answer))?;
-    text.marks(b",")?;
-    text.key(alloc, "uri")?;
-    text.value(alloc, &Value::try_from_str(alloc, uri)?)?;
-    text.marks(b",")?;
-    text.key(alloc, "version")?;
-    text.value(alloc, &Value::from(label))?;
-    text.marks(b"}")
+    out.begin_map(Some(3))?;
+    out.key("diagnostics")?;
+    write_diagnostics(out, found_in(published.answer))?;
+    out.key("uri")?;
+    out.str(published.uri)?;
+    out.key("version")?;
+    Value::from(published.label).serialize(out)?;
+    out.end_map()
 }
 
-fn hover_value(alloc: Global, hover: &HoverText) -> Result<Value, Memory>
-    ensures { IfOk result (λ value. view value ≡ hover_json hover.now) }
+/// `Hover`.
+fn write_hover<S: Serializer>(out: &mut S, hover: &HoverText) -> Result<(), S::Error>
+    ensures { OnOk result (SendsValue (hover_json hover.now) (S.written out.old) (S.written out.new)) }
 {
-    let contents = plain_text_value(alloc, hover.text.as_str())?;
-    let mut members = Map::new(alloc);
-    put(&mut members, alloc, "contents", contents)?;
-    put(
-        &mut members,
-        alloc,
-        "range",
-        range_value(alloc, hover.range)?,
-    )?;
-    Ok(Value::Object(members))
+    out.begin_map(Some(2))?;
+    out.key("contents")?;
+    write_plain_text(out, hover.text.as_str())?;
+    out.key("range")?;
+    write_range(out, hover.range)?;
+    out.end_map()
 }
 
 /// `MarkupContent` of the kind `plaintext`.
-fn plain_text_value(alloc: Global, text: &str) -> Result<Value, Memory>
-    ensures { IfOk result (λ value. view value ≡ plain_text_json text.now) }
+fn write_plain_text<S: Serializer>(out: &mut S, text: &str) -> Result<(), S::Error>
+    ensures { OnOk result (SendsValue (plain_text_json text.now) (S.written out.old) (S.written out.new)) }
 {
-    let kind = Value::try_from_str(alloc, "plaintext")?;
-    let text = Value::try_from_str(alloc, text)?;
-    let mut members = Map::new(alloc);
-    put(&mut members, alloc, "kind", kind)?;
-    put(&mut members, alloc, "value", text)?;
-    Ok(Value::Object(members))
+    out.begin_map(Some(2))?;
+    out.key("kind")?;
+    out.str("plaintext")?;
+    out.key("value")?;
+    out.str(text)?;
+    out.end_map()
 }
 
 /// `Location[]`.
-fn write_locations(
-    text: &mut JsonText,
-    alloc: Global,
-    uri: &str,
-    ranges: &[Range],
-) -> Result<(), Memory>
-    ensures { OnOk result (text.new ≡ text.old ++ compact_text (locations_json uri.now ranges.now)) }
+fn write_locations<S: Serializer>(out: &mut S, uri: &str, ranges: &[Range]) -> Result<(), S::Error>
+    ensures { OnOk result (SendsValue (locations_json uri.now ranges.now) (S.written out.old) (S.written out.new)) }
 {
-    text.array(alloc, ranges, |range| location_value(alloc, uri, *range))
+    out.begin_seq(Some(ranges.len()))?;
+    for range in ranges {
+        write_location(out, uri, *range)?;
+    }
+    out.end_seq()
 }
 
-fn location_value(alloc: Global, uri: &str, range: Range) -> Result<Value, Memory>
-    ensures { IfOk result (λ value. view value ≡ location_json uri.now range) }
+fn write_location<S: Serializer>(out: &mut S, uri: &str, range: Range) -> Result<(), S::Error>
+    ensures { OnOk result (SendsValue (location_json uri.now range) (S.written out.old) (S.written out.new)) }
 {
-    let uri = Value::try_from_str(alloc, uri)?;
-    let mut members = Map::new(alloc);
-    put(&mut members, alloc, "range", range_value(alloc, range)?)?;
-    put(&mut members, alloc, "uri", uri)?;
-    Ok(Value::Object(members))
+    out.begin_map(Some(2))?;
+    out.key("range")?;
+    write_range(out, range)?;
+    out.key("uri")?;
+    out.str(uri)?;
+    out.end_map()
 }
 
 /// `DocumentSymbol[]`.
-fn write_symbols(text: &mut JsonText, alloc: Global, symbols: &[Symbol]) -> Result<(), Memory>
-    ensures { OnOk result (text.new ≡ text.old ++ compact_text (symbols_json symbols.now)) }
+fn write_symbols<S: Serializer>(out: &mut S, symbols: &[Symbol]) -> Result<(), S::Error>
+    ensures { OnOk result (SendsValue (symbols_json symbols.now) (S.written out.old) (S.written out.new)) }
 {
-    text.array(alloc, symbols, |symbol| symbol_value(alloc, symbol))
+    out.begin_seq(Some(symbols.len()))?;
+    for symbol in symbols {
+        write_symbol(out, symbol)?;
+    }
+    out.end_seq()
 }
 
-fn symbol_value(alloc: Global, symbol: &Symbol) -> Result<Value, Memory>
-    ensures { IfOk result (λ value. view value ≡ symbol_json symbol.now) }
+fn write_symbol<S: Serializer>(out: &mut S, symbol: &Symbol) -> Result<(), S::Error>
+    ensures { OnOk result (SendsValue (symbol_json symbol.now) (S.written out.old) (S.written out.new)) }
 {
-    let name = Value::try_from_str(alloc, symbol.name.as_str())?;
-    let range = range_value(alloc, symbol.range)?;
-    let name_range = range_value(alloc, symbol.name_range)?;
-    let mut members = Map::new(alloc);
-    put(&mut members, alloc, "kind", Value::from(FUNCTION))?;
-    put(&mut members, alloc, "name", name)?;
-    put(&mut members, alloc, "range", range)?;
-    put(&mut members, alloc, "selectionRange", name_range)?;
-    Ok(Value::Object(members))
+    out.begin_map(Some(4))?;
+    out.key("kind")?;
+    FUNCTION.serialize(out)?;
+    out.key("name")?;
+    out.str(symbol.name.as_str())?;
+    out.key("range")?;
+    write_range(out, symbol.range)?;
+    out.key("selectionRange")?;
+    write_range(out, symbol.name_range)?;
+    out.end_map()
 }

@@ -1,139 +1,161 @@
 //! The JSON of edits and of code actions (LSP 3.17, "WorkspaceEdit" and "Code Action Request").
-ghost use Rattle.std.specs.Prelude.{◌≡◌, [], ◌∷◌, IfOk, Some};
-ghost use Rattle.serde_json.specs.View.{view};
+ghost use Rattle.std.specs.Prelude.{◌≡◌, [], ◌∷◌, OnOk, Some};
+ghost use Rattle.serde_json.specs.Events.{SendsValue};
 ghost use Rattle.ls_session.specs.Edits.{action_json, actions_json, changes_json, document_changes_json, document_edit_json, edit_json, edits_json, empty_range, versioned_json, workspace_edit_json};
 
-use crate::positions::range_value;
+use crate::bodies::Document;
+use crate::positions::write_range;
 use ls_answers::Insertion;
 use ls_text::{Position, Range};
-use serde_json::{Map, Value, put};
-use std::alloc::{AllocError as Memory, Global};
+use serde::{Serialize, Serializer};
+use serde_json::Value;
 
-/// `TextEdit`.
-pub(crate) fn edit_value(alloc: Global, text: &str, range: Range) -> Result<Value, Memory>
-    ensures { IfOk result (λ value. view value ≡ edit_json text.now range) }
+/// `WorkspaceEdit`: a new text in the place of what stands in each range of one document.
+pub(crate) fn write_workspace_edit<S: Serializer>(
+    out: &mut S,
+    document: &Document<'_>,
+    new: &str,
+    ranges: &[Range],
+) -> Result<(), S::Error>
+    ensures { OnOk result (SendsValue (workspace_edit_json document.now.uri.now document.now.label document.now.links (edits_json new.now ranges.now))
+        (S.written out.old) (S.written out.new)) }
 {
-    let text = Value::try_from_str(alloc, text)?;
-    let mut members = Map::new(alloc);
-    put(&mut members, alloc, "newText", text)?;
-    put(&mut members, alloc, "range", range_value(alloc, range)?)?;
-    Ok(Value::Object(members))
-}
-
-/// `WorkspaceEdit`: these edits of one document.
-fn workspace_edit_value(
-    alloc: Global,
-    uri: &str,
-    label: i64,
-    links: bool,
-    edits: Value,
-) -> Result<Value, Memory>
-    ensures { IfOk result (λ value. view value ≡ workspace_edit_json uri.now label links (view edits)) }
-{
-    if links {
-        document_changes_value(alloc, uri, label, edits)
+    if document.links {
+        write_document_changes(out, document, new, ranges)
     } else {
-        changes_value(alloc, uri, edits)
+        write_changes(out, document, new, ranges)
     }
 }
 
-fn changes_value(alloc: Global, uri: &str, edits: Value) -> Result<Value, Memory>
-    ensures { IfOk result (λ value. view value ≡ changes_json uri.now (view edits)) }
+/// The `changes` of a `WorkspaceEdit`.
+fn write_changes<S: Serializer>(
+    out: &mut S,
+    document: &Document<'_>,
+    new: &str,
+    ranges: &[Range],
+) -> Result<(), S::Error>
+    ensures { OnOk result (SendsValue (changes_json document.now.uri.now (edits_json new.now ranges.now)) (S.written out.old) (S.written out.new)) }
 {
-    let mut changes = Map::new(alloc);
-    put(&mut changes, alloc, uri, edits)?;
-    let mut members = Map::new(alloc);
-    put(&mut members, alloc, "changes", Value::Object(changes))?;
-    Ok(Value::Object(members))
+    out.begin_map(Some(1))?;
+    out.key("changes")?;
+    out.begin_map(Some(1))?;
+    out.key(document.uri)?;
+    write_edits(out, new, ranges)?;
+    out.end_map()?;
+    out.end_map()
 }
 
-fn document_changes_value(
-    alloc: Global,
-    uri: &str,
-    label: i64,
-    edits: Value,
-) -> Result<Value, Memory>
-    ensures { IfOk result (λ value. view value ≡ document_changes_json uri.now label (view edits)) }
+/// The `documentChanges` of a `WorkspaceEdit`: those of one document.
+fn write_document_changes<S: Serializer>(
+    out: &mut S,
+    document: &Document<'_>,
+    new: &str,
+    ranges: &[Range],
+) -> Result<(), S::Error>
+    ensures { OnOk result (SendsValue (document_changes_json document.now.uri.now document.now.label (edits_json new.now ranges.now)) (S.written out.old) (S.written out.new)) }
 {
-    let mut list = Vec::new(alloc);
-    list.push(document_edit_value(alloc, uri, label, edits)?)?;
-    let mut members = Map::new(alloc);
-    put(&mut members, alloc, "documentChanges", Value::Array(list))?;
-    Ok(Value::Object(members))
+    out.begin_map(Some(1))?;
+    out.key("documentChanges")?;
+    out.begin_seq(Some(1))?;
+    write_document_edit(out, document, new, ranges)?;
+    out.end_seq()?;
+    out.end_map()
 }
 
 /// `TextDocumentEdit`.
-fn document_edit_value(alloc: Global, uri: &str, label: i64, edits: Value) -> Result<Value, Memory>
-    ensures { IfOk result (λ value. view value ≡ document_edit_json uri.now label (view edits)) }
+fn write_document_edit<S: Serializer>(
+    out: &mut S,
+    document: &Document<'_>,
+    new: &str,
+    ranges: &[Range],
+) -> Result<(), S::Error>
+    ensures { OnOk result (SendsValue (document_edit_json document.now.uri.now document.now.label (edits_json new.now ranges.now)) (S.written out.old) (S.written out.new)) }
 {
-    let document = versioned_value(alloc, uri, label)?;
-    let mut members = Map::new(alloc);
-    put(&mut members, alloc, "edits", edits)?;
-    put(&mut members, alloc, "textDocument", document)?;
-    Ok(Value::Object(members))
+    out.begin_map(Some(2))?;
+    out.key("edits")?;
+    write_edits(out, new, ranges)?;
+    out.key("textDocument")?;
+    write_versioned(out, document)?;
+    out.end_map()
 }
 
 /// `OptionalVersionedTextDocumentIdentifier`.
-pub(crate) fn versioned_value(alloc: Global, uri: &str, label: i64) -> Result<Value, Memory>
-    ensures { IfOk result (λ value. view value ≡ versioned_json uri.now label) }
+fn write_versioned<S: Serializer>(out: &mut S, document: &Document<'_>) -> Result<(), S::Error>
+    ensures { OnOk result (SendsValue (versioned_json document.now.uri.now document.now.label) (S.written out.old) (S.written out.new)) }
 {
-    let uri = Value::try_from_str(alloc, uri)?;
-    let mut members = Map::new(alloc);
-    put(&mut members, alloc, "uri", uri)?;
-    put(&mut members, alloc, "version", Value::from(label))?;
-    Ok(Value::Object(members))
+    out.begin_map(Some(2))?;
+    out.key("uri")?;
+    out.str(document.uri)?;
+    out.key("version")?;
+    Value::from(document.label).serialize(out)?;
+    out.end_map()
+}
+
+/// `TextEdit[]`.
+fn write_edits<S: Serializer>(out: &mut S, new: &str, ranges: &[Range]) -> Result<(), S::Error>
+    ensures { OnOk result (SendsValue (edits_json new.now ranges.now) (S.written out.old) (S.written out.new)) }
+{
+    out.begin_seq(Some(ranges.len()))?;
+    for range in ranges {
+        write_edit(out, new, *range)?;
+    }
+    out.end_seq()
+}
+
+/// `TextEdit`.
+fn write_edit<S: Serializer>(out: &mut S, new: &str, range: Range) -> Result<(), S::Error>
+    ensures { OnOk result (SendsValue (edit_json new.now range) (S.written out.old) (S.written out.new)) }
+{
+    out.begin_map(Some(2))?;
+    out.key("newText")?;
+    out.str(new)?;
+    out.key("range")?;
+    write_range(out, range)?;
+    out.end_map()
 }
 
 /// A list of one action.
-pub(crate) fn actions_value(
-    alloc: Global,
-    uri: &str,
-    label: i64,
-    links: bool,
+pub(crate) fn write_actions<S: Serializer>(
+    out: &mut S,
+    document: &Document<'_>,
     insertion: &Insertion,
-) -> Result<Value, Memory>
-    ensures { IfOk result (λ value. view value ≡ actions_json uri.now label links (Some insertion.now)) }
+) -> Result<(), S::Error>
+    ensures { OnOk result (SendsValue (actions_json document.now.uri.now document.now.label document.now.links (Some insertion.now)) (S.written out.old) (S.written out.new)) }
 {
-    let mut list = Vec::new(alloc);
-    list.push(action_value(alloc, uri, label, links, insertion)?)?;
-    Ok(Value::Array(list))
+    out.begin_seq(Some(1))?;
+    write_action(out, document, insertion)?;
+    out.end_seq()
 }
 
 /// `CodeAction`.
-fn action_value(
-    alloc: Global,
-    uri: &str,
-    label: i64,
-    links: bool,
+fn write_action<S: Serializer>(
+    out: &mut S,
+    document: &Document<'_>,
     insertion: &Insertion,
-) -> Result<Value, Memory>
-    ensures { IfOk result (λ value. view value ≡ action_json uri.now label links insertion.now) }
+) -> Result<(), S::Error>
+    ensures { OnOk result (SendsValue (action_json document.now.uri.now document.now.label document.now.links insertion.now) (S.written out.old) (S.written out.new)) }
 {
-    let edit = insertion_value(alloc, uri, label, links, insertion)?;
-    let kind = Value::try_from_str(alloc, "refactor")?;
-    let title = Value::try_from_str(alloc, "Insert shortest example")?;
-    let mut members = Map::new(alloc);
-    put(&mut members, alloc, "edit", edit)?;
-    put(&mut members, alloc, "kind", kind)?;
-    put(&mut members, alloc, "title", title)?;
-    Ok(Value::Object(members))
+    out.begin_map(Some(3))?;
+    out.key("edit")?;
+    write_insertion(out, document, insertion)?;
+    out.key("kind")?;
+    out.str("refactor")?;
+    out.key("title")?;
+    out.str("Insert shortest example")?;
+    out.end_map()
 }
 
-fn insertion_value(
-    alloc: Global,
-    uri: &str,
-    label: i64,
-    links: bool,
+/// The edit that inserts a text.
+fn write_insertion<S: Serializer>(
+    out: &mut S,
+    document: &Document<'_>,
     insertion: &Insertion,
-) -> Result<Value, Memory>
-    ensures { IfOk result (λ value. view value
-        ≡ workspace_edit_json uri.now label links
-        (edits_json insertion.now.text (empty_range insertion.now.position ∷ []))) }
+) -> Result<(), S::Error>
+    ensures { OnOk result (SendsValue (workspace_edit_json document.now.uri.now document.now.label document.now.links (edits_json insertion.now.text (empty_range insertion.now.position ∷ [])))
+        (S.written out.old) (S.written out.new)) }
 {
-    let range = empty_range(insertion.position);
-    let mut edits = Vec::new(alloc);
-    edits.push(edit_value(alloc, insertion.text.as_str(), range)?)?;
-    workspace_edit_value(alloc, uri, label, links, Value::Array(edits))
+    let ranges = [empty_range(insertion.position)];
+    write_workspace_edit(out, document, insertion.text.as_str(), &ranges)
 }
 
 /// The range at a position in which nothing stands.

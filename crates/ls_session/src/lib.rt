@@ -7,11 +7,9 @@
 
 mod bodies;
 mod diagnostics;
-mod edit_text;
 mod edits;
 mod event;
 mod initialize;
-mod json_text;
 mod kind;
 mod laws;
 mod params;

@@ -1,41 +1,29 @@
-//! The JSON of positions and ranges.
-ghost use Rattle.std.specs.Prelude.{◌≡◌, IfOk};
-ghost use Rattle.serde_json.specs.View.{view};
+//! The JSON of positions and ranges (LSP 3.17, "Position" and "Range").
+ghost use Rattle.std.specs.Prelude.{OnOk};
+ghost use Rattle.serde_json.specs.Events.{SendsValue};
 ghost use Rattle.ls_session.specs.Positions.{position_json, range_json};
 
 use ls_text::{Position, Range};
-use serde_json::{Map, Value, put};
-use std::alloc::{AllocError as Memory, Global};
+use serde::{Serialize, Serializer};
 
-pub(crate) fn range_value(alloc: Global, range: Range) -> Result<Value, Memory>
-    ensures { IfOk result (λ value. view value ≡ range_json range) }
+pub(crate) fn write_range<S: Serializer>(out: &mut S, range: Range) -> Result<(), S::Error>
+    ensures { OnOk result (SendsValue (range_json range) (S.written out.old) (S.written out.new)) }
 {
-    let mut members = Map::new(alloc);
-    put(
-        &mut members,
-        alloc,
-        "end",
-        position_value(alloc, range.end)?,
-    )?;
-    put(
-        &mut members,
-        alloc,
-        "start",
-        position_value(alloc, range.start)?,
-    )?;
-    Ok(Value::Object(members))
+    out.begin_map(Some(2))?;
+    out.key("end")?;
+    write_position(out, range.end)?;
+    out.key("start")?;
+    write_position(out, range.start)?;
+    out.end_map()
 }
 
-fn position_value(alloc: Global, position: Position) -> Result<Value, Memory>
-    ensures { IfOk result (λ value. view value ≡ position_json position) }
+fn write_position<S: Serializer>(out: &mut S, position: Position) -> Result<(), S::Error>
+    ensures { OnOk result (SendsValue (position_json position) (S.written out.old) (S.written out.new)) }
 {
-    let mut members = Map::new(alloc);
-    put(
-        &mut members,
-        alloc,
-        "character",
-        Value::from(position.character),
-    )?;
-    put(&mut members, alloc, "line", Value::from(position.line))?;
-    Ok(Value::Object(members))
+    out.begin_map(Some(2))?;
+    out.key("character")?;
+    position.character.serialize(out)?;
+    out.key("line")?;
+    position.line.serialize(out)?;
+    out.end_map()
 }

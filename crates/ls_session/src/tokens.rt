@@ -1,25 +1,32 @@
 //! The JSON of semantic tokens (LSP 3.17, "Semantic Tokens").
-ghost use Rattle.std.specs.Prelude.{◌≡◌, ◌++◌, map, IfOk, OnOk};
-ghost use Rattle.serde_json.specs.View.{view};
-ghost use Rattle.serde_json.specs.Written.{compact_text};
-ghost use Rattle.ls_session.specs.Tokens.{legend_json, modifiers_json, texts_json, tokens_json, types_json};
+ghost use Rattle.std.specs.Prelude.{◌≡◌, map, IfOk, OnOk};
+ghost use Rattle.serde_json.specs.Data.{array};
+ghost use Rattle.serde_json.specs.Events.{SendsValue};
+ghost use Rattle.serde_json.specs.View.{items_of, view};
+ghost use Rattle.ls_session.specs.Tokens.{count_json, legend_json, modifiers_json, texts_json, tokens_json, types_json};
 
-use crate::json_text::JsonText;
+use serde::{Serialize, Serializer};
 use serde_json::{Map, Value, put};
 use std::alloc::{AllocError as Memory, Global};
 
 /// `SemanticTokens`.
-pub(crate) fn write_tokens(
-    text: &mut JsonText,
-    alloc: Global,
-    numbers: &[u32],
-) -> Result<(), Memory>
-    ensures { OnOk result (text.new ≡ text.old ++ compact_text (tokens_json numbers.now)) }
+pub(crate) fn write_tokens<S: Serializer>(out: &mut S, numbers: &[u32]) -> Result<(), S::Error>
+    ensures { OnOk result (SendsValue (tokens_json numbers.now) (S.written out.old) (S.written out.new)) }
 {
-    text.marks(b"{")?;
-    text.key(alloc, "data")?;
-    text.array(alloc, numbers, |number| Ok(Value::from(*number)))?;
-    text.marks(b"}")
+    out.begin_map(Some(1))?;
+    out.key("data")?;
+    write_numbers(out, numbers)?;
+    out.end_map()
+}
+
+fn write_numbers<S: Serializer>(out: &mut S, numbers: &[u32]) -> Result<(), S::Error>
+    ensures { OnOk result (SendsValue (array (items_of (map count_json numbers.now))) (S.written out.old) (S.written out.new)) }
+{
+    out.begin_seq(Some(numbers.len()))?;
+    for number in numbers {
+        number.serialize(out)?;
+    }
+    out.end_seq()
 }
 
 /// `SemanticTokensLegend`.

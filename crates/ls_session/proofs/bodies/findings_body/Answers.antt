@@ -1,19 +1,16 @@
-use Rattle.std.proofs.Common.{◌≡◌, ◌++◌, codes, rules}
+use Rattle.std.proofs.Common.{ap, ◌∙◌}
+use Rattle.std.proofs.Math.Facts.{to_z-of_z}
 use Rattle.std.proofs.lemmas.Result.{IfOk-weaker}
-use Rattle.serde_json.specs.Data.{null, string}
 use Rattle.serde_json.specs.Written.{compact_text}
-use Rattle.serde_json.specs.declared.value.Value.{the_lemmas}
-use Rattle.ls_rpc.specs.Reply.{notice_json}
-use Rattle.ls_session.specs.Bodies.{findings_body, findings_json}
-use Rattle.ls_session.proofs.Pieces.{in_place_of_null}
+use Rattle.serde_json.proofs.FreeTexts.{text_of_value}
+use Rattle.ls_session.specs.Bodies.{findings_body, published_json}
+use Rattle.ls_session.proofs.Floats.{published_whole}
 use Rattle.ls_session.proofs.bodies.findings_body.Goals as goal
 
 pub returns : goal.returns
 unfolding findings_body
 returns c =
-    let params = findings_json c.args.uri.now c.args.label c.args.answer.now in
-    let written : c.write_findings.new.text ≡ c.up_to_null-text.result ++ compact_text params = search rules in
-    let empty : c.in_ok-notice.notice.items ≡ compact_text (notice_json (codes "textDocument/publishDiagnostics") null) = search (rules, the_lemmas) in
-    IfOk-weaker c.end_object.result _ _ (λ body e.
-    in_place_of_null (codes "jsonrpc") (codes "method") (codes "params") (string (codes "2.0")) (string (codes "textDocument/publishDiagnostics")) params _ _ _ _
-    empty c.up_to_null-text.ensures written e) c.end_object.ensures
+    IfOk-weaker c.written.result _ _ (λ body e.
+    let events = rw e at c.to_vec.ensures.events in
+    text_of_value _ events.0 _ events.1 events.2 (published_whole _ _ _)
+    ∙ ap (λ label. compact_text (published_json c.args.uri.now label c.args.answer.now)) (to_z-of_z c.ranges.label)) c.written.ensures
