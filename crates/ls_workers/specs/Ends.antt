@@ -1,7 +1,8 @@
 -- How a board ends, and when a seat has nothing to wait for.
 use Rattle.std.specs.Prelude.{length, nat_lt, ◌==◌, ◌||◌, Bool, true, false, Option, Some, None, is_some, find, if◌then◌else◌}
 use Rattle.ls_desk.specs.Machine.{is_queued}
-use Rattle.ls_desk.specs.Stands.{Seen, state_of}
+use Rattle.ls_desk.specs.Stands.{Seen, Sends, state_of}
+use Rattle.ls_desk.specs.declared.event.Out.{Out}
 use Rattle.ls_workers.specs.declared.behind.Stop.{Stop}
 use Rattle.ls_workers.specs.declared.behind.Stop.TheVariants.{Drain, Now}
 
@@ -23,3 +24,7 @@ abbrev pub has_news : Option Stop → Seen → Bool
 has_news None desk = nat_lt 0 (length desk.outbox)
 has_news (Some Drain) desk = nat_lt 0 (length desk.outbox) || (length (state_of desk).waiting == 0)
 has_news (Some Now) desk = true
+
+-- a reply that leaves a desk: there are the desk before and the desk after
+abbrev pub Leaves : Out → Type 0
+Leaves out = (old new : Seen) × Sends old new out

@@ -1,7 +1,7 @@
 //! What lies behind the lock.
 ghost use Rattle.std.specs.Prelude.{◌≡◌, ◌+◌, ◌++◌, ◌∷◌, ◌<◌, ◌⊎◌, [], IfOk, IfErr, OnOk, OnErr, IfNone, IfSome, OnSome, None, find, vec_len, vec_capacity, true, false};
 ghost use Rattle.ls_desk.specs.Machine.{is_queued, waits};
-ghost use Rattle.ls_desk.specs.Stands.{state_of, ticket_of_out};
+ghost use Rattle.ls_desk.specs.Stands.{Sends, state_of, ticket_of_out};
 ghost use Rattle.ls_workers.specs.Count.{Counts};
 ghost use Rattle.ls_workers.specs.Client.{HasSmallText, IsAllowed, Notes, note_of, is_too_long};
 ghost use Rattle.ls_workers.specs.Ends.{is_over, ended_by, has_job, has_news};
@@ -184,7 +184,7 @@ impl<C: Ledgers> Behind<C> {
     pub fn next_out(&mut self, seat: &mut WriterSeat<C>) -> Option<Out>
         requires { vec_len seat.old.tickets < vec_capacity seat.old.tickets }
         ensures some { IfSome result (λ out. (seat.new.sent.share.amount ≡ seat.old.sent.share.amount + 1) × (seat.new.tickets.items ≡ seat.old.tickets.items ++ ticket_of_out out ∷ [])) }
-        ensures journal { IfSome result (λ out. self.new.desk.journal ≡ self.old.desk.journal ++ Event.Sent (ticket_of_out out) ∷ []) }
+        ensures leaves { IfSome result (λ out. Sends self.old.desk self.new.desk out) }
         ensures none { IfNone result ((seat.new.sent.share.amount ≡ seat.old.sent.share.amount) × (seat.new.tickets.items ≡ seat.old.tickets.items)) }
         ensures nothing { IfNone result ((self.new.desk ≡ self.old.desk) × (self.new.sent.total ≡ self.old.sent.total) × ((is_over self.old.stop ≡ true) ⊎ (self.old.desk.outbox ≡ []))) }
         ensures mark { seat.new.mark ≡ seat.old.mark }

@@ -2,6 +2,7 @@
 ghost use Rattle.std.specs.Prelude.{◌≡◌, ◌+◌, ◌<◌, ◌≤◌, ◌++◌, ◌∷◌, [], IfOk, IfErr, OnOk, OnErr, IfNone, IfSome, OnSome, vec_len, sum_by};
 ghost use Rattle.ls_desk.specs.Stands.{ticket_of_out};
 ghost use Rattle.ls_workers.specs.Count.{Counts};
+ghost use Rattle.ls_workers.specs.Ends.{Leaves};
 ghost use Rattle.ls_workers.specs.Seats.{Agrees, AreAll, HasCause};
 ghost use Rattle.ls_workers.specs.Client.{IsAllowed, Notes};
 
@@ -173,6 +174,7 @@ impl<C: Crew> Board<C> {
     /// `Memory` says that an allocation was refused; after it the seat is as it was, and no reply has left.
     pub fn next_out(&self, rt: &impl Wait, seat: &mut WriterSeat<C>) -> Result<Option<Out>, Memory>
         ensures some { IfOk result (λ next. IfSome next (λ out. (seat.new.sent.share.amount ≡ seat.old.sent.share.amount + 1) × (seat.new.tickets.items ≡ seat.old.tickets.items ++ ticket_of_out out ∷ []))) }
+        ensures leaves { IfOk result (λ next. IfSome next Leaves) }
         ensures none { IfOk result (λ next. IfNone next ((seat.new.sent.share.amount ≡ seat.old.sent.share.amount) × (seat.new.tickets.items ≡ seat.old.tickets.items))) }
         ensures err { OnErr result ((seat.new.sent.share.amount ≡ seat.old.sent.share.amount) × (seat.new.tickets.items ≡ seat.old.tickets.items)) }
         ensures mark { seat.new.mark ≡ seat.old.mark }

@@ -6,7 +6,7 @@ ghost use Rattle.std.specs.Str.{chars};
 ghost use Rattle.ls_workers.specs.Count.{Adds};
 ghost use Rattle.ls_workers.specs.Client.{HasSmallText, Notes, IsAllowed, entry_of, filled, note_of, is_too_long};
 ghost use Rattle.ls_desk.specs.Machine.{is_queued};
-ghost use Rattle.ls_desk.specs.Stands.{state_of, ticket_of_out};
+ghost use Rattle.ls_desk.specs.Stands.{Sends, state_of};
 
 use crate::client::{ClientAnswer, ClientEvent};
 use ls_answers::{Done, Job};
@@ -109,7 +109,7 @@ pub fn finish(desk: &mut Desk, done: Done) -> Result<Kept, (DeskFault, Done)>
 
 /// The oldest reply, which leaves.
 pub fn next_out(desk: &mut Desk) -> Option<Out>
-    ensures some { IfSome result (λ out. desk.new.journal ≡ desk.old.journal ++ Event.Sent (ticket_of_out out) ∷ []) }
+    ensures some { IfSome result (λ out. Sends desk.old desk.new out) }
     ensures none { IfNone result ((desk.new ≡ desk.old) × (desk.old.outbox ≡ [])) }
 {
     desk.next_out()

@@ -69,6 +69,18 @@ pub(crate) fn return_one<C: Crew, R: Wait>(
     Ok(job.ticket)
 }
 
+/// The ticket of the next reply, if there is one.
+pub(crate) fn next_ticket<C: Crew, R: Wait>(
+    rt: &R,
+    board: &Board<C>,
+    writer: &mut WriterSeat<C>,
+) -> Result<Option<u64>, DeskFault> {
+    match board.next_out(rt, writer)? {
+        Some(out) => Ok(Some(ticket_of(&out))),
+        None => Ok(None),
+    }
+}
+
 /// The document is opened, its findings are found by the first worker and sent, and two hovers are asked: the client's answers and the
 /// tickets are as they must be.
 pub(crate) fn begin<C: Crew, R: Wait>(
@@ -81,16 +93,13 @@ pub(crate) fn begin<C: Crew, R: Wait>(
 ) -> Result<bool, DeskFault> {
     let opened = board.client(rt, client, opening(alloc)?)?;
     let found = run_one(rt, alloc, board, worker)?;
-    let sent = match board.next_out(rt, writer)? {
-        Some(out) => ticket_of(&out),
-        None => 0,
-    };
+    let sent = next_ticket(rt, board, writer)?;
     let first = board.client(rt, client, hover(alloc, 1)?)?;
     let second = board.client(rt, client, hover(alloc, 2)?)?;
     let answers = opened == ClientAnswer::Version(1)
         && first == ClientAnswer::Ticket(2)
         && second == ClientAnswer::Ticket(3);
-    Ok(answers && found == 1 && sent == 1)
+    Ok(answers && found == 1 && sent == Some(1))
 }
 
 // Whether the answer has the example `x`.

@@ -1,8 +1,8 @@
 //! How a board ends, and that lists which aren't those of the journal are found out. It has one worker, and one document is opened.
 ghost use Rattle.std.specs.Prelude.{◌≡◌, ◌<◌};
 
-use super::calls::{has_kinds, hover, opening, run_one};
-use ls_desk::{Desk, DeskFault, ticket_of};
+use super::calls::{has_kinds, hover, next_ticket, opening, run_one};
+use ls_desk::{Desk, DeskFault};
 use ls_workers::{
     Blanks, Board, ClientAnswer, ClientSeat, Crew, SeatFault, Stop, WorkerSeat, WriterSeat,
 };
@@ -36,18 +36,6 @@ fn opens<C: Crew, R: Wait>(
     let refused = second == Err(DeskFault::AlreadyOpen);
     let counted = client.asked.get() == 1 && client.list.len() == 1;
     Ok(first == ClientAnswer::Version(1) && refused && counted)
-}
-
-// The ticket of the next reply, if there is one.
-fn next_ticket<C: Crew, R: Wait>(
-    rt: &R,
-    board: &Board<C>,
-    writer: &mut WriterSeat<C>,
-) -> Result<Option<u64>, DeskFault> {
-    match board.next_out(rt, writer)? {
-        Some(out) => Ok(Some(ticket_of(&out))),
-        None => Ok(None),
-    }
 }
 
 // A hover is asked beside the findings. After `Drain` both jobs are given, and their replies, both of which wait, are sent in
@@ -104,28 +92,18 @@ fn closes<C: Crew>(
         Session::Forgotten => drop(client.list.pop()),
         Session::Unsent => drop(writer.tickets.pop()),
     }
-    match board.close(client, writer, workers) {
-        Ok(desk) => {
-            let drained = has_kinds(alloc, desk.journal(), b"affosstt");
-            let stopped = has_kinds(alloc, desk.journal(), b"o");
-            drop(desk);
-            match session {
-                Session::Drained => drained,
-                Session::Stopped => stopped,
-                Session::Forgotten | Session::Unsent => Ok(false),
-            }
-        }
-        Err(SeatFault::SeatMissing) => Ok(false),
-        Err(SeatFault::Strayed(desk)) => {
-            let drained = has_kinds(alloc, desk.journal(), b"affosstt");
-            let stopped = has_kinds(alloc, desk.journal(), b"o");
-            drop(desk);
-            match session {
-                Session::Drained | Session::Stopped => Ok(false),
-                Session::Forgotten => stopped,
-                Session::Unsent => drained,
-            }
-        }
+    let (desk, strayed) = match board.close(client, writer, workers) {
+        Ok(desk) => (desk, false),
+        Err(SeatFault::Strayed(desk)) => (desk, true),
+        Err(SeatFault::SeatMissing) => return Ok(false),
+    };
+    let drained = has_kinds(alloc, desk.journal(), b"affosstt");
+    let stopped = has_kinds(alloc, desk.journal(), b"o");
+    drop(desk);
+    match (session, strayed) {
+        (Session::Drained, false) | (Session::Unsent, true) => drained,
+        (Session::Stopped, false) | (Session::Forgotten, true) => stopped,
+        _ => Ok(false),
     }
 }
 
