@@ -1,8 +1,9 @@
 -- The items that are gathered are those of the tokens.
 use Rattle.std.proofs.Common.{◌≡◌, ℕ, suc, ◌+◌, ◌-◌, ◌<◌, ◌≤◌, Bool, true, false, not, List, [], ◌∷◌, ◌++◌, length, map, take, drop, get_or, Option, Some, None, sym, refl, ap, subst, ◌∙◌, append_assoc, arith, length-drop, if◌then◌else◌}
-use Rattle.std.specs.Prelude.{slice_index_or, IsTrue, ◌↔◌}
+use Rattle.std.specs.Prelude.{slice_index_or, ◌==◌}
 use Rattle.std.specs.List.{flat_map}
 use Rattle.std.proofs.lemmas.List.{append-nil, length-append, length-map, drop_more}
+use Rattle.std.proofs.lemmas.Bool.Decides.{nat_tests}
 use Rattle.std.proofs.lemmas.Grind.{flat_map-append}
 use Rattle.abnf_token.specs.declared.token.Token.{Token}
 use Rattle.abnf_token.specs.Classes.{Text}
@@ -14,13 +15,11 @@ use Rattle.abnf_syntax.specs.declared.item.Item.{Item}
 use Rattle.abnf_syntax.specs.Kinds.{is_item}
 use Rattle.abnf_syntax.specs.Items.{with_line_end, items_behind, items_of, AreTokens, AreItems, view}
 use Rattle.abnf_syntax.specs.Gather.{State, is_some, with_gap, after, after_all, start, AddsLine, HasLines}
-use Rattle.abnf_syntax.proofs.Rows.{never}
 
-pub not_empty : (items : List Item) (empty : Bool) → (IsTrue empty ↔ (items ≡ [])) → not empty ≡ is_some (map view items)
-not_empty [] true h = refl
-not_empty [] false h = never (h.1 refl)
-not_empty (item ∷ items) true h = let none : item ∷ items ≡ [] = h.0 refl in absurd (cc)
-not_empty (item ∷ items) false h = refl
+pub not_empty : (items : List Item) (empty : Bool) → empty ≡ (length items == 0) → not empty ≡ is_some (map view items)
+not_empty [] empty is = ap not is
+not_empty (item ∷ items) true is = absurd (grind (arith, nat_tests, is))
+not_empty (item ∷ items) false is = refl
 
 after_all-append : (s : State) (xs ys : List (Option Token)) → after_all s (xs ++ ys) ≡ after_all (after_all s xs) ys
 after_all-append s [] ys = refl

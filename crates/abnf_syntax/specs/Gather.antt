@@ -15,7 +15,7 @@ pub record State : Type 0 where
   pub apart : Bool
 
 abbrev pub state_of : Gathered → State
-state_of g = record { items = map view g.items; apart = g.apart }
+state_of g = record { items = map view g.items.items; apart = g.apart }
 
 abbrev pub is_some : List (Token × Bool) → Bool
 is_some [] = false

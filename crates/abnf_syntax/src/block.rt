@@ -59,7 +59,7 @@ impl<'t> Block<'t> {
 /// The items of a block so far.
 #[derive(Drop)]
 pub struct Gathered<'t> {
-    pub items: List<Item<'t>>,
+    pub items: Vec<Item<'t>>,
     /// Whether something stands between the last item and the next one.
     pub apart: bool,
 }
@@ -170,11 +170,20 @@ impl<'t> Gathered<'t> {
         Ok(())
     }
 
+    /// Makes room for the items among these marks, so that a block of one line takes memory once, and no more than it needs.
+    fn make_room(&mut self, marks: &[TokenMark]) -> Result<(), AllocError>
+        ensures { OnOk result (spec.state_of self.new ≡ spec.state_of self.old) }
+    {
+        let count = marks.iter().filter(|mark| is_item(mark.kind)).count();
+        self.items.reserve(count)
+    }
+
     /// The tokens of a line come, which have these marks, and its end.
     fn add_line(&mut self, line: &'t str, at: usize, marks: &[TokenMark]) -> Result<(), AllocError>
         requires { AreMarks line.now marks.now }
         ensures { OnOk result (spec.AddsLine at line.entry.now (spec.state_of self.old) (spec.state_of self.new)) }
     {
+        self.make_room(marks)?;
         for mark in marks {
             self.add_token(token_at(line, at, mark))?;
         }
@@ -196,13 +205,13 @@ fn items_of<'t>(
     ensures some { IfOk result (λ items. 0 < length items) }
 {
     let mut gathered = Gathered {
-        items: List::new(alloc),
+        items: Vec::new(alloc),
         apart: false,
     };
     for at in first..end {
         gathered.add_line(line_at(snapshot, at), at, marks_at(snapshot, at))?;
     }
-    Ok(gathered.items)
+    Ok(List::from_vec(gathered.items))
 }
 
 /// The blocks of a text.

@@ -43,8 +43,8 @@ fn are_small(bytes: &[u8], base: u32) -> bool
 }
 
 /// Whether the numbers of a token are at most 4,294,967,295.
-pub(crate) fn numbers_fit(token: Token<'_>) -> bool
-    ensures { result ≡ numbers.numbers_fit token.entry.kind token.entry.text.now }
+pub(crate) fn numbers_fit(token: &Token<'_>) -> bool
+    ensures { result ≡ numbers.numbers_fit token.now.kind token.now.text.now }
 {
     let bytes = token.text.as_bytes();
     match token.kind {

@@ -1,6 +1,6 @@
 //! The parser: a stack of the brackets that are open, which takes one item after another.
 
-ghost use Rattle.std.specs.Prelude.{◌≡◌, ◌⊎◌, ◌∷◌, [], reverse, length, Some, IfOk, IfErr, Err};
+ghost use Rattle.std.specs.Prelude.{◌≡◌, ◌⊎◌, ◌∷◌, [], reverse, length, Some, IfOk, IfErr, OnOk, Err};
 ghost use Rattle.abnf_syntax.specs.Faults.{place_of, place_after, first_of, is_followed};
 ghost use Rattle.abnf_syntax.specs.Machine as spec;
 
@@ -16,6 +16,7 @@ use abnf_token::{Kind, Token};
 use ls_lists::List;
 use ls_text::Place;
 use std::alloc::{AllocError, Global};
+use std::mem;
 
 /// How deep groups and options may nest.
 pub const MAX_NESTING: usize = 64;
@@ -44,18 +45,9 @@ pub struct Parser<'t> {
     pub last: Item<'t>,
 }
 
-/// Adds a bracket as the innermost one.
-fn pushed<'t>(outer: List<Opened<'t>>, opened: Opened<'t>) -> Result<List<Opened<'t>>, AllocError>
-    ensures { IfOk result (λ os. reverse os ≡ opened.entry ∷ reverse outer.entry) }
-{
-    let mut outer = outer;
-    outer.push(opened)?;
-    Ok(outer)
-}
-
 /// The element of an opening bracket.
-fn bracketed<'t>(bracket: Token<'t>, body: Alternation<'t>) -> Element<'t>
-    ensures { result ≡ spec.bracketed bracket.entry body.entry }
+fn bracketed<'t>(bracket: &Token<'t>, body: Alternation<'t>) -> Element<'t>
+    ensures { result ≡ spec.bracketed bracket.now body.entry }
 {
     match bracket.kind {
         Kind::ParenL => Element::Group(body),
@@ -78,31 +70,27 @@ impl<'t> Level<'t> {
     }
 
     /// Adds an element, with the repeat that waits for it.
-    fn with_element(self, element: Element<'t>) -> Result<Level<'t>, AllocError>
-        ensures { IfOk result (λ l. l ≡ spec.put self.entry element.entry) }
+    fn put(&mut self, element: Element<'t>) -> Result<(), AllocError>
+        ensures { OnOk result (self.new ≡ spec.put self.old element.entry) }
     {
-        let Level {
-            done,
-            mut row,
-            repeat,
-        } = self;
-        row.push(Repetition { repeat, element })?;
-        Ok(Level {
-            done,
-            row,
-            repeat: None,
-        })
+        let repeat = self.repeat.take();
+        self.row.push(Repetition { repeat, element })
     }
 
     /// A repeat waits for its element.
-    fn with_repeat(self, repeat: Token<'t>) -> Level<'t>
-        ensures { result ≡ spec.counted self.entry repeat.entry }
+    fn count(&mut self, repeat: Token<'t>)
+        ensures { self.new ≡ spec.counted self.old repeat.entry }
     {
-        Level {
-            done: self.done,
-            row: self.row,
-            repeat: Some(repeat),
-        }
+        self.repeat = Some(repeat);
+    }
+
+    /// A slash ends the concatenation.
+    fn bar(&mut self, alloc: Global) -> Result<(), AllocError>
+        ensures { OnOk result (self.new ≡ spec.barred self.old) }
+    {
+        let row = mem::replace(&mut self.row, List::new(alloc));
+        self.repeat = None;
+        self.done.push(row)
     }
 
     /// The alternation that ends here.
@@ -116,17 +104,6 @@ impl<'t> Level<'t> {
         } = self;
         done.push(row)?;
         Ok(done)
-    }
-
-    /// What stands behind a slash.
-    fn after_slash(self, alloc: Global) -> Result<Level<'t>, AllocError>
-        ensures { IfOk result (λ l. l ≡ spec.barred self.entry) }
-    {
-        Ok(Level {
-            done: self.finish()?,
-            row: List::new(alloc),
-            repeat: None,
-        })
     }
 }
 
@@ -197,116 +174,49 @@ impl<'t> Parser<'t> {
         }
     }
 
-    /// An item that is an element.
-    fn take_element(self, item: Item<'t>, element: Element<'t>) -> Result<Parser<'t>, AllocError>
-        ensures { IfOk result (λ p. p ≡ record {
-          outer = self.entry.outer;
-          level = spec.put self.entry.level element.entry;
-          last = item.entry;
-        }) }
-    {
-        Ok(Parser {
-            outer: self.outer,
-            level: self.level.with_element(element)?,
-            last: item,
-        })
-    }
-
-    /// An opening bracket.
-    fn open_bracket(self, alloc: Global, item: Item<'t>) -> Result<Parser<'t>, AllocError>
-        ensures { IfOk result (λ p. spec.state_of p ≡ record {
-          outer = record { bracket = item.entry.token; level = self.entry.level } ∷ reverse self.entry.outer;
+    /// A bracket opens.
+    fn open_bracket(&mut self, alloc: Global, bracket: Token<'t>) -> Result<(), AllocError>
+        ensures { OnOk result (spec.state_of self.new ≡ record {
+          outer = record { bracket = bracket.entry; level = self.old.level } ∷ reverse self.old.outer;
           level = spec.empty;
-          last = item.entry;
+          last = self.old.last;
         }) }
     {
-        let opened = Opened {
-            bracket: item.token,
-            level: self.level,
+        let level = mem::replace(&mut self.level, Level::new(alloc));
+        self.outer.push(Opened { bracket, level })
+    }
+
+    /// The innermost bracket closes, if one is open.
+    fn close_bracket(&mut self) -> Result<(), AllocError>
+        ensures { OnOk result (spec.state_of self.new ≡ spec.close_in (reverse self.old.outer) self.old.level self.old.last) }
+    {
+        let Some(opened) = self.outer.pop() else {
+            return Ok(());
         };
-        Ok(Parser {
-            outer: pushed(self.outer, opened)?,
-            level: Level::new(alloc),
-            last: item,
-        })
-    }
-
-    /// A closing bracket.
-    fn close_bracket(self, item: Item<'t>) -> Result<Parser<'t>, AllocError>
-        ensures { IfOk result (λ p.
-            spec.state_of p ≡ spec.close_in (reverse self.entry.outer) self.entry.level item.entry) }
-    {
-        let Parser {
-            mut outer,
-            level,
-            last: _,
-        } = self;
-        match outer.pop() {
-            None => Ok(Parser {
-                outer,
-                level,
-                last: item,
-            }),
-            Some(opened) => {
-                let element = bracketed(opened.bracket, level.finish()?);
-                Ok(Parser {
-                    outer,
-                    level: opened.level.with_element(element)?,
-                    last: item,
-                })
-            }
-        }
-    }
-
-    /// A slash.
-    fn take_slash(self, alloc: Global, item: Item<'t>) -> Result<Parser<'t>, AllocError>
-        ensures { IfOk result (λ p. p ≡ record {
-          outer = self.entry.outer;
-          level = spec.barred self.entry.level;
-          last = item.entry;
-        }) }
-    {
-        Ok(Parser {
-            outer: self.outer,
-            level: self.level.after_slash(alloc)?,
-            last: item,
-        })
-    }
-
-    /// A repeat.
-    fn take_repeat(self, item: Item<'t>) -> Parser<'t>
-        ensures { result ≡ record {
-          outer = self.entry.outer;
-          level = spec.counted self.entry.level item.entry.token;
-          last = item.entry;
-        } }
-    {
-        Parser {
-            outer: self.outer,
-            level: self.level.with_repeat(item.token),
-            last: item,
-        }
+        let inner = mem::replace(&mut self.level, opened.level);
+        self.level.put(bracketed(&opened.bracket, inner.finish()?))
     }
 
     /// Takes the next item, which shows no fault.
     #[tactic(auto, unfolding(crate::specs::Machine::shift))]
-    fn shift(self, alloc: Global, item: Item<'t>) -> Result<Parser<'t>, AllocError>
-        ensures { IfOk result (λ p. spec.state_of p ≡ spec.shift (spec.state_of self.entry) item.entry) }
+    fn shift(&mut self, alloc: Global, item: &Item<'t>) -> Result<(), AllocError>
+        ensures { OnOk result (spec.state_of self.new ≡ spec.shift (spec.state_of self.old) item.now) }
     {
-        match item.token.kind {
-            Kind::Name => self.take_element(item, Element::Name(item.token)),
-            Kind::Quoted => self.take_element(item, Element::Quoted(item.token)),
-            Kind::Number => self.take_element(item, Element::Number(item.token)),
-            Kind::Prose => self.take_element(item, Element::Prose(item.token)),
-            Kind::ParenL | Kind::BracketL => self.open_bracket(alloc, item),
-            Kind::ParenR | Kind::BracketR => self.close_bracket(item),
-            Kind::Slash => self.take_slash(alloc, item),
-            Kind::Repeat => Ok(self.take_repeat(item)),
-            Kind::Defines | Kind::Adds | Kind::Comment | Kind::Blank | Kind::Bad => Ok(Parser {
-                outer: self.outer,
-                level: self.level,
-                last: item,
-            }),
+        let token = item.token;
+        self.last = *item;
+        match token.kind {
+            Kind::Name => self.level.put(Element::Name(token)),
+            Kind::Quoted => self.level.put(Element::Quoted(token)),
+            Kind::Number => self.level.put(Element::Number(token)),
+            Kind::Prose => self.level.put(Element::Prose(token)),
+            Kind::ParenL | Kind::BracketL => self.open_bracket(alloc, token),
+            Kind::ParenR | Kind::BracketR => self.close_bracket(),
+            Kind::Slash => self.level.bar(alloc),
+            Kind::Repeat => {
+                self.level.count(token);
+                Ok(())
+            }
+            Kind::Defines | Kind::Adds | Kind::Comment | Kind::Blank | Kind::Bad => Ok(()),
         }
     }
 
@@ -329,8 +239,8 @@ impl<'t> Parser<'t> {
 
     /// The fault that the next item shows, with what follows it.
     #[tactic(auto, unfolding(crate::specs::Machine::fault_at))]
-    fn item_fault(&self, item: Item<'t>, rest: &[Item<'t>]) -> Option<SyntaxFault>
-        ensures { result ≡ spec.fault_at (spec.state_of self.now) (item.entry ∷ rest.now) }
+    fn item_fault(&self, item: &Item<'t>, rest: &[Item<'t>]) -> Option<SyntaxFault>
+        ensures { result ≡ spec.fault_at (spec.state_of self.now) (item.now ∷ rest.now) }
     {
         let kind = item.token.kind;
         let last = self.last.token.kind;
@@ -361,7 +271,7 @@ impl<'t> Parser<'t> {
         {
             return Some(SyntaxFault::Unclosed(place_of(bracket)));
         }
-        if !numbers_fit(item.token) {
+        if !numbers_fit(&item.token) {
             return Some(SyntaxFault::NumberTooLarge(place_of(item.token)));
         }
         if opens(kind) && depth(&self.outer) >= MAX_NESTING {
@@ -372,17 +282,12 @@ impl<'t> Parser<'t> {
 
     /// Takes the next item.
     #[tactic(auto, unfolding(crate::specs::Machine::fault_at))]
-    fn step(
-        self,
-        alloc: Global,
-        item: Item<'t>,
-        rest: &[Item<'t>],
-    ) -> Result<Parser<'t>, SyntaxFault>
-        ensures ok { IfOk result (λ p.
-            spec.run (spec.state_of self.entry) (item.entry ∷ rest.now) ≡ spec.run (spec.state_of p) rest.now) }
+    fn step(&mut self, alloc: Global, item: &Item<'t>, rest: &[Item<'t>]) -> Result<(), SyntaxFault>
+        ensures ok { OnOk result (
+            spec.run (spec.state_of self.old) (item.now ∷ rest.now) ≡ spec.run (spec.state_of self.new) rest.now) }
         ensures err { IfErr result (λ fault. (fault ≡ SyntaxFault.Memory)
-            ⊎ (spec.run (spec.state_of self.entry) (item.entry ∷ rest.now) ≡ Err fault)) }
-        ensures shown { (fault : SyntaxFault) → spec.fault_at (spec.state_of self.entry) (item.entry ∷ rest.now) ≡ Some fault
+            ⊎ (spec.run (spec.state_of self.old) (item.now ∷ rest.now) ≡ Err fault)) }
+        ensures shown { (fault : SyntaxFault) → spec.fault_at (spec.state_of self.old) (item.now ∷ rest.now) ≡ Some fault
             → result ≡ Err fault }
     {
         match self.item_fault(item, rest) {
@@ -415,7 +320,7 @@ pub(crate) fn body_of<'t>(
 {
     let mut parser = Parser::new(alloc, defined);
     for i in 0..items.len() {
-        parser = parser.step(alloc, items[i], &items[i + 1..])?;
+        parser.step(alloc, &items[i], &items[i + 1..])?;
     }
     parser.finish()
 }

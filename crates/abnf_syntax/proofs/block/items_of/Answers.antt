@@ -16,5 +16,7 @@ loop-at-preserved c = line_more (line_texts c.args.snapshot.now) c.args.first c.
 pub returns : goal.returns
 returns c =
     let at_end : c.loop-at.at ≡ c.args.end = omega arith in
-    let are : AreItems (line_texts c.args.snapshot.now) c.args.first c.args.end c.loop-at.gathered.items = items_are (line_texts c.args.snapshot.now) c.args.first c.args.end _ c.loop-at.gathered.items refl (subst (λ (n : ℕ). HasLines (line_texts c.args.snapshot.now) c.args.first n (state_of c.loop-at.gathered)) at_end c.loop-at.invariant) in
-    record { items = are; some = some_items (line_texts c.args.snapshot.now) c.args.first c.args.end c.loop-at.gathered.items c.requires.some c.requires.begins are }
+    let are : AreItems (line_texts c.args.snapshot.now) c.args.first c.args.end c.loop-at.gathered.items.items = items_are (line_texts c.args.snapshot.now) c.args.first c.args.end _ c.loop-at.gathered.items.items refl (subst (λ (n : ℕ). HasLines (line_texts c.args.snapshot.now) c.args.first n (state_of c.loop-at.gathered)) at_end c.loop-at.invariant) in
+    let listed : AreItems (line_texts c.args.snapshot.now) c.args.first c.args.end c.from_vec.result =
+    subst (λ items. AreItems (line_texts c.args.snapshot.now) c.args.first c.args.end items) (sym c.from_vec.ensures) are in
+    record { items = listed; some = some_items (line_texts c.args.snapshot.now) c.args.first c.args.end c.from_vec.result c.requires.some c.requires.begins listed }

@@ -5,12 +5,12 @@ use Rattle.abnf_syntax.specs.Machine.{fault_at}
 use Rattle.abnf_syntax.proofs.Early.{all_left, err_same, none_left}
 use Rattle.abnf_syntax.proofs.parser.body_of.Goals as goal
 
-pub returns-in_err-parser-clause-shown : goal.returns-in_err-parser-clause-shown
-returns-in_err-parser-clause-shown c fault e =
+pub returns-in_err-step-clause-shown : goal.returns-in_err-step-clause-shown
+returns-in_err-step-clause-shown c fault e =
     let p = c.loop-i.invariant.first fault e in
     let all = all_left c.args.items.now c.index-items-i.result c.loop-i.i p.0 c.loop-i-test.true c.index-items-i.is in
     let q = err_from_is_err_and c.from_residual.result c.from_residual.ensures.1 in
-    q.1 ∙ ap Err (q.2 ∙ err_same c.in_err-parser.field-0.0 fault (c.in_err-parser.ensures.shown fault ((λ i. fault_at (p.1 i) (all i)) ∙ e)))
+    q.1 ∙ ap Err (q.2 ∙ err_same c.in_err-step.field-0.0 fault (c.in_err-step.ensures.shown fault ((λ i. fault_at (p.1 i) (all i)) ∙ e)))
 
 pub loop-i-preserved : goal.loop-i-preserved
 loop-i-preserved c = record {
@@ -18,7 +18,7 @@ loop-i-preserved c = record {
   first = λ fault e.
       let p = c.loop-i.invariant.first fault e in
       let all = all_left c.args.items.now c.index-items-i.result c.loop-i.i p.0 c.loop-i-test.true c.index-items-i.is in
-      let faulty = c.in_ok-parser.ensures.shown fault ((λ i. fault_at (p.1 i) (all i)) ∙ e) in
+      let faulty = c.in_ok-step.ensures.shown fault ((λ i. fault_at (p.1 i) (all i)) ∙ e) in
       absurd (cc);
 }
 
