@@ -15,7 +15,7 @@ use Rattle.abnf_names.specs.Places.{Named, named_at, places_of}
 use Rattle.abnf_parts.specs.Nodes.{trees_at, AreNumbered}
 use Rattle.abnf_parts.specs.Reach.{AreReaching}
 use Rattle.abnf_names.specs.Rules.{defined, needed, undefined, names_of, rules_of, faults_of, Grammar}
-use Rattle.abnf_names.specs.Passes.{stated, AreDefined, AreNames, AreOwn, ArePlaced, AreRules, Grouped}
+use Rattle.abnf_names.specs.Passes.{stated, AreDefined, AreNames, AreOwn, AreRules, Grouped}
 use Rattle.abnf_names.specs.declared.definition.Definition.{Definition}
 use Rattle.abnf_names.specs.declared.rules.Rules.{Rules}
 use Rattle.abnf_names.specs.Excerpts.{excerpt, excerpt_of}
@@ -66,8 +66,8 @@ rules_made rules blocks ns ts names added nodes_from roots_from reaching excerpt
 }
 
 pub kept : (g : Inside) (blocks : List Block) → AreSaid g.source.now blocks → AreNames blocks g.names → AddsTrees (rules_of blocks) [] g.nodes.items [] g.roots.items →
-    map named_at g.spots ≡ places_of blocks → g.faults ≡ faults_of blocks → ArePlaced (map named_at g.spots) g.by_name → AreReaching (trees_at g.nodes.items g.roots.items) g.opaque.items → map excerpt g.sections ≡ map excerpt_of blocks → IsGrammarInside g
-kept g blocks said are added places faults placed reaching excerpts =
+    map named_at g.spots ≡ places_of blocks → g.faults ≡ faults_of blocks → AreReaching (trees_at g.nodes.items g.roots.items) g.opaque.items → map excerpt g.sections ≡ map excerpt_of blocks → IsGrammarInside g
+kept g blocks said are added places faults reaching excerpts =
     let t : IsTied (rules_of blocks) g.nodes.items g.roots.items = tied (rules_of blocks) g.nodes.items g.roots.items added (rules_closed blocks) in
     let same = same_grammar g.source.now (all_names g.names) (names_of blocks) (trees_at g.nodes.items g.roots.items) (rules_of blocks) (map named_at g.spots) (places_of blocks) g.faults (faults_of blocks)
     (sym (names_are blocks g.names are)) t.back places faults in
@@ -75,7 +75,6 @@ kept g blocks said are added places faults placed reaching excerpts =
       numbered = t.numbered;
       is_grammar = record { blocks = blocks; of_text = said; is = same };
       own = λ others said_too. are.own ∙ one_defined g.source.now blocks others said said_too;
-      placed = placed;
       reaching = reaching;
       sections = record { blocks = blocks; of_text = said; is = same; excerpts = excerpts };
     }

@@ -8,19 +8,18 @@ use Rattle.std.proofs.lemmas.List.Elements.{filter-append, filter_map-append}
 use Rattle.std.proofs.lemmas.List.Sums.{fold-append}
 use Rattle.abnf_token.specs.Folded.{lowercase}
 use Rattle.abnf_names.specs.declared.parsed.Parsed.{Parsed}
-use Rattle.abnf_names.specs.declared.place.NamePlace.{NamePlace}
+use Rattle.abnf_names.specs.declared.place.Spot.{Spot}
 use Rattle.std.specs.Str.{bytes_eq}
-use Rattle.abnf_parts.specs.Names.{Name, with_name}
+use Rattle.abnf_parts.specs.Names.{Name, folded_text, with_name}
 use Rattle.abnf_syntax.specs.declared.block.Head.{Head}
 use Rattle.abnf_syntax.specs.Heads.{head_of}
 use Rattle.abnf_names.specs.Said.{Block, name_of}
-use Rattle.abnf_names.specs.Places.{Named, name_place, places_of_name}
+use Rattle.abnf_names.specs.Places.{Named, named_at}
 use Rattle.abnf_names.specs.Rules.{defined, defines, head_name}
-use Rattle.abnf_names.specs.Passes.{block_of, definition, definition_of, members_of, if_same, Grouped, AreOwn, ArePlaced, AreStated}
+use Rattle.abnf_names.specs.Passes.{block_of, definition, definition_of, members_of, if_same, Grouped, AreOwn, stated, with_core_name}
 use Rattle.abnf_names.specs.Excerpts.{excerpt, excerpt_of}
 use Rattle.abnf_names.specs.declared.definition.Definition.{Definition}
 use Rattle.abnf_names.specs.declared.section.Section.{Section}
-use Rattle.abnf_parts.proofs.NameLaws.{same_sym}
 
 -- one more item that a loop has seen
 pub map_take-next : {X Y : Type 0} (f : X → Y) (xs : List X) (i : ℕ) (x d : X) → i < length xs → x ≡ get_or xs i d → map f (take (i + 1) xs) ≡ map f (take i xs) ++ f x ∷ []
@@ -73,26 +72,18 @@ own_same groups b e blocks own = record {
       ∙ sym (filter-append (defines m) blocks (b ∷ []))));
 }
 
--- a place is put under its name
-placed_more : (old new : Grouped NamePlace) (n : Named) → ((m : Name) → members_of new m ≡ members_of old m ++ if_same (lowercase n.text) m (name_place n)) →
-    (places : List Named) → ArePlaced places old → ArePlaced (places ++ n ∷ []) new
-placed_more old new n members places h m =
-    members m
-    ∙ (ap (λ front. front ++ if_same (lowercase n.text) m (name_place n)) (h m)
-    ∙ (ap (λ back. map name_place (places_of_name m places) ++ back) (ap (λ b. if b then name_place n ∷ [] else []) (same_sym (lowercase n.text) m) ∙ sym (one_if name_place (bytes_eq m (lowercase n.text)) n))
-    ∙ (sym (map-append name_place (places_of_name m places) (places_of_name m (n ∷ [])))
-    ∙ ap (map name_place) (sym (filter-append (λ x. bytes_eq m (lowercase x.text)) places (n ∷ []))))))
+stated_more : (places : List Named) (n : Named) → stated (places ++ n ∷ []) ≡ with_core_name (stated places) (lowercase n.text)
+stated_more places n =
+    ap (fold with_core_name []) (map-append (λ (place : Named). lowercase place.text) places (n ∷ []))
+    ∙ fold-append with_core_name [] (map (λ (place : Named). lowercase place.text) places) (lowercase n.text ∷ [])
 
--- a place is put under its name, which is one of the names now
-pub stated_more : (old new : Grouped NamePlace) (n : Named) → new.0 ≡ with_name old.0 (lowercase n.text) →
-    ((m : Name) → members_of new m ≡ members_of old m ++ if_same (lowercase n.text) m (name_place n)) → (places : List Named) → AreStated places old → AreStated (places ++ n ∷ []) new
-stated_more old new n names members places are = record {
-  names =
-      names
-      ∙ (ap (λ ns. with_name ns (lowercase n.text)) are.names
-      ∙ sym (ap (fold with_name []) (map-append (λ (place : Named). lowercase place.text) places (n ∷ [])) ∙ fold-append with_name [] (map (λ (place : Named). lowercase place.text) places) (lowercase n.text ∷ [])));
-  placed = placed_more old new n members places are.placed;
-}
+-- the name of one more spot that a loop has seen
+pub stated_next : (spots : List Spot) (i : ℕ) (spot d : Spot) (old new : List Name) → i < length spots → spot ≡ get_or spots i d → old ≡ stated (map named_at (take i spots)) →
+    new ≡ with_core_name old (folded_text spot.name) → new ≡ stated (map named_at (take (i + 1) spots))
+stated_next spots i spot d old new lt is before now =
+    now
+    ∙ (ap (λ names. with_core_name names (folded_text spot.name)) before
+    ∙ sym (ap stated (map_take-next named_at spots i spot d lt is) ∙ stated_more (map named_at (take i spots)) (named_at spot)))
 
 -- what is known of two clauses together
 pub ok_both : {A E : Type 0} (r : Result A E) (P Q R : A → Type 0) → ((x : A) → P x → Q x → R x) → IfOk r P → IfOk r Q → IfOk r R

@@ -6,7 +6,6 @@ use Rattle.abnf_names.specs.Rules.{Grammar, IsGrammar, defined}
 use Rattle.abnf_parts.specs.Nodes.{trees_at, AreNumbered}
 use Rattle.abnf_parts.specs.Reach.{AreReaching}
 use Rattle.abnf_names.specs.Places.{named_at}
-use Rattle.abnf_names.specs.Passes.{ArePlaced}
 use Rattle.abnf_names.specs.Excerpts.{HasSections}
 use Rattle.abnf_names.specs.declared.grammar.Grammar.TheInside.{Inside}
 
@@ -23,6 +22,5 @@ pub record IsGrammarInside (g : Inside) : Type 0 where
   pub numbered : AreNumbered g.nodes.items g.roots.items
   pub is_grammar : IsGrammar (grammar_inside g)
   pub own : (blocks : List Block) → AreSaid g.source.now blocks → g.names.0 ≡ defined blocks
-  pub placed : ArePlaced (map named_at g.spots) g.by_name
   pub reaching : AreReaching (trees_at g.nodes.items g.roots.items) g.opaque.items
   pub sections : HasSections (grammar_inside g) g.sections

@@ -8,12 +8,11 @@ use Rattle.abnf_syntax.specs.declared.tree.Rule.{Rule}
 use Rattle.abnf_names.specs.declared.definition.Definition.{Definition}
 use Rattle.abnf_names.specs.declared.parsed.Parsed.{Parsed}
 use Rattle.abnf_names.specs.declared.place.Spot.{Spot}
-use Rattle.abnf_names.specs.declared.place.NamePlace.{NamePlace}
 use Rattle.abnf_token.specs.Folded.{lowercase}
 use Rattle.abnf_parts.specs.Names.{Name, with_name}
 use Rattle.std.specs.Str.{bytes_eq}
 use Rattle.abnf_names.specs.Said.{Block}
-use Rattle.abnf_names.specs.Places.{Named, named_at, name_place, holds, ends_at, places_of, places_of_name}
+use Rattle.abnf_names.specs.Places.{Named, named_at, holds, ends_at, places_of}
 use Rattle.abnf_names.specs.Rules.{adds, alternatives_said, defined, defines, needed, rules_of}
 use Rattle.abnf_names.specs.Excerpts.{excerpt, excerpt_of}
 use Rattle.abnf_names.specs.declared.own.NamePlaces.{NamePlaces}
@@ -23,7 +22,7 @@ use Rattle.abnf_parts.specs.Pushed.{AddsTrees}
 use Rattle.abnf_parts.specs.Reach.{AreReaching}
 use Rattle.abnf_parts.specs.Part.{Part, alt}
 use Rattle.abnf_parts.specs.Tree.{parts}
-use Rattle.abnf_parts.specs.Core.{core_name}
+use Rattle.abnf_parts.specs.Core.{core_name, is_core_name}
 
 abbrev pub block_saying : List Item → Result Rule SyntaxFault → Block
 block_saying items said = record { items = items; said = said }
@@ -84,28 +83,23 @@ pub record AreDefined (blocks : List Block) (own : List Name) (definitions : Lis
   pub groups : AreOwn blocks (own, definitions)
   pub beside : length own ≡ length definitions
 
--- under each name its places
-abbrev pub ArePlaced : List Named → Grouped NamePlace → Type 0
-ArePlaced places groups = (name : Name) → members_of groups name ≡ map name_place (places_of_name name places)
+-- one more name, if a core rule has it
+abbrev pub with_core_name : List Name → Name → List Name
+with_core_name names name = if is_core_name name then with_name names name else names
 
--- the names that stand at these places, each where it stands first
+-- the names of core rules that stand at these places, each where it stands first
 abbrev pub stated : List Named → List Name
-stated places = fold with_name [] (map (λ place. lowercase place.text) places)
-
--- the names that stand at these places, and under each its places
-pub record AreStated (places : List Named) (groups : Grouped NamePlace) : Type 0 where
-  pub names : groups.0 ≡ stated places
-  pub placed : ArePlaced places groups
+stated places = fold with_core_name [] (map (λ place. lowercase place.text) places)
 
 -- the names of the rules of the text, and those of the needed core rules
 pub record AreNames (blocks : List Block) (names : List Name × List Name) : Type 0 where
   pub own : names.0 ≡ defined blocks
   pub core : names.1 ≡ map core_name (needed blocks)
 
--- the places of the names of these blocks
+-- the places of the names of these blocks, and the names of core rules that stand there
 pub record AreNamePlaces (blocks : List Block) (found : NamePlaces) : Type 0 where
   pub spots : map named_at found.spots ≡ places_of blocks
-  pub by_name : AreStated (map named_at found.spots) found.by_name
+  pub stated : found.stated ≡ stated (map named_at found.spots)
 
 -- the rules of these blocks, and the blocks without them
 pub record AreRules (blocks : List Block) (rules : Rules) : Type 0 where

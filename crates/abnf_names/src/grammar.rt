@@ -10,10 +10,9 @@ ghost use Rattle.abnf_names.specs.Said.{Block, AreSaid};
 ghost use Rattle.abnf_names.specs.Rules.{IsGrammar, defined};
 ghost use Rattle.abnf_names.specs.Excerpts.{HasSections};
 
-use crate::groups::Groups;
 use crate::own::{faults_of, name_places};
 use crate::parsed::parsed_blocks;
-use crate::place::{NamePlace, Spot, found_at};
+use crate::place::{NamePlace, Spot, found_at, places_called};
 use crate::rules::rules_said;
 use crate::section::Section;
 use abnf_parts::{Node, NodeNo, RuleNames, RuleNo};
@@ -41,7 +40,6 @@ pub struct Grammar<'t> {
     roots: Vec<NodeNo>,
     names: RuleNames<'t>,
     spots: List<Spot<'t>>,
-    by_name: Groups<'t, NamePlace>,
     faults: List<(Place, SyntaxFault)>,
     opaque: Vec<bool>,
     sections: List<Section<'t>>,
@@ -82,7 +80,6 @@ impl<'t> Grammar<'t> {
             roots: rules.roots,
             names: rules.names,
             spots: places.spots,
-            by_name: places.by_name,
             faults,
             opaque: rules.opaque,
             sections: rules.sections,
@@ -152,11 +149,15 @@ impl<'t> Grammar<'t> {
         self.spots.as_slice()
     }
 
-    /// The places of a name, in the order of the text.
-    pub fn places(&self, name: Folded<'t>) -> &[NamePlace]
-        ensures { result.now ≡ map name_place (places_of_name (folded_text name.entry) self.now.places) }
+    /// The places of a name, in the order of the text. All places are looked through for them.
+    ///
+    /// # Errors
+    ///
+    /// Where an allocation is refused.
+    pub fn places(&self, alloc: Global, name: Folded<'_>) -> Result<List<NamePlace>, AllocError>
+        ensures { IfOk result (λ found. found ≡ map name_place (places_of_name (folded_text name.entry) self.now.places)) }
     {
-        self.by_name.members_of(name)
+        places_called(alloc, self.spots.as_slice(), name)
     }
 
     /// The faults of the blocks, each with its place, in the order of the text.

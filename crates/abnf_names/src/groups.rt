@@ -41,13 +41,6 @@ impl<'t, T> Groups<'t, T> {
         }
     }
 
-    /// The names.
-    pub fn names(&self) -> &Names<'t>
-        ensures { result.now ≡ self.now.0 }
-    {
-        &self.names
-    }
-
     /// The names, and beside each the list of its things.
     pub fn into_parts(self) -> (Names<'t>, Vec<List<T>>)
         ensures names { result.0 ≡ self.entry.0 }
@@ -55,16 +48,6 @@ impl<'t, T> Groups<'t, T> {
         ensures beside { length self.entry.0 ≡ length self.entry.1 }
     {
         (self.names, self.members)
-    }
-
-    /// The things under a name.
-    pub fn members_of(&self, name: Folded<'t>) -> &[T]
-        ensures { result.now ≡ members_of self.now (folded_text name.entry) }
-    {
-        match self.names.index_of(name) {
-            Some(at) => self.members[at].as_slice(),
-            None => &[],
-        }
     }
 }
 

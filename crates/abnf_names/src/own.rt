@@ -1,9 +1,10 @@
 //! The names of a text: those that its blocks define, and those that stand in it.
 
-ghost use Rattle.std.specs.Prelude.{◌≡◌, ◌++◌, ◌∷◌, [], List, map, IfOk};
+ghost use Rattle.std.specs.Prelude.{◌≡◌, ◌++◌, ◌∷◌, [], List, map, IfOk, OnOk};
+ghost use Rattle.abnf_parts.specs.Names.{folded_text};
 ghost use Rattle.abnf_names.specs.Said as said;
 ghost use Rattle.abnf_names.specs.Rules.{defined, needed, faults_of, fault_place, block_fault};
-ghost use Rattle.abnf_names.specs.Places.{Named, named_at, places_of};
+ghost use Rattle.abnf_names.specs.Places.{named_at, places_of};
 ghost use Rattle.abnf_names.specs.Passes as spec;
 ghost use Rattle.abnf_names.specs.Excerpts as excerpts;
 ghost use Rattle.abnf_parts.specs.CoreTable as table;
@@ -11,9 +12,9 @@ ghost use Rattle.abnf_parts.specs.CoreTable as table;
 use crate::definition::Definition;
 use crate::groups::Groups;
 use crate::parsed::Parsed;
-use crate::place::{NamePlace, Spot, places_of};
+use crate::place::{Spot, places_of};
 use crate::section::{Section, fault_shown};
-use abnf_parts::{Core, Names, RuleNames, core_names, needed_rules};
+use abnf_parts::{Core, Names, RuleNames, core_names, is_core_name, needed_rules};
 use abnf_syntax::{Block, Rule, SyntaxFault};
 use abnf_token::Folded;
 use ls_lists::List;
@@ -60,37 +61,32 @@ pub(crate) fn own_groups<'t>(
     Ok((groups, sections))
 }
 
-/// One more place under its name.
-fn with_spot<'t>(
-    alloc: Global,
-    groups: Groups<'t, NamePlace>,
-    spot: &Spot<'t>,
-) -> Result<Groups<'t, NamePlace>, AllocError>
-    ensures { IfOk result (λ g. (places : List Named) → spec.AreStated places groups.entry → spec.AreStated (places ++ named_at spot.now ∷ []) g) }
+/// Adds a name that a core rule has, unless it is there.
+fn add_core_name<'t>(names: &mut Names<'t>, name: Folded<'t>) -> Result<(), AllocError>
+    ensures { OnOk result (names.new ≡ spec.with_core_name names.old (folded_text name.entry)) }
 {
-    let place = NamePlace {
-        place: spot.place,
-        defines: spot.defines,
-    };
-    groups.with(alloc, spot.name, place)
-}
-
-/// The names that stand in the text, and under each its places.
-fn placed<'t>(alloc: Global, spots: &[Spot<'t>]) -> Result<Groups<'t, NamePlace>, AllocError>
-    ensures { IfOk result (λ g. spec.AreStated (map named_at spots.now) g) }
-{
-    let mut groups = Groups::new(alloc);
-    for spot in spots {
-        groups = with_spot(alloc, groups, spot)?;
+    if is_core_name(name) {
+        names.add(name)?;
     }
-    Ok(groups)
+    Ok(())
 }
 
-/// The places of names in a text, in its order and by name.
+/// The names of core rules that stand at these places.
+fn core_names_stated<'t>(alloc: Global, spots: &[Spot<'t>]) -> Result<Names<'t>, AllocError>
+    ensures { IfOk result (λ names. names ≡ spec.stated (map named_at spots.now)) }
+{
+    let mut names = Names::new(alloc);
+    for spot in spots {
+        add_core_name(&mut names, spot.name)?;
+    }
+    Ok(names)
+}
+
+/// The places of names in a text, in its order, and the names of core rules that stand there.
 #[derive(Drop)]
 pub(crate) struct NamePlaces<'t> {
     pub spots: List<Spot<'t>>,
-    pub by_name: Groups<'t, NamePlace>,
+    pub stated: Names<'t>,
 }
 
 /// The places of the names in these blocks.
@@ -101,8 +97,8 @@ pub(crate) fn name_places<'t>(
     ensures { IfOk result (λ found. spec.AreNamePlaces (map spec.block_of parsed.now) found) }
 {
     let spots = places_of(alloc, parsed)?;
-    let by_name = placed(alloc, spots.as_slice())?;
-    Ok(NamePlaces { spots, by_name })
+    let stated = core_names_stated(alloc, spots.as_slice())?;
+    Ok(NamePlaces { spots, stated })
 }
 
 /// The names of the rules of the text, which are these, and of the core rules that it needs, and these core rules.
@@ -114,7 +110,7 @@ pub(crate) fn rule_names<'t>(
     ensures { IfOk result (λ r. (blocks : List said.Block) → own.entry ≡ defined blocks → spec.AreNamePlaces blocks places.now
         → spec.AreNames blocks r.0 × (map table.core_of r.1 ≡ needed blocks)) }
 {
-    let needed = needed_rules(alloc, &own, places.by_name.names())?;
+    let needed = needed_rules(alloc, &own, &places.stated)?;
     let core = core_names(alloc, needed.as_slice())?;
     Ok((RuleNames::new(own, core), needed))
 }

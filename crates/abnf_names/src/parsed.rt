@@ -39,8 +39,9 @@ pub(crate) fn parsed_blocks<'t>(
 ) -> Result<Vec<Parsed<'t>>, AllocError>
     ensures { IfOk result (λ parsed. AreSaid snapshot.entry.now (map spec.block_of parsed.items)) }
 {
-    let mut parsed = Vec::new(alloc);
-    for block in blocks(alloc, snapshot)? {
+    let blocks = blocks(alloc, snapshot)?;
+    let mut parsed = Vec::with_capacity(alloc, blocks.len())?;
+    for block in blocks {
         let said = said_by(alloc, &block)?;
         parsed.push(Parsed { block, said })?;
     }

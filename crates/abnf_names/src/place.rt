@@ -3,6 +3,7 @@
 ghost use Rattle.std.specs.Prelude.{◌≡◌, ◌++◌, map, find, option_map, IfOk, OnOk};
 ghost use Rattle.abnf_names.specs.Places as places;
 ghost use Rattle.abnf_names.specs.Passes as spec;
+ghost use Rattle.abnf_parts.specs.Names.{folded_text};
 
 use crate::parsed::Parsed;
 use abnf_syntax::{Block, Item, place_of};
@@ -99,6 +100,26 @@ pub(crate) fn places_of<'t>(
         push_places(&mut spots, &p.block)?;
     }
     Ok(spots)
+}
+
+/// The places of a name among these.
+pub(crate) fn places_called(
+    alloc: Global,
+    spots: &[Spot<'_>],
+    name: Folded<'_>,
+) -> Result<List<NamePlace>, AllocError>
+    ensures { IfOk result (λ found. found ≡ map places.name_place (places.places_of_name (folded_text name.entry) (map places.named_at spots.now))) }
+{
+    let mut found = List::new(alloc);
+    for spot in spots {
+        if name == spot.name {
+            found.push(NamePlace {
+                place: spot.place,
+                defines: spot.defines,
+            })?;
+        }
+    }
+    Ok(found)
 }
 
 /// Whether a spot holds what stands behind a point, which is an empty place.

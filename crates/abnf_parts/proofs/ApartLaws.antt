@@ -12,10 +12,6 @@ pub map_both : {X Y Z : Type 0} (f : Y → Z) (g : X → Y) (xs : List X) → ma
 map_both f g [] = refl
 map_both f g (x ∷ xs) = ap (λ rest. f (g x) ∷ rest) (map_both f g xs)
 
-pub filter_same : {X : Type 0} (p q : X → Bool) → ((x : X) → p x ≡ q x) → (xs : List X) → filter p xs ≡ filter q xs
-filter_same p q e [] = refl
-filter_same p q e (x ∷ xs) = ap (λ b. cond b (x ∷ filter p xs) (filter p xs)) (e x) ∙ ap (λ rest. cond (q x) (x ∷ rest) rest) (filter_same p q e xs)
-
 -- no name stands twice
 abbrev AreApart : List Name → Type 0
 AreApart [] = Unit {0}

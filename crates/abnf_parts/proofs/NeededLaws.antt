@@ -1,13 +1,18 @@
 -- Which core rules are needed.
-use Rattle.std.proofs.Common.{◌≡◌, ◌⊎◌, ⊎_elim, inl, inr, ℕ, suc, Bool, true, false, cond, List, [], ◌∷◌, ◌++◌, refl, sym, ap, subst, ◌∙◌}
+use Rattle.std.proofs.Common.{◌≡◌, ◌<◌, ◌⊎◌, ⊎_elim, inl, inr, ℕ, suc, Bool, true, false, cond, List, [], ◌∷◌, ◌++◌, refl, sym, ap, subst, ◌∙◌}
 use Rattle.std.specs.Prelude.{Some, None, find, filter, fold, flat_map, not, ◌&&◌, ◌||◌, if◌then◌else◌, length}
 use Rattle.std.specs.List.{list_any, AllByRecursion}
+use Rattle.std.specs.Char.{to_ascii_lowercase}
+use Rattle.std.proofs.lemmas.Bool.{lt-leb}
+use Rattle.std.proofs.lemmas.List.{length-map}
 use Rattle.std.proofs.lemmas.List.Folds.{list_any-append}
+use Rattle.abnf_token.specs.Folded.{lowercase}
+use lib.Dec.{leb}
 use Rattle.abnf_parts.specs.declared.core_rule.Core.{Core}
 use Rattle.abnf_parts.specs.declared.core_rule.Core.TheVariants.{Alpha, Bit, Char, Cr, Crlf, Ctl, Digit, Dquote, Hexdig, Htab, Lf, Lwsp, Octet, Sp, Vchar, Wsp}
 use Rattle.std.specs.Str.{bytes_eq}
 use Rattle.abnf_parts.specs.Names.{Name, names_beside, with_name}
-use Rattle.abnf_parts.specs.Core.{CoreRule, core_rules, core_name, names_used, needs, is_needed}
+use Rattle.abnf_parts.specs.Core.{CoreRule, core_rules, core_name, is_core_name, names_used, needs, is_needed}
 use Rattle.abnf_parts.specs.CoreTable.{core_of, users_of, is_wanted}
 use Rattle.abnf_parts.proofs.NameLaws.{same_is, same_sym, never}
 
@@ -64,6 +69,14 @@ module _ (P : Name → Type 0) (name : Name) where
   decide : (cs : List CoreRule) → AllByRecursion (λ c. P (core_name c)) cs → P name ⊎ ((find (is_core name) cs ≡ None) × (list_any (is_core name) cs ≡ false))
   decide [] all = inr (refl, refl)
   decide (c ∷ cs) all = decide_by (is_core name c) c cs refl all.0 (decide cs all.1)
+
+-- none has a long name
+pub none_long : (name : List ℕ) → 6 < length name → leb (length name) 6 ≡ is_core_name (lowercase name)
+none_long name more =
+    let long = lt-leb (length name) 6 more in
+    ⊎_elim (λ short. never (leb (length name) 6) (ap (λ n. leb n 6) (sym (length-map name to_ascii_lowercase)) ∙ short) long) (λ none. long ∙ sym none.1)
+    (decide (λ n. leb (length n) 6 ≡ true) (lowercase name) core_rules
+    (refl, (refl, (refl, (refl, (refl, (refl, (refl, (refl, (refl, (refl, (refl, (refl, (refl, (refl, (refl, (refl, tt)))))))))))))))))
 
 none_by : (b : Bool) (name u : Name) (rest : Bool) → bytes_eq name u ≡ b → list_any (is_core u) core_rules ≡ true → list_any (is_core name) core_rules ≡ false → rest ≡ false → (b || rest) ≡ false
 none_by true name u rest e all h r = never (list_any (is_core name) core_rules) (subst (λ n. list_any (is_core n) core_rules ≡ true) (sym (same_is name u e)) all) h
@@ -206,8 +219,42 @@ any_passed test kept (n ∷ names) = by (kept n) (any_passed test kept names)
     by true e = ap (λ b. test n || b) e
     by false e = e
 
-pub needed_beside : (own xs : List Name) (core : CoreRule) → is_needed (names_beside own (fold with_name [] xs)) core ≡ is_needed (names_beside own xs) core
+needed_beside : (own xs : List Name) (core : CoreRule) → is_needed (names_beside own (fold with_name [] xs)) core ≡ is_needed (names_beside own xs) core
 needed_beside own xs core =
     let kept : Name → Bool = λ name. not (list_any (bytes_eq name) own) in
     let test : Name → Bool = λ name. list_any (bytes_eq (core_name core)) (needs (length core_rules) name) in
     any_passed test kept (fold with_name [] xs) ∙ (any_folded (λ n. kept n && test n) [] xs ∙ sym (any_passed test kept xs))
+
+-- a name that no core rule has needs none of them
+none_needed : (core : Core) (name : Name) → is_core_name name ≡ false → list_any (bytes_eq (core_name (core_of core))) (needs (length core_rules) name) ≡ false
+none_needed core name none = sym (agrees core name) ∙ none_of name (users_of core) (covered core) none
+
+-- so the names of core rules among some need all that these need
+module _ (core : Core) (kept : Name → Bool) where
+  abbrev needs_it : Name → Bool
+  needs_it name = list_any (bytes_eq (core_name (core_of core))) (needs (length core_rules) name)
+
+  core_among : (names : List Name) → list_any needs_it (filter kept (filter is_core_name names)) ≡ list_any needs_it (filter kept names)
+  core_among [] = refl
+  core_among (n ∷ names) = by (is_core_name n) (kept n) refl refl (core_among names)
+    where
+      by : (b c : Bool) → is_core_name n ≡ b → kept n ≡ c → list_any needs_it (filter kept (filter is_core_name names)) ≡ list_any needs_it (filter kept names) →
+          list_any needs_it (filter kept (cond b (n ∷ filter is_core_name names) (filter is_core_name names))) ≡ list_any needs_it (cond c (n ∷ filter kept names) (filter kept names))
+      by true true e f rest = ap (λ k. list_any needs_it (cond k (n ∷ filter kept (filter is_core_name names)) (filter kept (filter is_core_name names)))) f ∙ ap (λ b. needs_it n || b) rest
+      by true false e f rest = ap (λ k. list_any needs_it (cond k (n ∷ filter kept (filter is_core_name names)) (filter kept (filter is_core_name names)))) f ∙ rest
+      by false true e f rest = rest ∙ sym (ap (λ b. b || list_any needs_it (filter kept names)) (none_needed core n e))
+      by false false e f rest = rest
+
+needed_at : (own xs : List Name) (core : Core) → is_needed (names_beside own (fold with_name [] (filter is_core_name xs))) (core_of core) ≡ is_needed (names_beside own xs) (core_of core)
+needed_at own xs core = needed_beside own (filter is_core_name xs) (core_of core) ∙ core_among core (λ name. not (list_any (bytes_eq name) own)) xs
+
+-- those that pass one test are those that pass the other
+filter_each : (p q : CoreRule → Bool) (cores : List CoreRule) → AllByRecursion (λ core. p core ≡ q core) cores → filter p cores ≡ filter q cores
+filter_each p q [] all = refl
+filter_each p q (core ∷ cores) all = ap (λ b. cond b (core ∷ filter p cores) (filter p cores)) all.0 ∙ ap (λ rest. cond (q core) (core ∷ rest) rest) (filter_each p q cores all.1)
+
+pub needed_core : (own xs : List Name) → filter (is_needed (names_beside own (fold with_name [] (filter is_core_name xs)))) core_rules ≡ filter (is_needed (names_beside own xs)) core_rules
+needed_core own xs =
+    let at = needed_at own xs in
+    filter_each (is_needed (names_beside own (fold with_name [] (filter is_core_name xs)))) (is_needed (names_beside own xs)) core_rules
+    (at Alpha, (at Bit, (at Char, (at Cr, (at Crlf, (at Ctl, (at Digit, (at Dquote, (at Hexdig, (at Htab, (at Lf, (at Lwsp, (at Octet, (at Sp, (at Vchar, (at Wsp, tt))))))))))))))))

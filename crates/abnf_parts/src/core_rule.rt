@@ -236,9 +236,12 @@ fn has_name(rules: &[Core], name: Folded<'_>) -> bool
     false
 }
 
+/// The most bytes that the name of a core rule has.
+const LONGEST_NAME: usize = 6;
+
 /// Whether a core rule has this name.
 pub fn is_core_name(name: Folded<'_>) -> bool
     ensures { result ≡ is_core_name (folded_text name.entry) }
 {
-    has_name(&CORE_RULES, name)
+    name.0.len() <= LONGEST_NAME && has_name(&CORE_RULES, name)
 }

@@ -16,7 +16,7 @@ use Rattle.abnf_rename.proofs.RangesKept.{grammar_kept}
 use Rattle.ls_answers.specs.Answers.{IsAnswer}
 use Rattle.ls_answers.specs.Places.{name_at, name_range, places_alike}
 use Rattle.ls_answers.specs.RenameKeeps.{RenameKeeps, KeepsIfRenamed}
-use Rattle.ls_answers.specs.Renames.{IsRename, fault_of_name, fault_there, rename_fault, renamed}
+use Rattle.ls_answers.specs.Renames.{IsRename, fault_there, rename_fault, renamed}
 use Rattle.ls_answers.specs.declared.answer.Answer.{Answer}
 use Rattle.ls_answers.specs.declared.answer.Answer.TheVariants as answer
 use Rattle.ls_answers.specs.declared.answer.RenameFault.{RenameFault}

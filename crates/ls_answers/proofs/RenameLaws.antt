@@ -1,8 +1,7 @@
 -- What is answered to a rename.
-use Rattle.std.proofs.Common.{◌≡◌, ◌==◌, ℕ, suc, ⊎_elim, Bool, true, false, length, List, [], ◌∷◌, map, Option, Some, None, option_map, refl, sym, ap, ◌∙◌, arith}
-use Rattle.std.specs.Prelude.{filter, not}
+use Rattle.std.proofs.Common.{◌≡◌, ◌||◌, ℕ, Bool, true, List, [], ◌∷◌, map, Option, Some, None, option_map, refl, sym, ap, ◌∙◌}
+use Rattle.std.specs.Prelude.{filter}
 use Rattle.std.specs.List.{list_any}
-use Rattle.std.proofs.lemmas.Bool.{cases_Bool, eqb-true}
 use Rattle.std.specs.Str.{bytes_eq}
 use Rattle.abnf_token.specs.Classes.{is_name}
 use Rattle.abnf_token.specs.Folded.{lowercase}
@@ -10,10 +9,10 @@ use Rattle.ls_text.specs.Lines.{utf16_len, offset_of}
 use Rattle.ls_text.specs.declared.position.Place.{Place}
 use Rattle.ls_text.specs.declared.position.Position.{Position}
 use Rattle.ls_text.specs.declared.position.Range.{Range}
-use Rattle.abnf_parts.specs.Names.{Name}
-use Rattle.abnf_names.specs.Places.{Named, at_offset, name_place, place_and_text}
+use Rattle.abnf_parts.specs.Names.{Name, folded_text}
+use Rattle.abnf_names.specs.Places.{Named, at_offset, named_at, place_and_text}
 use Rattle.abnf_names.specs.Rules.{Grammar, IsGrammar}
-use Rattle.abnf_names.specs.declared.place.NamePlace.{NamePlace}
+use Rattle.abnf_names.specs.declared.place.Spot.{Spot}
 use Rattle.abnf_names.proofs.OneGrammar.{one_grammar}
 use Rattle.ls_answers.specs.Places.{ArePlaces, is_wanted, name_at, name_range, places_alike}
 use Rattle.ls_answers.specs.Renames.{IsRename, fault_of_name, fault_there, rename_fault, renamed}
@@ -59,34 +58,11 @@ fault-some g at new text offset s fault name is_name_is true_is of_text is_offse
 
 -- ---- names in use
 
-suc-not-zero : (n : ℕ) → (suc n == 0) ≡ false
-suc-not-zero n = ⊎_elim (λ t. absurd (let e : suc n ≡ 0 = eqb-true (suc n) 0 t in omega (arith, e))) (λ f. f) (cases_Bool (suc n == 0))
+any_spot : (name : Name) (spots : List Spot) → list_any (λ spot. bytes_eq name (folded_text spot.name)) spots ≡ list_any (λ n. bytes_eq name (lowercase n.text)) (map named_at spots)
+any_spot name [] = refl
+any_spot name (spot ∷ spots) = ap (λ b. bytes_eq name (folded_text spot.name) || b) (any_spot name spots)
 
-module _ (name : Name) where
-  abbrev is_called : Named → Bool
-  is_called n = bytes_eq name (lowercase n.text)
-
-  nobody_by : (n : Named) (ns : List Named) (b : Bool) → is_called n ≡ b → map name_place (filter is_called (n ∷ ns)) ≡ []
-      → (map name_place (filter is_called ns) ≡ [] → list_any is_called ns ≡ false) → list_any is_called (n ∷ ns) ≡ false
-  nobody_by n ns true b e rest = let none : name_place n ∷ map name_place (filter is_called ns) ≡ [] = sym (rw b refl) ∙ e in absurd (cc)
-  nobody_by n ns false b e rest = rw b (rest (sym (rw b refl) ∙ e))
-
-  pub nobody : (ns : List Named) → map name_place (filter is_called ns) ≡ [] → list_any is_called ns ≡ false
-  nobody [] e = refl
-  nobody (n ∷ ns) e = nobody_by n ns (is_called n) refl e (nobody ns)
-
-  somebody_by : (n : Named) (ns : List Named) (p : NamePlace) (ps : List NamePlace) (b : Bool) → is_called n ≡ b → map name_place (filter is_called (n ∷ ns)) ≡ p ∷ ps
-      → (map name_place (filter is_called ns) ≡ p ∷ ps → list_any is_called ns ≡ true) → list_any is_called (n ∷ ns) ≡ true
-  somebody_by n ns p ps true b e rest = rw b refl
-  somebody_by n ns p ps false b e rest = rw b (rest (sym (rw b refl) ∙ e))
-
-  pub somebody : (ns : List Named) (p : NamePlace) (ps : List NamePlace) → map name_place (filter is_called ns) ≡ p ∷ ps → list_any is_called ns ≡ true
-  somebody [] p ps e = absurd (cc)
-  somebody (n ∷ ns) p ps e = somebody_by n ns p ps (is_called n) refl e (somebody ns p ps)
-
-  pub has_place : (ns : List Named) (places : List NamePlace) (empty : Bool) → places ≡ map name_place (filter is_called ns) → empty ≡ (length places == 0) → not empty ≡ list_any is_called ns
-  has_place ns [] empty e h = ap not h ∙ sym (nobody ns (sym e))
-  has_place ns (p ∷ ps) empty e h = ap not (h ∙ none) ∙ sym (somebody ns p ps (sym e))
-    where
-      none : (length (p ∷ ps) == 0) ≡ false
-      none = suc-not-zero (length ps)
+-- the spots tell whether a name stands somewhere
+pub has_place : (name : Name) (spots : List Spot) (places : List Named) (has : Bool) → map named_at spots ≡ places → has ≡ list_any (λ spot. bytes_eq name (folded_text spot.name)) spots
+    → has ≡ list_any (λ n. bytes_eq name (lowercase n.text)) places
+has_place name spots places has of_spots is = is ∙ (any_spot name spots ∙ ap (list_any (λ n. bytes_eq name (lowercase n.text))) of_spots)

@@ -50,7 +50,8 @@ fn insertion_of_name(
     ensures { IfOk result (λ insertion. spec.IsInsertionBy grammar.now
         (spec.first_head grammar.now (folded_text name.entry)) (rule_number grammar.now.names (folded_text name.entry)) insertion) }
 {
-    let Some(head) = first_definition(grammar.places(name)) else {
+    let places = grammar.places(alloc, name)?;
+    let Some(head) = first_definition(places.as_slice()) else {
         return Ok(None);
     };
     let Some(rule) = grammar.rule_of(name) else {

@@ -11,7 +11,7 @@ ghost use Rattle.ls_answers.specs.Renames as spec;
 
 use crate::answer::{Answer, RenameFault};
 use crate::places::ranges_in;
-use abnf_names::Grammar;
+use abnf_names::{Grammar, Spot};
 use abnf_parts::is_core_name;
 use abnf_token::Folded;
 use ls_lists::Text;
@@ -63,11 +63,18 @@ fn fault_of_name(grammar: &Grammar, old: Folded, new: &str) -> Option<RenameFaul
     None
 }
 
+/// Whether a name stands at one of these places.
+fn has_spot(spots: &[Spot], name: Folded) -> bool
+    ensures { result ≡ list_any (λ spot. bytes_eq (folded_text name.entry) (folded_text spot.name)) spots.now }
+{
+    spots.iter().any(|spot| name == spot.name)
+}
+
 /// Whether a name stands somewhere in the text.
 fn has_place(grammar: &Grammar, name: Folded) -> bool
     ensures { result ≡ list_any (λ n. bytes_eq (folded_text name.entry) (lowercase n.text)) grammar.now.places }
 {
-    !grammar.places(name).is_empty()
+    has_spot(grammar.spots(), name)
 }
 
 /// Whether a name stands somewhere in the text, or is that of a core rule.

@@ -65,7 +65,10 @@ fn has(alloc: Global, grammar: &Grammar<'_>, check: Check) -> Result<bool, Alloc
             grammar.nodes().len() == count && has_nodes(grammar.nodes(), rows)
         }
         Check::BadToken(line, start, end) => has_bad_token(grammar, Place { line, start, end }),
-        Check::Places(name, rows) => are_places(grammar.places(Folded(name)), rows),
+        Check::Places(name, rows) => are_places(
+            grammar.places(alloc, Folded(name))?.as_slice(),
+            rows,
+        ),
         Check::Offsets(rows) => are_at(grammar, rows),
         Check::Reach(names, want) => all_reach(grammar, names, want),
         Check::Lines(count) => grammar.source().line_count() == count,

@@ -11,6 +11,6 @@ use Rattle.abnf_names.proofs.own.rule_names.Goals as goal
 pub returns : goal.returns
 returns c blocks own places =
     let made =
-    names_made blocks c.args.own c.names.result.now c.in_ok-core.core c.in_ok-needed.needed own (c.names.ensures ∙ (places.by_name.names ∙ ap stated places.spots)) c.in_ok-needed.ensures
+    names_made blocks c.args.own c.args.places.now.stated c.in_ok-core.core c.in_ok-needed.needed own (places.stated ∙ ap stated places.spots) c.in_ok-needed.ensures
     (c.in_ok-core.ensures ∙ ap (λ (cores : List Core). fold with_name [] (map (λ core. core_name (core_of core)) cores)) c.as_slice.ensures) in
     (subst (λ (names : List Name × List Name). AreNames blocks names) (sym c.new.ensures) made.0, made.1)

@@ -8,9 +8,9 @@ use Rattle.ls_answers.proofs.insertion.insertion_of_name.Goals as goal
 
 pub returns-in_default : goal.returns-in_default
 returns-in_default c =
-    by-none c.args.grammar.now (places_of_name (folded_text c.args.name) c.args.grammar.now.places) c.places.result.now _ c.in_default.ensures c.places.ensures
+    by-none c.args.grammar.now (places_of_name (folded_text c.args.name) c.args.grammar.now.places) c.as_slice.result.now _ c.in_default.ensures (c.as_slice.ensures ∙ c.in_ok-places.ensures)
 
 pub returns : goal.returns
 returns c =
-    by-some c.args.grammar.now (places_of_name (folded_text c.args.name) c.args.grammar.now.places) c.places.result.now _ c.in-Some-rule_of.rule c.range_of-line.result.start.line c.in-Some.head.now c.insertion_of_rule.result
-    c.in-Some.ensures c.places.ensures c.in-Some-rule_of.ensures.rule (ap (λ r. r.start.line) c.range_of-line.ensures.range ∙ ap (λ t. (place_range utf16_len t c.in-Some.head.now.place).start.line) c.source.ensures.text) c.insertion_of_rule.ensures
+    by-some c.args.grammar.now (places_of_name (folded_text c.args.name) c.args.grammar.now.places) c.as_slice.result.now _ c.in-Some-rule_of.rule c.range_of-line.result.start.line c.in-Some.head.now c.insertion_of_rule.result
+    c.in-Some.ensures (c.as_slice.ensures ∙ c.in_ok-places.ensures) c.in-Some-rule_of.ensures.rule (ap (λ r. r.start.line) c.range_of-line.ensures.range ∙ ap (λ t. (place_range utf16_len t c.in-Some.head.now.place).start.line) c.source.ensures.text) c.insertion_of_rule.ensures

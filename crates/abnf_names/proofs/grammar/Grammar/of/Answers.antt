@@ -19,7 +19,7 @@ invariant_of-result c =
     let found = found_in c.in_ok-parsed.parsed.items c.as_slice-2.result.now c.in_ok-places.places c.as_slice-2.ensures.value c.in_ok-places.ensures in
     kept _ (map block_of c.in_ok-parsed.parsed.items) c.in_ok-parsed.ensures c.in_ok-rules.ensures.names c.in_ok-rules.ensures.nodes found.spots
     (c.in_ok-faults.ensures ∙ ap (λ (ps : List Parsed). faults_of (map block_of ps)) c.as_slice.ensures.value)
-    found.by_name.placed c.in_ok-rules.ensures.reaching c.in_ok-rules.ensures.sections
+    c.in_ok-rules.ensures.reaching c.in_ok-rules.ensures.sections
 
 pub returns-clause-grammar : goal.returns-clause-grammar
 returns-clause-grammar c =
@@ -31,12 +31,11 @@ returns-clause-grammar c =
       roots = c.in_ok-rules.rules.roots;
       names = c.in_ok-rules.rules.names;
       spots = c.in_ok-places.places.spots;
-      by_name = c.in_ok-places.places.by_name;
       faults = c.in_ok-faults.faults;
       opaque = c.in_ok-rules.rules.opaque;
       sections = c.in_ok-rules.rules.sections;
     })
     (map block_of c.in_ok-parsed.parsed.items) c.in_ok-parsed.ensures c.in_ok-rules.ensures.names c.in_ok-rules.ensures.nodes found.spots
     (c.in_ok-faults.ensures ∙ ap (λ (ps : List Parsed). faults_of (map block_of ps)) c.as_slice.ensures.value)
-    found.by_name.placed c.in_ok-rules.ensures.reaching c.in_ok-rules.ensures.sections
+    c.in_ok-rules.ensures.reaching c.in_ok-rules.ensures.sections
     in inside.is_grammar
