@@ -10,14 +10,14 @@ use Rattle.abnf_cert.specs.Accepted.{NotBefore, After, Saturated, IsChoice, top}
 use Rattle.abnf_least.specs.Form.{is_before, better, first_least}
 use Rattle.abnf_least.specs.Table.{InRange}
 
-before_true : (l h m k : ℕ) → is_before l h m k ≡ true → (l < m) ⊎ ((l ≡ m) × (h < k))
+pub before_true : (l h m k : ℕ) → is_before l h m k ≡ true → (l < m) ⊎ ((l ≡ m) × (h < k))
 before_true l h m k t =
     ⊎_elim
     (λ a. inl (ltb-true l m a))
     (λ b. let p = and_parts (eqb l m) (ltb h k) b in inr (eqb-true l m p.0, ltb-true h k p.1))
     (or_cases (ltb l m) (eqb l m && ltb h k) t)
 
-before_false : (l h m k : ℕ) → is_before l h m k ≡ false → (m < l) ⊎ ((m ≡ l) × (k ≤ h))
+pub before_false : (l h m k : ℕ) → is_before l h m k ≡ false → (m < l) ⊎ ((m ≡ l) × (k ≤ h))
 before_false l h m k f =
     let p = or_parts (ltb l m) (eqb l m && ltb h k) f in
     let le : m ≤ l = ltb-false l m p.0 in

@@ -20,3 +20,4 @@ pub mod Exist
 pub mod Reaching
 pub mod Short
 pub mod SomeShown
+pub mod Rows

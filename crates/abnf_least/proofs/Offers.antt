@@ -20,11 +20,11 @@ on_ok (Ok x) p f = f p
 on_ok (Err e) p f = tt
 
 pub offered_from : (form : ℕ → Form) (at : ℕ → Entry) (part user : ℕ) (queue : List Candidate) (e : Entry) (f : Form) → form user ≡ f → e ≡ offered at f part → IsPushed e user queue → IsOffered form at part user queue
-offered_from form at part user queue e f is e_is pushed l h d given =
+offered_from form at part user queue e f is e_is pushed l h d waits given =
     pushed l h d (e_is ∙ ap (λ x. offered at x part) (sym is) ∙ given)
 
 pub offered_still : (form : ℕ → Form) (at : ℕ → Entry) (part user : ℕ) (old new : List Candidate) → Keeps old new → IsOffered form at part user old → IsOffered form at part user new
-offered_still form at part user old new keeps off l h d given = keeps (candidate l h user) (off l h d given)
+offered_still form at part user old new keeps off l h d waits given = keeps (candidate l h user) (off l h d waits given)
 
 -- the first users have been offered
 pub record OffersUpTo (form : ℕ → Form) (at : ℕ → Entry) (part : ℕ) (users : List ℕ) (old new : List Candidate) (count : ℕ) : Type 0 where

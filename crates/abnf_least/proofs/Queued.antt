@@ -39,7 +39,7 @@ not_less x y f =
     (λ other. ⊎_elim (λ shorter. absurd (refuted (less y.length x.length rest shorter))) (λ longer. inl longer) other)
     (cases_order y.length x.length)
 
-all_mapped : (x : Candidate) (xs : List (Reverse Candidate)) → AllByRecursion (λ r. is_lt (candidate_cmp r.0 x) ≡ false) xs → AllByRecursion (NotLess x) (candidates xs)
+pub all_mapped : (x : Candidate) (xs : List (Reverse Candidate)) → AllByRecursion (λ r. is_lt (candidate_cmp r.0 x) ≡ false) xs → AllByRecursion (NotLess x) (candidates xs)
 all_mapped x [] all = tt
 all_mapped x (r ∷ xs) all = (not_less x r.0 all.0, all_mapped x xs all.1)
 
@@ -51,7 +51,7 @@ joined old new x moved =
       joins = Contains-permutation (x ∷ candidates old) (candidates new) x p (0, omega arith, refl);
     }
 
-only : (x y : Candidate) → Contains (x ∷ []) y → y ≡ x
+pub only : (x y : Candidate) → Contains (x ∷ []) y → y ≡ x
 only x y (zero, within, is) = sym is
 only x y (suc k, within, is) = absurd (omega arith)
 

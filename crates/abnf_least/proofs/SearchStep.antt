@@ -98,7 +98,7 @@ module _ (trees : List Part) (table : List Entry) (queue found new : List Candid
             let within : x.number < length users = omega (arith, are.one_each, s.one_each, f.is_given.within) in
             let off = offers k (are.each k x.number a within) in
             ⊎_elim
-            (λ now. off l h now.0 now.1)
+            (λ now. off l h now.0 waits now.1)
             (λ old. keeps (candidate l h k) (f.others k l h old.0 apart waited old.1))
             (offered_is at next x.number was others (form_at trees k) l h d given))
             (λ unneeded. keeps (candidate l h k) (f.others k l h d apart waited (sym (given_same at next x.number was others (form_at trees k) unneeded) ∙ given)))

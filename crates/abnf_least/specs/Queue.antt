@@ -1,7 +1,28 @@
 -- What waits in a queue.
-use Rattle.std.specs.Prelude.{◌≡◌, ◌+◌, ◌<◌, ◌≤◌, ◌⊎◌, List, length}
+use Rattle.std.specs.Prelude.{◌≡◌, ℕ, ◌+◌, ◌<◌, ◌≤◌, ◌⊎◌, Bool, false, List, length, slice_index_or}
 use Rattle.std.specs.List.{Contains}
 use Rattle.abnf_least.specs.declared.candidate.Candidate.{Candidate}
+use Rattle.abnf_least.specs.Form.{is_before}
+
+-- the pair of x comes before that of y
+abbrev pub comes_before : Candidate → Candidate → Bool
+comes_before x y = is_before x.length x.height y.length y.height
+
+-- the pair of x comes before that of y, or is the same
+abbrev pub NotAfter : Candidate → Candidate → Type 0
+NotAfter x y = (x.length < y.length) ⊎ ((x.length ≡ y.length) × (x.height ≤ y.height))
+
+-- x is one of them, and comes after none
+abbrev pub IsFirst : List Candidate → Candidate → Type 0
+IsFirst all x = Contains all x × ((y : Candidate) → Contains all y → NotAfter x y)
+
+-- x comes before none of them
+abbrev pub ComesLast : List Candidate → Candidate → Type 0
+ComesLast all x = (y : Candidate) → Contains all y → NotAfter y x
+
+-- each comes before none of those in front of it
+abbrev pub IsInOrder : List Candidate → Type 0
+IsInOrder row = (i j : ℕ) (d : Candidate) → i < j → j < length row → comes_before (slice_index_or row j d) (slice_index_or row i d) ≡ false
 
 -- x joins what waits
 pub record Joins (old : List Candidate) (x : Candidate) (new : List Candidate) : Type 0 where
@@ -11,5 +32,5 @@ pub record Joins (old : List Candidate) (x : Candidate) (new : List Candidate) :
 -- x leaves, and comes after none of the others
 pub record Leaves (old : List Candidate) (x : Candidate) (new : List Candidate) : Type 0 where
   pub kept : (y : Candidate) → Contains old y → (y ≡ x) ⊎ Contains new y
-  pub least : (y : Candidate) → Contains old y → (x.length < y.length) ⊎ ((x.length ≡ y.length) × (x.height ≤ y.height))
+  pub least : (y : Candidate) → Contains old y → NotAfter x y
   pub fewer : length new + 1 ≡ length old

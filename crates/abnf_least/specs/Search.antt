@@ -64,9 +64,9 @@ abbrev pub offered : (ℕ → Entry) → Form → ℕ → Entry
 offered at (one_of ns) part = at part
 offered at f part = entry_given at f
 
--- the user waits with the pair that it is offered
+-- the user waits with the pair that it is offered, unless it is settled
 abbrev pub IsOffered : (ℕ → Form) → (ℕ → Entry) → ℕ → ℕ → List Candidate → Type 0
-IsOffered form at part user queue = (l h d : ℕ) → offered at (form user) part ≡ Least l h d → Contains queue (candidate l h user)
+IsOffered form at part user queue = (l h d : ℕ) → at user ≡ Nothing → offered at (form user) part ≡ Least l h d → Contains queue (candidate l h user)
 
 -- the part waits with the pair of this entry, if it has one
 abbrev pub IsPushed : Entry → ℕ → List Candidate → Type 0

@@ -6,10 +6,12 @@
 
 mod candidate;
 mod given;
+mod heap;
 mod laws;
 mod offer;
 mod queue;
 mod rendering;
+mod row;
 mod search;
 mod shortest;
 mod users;

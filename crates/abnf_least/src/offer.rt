@@ -1,6 +1,6 @@
 //! What the users of a part are offered once it is settled.
 
-ghost use Rattle.std.specs.Prelude.{OnOk, ◌≡◌, ◌<◌, ℕ, false, length, map, slice_index_or as get_or};
+ghost use Rattle.std.specs.Prelude.{OnOk, ◌≡◌, ◌<◌, ℕ, false, true, length, map, slice_index_or as get_or};
 ghost use Rattle.std.specs.List.{Contains};
 ghost use Rattle.abnf_parts.specs.Part.{parts_of, root_number};
 ghost use Rattle.abnf_cert.specs.Accepted.{all_in_a_row, entry_at};
@@ -61,6 +61,17 @@ fn first_unsettled(table: &[Entry], parts: &[NodeNo], from: usize) -> usize
     at
 }
 
+/// Whether a part is settled.
+fn is_settled(table: &[Entry], part: usize) -> bool
+    ensures settled { result ≡ true → entry_at table.now part ≡ Nothing → ⊥ }
+    ensures waits { result ≡ false → entry_at table.now part ≡ Nothing }
+{
+    match entry_of(table, part) {
+        Entry::Nothing => false,
+        Entry::Least { .. } => true,
+    }
+}
+
 /// Whether all parts of a row are settled. At the row's number `ready` says up to which place they were so before, so that all calls
 /// together pass each place once.
 fn is_ready(table: &[Entry], parts: &[NodeNo], number: usize, ready: &mut [usize]) -> bool
@@ -74,7 +85,8 @@ fn is_ready(table: &[Entry], parts: &[NodeNo], number: usize, ready: &mut [usize
     at >= parts.len()
 }
 
-/// Lets a user of a part that was settled just now wait, if it is given an entry.
+/// Lets a user of a part that was settled just now wait, if it is given an entry and isn't settled: a choice is settled by the first of
+/// its alternatives that is, and the others offer it nothing.
 fn offer(
     grammar: &Grammar,
     table: &[Entry],
@@ -89,7 +101,7 @@ fn offer(
     ensures offered { OnOk result (IsOffered (form_at grammar.now.rules) (entry_at table.now) part user queue.new) }
 {
     let nodes = grammar.nodes();
-    if user >= nodes.len() {
+    if user >= nodes.len() || is_settled(table, user) {
         return Ok(());
     }
     let node = &nodes[user];

@@ -4,29 +4,28 @@ ghost use Rattle.std.specs.Prelude.{IfNone, IfSome, OnOk, ◌≡◌, []};
 ghost use Rattle.abnf_least.specs.Queue.{Joins, Leaves};
 
 use crate::candidate::Candidate;
+use crate::heap::Heap;
+use crate::row::Row;
 use std::alloc::{AllocError, Global};
-use std::cmp::Reverse;
-use std::collections::BinaryHeap;
 use std::marker::Model;
 
-/// Candidates, of which the least leaves first. Contracts see a list of them.
+/// Candidates, of which one with the least pair leaves first. Contracts see a list of them.
+///
+/// Parts are settled in the order of their pairs, and what a part offers to its users comes soon behind its own pair, so most candidates come
+/// in the order in which they leave. These stand in a row, which takes no search; a heap has the others.
 #[derive(Drop)]
 pub(crate) struct Queue {
-    heap: BinaryHeap<Reverse<Candidate>>,
+    row: Row,
+    heap: Heap,
 }
 
 impl Model for Queue {
-    ghost use Rattle.std.specs.Prelude.{List, map};
+    ghost use Rattle.std.specs.Prelude.{List, ◌++◌};
     ghost use Rattle.abnf_least.specs.declared.candidate.Candidate.{Candidate};
 
     ghost Value = { List Candidate };
 
-    ghost use Rattle.std.specs.BinaryHeap.{IsHeap, heap_items};
-    ghost use Rattle.abnf_least.specs.Order.{candidate_cmp};
-
-    ghost view = { λ q. map (λ r. r.0) (heap_items q.heap) };
-
-    ghost invariant = { λ q. IsHeap (λ x y. candidate_cmp y.0 x.0) (heap_items q.heap) };
+    ghost view = { λ q. q.row ++ q.heap };
 }
 
 impl Queue {
@@ -34,25 +33,36 @@ impl Queue {
         ensures { result ≡ [] }
     {
         Queue {
-            heap: BinaryHeap::new(alloc),
+            row: Row::new(alloc),
+            heap: Heap::new(alloc),
         }
     }
 
     pub fn push(&mut self, candidate: Candidate) -> Result<(), AllocError>
         ensures { OnOk result (Joins self.old candidate self.new) }
     {
-        self.heap.push(Reverse(candidate))?;
-        Ok(())
+        if self.row.takes(candidate) {
+            self.row.push(candidate)
+        } else {
+            self.heap.push(candidate)
+        }
     }
 
-    /// Takes the least candidate away.
+    /// Takes a candidate with the least pair away.
     pub fn pop(&mut self) -> Option<Candidate>
         ensures some { IfSome result (λ x. Leaves self.old x self.new) }
         ensures none { IfNone result (self.old ≡ []) }
     {
-        match self.heap.pop() {
-            Some(Reverse(candidate)) => Some(candidate),
-            None => None,
+        let Some(first) = self.row.first() else {
+            return self.heap.pop();
+        };
+        let Some(other) = self.heap.first() else {
+            return self.row.pop();
+        };
+        if other.comes_before(first) {
+            self.heap.pop()
+        } else {
+            self.row.pop()
         }
     }
 }

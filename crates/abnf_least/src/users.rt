@@ -8,13 +8,15 @@ ghost use Rattle.abnf_least.specs.Search.{Adds, AddsEach, AreUsers};
 
 use abnf_names::Grammar;
 use abnf_parts::{Node, NodeNo};
+use smallvec::SmallVec;
 use std::alloc::{AllocError, Global};
 use std::marker::Model;
 
 /// For each part the numbers of its users. Contracts see a list of lists.
 #[derive(Drop)]
 pub(crate) struct Users {
-    lists: Vec<Vec<usize>>,
+    /// Most parts have one user, the part that they stand in, and rules often two.
+    lists: Vec<SmallVec<usize, 2>>,
 }
 
 impl Model for Users {
@@ -32,7 +34,7 @@ impl Users {
     {
         let mut lists = Vec::with_capacity(alloc, count)?;
         for _ in 0..count {
-            lists.push(Vec::new(alloc))?;
+            lists.push(SmallVec::new(alloc))?;
         }
         Ok(Users { lists })
     }

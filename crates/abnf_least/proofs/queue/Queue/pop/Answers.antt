@@ -1,16 +1,13 @@
-use Rattle.std.proofs.Common.{subst, sym, IfSome}
-use Rattle.std.specs.BinaryHeap.{heap_items}
-use Rattle.abnf_least.specs.Queue.{Leaves}
-use Rattle.abnf_least.proofs.Queued.{candidates, left}
+use Rattle.std.proofs.Common.{sym, ◌∙◌}
+use Rattle.abnf_least.proofs.Rows.{ahead, behind, leaves_heap, leaves_row}
 use Rattle.abnf_least.proofs.queue.Queue.pop.Goals as goal
-use Rattle.abnf_least.proofs.queue.Queue.pop.Goals.{in-Some, in-None}
 
-pub returns-clause-some : goal.returns-clause-some
-returns-clause-some c =
-    elim c.match-pop.branch [
-      | in-Some w ↦
-          subst (λ r. IfSome r (λ x. Leaves c.args.self.now x (candidates (heap_items c.pop.new.self)))) (sym w.result-is)
-          (subst (λ q. Leaves q w.in-Some.field-0.0 (candidates (heap_items c.pop.new.self))) c.self.view_is
-          (left (heap_items c.self.inside.heap) (heap_items c.pop.new.self) w.in-Some.field-0.0 w.in-Some.ensures.permutation (w.in-Some.ensures.heap_order c.self.invariant).1))
-      | in-None w ↦ subst (λ r. IfSome r (λ x. Leaves c.args.self.now x (candidates (heap_items c.pop.new.self)))) (sym w.result-is) tt
-    ]
+pub returns-then-comes_before-clause-some : goal.returns-then-comes_before-clause-some
+returns-then-comes_before-clause-some c =
+    leaves_heap c.pop-then-comes_before.result c.args.self.now c.self.inside.row c.self.inside.heap c.pop-then-comes_before.new.self c.in-Some-first.other c.self.view_is c.in-Some-first.ensures.some.0
+    (ahead c.self.inside.row c.in-Some.first c.in-Some-first.other c.in-Some.ensures.some (sym c.comes_before.ensures ∙ c.if-comes_before.true)) c.pop-then-comes_before.ensures.some
+
+pub returns-else-comes_before-clause-some : goal.returns-else-comes_before-clause-some
+returns-else-comes_before-clause-some c =
+    leaves_row c.pop-else-comes_before.result c.args.self.now c.self.inside.row c.pop-else-comes_before.new.self c.self.inside.heap c.in-Some.first c.self.view_is c.in-Some.ensures.some
+    (behind c.self.inside.heap c.in-Some.first c.in-Some-first.other c.in-Some-first.ensures.some (sym c.comes_before.ensures ∙ c.if-comes_before.false)) c.pop-else-comes_before.ensures.some

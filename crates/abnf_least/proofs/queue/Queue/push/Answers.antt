@@ -1,10 +1,9 @@
-use Rattle.std.proofs.Common.{subst}
-use Rattle.std.specs.BinaryHeap.{heap_items}
-use Rattle.abnf_least.specs.Queue.{Joins}
-use Rattle.abnf_least.proofs.Queued.{candidates, joined}
+use Rattle.abnf_least.proofs.Rows.{joins_heap, joins_row}
 use Rattle.abnf_least.proofs.queue.Queue.push.Goals as goal
 
-pub returns : goal.returns
-returns c =
-    subst (λ q. Joins q c.args.candidate (candidates (heap_items c.push.new.self))) c.self.view_is
-    (joined (heap_items c.self.inside.heap) (heap_items c.push.new.self) c.args.candidate c.in_ok-push.ensures.permutation)
+pub returns-then-takes : goal.returns-then-takes
+returns-then-takes c = joins_row c.push.result c.args.self.now c.self.inside.row c.push.new.self c.self.inside.heap c.args.candidate c.self.view_is c.push.ensures
+
+pub returns-else-takes : goal.returns-else-takes
+returns-else-takes c =
+    joins_heap c.push-else-takes.result c.args.self.now c.self.inside.row c.self.inside.heap c.push-else-takes.new.self c.args.candidate c.self.view_is c.push-else-takes.ensures

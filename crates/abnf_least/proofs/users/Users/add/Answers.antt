@@ -7,4 +7,4 @@ pub returns : goal.returns
 returns c =
     let within : c.args.part < length c.self.inside.lists.items = omega (arith, c.if-part-len.false, c.len.ensures) in
     subst (λ old. Adds old c.args.part c.args.user (map (λ v. v.items) (set c.self.inside.lists.items c.args.part c.push.new.self))) c.self.view_is
-    (adds_item (λ v. v.items) c.self.inside.lists.items c.args.part c.args.user c.index_mut.result.now c.push.new.self within c.index_mut.ensures.value c.in_ok-push.ensures.items)
+    (adds_item (λ v. v.items) c.self.inside.lists.items c.args.part c.args.user c.index_mut.result.now c.push.new.self within c.index_mut.ensures.value c.in_ok-push.ensures.ok)

@@ -1,0 +1,10 @@
+use Rattle.std.proofs.Common.{List, subst, sym}
+use Rattle.abnf_least.specs.declared.candidate.Candidate.{Candidate}
+use Rattle.abnf_least.specs.Queue.{ComesLast}
+use Rattle.abnf_least.proofs.Rows.{row_more}
+use Rattle.abnf_least.proofs.row.Row.push.Goals as goal
+
+pub invariant_of-self-2 : goal.invariant_of-self-2
+invariant_of-self-2 c =
+    row_more c.self.inside.candidates.items c.push_back.new.self.items c.args.candidate c.self.invariant
+    (subst (λ (all : List Candidate). ComesLast all c.args.candidate) (sym c.self.view_is) c.requires) c.in_ok-push_back.ensures.items
