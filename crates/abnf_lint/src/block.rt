@@ -1,7 +1,8 @@
 //! What is found in a block.
 
-ghost use Rattle.std.specs.Prelude.{◌≡◌, ◌++◌, OnOk};
-ghost use Rattle.abnf_parts.specs.Names.{folded_text};
+ghost use Rattle.std.specs.Prelude.{◌≡◌, ◌++◌, IfOk, OnOk, if◌then◌else◌};
+ghost use Rattle.abnf_parts.specs.Names.{folded_text, with_name};
+ghost use Rattle.abnf_names.specs.Said.{name_of};
 ghost use Rattle.abnf_names.specs.Excerpts.{excerpt};
 ghost use Rattle.abnf_lint.specs.Findings as spec;
 ghost use Rattle.abnf_lint.specs.Passes as passes;
@@ -28,32 +29,40 @@ fn is_marked<'t>(grammar: &Grammar<'t>, marks: &[bool], name: Folded<'t>) -> boo
     }
 }
 
-/// Whether a name is one of these.
-fn has_name<'t>(names: &Names<'t>, name: Folded<'t>) -> bool
-    ensures { result ≡ spec.has_name names.now (folded_text name.entry) }
+/// Whether a block before defines this head's name with `=`. If this one does too, the name joins theirs.
+fn joins_bases<'t>(bases: &mut Names<'t>, head: Head<'t>) -> Result<bool, AllocError>
+    ensures was { IfOk result (λ was. was ≡ spec.has_name bases.old (name_of head.entry)) }
+    ensures joins { OnOk result (bases.new ≡ (if head.entry.adds then bases.old else with_name bases.old (name_of head.entry))) }
 {
-    names.index_of(name).is_some()
+    let name = Folded(head.name.text);
+    if head.adds {
+        Ok(bases.index_of(name).is_some())
+    } else {
+        Ok(bases.add(name)?.is_some())
+    }
 }
 
-/// Adds what is found of a head, where the blocks before have these heads.
+/// Adds what is found of a head, where the blocks before have these heads, and its name to theirs.
 fn push_head<'t>(
     alloc: Global,
     grammar: &Grammar<'t>,
     marks: &[bool],
-    heads: &Names<'t>,
-    bases: &Names<'t>,
+    heads: &mut Names<'t>,
+    bases: &mut Names<'t>,
     head: Head<'t>,
     found: &mut List<Finding>,
 ) -> Result<(), AllocError>
-    ensures { OnOk result (found.new ≡ found.old ++ spec.head_findings marks.now grammar.now.names heads.now bases.now head.entry) }
+    ensures found { OnOk result (found.new ≡ found.old ++ spec.head_findings marks.now grammar.now.names heads.old bases.old head.entry) }
+    ensures heads { OnOk result (heads.new ≡ with_name heads.old (name_of head.entry)) }
+    ensures bases { OnOk result (bases.new ≡ (if head.entry.adds then bases.old else with_name bases.old (name_of head.entry))) }
 {
     let text = head.name.text;
     let name = Folded(text);
     let place = place_of(head.name);
-    let is_based = has_name(bases, name);
+    let is_based = joins_bases(bases, head)?;
     let is_duplicate = !head.adds & is_based;
     let lacks_base = head.adds & !is_based;
-    let is_first = !has_name(heads, name);
+    let is_first = heads.add(name)?.is_none();
     let is_unproductive = is_first && is_marked(grammar, marks, name);
     push_if(alloc, is_duplicate, Code::Duplicate, place, text, found)?;
     push_if(alloc, lacks_base, Code::NoBase, place, text, found)?;
@@ -82,50 +91,23 @@ fn push_said<'t>(
     }
 }
 
-/// Adds what is found in a block, where the blocks before have these heads.
+/// Adds what is found in a block, where the blocks before have these heads, and its head's name to theirs.
 pub(crate) fn push_block<'t>(
     alloc: Global,
     grammar: &Grammar<'t>,
     marks: &[bool],
-    heads: &Names<'t>,
-    bases: &Names<'t>,
+    heads: &mut Names<'t>,
+    bases: &mut Names<'t>,
     section: &Section<'t>,
     found: &mut List<Finding>,
 ) -> Result<(), AllocError>
-    ensures { OnOk result (found.new ≡ found.old ++ spec.block_findings marks.now grammar.now.names heads.now bases.now (excerpt section.now)) }
+    ensures found { OnOk result (found.new ≡ found.old ++ spec.block_findings marks.now grammar.now.names heads.old bases.old (excerpt section.now)) }
+    ensures heads { OnOk result (heads.new ≡ passes.with_head heads.old (excerpt section.now)) }
+    ensures bases { OnOk result (bases.new ≡ passes.with_base bases.old (excerpt section.now)) }
 {
     push_said(alloc, grammar, section, found)?;
     match section.block.head() {
         Some(head) => push_head(alloc, grammar, marks, heads, bases, head, found),
-        None => Ok(()),
-    }
-}
-
-/// Adds the name of a block's head, if it has one.
-pub(crate) fn add_head<'t>(heads: &mut Names<'t>, section: &Section<'t>) -> Result<(), AllocError>
-    ensures { OnOk result (heads.new ≡ passes.with_head heads.old (excerpt section.now)) }
-{
-    match section.block.head() {
-        Some(head) => {
-            heads.add(Folded(head.name.text))?;
-            Ok(())
-        }
-        None => Ok(()),
-    }
-}
-
-/// The same unless `=/` follows the name.
-pub(crate) fn add_base<'t>(bases: &mut Names<'t>, section: &Section<'t>) -> Result<(), AllocError>
-    ensures { OnOk result (bases.new ≡ passes.with_base bases.old (excerpt section.now)) }
-{
-    match section.block.head() {
-        Some(head) => {
-            if head.adds {
-                return Ok(());
-            }
-            bases.add(Folded(head.name.text))?;
-            Ok(())
-        }
         None => Ok(()),
     }
 }

@@ -7,7 +7,7 @@ ghost use Rattle.abnf_lint.specs.Findings as spec;
 ghost use Rattle.abnf_lint.specs.Passes as passes;
 ghost use Rattle.abnf_lint.specs.Order.{AreOrdered};
 
-use crate::block::{add_base, add_head, push_block};
+use crate::block::push_block;
 use crate::finding::Finding;
 use crate::unproductive::unproductive_rules;
 use abnf_cert::Cert;
@@ -29,9 +29,9 @@ fn candidates<'t>(
     let mut bases = Names::new(alloc);
     let mut found = List::new(alloc);
     for section in sections {
-        push_block(alloc, grammar, marks, &heads, &bases, section, &mut found)?;
-        add_head(&mut heads, section)?;
-        add_base(&mut bases, section)?;
+        push_block(
+            alloc, grammar, marks, &mut heads, &mut bases, section, &mut found,
+        )?;
     }
     Ok(found)
 }
