@@ -21,6 +21,9 @@ const MOST_EVENTS: usize = 1_000_000;
 /// The number of the worker.
 const WORKER: u32 = 0;
 
+/// The room that a frame has beside its body.
+const HEADER_ROOM: usize = 64;
+
 /// The frame of what is to be said.
 ///
 /// `Memory` says that an allocation was refused.
@@ -28,7 +31,7 @@ pub fn framed(alloc: Global, out: Out) -> Result<Vec<u8>, Memory>
     ensures { IfOk result (λ frame. (body : List ℕ) × (body_of out ≡ Some body) × (frame.items ≡ frame_of body)) }
 {
     let body = body_of(alloc, &out)?;
-    let mut frame = Vec::new(alloc);
+    let mut frame = Vec::with_capacity(alloc, body.len() + HEADER_ROOM)?;
     match write_frame(alloc, &body, &mut frame) {
         Ok(()) => Ok(frame),
         Err(_) => Err(Memory),

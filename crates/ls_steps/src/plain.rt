@@ -1,10 +1,21 @@
 //! One message after the other, each answered before the next.
-ghost use Rattle.std.specs.Prelude.{◌≡◌, ℕ, true, IfOk, OnOk};
+ghost use Rattle.std.specs.Prelude.{◌≡◌, ◌++◌, ℕ, true, IfOk, OnOk};
 ghost use Rattle.ls_steps.specs.Plain.{AreFramesFor, Serves, Works, sent_all};
 ghost use Rattle.ls_steps.specs.Runs.{state_at};
 
 use crate::conversation::Conversation;
 use std::alloc::{AllocError as Memory, Global};
+
+/// A frame behind bytes, which is all there is where it is the first.
+fn behind(mut bytes: Vec<u8>, frame: Vec<u8>) -> Result<Vec<u8>, Memory>
+    ensures { IfOk result (λ all. all.items ≡ bytes.items ++ frame.items) }
+{
+    if bytes.is_empty() {
+        return Ok(frame);
+    }
+    bytes.extend_from_slice(&frame)?;
+    Ok(bytes)
+}
 
 impl Conversation {
     /// Hears a message of the client, runs the jobs that wait, one after the other, and gives the frames of all that is to be said.
@@ -33,7 +44,7 @@ impl Conversation {
     {
         let mut bytes = Vec::new(alloc);
         'frames: while let Some(frame) = self.send()? {
-            bytes.extend_from_slice(&frame)?;
+            bytes = behind(bytes, frame)?;
         }
         Ok(bytes)
     }

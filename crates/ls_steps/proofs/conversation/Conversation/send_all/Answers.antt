@@ -13,8 +13,7 @@ frames-preserved c =
     record {
       goes_on = λ later are.
           subst (AreFramesFor (state_at c.args.self.now).unsent)
-          (sym (append_assoc c.frames.bytes.items c.in-Some.frame.items later)
-          ∙ (ap (λ l. (c.frames.bytes.items ++ l) ++ later) (sym c.deref.ensures.value) ∙ ap (λ l. l ++ later) (sym c.in_ok-extend_from_slice.ensures.items)))
+          (sym (append_assoc c.frames.bytes.items c.in-Some.frame.items later) ∙ ap (λ l. l ++ later) (sym c.in_ok-bytes.ensures))
           (c.frames.invariant.goes_on (c.in-Some.frame.items ++ later) (one.frames later are));
       ends = one.ends ∙ c.frames.invariant.ends;
     }
