@@ -3,8 +3,8 @@
 #![tactic(auto)]
 
 use ls_server::{
-    Ending, FileFault, ReadFrom, Snapshot, WriteTo, check_text, example_text, read_cert_file,
-    read_text,
+    Ending, FileFault, ReadFrom, Snapshot, WriteTo, check_text, example_text, keep_freed_blocks,
+    read_cert_file, read_text,
 };
 use ls_threads::{Gate, Served, serve_threads};
 use std::fs::File;
@@ -85,6 +85,7 @@ fn check(rt: &HostRuntime, file: String, cert: String) -> Result<Ending, Ending>
 
 /// Serves standard input and output.
 fn serve<R: Threads + Wait + Sync>(rt: &HostRuntime, threads: &R) -> Ending {
+    keep_freed_blocks(rt.alloc());
     let source = ReadFrom::new(rt.stdin());
     let sink = WriteTo::new(rt.stdout());
     let Served { answer, .. } = serve_threads(threads, rt.alloc(), source, sink, WORKERS, &Open);

@@ -7,6 +7,7 @@ mod device;
 mod ending;
 mod file;
 mod laws;
+mod memory;
 mod serve;
 
 pub use commands::{cert_part, check_text, example_text};
@@ -18,4 +19,5 @@ pub use ls_desk::{DeskFault, Out};
 pub use ls_session::{ClientEvent, Session, Status, Turn, body_of, refusal_body};
 pub use ls_steps::{Run, Step, run_steps, sessions_are_unique, sessions_exist};
 pub use ls_text::Snapshot;
+pub use memory::keep_freed_blocks;
 pub use serve::{READ_MOST, READS_END, ServeFault, serve_limited, serve_plain, write_all};

@@ -2,10 +2,11 @@
 //! run on it, since their bytes are known to the last.
 #![tactic(auto)]
 
-use ls_server::{Ending, ReadFrom, WriteTo, serve_plain};
+use ls_server::{Ending, ReadFrom, WriteTo, keep_freed_blocks, serve_plain};
 use std::process::ExitCode;
 
 fn main(rt: HostRuntime) -> ExitCode {
+    keep_freed_blocks(rt.alloc());
     let mut reader = ReadFrom::new(rt.stdin());
     let mut writer = WriteTo::new(rt.stdout());
     let ending = Ending::of(serve_plain(rt.alloc(), &mut reader, &mut writer));
