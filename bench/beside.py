@@ -1,21 +1,29 @@
 #!/usr/bin/env python3
-"""Drives the server on one thread and other servers side by side and prints what a request costs each of them.
+"""Drives the server on one thread and other servers side by side and prints what each request, opening and keystroke costs them.
 
-    bench/beside.py PROGRAM 'SERVER ..' ..
+    bench/beside.py [PROGRAM ['SERVER ..' ..]]
 
-PROGRAM is that of the crate served_plainly; each SERVER is a command that answers the same requests over its standard streams, such as a server
-in plain Rust. All are asked the same, by turns. A figure is the least of some rounds, less that of no request: microseconds of processor time
-for a request, and the most memory that the server has had. Behind another server's figure stands how often it goes into the program's.
-Such ratios hold on a busy machine too, where the figures don't.
+PROGRAM is that of the crate served_plainly, which is built if it is left out and isn't there; each SERVER is a command that answers the same
+requests over its standard streams. Without one the server in plain Rust of the folder plain is built by rustc and stands there: it says the same
+bytes (same_bytes.py), by std alone and without proofs.
+
+All are asked the same, by turns. A figure is the least of some rounds, less that of no request: microseconds of processor time, of a request to
+its reply, of an opening or a keystroke to its findings. Behind it stand the most memory that the server has had once it opened the text and was
+asked once, and that for each byte of the text, which with a small text is that of the program alone. Behind another server's figure stands how
+often it goes into the program's. Such ratios hold on a busy machine too, where the figures don't.
 """
+import os
 import shlex
 import subprocess
 import sys
+import tempfile
 import time
 
-from bench import INITIALIZE, PROGRAM, SYMBOLS, Server, about, grammar, opened
+from bench import INITIALIZE, PROGRAM, SYMBOLS, TOP, Server, about, grammar, notice, opened, typed
 
-ROUNDS = 5
+SOURCE = os.path.join(TOP, "bench", "plain", "main.rs")
+FLAGS = ("--edition", "2024", "-C", "opt-level=3", "-C", "target-cpu=x86-64-v2")
+CLOSED = notice("textDocument/didClose", textDocument={"uri": "file:///g"})
 
 
 class Timed(Server):
@@ -40,34 +48,80 @@ class Timed(Server):
         return self.seconds() - before
 
 
-def compared(name, text, asked, count, commands):
-    """One line: what a request about a text costs each server, the program first."""
+def compared(name, text, once, asked, count, rounds, commands):
+    """One line: what each server takes for what is asked about a text, of which there are so many, and the memory after it was asked once; the
+    program first."""
     servers = [Timed(command) for command in commands]
+    memories = []
     for server in servers:
-        server.until_answered(INITIALIZE + opened(text))
+        server.until_answered(INITIALIZE + opened(text) + once)
+        memories.append(server.memory() * 1024)
         server.until_answered(asked)
     idle = [min(server.took(b"") for _ in range(20)) for server in servers]
     best = [float("inf")] * len(servers)
-    for _ in range(ROUNDS):
-        best = [min(least, server.took(asked * count)) for least, server in zip(best, servers)]
+    for _ in range(rounds):
+        best = [min(least, server.took(asked)) for least, server in zip(best, servers)]
     costs = [(least - none) / count for least, none in zip(best, idle)]
-    said = [f"{name:<28}"]
-    for cost, server in zip(costs, servers):
+    said = [f"{name:<40}"]
+    for cost, memory, server in zip(costs, memories, servers):
         ratio = "" if server is servers[0] else f" ({costs[0] / cost:.1f})"
-        said.append(f"{cost * 1e6:10.1f} us {server.memory() // 1024:4} MB{ratio}")
+        said.append(f"{cost * 1e6:9.1f} us {memory / 1e6:6.1f} MB {memory / len(text.encode()):8.1f} B/B{ratio:<7}")
         server.end()
     print("  ".join(said), flush=True)
 
 
+def erased(line, character):
+    """One character erased behind a place."""
+    start, end = ({"line": line, "character": at} for at in (character, character + 1))
+    return notice("textDocument/didChange", textDocument={"uri": "file:///g", "version": 3},
+                  contentChanges=[{"range": {"start": start, "end": end}, "text": ""}])
+
+
+def questions(text):
+    """What is asked about a text, each by its name, and how many of that it is: about the last name of its first line, and a character typed
+    behind it and erased again."""
+    at = {"line": 0, "character": len(text.split("\n", 1)[0])}
+    return {
+        "opening": (CLOSED + opened(text), 1),
+        "keystroke": (typed(**at) + erased(**at), 2),
+        "hover": (about(3, "hover", position=at), 1),
+        "references": (about(4, "references", position=at, context={"includeDeclaration": True}), 1),
+        "definition": (about(5, "definition", position=at), 1),
+        "outline": (SYMBOLS, 1),
+    }
+
+
+ALL = ("opening", "keystroke", "hover", "references", "definition", "outline")
+GRAMMARS = (
+    # How many rules, the names in each, how often one of them is asked at once, in how many rounds, and what.
+    (100, 1, 20, 30, ALL),
+    (100, 5, 10, 30, ALL),
+    (1_000, 1, 3, 30, ALL),
+    (1_000, 5, 2, 30, ALL),
+    (100_000, 1, 1, 7, ALL),
+    (40_000, 5, 1, 7, ("opening", "hover")),  # A text of more rules would be too large.
+)
+
+
+def compare(names, commands):
+    print(f"{'':<40}" + "".join(f"  {name:<42}" for name in names))
+    for rules, each, count, rounds, asked in GRAMMARS:
+        text = grammar(rules, each)
+        for name in asked:
+            given, steps = questions(text)[name]
+            once = b"" if name == "opening" else given
+            line = f"{name}, {rules:,} rules of {each} name{'s' * (each > 1)}"
+            compared(line, text, once, given * count, steps * count, rounds, commands)
+    compared("outline of one rule", 'a = "x"', SYMBOLS, SYMBOLS * 200, 200, 30, commands)
+
+
 def main():
-    commands = [[PROGRAM], *map(shlex.split, sys.argv[2:])]
-    print(f"{'':<28}" + "".join(f"  {' '.join(command)}" for command in commands))
-    for rules, count in ((1_000, 50), (100_000, 1)):
-        text = grammar(rules)
-        at = {"line": 0, "character": len(text.split("\n", 1)[0])}
-        compared(f"definition, {rules:,} rules", text, about(3, "definition", position=at), count, commands)
-        compared(f"outline, {rules:,} rules", text, SYMBOLS, count, commands)
-    compared("outline of one rule", 'a = "x"', SYMBOLS, 200, commands)
+    if len(sys.argv) > 2:
+        return compare([PROGRAM, *sys.argv[2:]], [[PROGRAM], *map(shlex.split, sys.argv[2:])])
+    with tempfile.TemporaryDirectory() as folder:
+        plain = os.path.join(folder, "plain")
+        subprocess.run(["rustc", *FLAGS, SOURCE, "-o", plain], check=True)
+        return compare([PROGRAM, "plain Rust"], [[PROGRAM], [plain]])
 
 
 if __name__ == "__main__":
