@@ -21,3 +21,5 @@ pub mod Reaching
 pub mod Short
 pub mod SomeShown
 pub mod Rows
+pub mod Chosen
+pub mod Awaits

@@ -1,19 +1,19 @@
 -- What users are offered, one after the other.
-use Rattle.std.proofs.Common.{◌≡◌, ℕ, ◌+◌, ◌<◌, ◌≤◌, ⊎_elim, List, [], ◌∷◌, ◌++◌, length, sym, ap, ◌∙◌, subst, arith, get_or, Result, Ok, Err}
+use Rattle.std.proofs.Common.{◌≡◌, ℕ, ◌+◌, ◌<◌, ◌≤◌, ⊎_elim, List, length, sym, ap, ◌∙◌, subst, arith, get_or, Result, Ok, Err}
 use Rattle.std.proofs.lemmas.Bool.{cases_lt}
-use Rattle.std.proofs.lemmas.List.{get_or_past, get_or_push, get_or_append_left, length_push, get_or_default}
+use Rattle.std.proofs.lemmas.List.{get_or_default}
 use Rattle.std.specs.Prelude.{OnOk}
 use Rattle.std.specs.List.{Contains}
 use Rattle.abnf_cert.specs.declared.entry.Entry.{Entry}
 use Rattle.abnf_cert.specs.declared.entry.Entry.TheVariants.{Nothing, Least}
 use Rattle.abnf_parts.specs.Part.{Part, parts_of}
-use Rattle.abnf_cert.specs.Accepted.{entry_at}
 use Rattle.abnf_least.specs.declared.candidate.Candidate.{Candidate}
 use Rattle.abnf_least.specs.Form.{Form, entry_given}
-use Rattle.abnf_least.specs.Table.{InRange}
-use Rattle.abnf_least.specs.Search.{form_at, offered, IsOffered, IsPushed, Keeps, AllWait, AreGiven, candidate}
+use Rattle.abnf_least.specs.Queue.{Joins}
+use Rattle.abnf_least.specs.Search.{form_at, offered, IsOffered, IsPushed, Keeps, AllWait, candidate}
 use Rattle.abnf_least.proofs.At.{past_form}
-use Rattle.abnf_least.proofs.Settle.{nothing_least}
+use Rattle.abnf_least.proofs.Queued.{now_there}
+use Rattle.abnf_least.proofs.Settle.{nothing_least, same_least}
 
 pub on_ok : {A E : Type 0} (r : Result A E) {P Q : Type 0} → OnOk r P → (P → Q) → OnOk r Q
 on_ok (Ok x) p f = f p
@@ -25,6 +25,12 @@ offered_from form at part user queue e f is e_is pushed l h d waits given =
 
 pub offered_still : (form : ℕ → Form) (at : ℕ → Entry) (part user : ℕ) (old new : List Candidate) → Keeps old new → IsOffered form at part user old → IsOffered form at part user new
 offered_still form at part user old new keeps off l h d waits given = keeps (candidate l h user) (off l h d waits given)
+
+-- what joins waits
+pub pushed_from : (e : Entry) (l h c n : ℕ) (old new : List Candidate) → e ≡ Least l h c → Joins old (candidate l h n) new → IsPushed e n new
+pushed_from e l h c n old new is j a b d given =
+    let p = same_least l h c a b d (sym is ∙ given) in
+    subst (λ x. Contains new (candidate x b n)) p.0 (subst (λ x. Contains new (candidate l x n)) p.1 (now_there old new (candidate l h n) j))
 
 -- the first users have been offered
 pub record OffersUpTo (form : ℕ → Form) (at : ℕ → Entry) (part : ℕ) (users : List ℕ) (old new : List Candidate) (count : ℕ) : Type 0 where
@@ -65,6 +71,17 @@ wait_more form at count old new e f wait keeps is e_is pushed k l h d below none
     subst (λ n. Contains new (candidate l h n)) (sym same) (pushed l h d (e_is ∙ ap (entry_given at) (sym is) ∙ ap (λ n. entry_given at (form n)) (sym same) ∙ given)))
     (cases_lt k count)
 
+-- this one is given nothing
+pub wait_past :
+    (form : ℕ → Form) (at : ℕ → Entry) (count : ℕ) (queue : List Candidate) → WaitUpTo form at count queue → entry_given at (form count) ≡ Nothing → WaitUpTo form at (count + 1) queue
+wait_past form at count queue wait nothing k l h d below none given =
+    ⊎_elim
+    (λ less. wait k l h d less none given)
+    (λ ge.
+    let same : k ≡ count = omega arith in
+    absurd (nothing_least l h d (sym nothing ∙ ap (λ n. entry_given at (form n)) (sym same) ∙ given)))
+    (cases_lt k count)
+
 pub wait_all :
     (trees : List Part) (at : ℕ → Entry) (count : ℕ) (queue : List Candidate) → WaitUpTo (form_at trees) at count queue → length (parts_of trees) ≤ count → AllWait (form_at trees) at queue
 wait_all trees at count queue wait all k l h d none given =
@@ -72,46 +89,3 @@ wait_all trees at count queue wait all k l h d none given =
     (λ less. wait k l h d less none given)
     (λ ge. absurd (nothing_least l h d (sym (ap (entry_given at) (past_form trees k (omega arith))) ∙ given)))
     (cases_lt k count)
-
--- the values of the first parts
-pub record GivenUpTo (form : ℕ → Form) (at : ℕ → Entry) (count : ℕ) (cert : List Entry) : Type 0 where
-  pub one_each : length cert ≡ count
-  pub each : (n : ℕ) → n < count → entry_at cert n ≡ entry_given at (form n)
-  pub lengths : (n : ℕ) → n < count → InRange (entry_at cert n)
-
-pub given_more :
-    (form : ℕ → Form) (at : ℕ → Entry) (count : ℕ) (cert : List Entry) (e : Entry) (f : Form) → GivenUpTo form at count cert → form count ≡ f → e ≡ entry_given at f → InRange e →
-    GivenUpTo form at (count + 1) (cert ++ e ∷ [])
-given_more form at count cert e f v is e_is range =
-    let last : entry_at (cert ++ e ∷ []) count ≡ e = get_or_push cert e Nothing count v.one_each in
-    let front : (n : ℕ) → n < count → entry_at (cert ++ e ∷ []) n ≡ entry_at cert n =
-    λ n less. get_or_append_left cert (e ∷ []) Nothing n (let one = v.one_each in omega arith) in
-    record {
-      one_each = length_push cert e ∙ ap (λ n. n + 1) v.one_each;
-      each = λ n below.
-          ⊎_elim
-          (λ less. front n less ∙ v.each n less)
-          (λ ge.
-          let same : n ≡ count = omega arith in
-          ap (entry_at (cert ++ e ∷ [])) same ∙ last ∙ e_is ∙ ap (entry_given at) (sym is) ∙ ap (λ m. entry_given at (form m)) (sym same))
-          (cases_lt n count);
-      lengths = λ n below.
-          ⊎_elim
-          (λ less. subst InRange (sym (front n less)) (v.lengths n less))
-          (λ ge. let same : n ≡ count = omega arith in subst InRange (sym (ap (entry_at (cert ++ e ∷ [])) same ∙ last)) range)
-          (cases_lt n count);
-    }
-
-pub given_all :
-    (trees : List Part) (table cert : List Entry) (count : ℕ) → GivenUpTo (form_at trees) (entry_at table) count cert → count ≡ length (parts_of trees) → AreGiven trees table cert
-given_all trees table cert count v all =
-    let past : (n : ℕ) → count ≤ n → entry_at cert n ≡ Nothing = λ n ge. get_or_past cert n Nothing (let one = v.one_each in omega arith) in
-    record {
-      one_each = v.one_each ∙ all;
-      each = λ n.
-          ⊎_elim
-          (λ less. v.each n less)
-          (λ ge. past n ge ∙ sym (ap (entry_given (entry_at table)) (past_form trees n (omega arith))))
-          (cases_lt n count);
-      lengths = λ n. ⊎_elim (λ less. v.lengths n less) (λ ge. subst InRange (sym (past n ge)) tt) (cases_lt n count);
-    }

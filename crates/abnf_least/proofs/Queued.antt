@@ -1,5 +1,5 @@
--- A queue over a heap.
-use Rattle.std.proofs.Common.{◌≡◌, ℕ, zero, suc, ◌<◌, ◌≤◌, ◌⊎◌, inl, inr, ⊎_elim, false, cond, List, [], ◌∷◌, refl, sym, ap, ◌∙◌, arith, map, eqb}
+-- A queue over a heap, and what waits once one joins or leaves.
+use Rattle.std.proofs.Common.{◌≡◌, ℕ, zero, suc, ◌+◌, ◌<◌, ◌≤◌, ◌⊎◌, inl, inr, ⊎_elim, false, cond, List, [], ◌∷◌, length, refl, sym, ap, ◌∙◌, arith, map, eqb}
 use Rattle.std.proofs.lemmas.Bool.{lt-ltb, le-ltb, eq-eqb, cases_order, cases_lt, true≢false}
 use Rattle.std.proofs.lemmas.List.Sorted.{IsPermutation-map, Contains-permutation, length_permutation}
 use Rattle.std.proofs.lemmas.List.Elements.{Contains-append_right, Contains-append_cases, All-from_recursion, All-contains}
@@ -44,22 +44,31 @@ all_mapped x [] all = tt
 all_mapped x (r ∷ xs) all = (not_less x r.0 all.0, all_mapped x xs all.1)
 
 pub joined : (old new : List (Reverse Candidate)) (x : Candidate) → IsPermutation (record { 0 = x } ∷ old) new → Joins (candidates old) x (candidates new)
-joined old new x moved =
-    let p = IsPermutation-map (λ (r : Reverse Candidate). r.0) (record { 0 = x } ∷ old) new moved in
-    record {
-      kept = λ y here. Contains-permutation (x ∷ candidates old) (candidates new) y p (Contains-append_right (x ∷ []) (candidates old) y here);
-      joins = Contains-permutation (x ∷ candidates old) (candidates new) x p (0, omega arith, refl);
-    }
-
-pub only : (x y : Candidate) → Contains (x ∷ []) y → y ≡ x
-only x y (zero, within, is) = sym is
-only x y (suc k, within, is) = absurd (omega arith)
+joined old new x moved = IsPermutation-map (λ (r : Reverse Candidate). r.0) (record { 0 = x } ∷ old) new moved
 
 pub left : (old new : List (Reverse Candidate)) (x : Candidate) → IsPermutation old (record { 0 = x } ∷ new) → AllByRecursion (λ r. is_lt (candidate_cmp r.0 x) ≡ false) old → Leaves (candidates old) x (candidates new)
 left old new x moved upper =
-    let p = IsPermutation-map (λ (r : Reverse Candidate). r.0) old (record { 0 = x } ∷ new) moved in
     record {
-      kept = λ y here. ⊎_elim (λ a. inl (only x y a)) (λ b. inr b) (Contains-append_cases (x ∷ []) (candidates new) y (Contains-permutation (candidates old) (x ∷ candidates new) y p here));
+      others = IsPermutation-map (λ (r : Reverse Candidate). r.0) old (record { 0 = x } ∷ new) moved;
       least = λ y here. All-contains (NotLess x) (candidates old) y (All-from_recursion (NotLess x) (candidates old) (all_mapped x old upper)) here;
-      fewer = let e = length_permutation (candidates old) (x ∷ candidates new) p in omega (arith, e);
     }
+
+-- ---- what waits after that
+
+only : (x y : Candidate) → Contains (x ∷ []) y → y ≡ x
+only x y (zero, within, is) = sym is
+only x y (suc k, within, is) = absurd (omega arith)
+
+module _ (old new : List Candidate) (x : Candidate) where
+  pub still_there : Joins old x new → (y : Candidate) → Contains old y → Contains new y
+  still_there j y here = Contains-permutation (x ∷ old) new y j (Contains-append_right (x ∷ []) old y here)
+
+  pub now_there : Joins old x new → Contains new x
+  now_there j = Contains-permutation (x ∷ old) new x j (0, omega arith, refl)
+
+  pub others_there : Leaves old x new → (y : Candidate) → Contains old y → (y ≡ x) ⊎ Contains new y
+  others_there l y here =
+      ⊎_elim (λ a. inl (only x y a)) (λ b. inr b) (Contains-append_cases (x ∷ []) new y (Contains-permutation old (x ∷ new) y l.others here))
+
+  pub one_fewer : Leaves old x new → length new + 1 ≡ length old
+  one_fewer l = let e = length_permutation old (x ∷ new) l.others in omega (arith, e)

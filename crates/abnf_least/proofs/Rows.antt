@@ -3,7 +3,8 @@ use Rattle.std.proofs.Common.{◌≡◌, not, ◌+◌, ◌-◌, ◌<◌, ◌⊎�
 use Rattle.std.specs.Prelude.{IfSome, OnOk}
 use Rattle.std.proofs.lemmas.Bool.{cases_Bool, cases_lt}
 use Rattle.std.proofs.lemmas.List.{get_or_append_left, get_or_push, get_or_default}
-use Rattle.std.proofs.lemmas.List.Elements.{Contains-append_left, Contains-append_right, Contains-append_cases, All-from_recursion, All-contains}
+use Rattle.std.proofs.lemmas.List.Elements.{Contains-append_cases, All-from_recursion, All-contains}
+use Rattle.std.proofs.lemmas.List.Sorted.{IsPermutation-refl, IsPermutation-sym, IsPermutation-trans, IsPermutation-to_front, IsPermutation-middle, IsPermutation-append_left, IsPermutation-append_right}
 use Rattle.std.specs.List.{Contains, AllByRecursion}
 use Rattle.std.specs.Ordering.{is_lt}
 use Rattle.std.specs.declared.cmp.Reverse.{Reverse}
@@ -11,7 +12,7 @@ use Rattle.abnf_least.specs.declared.candidate.Candidate.{Candidate}
 use Rattle.abnf_least.specs.Order.{candidate_cmp}
 use Rattle.abnf_least.specs.Queue.{ComesLast, IsFirst, IsInOrder, Joins, Leaves, NotAfter, comes_before}
 use Rattle.abnf_least.proofs.Choice.{before_false, before_true}
-use Rattle.abnf_least.proofs.Queued.{all_mapped, candidates, only}
+use Rattle.abnf_least.proofs.Queued.{all_mapped, candidates}
 
 -- ---- pairs
 
@@ -65,6 +66,16 @@ row_last row c last ordered is later y here =
     subst (λ z. NotAfter z c) (is ∙ (get_or_default row (length row - 1) last y (omega arith) ∙ (ap (λ i. get_or row i y) (sym place) ∙ here.2))) at_last)
     (cases_lt here.0 (length row - 1))
 
+-- and what comes before none isn't before the last
+pub row_ends : (row : List Candidate) (c last : Candidate) → 0 < length row → last ≡ get_or row (length row - 1) last → ComesLast row c → comes_before c last ≡ false
+row_ends row c last some is ends = not_before c last (ends last (length row - 1, omega arith, sym is))
+
+pub empty_row : (row : List Candidate) (c : Candidate) → row ≡ [] → ComesLast row c
+empty_row row c none y here = let n = ap length none in let w = here.1 in absurd (omega (arith, n, w))
+
+pub row_joins : (row new : List Candidate) (c : Candidate) → new ≡ row ++ c ∷ [] → Joins row c new
+row_joins row new c is = subst (λ all. Joins row c all) (sym is) (IsPermutation-sym (row ++ c ∷ []) (c ∷ row) (IsPermutation-to_front row c))
+
 pub row_more : (row new : List Candidate) (c : Candidate) → IsInOrder row → ComesLast row c → new ≡ row ++ c ∷ [] → IsInOrder new
 row_more row new c ordered last is =
     subst IsInOrder (sym is)
@@ -86,9 +97,8 @@ row_left old new None ordered is = tt
 row_left old new (Some x) ordered is =
     subst (λ row. Leaves row x new) (sym is)
     (record {
-      kept = λ y here. ⊎_elim (λ a. inl (only x y a)) (λ b. inr b) (Contains-append_cases (x ∷ []) new y here);
+      others = IsPermutation-refl (x ∷ new);
       least = (row_first (x ∷ new) x (subst IsInOrder is ordered) (omega arith) refl).1;
-      fewer = omega arith;
     })
 
 -- ---- a heap
@@ -105,20 +115,15 @@ heap_first (s ∷ items) r some is upper = (
 pub joins_row : {E : Type 0} (result : Result (Unit {0}) E) (whole row new heap : List Candidate) (x : Candidate) → row ++ heap ≡ whole → OnOk result (Joins row x new) → OnOk result (Joins whole x (new ++ heap))
 joins_row (Err e) whole row new heap x is j = tt
 joins_row (Ok u) whole row new heap x is j =
-    subst (λ all. Joins all x (new ++ heap)) is
-    (record {
-      kept = λ y here. ⊎_elim (λ a. Contains-append_left new heap y (j.kept y a)) (λ b. Contains-append_right new heap y b) (Contains-append_cases row heap y here);
-      joins = Contains-append_left new heap x j.joins;
-    })
+    subst (λ all. Joins all x (new ++ heap)) is (IsPermutation-append_left heap (x ∷ row) new j)
 
 pub joins_heap : {E : Type 0} (result : Result (Unit {0}) E) (whole row heap new : List Candidate) (x : Candidate) → row ++ heap ≡ whole → OnOk result (Joins heap x new) → OnOk result (Joins whole x (row ++ new))
 joins_heap (Err e) whole row heap new x is j = tt
 joins_heap (Ok u) whole row heap new x is j =
     subst (λ all. Joins all x (row ++ new)) is
-    (record {
-      kept = λ y here. ⊎_elim (λ a. Contains-append_left row new y a) (λ b. Contains-append_right row new y (j.kept y b)) (Contains-append_cases row heap y here);
-      joins = Contains-append_right row new x j.joins;
-    })
+    (IsPermutation-trans (x ∷ (row ++ heap)) (row ++ x ∷ heap) (row ++ new)
+    (IsPermutation-sym (row ++ x ∷ heap) (x ∷ (row ++ heap)) (IsPermutation-middle row x heap))
+    (IsPermutation-append_right row (x ∷ heap) new j))
 
 -- what leaves the row, where the first of the heap isn't before the first of the row
 pub leaves_row : (o : Option Candidate) (whole row new heap : List Candidate) (first : Candidate) → row ++ heap ≡ whole → IsFirst row first → ((y : Candidate) → Contains heap y → NotAfter first y) →
@@ -127,9 +132,8 @@ leaves_row None whole row new heap first is f others l = tt
 leaves_row (Some x) whole row new heap first is f others l =
     subst (λ all. Leaves all x (new ++ heap)) is
     (record {
-      kept = λ y here. ⊎_elim (λ a. ⊎_elim (λ same. inl same) (λ b. inr (Contains-append_left new heap y b)) (l.kept y a)) (λ b. inr (Contains-append_right new heap y b)) (Contains-append_cases row heap y here);
+      others = IsPermutation-append_left heap row (x ∷ new) l.others;
       least = λ y here. ⊎_elim (λ a. l.least y a) (λ b. after_both x first y (l.least first f.0) (others y b)) (Contains-append_cases row heap y here);
-      fewer = let e = l.fewer in omega (arith, length-append new heap, length-append row heap);
     })
 
 -- and what leaves the heap, where its first is before that of the row
@@ -139,9 +143,8 @@ leaves_heap None whole row heap new other is there others l = tt
 leaves_heap (Some x) whole row heap new other is there others l =
     subst (λ all. Leaves all x (row ++ new)) is
     (record {
-      kept = λ y here. ⊎_elim (λ a. inr (Contains-append_left row new y a)) (λ b. ⊎_elim (λ same. inl same) (λ c. inr (Contains-append_right row new y c)) (l.kept y b)) (Contains-append_cases row heap y here);
+      others = IsPermutation-trans (row ++ heap) (row ++ x ∷ new) (x ∷ (row ++ new)) (IsPermutation-append_right row heap (x ∷ new) l.others) (IsPermutation-middle row x new);
       least = λ y here. ⊎_elim (λ a. after_both x other y (l.least other there) (others y a)) (λ b. l.least y b) (Contains-append_cases row heap y here);
-      fewer = let e = l.fewer in omega (arith, length-append row new, length-append row heap);
     })
 
 pub ahead : (row : List Candidate) (first other : Candidate) → IsFirst row first → comes_before other first ≡ true → (y : Candidate) → Contains row y → NotAfter other y
@@ -156,3 +159,6 @@ behind heap first other f later y here = after_both first other y (before_false 
 pub not_true : (b : Bool) → not b ≡ true → b ≡ false
 not_true true e = absurd (cc e)
 not_true false e = refl
+
+pub is_not : (b : Bool) → b ≡ false → not b ≡ true
+is_not b e = ap not e

@@ -9,11 +9,12 @@ use Rattle.abnf_parts.specs.Part.{Part, parts_of}
 use Rattle.abnf_cert.specs.Accepted.{NotBefore, top, entry_at}
 use Rattle.abnf_least.specs.declared.candidate.Candidate.{Candidate}
 use Rattle.abnf_least.specs.Form.{Form, text, never, row, one_of, repeated, refers, needs, entry_given}
-use Rattle.abnf_least.specs.Table.{InRange, IsUpTo, HasRoom, unsettled}
+use Rattle.abnf_least.specs.Table.{InRange, IsUnchosen, IsUpTo, HasRoom, unsettled}
 use Rattle.abnf_least.specs.Queue.{Leaves}
-use Rattle.abnf_least.specs.Search.{IsNext, OthersWait, AllWait, IsGiven, IsFound, offered, IsOffered, Keeps, Stands, Uses, AreUsers, form_at, candidate}
+use Rattle.abnf_least.specs.Search.{IsDone, IsNext, OthersWait, AllWait, IsGiven, IsFound, offered, IsOffered, Keeps, Stands, Uses, AreUsers, form_at, candidate}
 use Rattle.abnf_least.proofs.Settle.{among, nothing_least, moved_to, some_least, none_settled, given_same, choice_from, settled_more}
 use Rattle.abnf_least.proofs.Height.{given_up, settle_one}
+use Rattle.abnf_least.proofs.Queued.{others_there}
 
 -- the first to leave the queue has the least pair
 pub first_of_all : (form : ℕ → Form) (at : ℕ → Entry) (old new : List Candidate) (x : Candidate) → AllWait form at old → Leaves old x new → IsNext form at x.length x.height
@@ -28,7 +29,7 @@ others_wait form at old new x waiting leaves k l h d apart waits given =
     ⊎_elim
     (λ same. absurd (apart (ap (λ (y : Candidate). y.number) same)))
     (λ here. here)
-    (leaves.kept (candidate l h k) (waiting k l h d waits given))
+    (others_there old new x leaves (candidate l h k) (waiting k l h d waits given))
 
 -- where the first isn't to be settled, the others wait still
 pub all_wait : (form : ℕ → Form) (table : List Entry) (old new : List Candidate) (x : Candidate) → length table ≡ length table → AllWait form (entry_at table) old → Leaves old x new → ((k : ℕ) → length table ≤ k → form k ≡ never) → (IsGiven form table x → ⊥) → AllWait form (entry_at table) new
@@ -47,7 +48,7 @@ all_wait form table old new x _ waiting leaves past not_given k l h d waits give
     (λ beyond. absurd (nothing_least l h d (sym (ap (entry_given (entry_at table)) (past k beyond)) ∙ given)))
     (cases_lt k (length table)))
     (λ here. here)
-    (leaves.kept (candidate l h k) (waiting k l h d waits given))
+    (others_there old new x leaves (candidate l h k) (waiting k l h d waits given))
 
 -- what a user is offered is what it is given, or it waited before
 offered_is : (at next : ℕ → Entry) (m : ℕ) → at m ≡ Nothing → ((n : ℕ) → (n ≡ m → ⊥) → next n ≡ at n) → (f : Form) (l h d : ℕ) → entry_given next f ≡ Least l h d → ((c : ℕ) × (offered next f m ≡ Least l h c)) ⊎ ((c : ℕ) × (entry_given at f ≡ Least l h c))
@@ -84,6 +85,7 @@ module _ (trees : List Part) (table : List Entry) (queue found new : List Candid
         one_each = long ∙ s.one_each;
         small = subst (λ n. n < 2 ^ 63) (sym long) s.small;
         settled = settled_more (form_at trees) at next x.number x.length x.height 0 f.is_given.choice s.settled was others is range f.is_given.given f.first;
+        unchosen = each IsUnchosen refl s.unchosen;
         lengths = each InRange range s.lengths;
         height = s.height + 1;
         heights = each (IsUpTo (s.height + 1)) up (λ n. up_to_more s.height (at n) (s.heights n));
@@ -129,6 +131,7 @@ stands_first trees table queue one_each small none waiting =
       one_each = one_each;
       small = small;
       settled = none_settled (form_at trees) (entry_at table) none;
+      unchosen = λ n. subst IsUnchosen (sym (none n)) tt;
       lengths = λ n. subst InRange (sym (none n)) tt;
       height = 0;
       heights = λ n. subst (IsUpTo 0) (sym (none n)) tt;
@@ -156,12 +159,24 @@ none_at zero m = refl
 none_at (suc n) zero = refl
 none_at (suc n) (suc m) = none_at n m
 
+-- where no part is given an entry any more, nothing waits
+pub stands_done : (trees : List Part) (table : List Entry) (queue : List Candidate) → Stands trees table queue → IsDone (form_at trees) (entry_at table) → Stands trees table []
+stands_done trees table queue s done =
+    record {
+      one_each = s.one_each;
+      small = s.small;
+      settled = s.settled;
+      unchosen = s.unchosen;
+      lengths = s.lengths;
+      height = s.height;
+      heights = s.heights;
+      low = s.low;
+      waiting = λ k l h d waits given. absurd (nothing_least l h d (sym (done k waits) ∙ given));
+    }
+
 pub stands_at_start :
     (trees : List Part) (table : List Entry) (queue : List Candidate) (n : ℕ) → table ≡ replicate n Nothing → n ≡ length (parts_of trees) → n < 2 ^ 63 →
     AllWait (form_at trees) (entry_at table) queue → Stands trees table queue
 stands_at_start trees table queue n is count small waiting =
     let long : length table ≡ n = ap length is ∙ length-replicate n Nothing in
     stands_first trees table queue (long ∙ count) (subst (λ k. k < 2 ^ 63) (sym long) small) (λ m. ap (λ t. entry_at t m) is ∙ none_at n m) waiting
-
-pub room_at_start : (table : List Entry) (n : ℕ) → table ≡ replicate n Nothing → HasRoom table
-room_at_start table n is m = subst (IsUpTo 18446744073709551614) (sym (ap (λ t. entry_at t m) is ∙ none_at n m)) tt

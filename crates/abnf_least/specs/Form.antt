@@ -1,5 +1,5 @@
 -- What a part's entry is made of: the form of a part, and its value where the entries of other parts are known.
-use Rattle.std.specs.Prelude.{ℕ, zero, suc, Bool, cond, nat_lt, nat_eq, ◌&&◌, ◌||◌, Option, Some, None, List, [], ◌∷◌, length, map}
+use Rattle.std.specs.Prelude.{◌≡◌, ℕ, zero, suc, Bool, cond, nat_lt, nat_eq, ◌&&◌, ◌||◌, Option, Some, None, List, [], ◌∷◌, length, map}
 use Rattle.abnf_cert.specs.declared.entry.Entry.{Entry}
 use Rattle.abnf_cert.specs.declared.entry.Entry.TheVariants.{Nothing, Least}
 use Rattle.abnf_parts.specs.declared.node.Node.{Node}
@@ -78,3 +78,7 @@ entry_given at (row ns) = all_in_a_row (map at ns)
 entry_given at (one_of ns) = first_least 0 (map at ns)
 entry_given at (repeated more n) = times (suc more) (at n)
 entry_given at (refers n) = referred (at n)
+
+-- where no part is settled, this one is given nothing
+abbrev pub AwaitsParts : Form → Type 0
+AwaitsParts f = entry_given (λ n. Nothing) f ≡ Nothing

@@ -1,6 +1,7 @@
 -- What waits in a queue.
-use Rattle.std.specs.Prelude.{◌≡◌, ℕ, ◌+◌, ◌<◌, ◌≤◌, ◌⊎◌, Bool, false, List, length, slice_index_or}
+use Rattle.std.specs.Prelude.{◌≡◌, ℕ, ◌<◌, ◌≤◌, ◌⊎◌, Bool, false, List, ◌∷◌, length, slice_index_or}
 use Rattle.std.specs.List.{Contains}
+use Rattle.std.specs.List.Sorted.{IsPermutation}
 use Rattle.abnf_least.specs.declared.candidate.Candidate.{Candidate}
 use Rattle.abnf_least.specs.Form.{is_before}
 
@@ -24,13 +25,11 @@ ComesLast all x = (y : Candidate) → Contains all y → NotAfter y x
 abbrev pub IsInOrder : List Candidate → Type 0
 IsInOrder row = (i j : ℕ) (d : Candidate) → i < j → j < length row → comes_before (slice_index_or row j d) (slice_index_or row i d) ≡ false
 
--- x joins what waits
-pub record Joins (old : List Candidate) (x : Candidate) (new : List Candidate) : Type 0 where
-  pub kept : (y : Candidate) → Contains old y → Contains new y
-  pub joins : Contains new x
+-- x joins what waits, and nothing else comes or goes
+abbrev pub Joins : List Candidate → Candidate → List Candidate → Type 0
+Joins old x new = IsPermutation (x ∷ old) new
 
--- x leaves, and comes after none of the others
+-- x leaves, the others stay, and it comes after none of them
 pub record Leaves (old : List Candidate) (x : Candidate) (new : List Candidate) : Type 0 where
-  pub kept : (y : Candidate) → Contains old y → (y ≡ x) ⊎ Contains new y
+  pub others : IsPermutation old (x ∷ new)
   pub least : (y : Candidate) → Contains old y → NotAfter x y
-  pub fewer : length new + 1 ≡ length old

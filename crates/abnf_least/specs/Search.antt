@@ -7,7 +7,7 @@ use Rattle.abnf_parts.specs.Part.{Part, parts_of, root_number}
 use Rattle.abnf_cert.specs.Accepted.{NotBefore, entry_at}
 use Rattle.abnf_least.specs.declared.candidate.Candidate.{Candidate}
 use Rattle.abnf_least.specs.Form.{Form, never, one_of, needs, entry_given, part_form}
-use Rattle.abnf_least.specs.Table.{InRange, IsUpTo, unsettled}
+use Rattle.abnf_least.specs.Table.{InRange, IsUnchosen, IsUpTo, unsettled}
 
 -- the form of each part of a grammar
 abbrev pub form_or : (ℕ → ℕ) → ℕ → Option Part → Form
@@ -80,6 +80,7 @@ pub record Stands (trees : List Part) (table : List Entry) (queue : List Candida
   pub one_each : length table ≡ length (parts_of trees)
   pub small : length table < 2 ^ 63
   pub settled : Settled (form_at trees) (entry_at table)
+  pub unchosen : (n : ℕ) → IsUnchosen (entry_at table n)
   pub lengths : (n : ℕ) → InRange (entry_at table n)
   pub height : ℕ
   pub heights : (n : ℕ) → IsUpTo height (entry_at table n)

@@ -1,5 +1,5 @@
 -- The table of settled entries.
-use Rattle.std.specs.Prelude.{ℕ, suc, ◌≤◌, List, [], ◌∷◌}
+use Rattle.std.specs.Prelude.{◌≡◌, ℕ, suc, ◌≤◌, List, [], ◌∷◌}
 use Rattle.abnf_cert.specs.declared.entry.Entry.{Entry}
 use Rattle.abnf_cert.specs.declared.entry.Entry.TheVariants.{Nothing, Least}
 use Rattle.abnf_cert.specs.Accepted.{entry_at, top}
@@ -18,6 +18,15 @@ unsettled (Least l h c ∷ table) = unsettled table
 -- no height of the table is the greatest number of 64 bits
 abbrev pub HasRoom : List Entry → Type 0
 HasRoom table = (n : ℕ) → IsUpTo 18446744073709551614 (entry_at table n)
+
+-- no part is named as the choice
+abbrev pub IsUnchosen : Entry → Type 0
+IsUnchosen Nothing = Unit {0}
+IsUnchosen (Least l h c) = c ≡ 0
+
+-- no part is settled
+abbrev pub NoneSettled : List Entry → Type 0
+NoneSettled table = (n : ℕ) → entry_at table n ≡ Nothing
 
 -- lengths never go past the top
 abbrev pub InRange : Entry → Type 0

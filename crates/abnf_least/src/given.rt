@@ -1,10 +1,10 @@
 //! The entry that settled entries give a part.
 
-ghost use Rattle.std.specs.Prelude.{◌≡◌, length, map};
+ghost use Rattle.std.specs.Prelude.{IsTrue, ◌≡◌, ◌↔◌, ℕ, length, map};
 ghost use Rattle.abnf_parts.specs.Part.{root_number};
 ghost use Rattle.abnf_cert.specs.Accepted.{entry_at, referred};
 ghost use Rattle.abnf_cert.specs.FitsNode.{NodeRefersWithin};
-ghost use Rattle.abnf_least.specs.Form.{better, entry_given as given, first_least, node_form};
+ghost use Rattle.abnf_least.specs.Form.{AwaitsParts, better, entry_given as given, first_least, node_form};
 ghost use Rattle.abnf_least.specs.Table.{HasRoom, InRange, IsUpTo};
 
 use abnf_cert::Entry;
@@ -45,7 +45,7 @@ fn better_of(number: usize, entry: Entry, best: Entry) -> Entry
 }
 
 /// The least pair of a length and a height among alternatives, and the first that has it.
-fn first(table: &[Entry], numbers: &[NodeNo]) -> Entry
+pub(crate) fn chosen(table: &[Entry], numbers: &[NodeNo]) -> Entry
     ensures { result ≡ first_least 0 (map (entry_at table.now) numbers.now) }
 {
     let mut best = Entry::Nothing;
@@ -71,6 +71,19 @@ fn one_higher(root: Entry) -> Entry
     }
 }
 
+/// Whether a node is given nothing where no part is settled: it awaits parts, or is never given anything. No table is looked at.
+pub(crate) fn awaits_parts(node: &Node) -> bool
+    ensures { (root : ℕ → ℕ) → IsTrue result ↔ AwaitsParts (node_form root node.now) }
+{
+    match node {
+        Node::Quoted { .. } | Node::Series(_) => false,
+        Node::Span { low, high } => *high < *low,
+        Node::Seq(parts) => !parts.as_slice().is_empty(),
+        Node::Rep { least, .. } => *least > 0,
+        Node::Alt(_) | Node::Ref { .. } | Node::Opaque => true,
+    }
+}
+
 /// The entry that the entries of a table give a node, by the rules of an accepted certificate. In the table `Nothing` stands for what
 /// isn't settled.
 pub(crate) fn entry_given(grammar: &Grammar, table: &[Entry], node: &Node) -> Entry
@@ -90,7 +103,7 @@ pub(crate) fn entry_given(grammar: &Grammar, table: &[Entry], node: &Node) -> En
             }
         }
         Node::Seq(parts) => row(table, parts.as_slice()),
-        Node::Alt(parts) => first(table, parts.as_slice()),
+        Node::Alt(parts) => chosen(table, parts.as_slice()),
         Node::Rep { least, most, body } => match most {
             Some(most) if *most < *least => Entry::Nothing,
             _ => repeated(*least, entry_of(table, body.get())),

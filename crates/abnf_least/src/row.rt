@@ -1,6 +1,6 @@
 //! Candidates in their order.
 
-ghost use Rattle.std.specs.Prelude.{IfNone, IfSome, OnOk, ◌≡◌, [], true};
+ghost use Rattle.std.specs.Prelude.{IfNone, IfSome, IsTrue, OnOk, ◌≡◌, ◌↔◌, []};
 ghost use Rattle.abnf_least.specs.Queue.{ComesLast, IsFirst, Joins, Leaves};
 
 use crate::candidate::Candidate;
@@ -35,9 +35,9 @@ impl Row {
         }
     }
 
-    /// Whether a candidate may join at the end.
+    /// Whether a candidate may join at the end: it comes before none of the others.
     pub fn takes(&self, candidate: Candidate) -> bool
-        ensures { result ≡ true → ComesLast self.now candidate }
+        ensures { IsTrue result ↔ ComesLast self.now candidate }
     {
         match self.candidates.back() {
             Some(last) => !candidate.comes_before(*last),

@@ -2,23 +2,24 @@
 //!
 //! Parts are settled in the order of their pairs, each once: a queue gives the least, since no part has a pair before those of the
 //! parts from which it follows. A settled part is offered to its users, which then wait in the queue. What waits is checked again
-//! when it leaves, so nothing need be taken from the queue's middle. In the end each part gets the entry that the settled ones give
-//! it, which at a choice names the first part with the least pair.
+//! when it leaves, so nothing need be taken from the queue's middle. In the end each choice names the first part with the least
+//! pair, in the table itself: what other parts are given follows from pairs alone, whatever a choice names.
 
-ghost use Rattle.std.specs.Prelude.{IfNone, IfOk, IfSome, IsTrue, OnOk, ◌≡◌, ◌↔◌, length};
+ghost use Rattle.std.specs.Prelude.{IfNone, IfOk, IfSome, IsTrue, OnOk, ◌≡◌, ◌↔◌, [], length};
 ghost use Rattle.abnf_parts.specs.Part.{parts_of};
 ghost use Rattle.abnf_cert.specs.Accepted.{IsAccepted, entry_at};
 ghost use Rattle.abnf_least.specs.Search.{AllWait, AreGiven, AreUsers, IsDone, IsFound, IsGiven, Stands, form_at};
-ghost use Rattle.abnf_least.specs.Table.{HasRoom};
+ghost use Rattle.abnf_least.specs.Table.{HasRoom, NoneSettled};
 
 use crate::candidate::Candidate;
-use crate::given::entry_given;
+use crate::given::{awaits_parts, chosen, entry_given};
 use crate::offer::{offer_all, push_given};
 use crate::queue::Queue;
 use crate::users::Users;
 use abnf_cert::entries::{entry_of, has_pair};
 use abnf_cert::{Cert, Entry};
 use abnf_names::Grammar;
+use abnf_parts::Node;
 use std::alloc::{AllocError, Global};
 
 /// Whether a candidate isn't settled yet, and has the pair that the table gives it.
@@ -60,7 +61,7 @@ fn take_next(grammar: &Grammar, table: &[Entry], queue: &mut Queue) -> Option<Ca
     None
 }
 
-/// Settles all parts that are given an entry, one with the least pair first.
+/// Settles all parts that are given an entry, one with the least pair first, until nothing waits.
 fn settle(
     grammar: &Grammar,
     users: &Users,
@@ -70,8 +71,7 @@ fn settle(
 ) -> Result<(), AllocError>
     requires stands { Stands grammar.now.rules table.old queue.old }
     requires users { AreUsers grammar.now.rules users.now }
-    ensures stands { OnOk result (Stands grammar.now.rules table.new queue.new) }
-    ensures done { OnOk result (IsDone (form_at grammar.now.rules) (entry_at table.new)) }
+    ensures { OnOk result (Stands grammar.now.rules table.new []) }
 {
     while let Some(next) = take_next(grammar, table, queue) {
         table[next.number] = Entry::Least {
@@ -91,30 +91,45 @@ fn settle(
     Ok(())
 }
 
-/// Lets all parts wait that are given an entry at the start.
+/// Lets all parts wait that are given an entry at the start, where no part is settled. Most parts await others, and are passed over.
 fn start(grammar: &Grammar, table: &[Entry], queue: &mut Queue) -> Result<(), AllocError>
     requires one_each { length table.now ≡ length (parts_of grammar.now.rules) }
-    requires room { HasRoom table.now }
+    requires none { NoneSettled table.now }
     ensures { OnOk result (AllWait (form_at grammar.now.rules) (entry_at table.now) queue.new) }
 {
     let nodes = grammar.nodes();
     for (number, node) in nodes.iter().enumerate() {
-        push_given(queue, number, entry_given(grammar, table, node))?;
+        if !awaits_parts(node) {
+            push_given(queue, number, entry_given(grammar, table, node))?;
+        }
     }
     Ok(())
 }
 
-/// The entries that the table gives all parts.
-fn all_given(alloc: Global, grammar: &Grammar, table: &[Entry]) -> Result<Vec<Entry>, AllocError>
-    requires room { HasRoom table.now }
-    ensures { IfOk result (λ entries. AreGiven grammar.now.rules table.now entries.items) }
+/// The table in which each part that is given an entry is settled. All else that the search needs is let go.
+fn settled(alloc: Global, grammar: &Grammar) -> Result<Vec<Entry>, AllocError>
+    ensures { IfOk result (λ table. Stands grammar.now.rules table.items []) }
 {
-    let nodes = grammar.nodes();
-    let mut entries = Vec::with_capacity(alloc, nodes.len())?;
-    for node in nodes {
-        entries.push(entry_given(grammar, table, node))?;
+    let count = grammar.nodes().len();
+    let users = Users::of_grammar(alloc, grammar)?;
+    let mut ready = vec![in alloc; 0usize; count]?;
+    let mut table = vec![in alloc; Entry::Nothing; count]?;
+    let mut queue = Queue::new(alloc);
+    start(grammar, &table, &mut queue)?;
+    settle(grammar, &users, &mut table, &mut ready, &mut queue)?;
+    Ok(table)
+}
+
+/// Names at each choice the first part with the least pair, in the choice's own entry.
+fn choose(grammar: &Grammar, table: &mut [Entry])
+    requires { Stands grammar.now.rules table.old [] }
+    ensures { AreGiven grammar.now.rules table.old table.new }
+{
+    for (number, node) in grammar.nodes().iter().enumerate() {
+        if let Node::Alt(parts) = node {
+            table[number] = chosen(table, parts.as_slice());
+        }
     }
-    Ok(entries)
 }
 
 /// The least lengths of what the parts of a grammar generate: a certificate that [`check`](abnf_cert::check) accepts. For n nodes it
@@ -126,13 +141,7 @@ fn all_given(alloc: Global, grammar: &Grammar, table: &[Entry]) -> Result<Vec<En
 pub fn least(alloc: Global, grammar: &Grammar) -> Result<Cert, AllocError>
     ensures { IfOk result (λ cert. IsAccepted grammar.now.rules cert) }
 {
-    let count = grammar.nodes().len();
-    let users = Users::of_grammar(alloc, grammar)?;
-    let mut ready = vec![in alloc; 0usize; count]?;
-    let mut table = vec![in alloc; Entry::Nothing; count]?;
-    let mut queue = Queue::new(alloc);
-    start(grammar, &table, &mut queue)?;
-    settle(grammar, &users, &mut table, &mut ready, &mut queue)?;
-    let entries = all_given(alloc, grammar, &table)?;
-    Ok(Cert::new(entries))
+    let mut table = settled(alloc, grammar)?;
+    choose(grammar, &mut table);
+    Ok(Cert::new(table))
 }

@@ -1,17 +1,27 @@
 -- The pass over a text's blocks finds what is found block after block.
 use Rattle.std.proofs.Common.{◌≡◌, ◌∙◌, Bool, true, false, List, [], ◌∷◌, ◌++◌, map, refl, sym, ap, append-nil}
-use Rattle.std.specs.Prelude.{not, Option, Some, None, option_map, filter, if◌then◌else◌}
+use Rattle.std.specs.Prelude.{not, Option, Some, None, option_map, filter, filter_map, fold, if◌then◌else◌}
 use Rattle.std.specs.Option.{option_map_or}
-use Rattle.std.proofs.lemmas.List.Elements.{filter-append}
+use Rattle.std.proofs.lemmas.List.Elements.{filter-append, filter_map-append}
+use Rattle.std.proofs.lemmas.List.Sums.{fold-append}
 use Rattle.abnf_syntax.specs.declared.block.Head.{Head}
 use Rattle.abnf_syntax.specs.Heads.{head_of}
 use Rattle.abnf_parts.specs.Names.{Name, with_name}
 use Rattle.abnf_names.specs.Said.{Block, name_of}
 use Rattle.abnf_names.specs.Excerpts.{excerpt_of}
-use Rattle.abnf_names.specs.Rules.{adds, defined}
-use Rattle.abnf_names.proofs.OwnPass.{defined_more, defined_same}
+use Rattle.abnf_names.specs.Rules.{adds, defined, head_name}
 use Rattle.abnf_lint.specs.Findings.{based, block_findings, findings_after}
 use Rattle.abnf_lint.specs.Passes.{with_head, with_base, findings_behind}
+
+names_more : (blocks : List Block) (b : Block) (o : Option Name) → head_name b ≡ o → filter_map head_name (blocks ++ b ∷ []) ≡ filter_map head_name blocks ++ filter_map (λ n. n) (o ∷ [])
+names_more blocks b None e = filter_map-append head_name blocks (b ∷ []) ∙ ap (λ o. filter_map head_name blocks ++ filter_map (λ n. n) (o ∷ [])) e
+names_more blocks b (Some n) e = filter_map-append head_name blocks (b ∷ []) ∙ ap (λ o. filter_map head_name blocks ++ filter_map (λ n. n) (o ∷ [])) e
+
+defined_more : (blocks : List Block) (b : Block) (n : Name) → head_name b ≡ Some n → defined (blocks ++ b ∷ []) ≡ with_name (defined blocks) n
+defined_more blocks b n e = ap (fold with_name []) (names_more blocks b (Some n) e) ∙ fold-append with_name [] (filter_map head_name blocks) (n ∷ [])
+
+defined_same : (blocks : List Block) (b : Block) → head_name b ≡ None → defined (blocks ++ b ∷ []) ≡ defined blocks
+defined_same blocks b e = ap (fold with_name []) (names_more blocks b None e ∙ append-nil (filter_map head_name blocks))
 
 head_more : (bs : List Block) (b : Block) (h : Option Head) → head_of b.items ≡ h → defined (bs ++ b ∷ []) ≡ option_map_or (λ head. with_name (defined bs) (name_of head)) h (defined bs)
 head_more bs b None e = defined_same bs b (ap (option_map name_of) e)
@@ -41,7 +51,7 @@ base_more : (bs : List Block) (b : Block) (h : Option Head) → head_of b.items 
 base_more bs b None e = based_split bs b None e ∙ defined_same (bases bs) b (ap (option_map name_of) e)
 base_more bs b (Some h) e = based_split bs b (Some h) e ∙ if_adds bs b h e h.adds
 
-bases_more : (bs : List Block) (b : Block) → based (bs ++ b ∷ []) ≡ with_base (based bs) (excerpt_of b)
+pub bases_more : (bs : List Block) (b : Block) → based (bs ++ b ∷ []) ≡ with_base (based bs) (excerpt_of b)
 bases_more bs b = base_more bs b (head_of b.items) refl
 
 pub behind_after : (marks : List Bool) (names : List Name) (before blocks : List Block) → findings_behind marks names (defined before) (based before) (map excerpt_of blocks) ≡ findings_after marks names before blocks

@@ -10,3 +10,6 @@ pub mod Heads
 pub mod FoundItems
 pub mod FoundBlock
 pub mod Stands
+pub mod Refers
+pub mod Known
+pub mod Seen

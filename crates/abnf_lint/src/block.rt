@@ -1,69 +1,80 @@
 //! What is found in a block.
 
-ghost use Rattle.std.specs.Prelude.{◌≡◌, ◌++◌, IfOk, OnOk, if◌then◌else◌};
-ghost use Rattle.abnf_parts.specs.Names.{folded_text, with_name};
+ghost use Rattle.std.specs.Prelude.{◌≡◌, ◌++◌, ◌<◌, List, Some, OnOk, IsTrue, false, length, slice_get, slice_set, slice_index_or};
+ghost use Rattle.abnf_parts.specs.Names.{Name, rule_number};
 ghost use Rattle.abnf_names.specs.Said.{name_of};
 ghost use Rattle.abnf_names.specs.Excerpts.{excerpt};
 ghost use Rattle.abnf_lint.specs.Findings as spec;
 ghost use Rattle.abnf_lint.specs.Passes as passes;
 
 use crate::finding::{Code, Finding};
-use crate::item::{push_fault, push_if, push_items};
+use crate::item::{push_fault, push_if, push_items, push_known_items};
 use abnf_names::{Grammar, Section};
-use abnf_parts::Names;
+use abnf_parts::RuleNo;
 use abnf_syntax::{Head, place_of};
 use abnf_token::Folded;
 use ls_lists::List;
 use std::alloc::{AllocError, Global};
 
-/// Whether the rule that a name stands for is marked.
-fn is_marked<'t>(grammar: &Grammar<'t>, marks: &[bool], name: Folded<'t>) -> bool
-    ensures { result ≡ spec.is_marked marks.now grammar.now.names (folded_text name.entry) }
+/// What the blocks before say of a name.
+#[derive(Clone, Copy)]
+pub(crate) struct Seen {
+    /// One of them has a head with it.
+    pub is_head: bool,
+    /// One of them defines it with `=`.
+    pub is_base: bool,
+}
+
+/// Whether a rule is marked.
+fn is_marked(marks: &[bool], rule: RuleNo) -> bool
+    ensures { result ≡ slice_index_or marks.now rule false }
 {
-    match grammar.rule_of(name) {
-        Some(rule) => match marks.get(rule.get()) {
-            Some(mark) => *mark,
-            None => false,
-        },
+    match marks.get(rule.get()) {
+        Some(mark) => *mark,
         None => false,
     }
 }
 
-/// Whether a block before defines this head's name with `=`. If this one does too, the name joins theirs.
-fn joins_bases<'t>(bases: &mut Names<'t>, head: Head<'t>) -> Result<bool, AllocError>
-    ensures was { IfOk result (λ was. was ≡ spec.has_name bases.old (name_of head.entry)) }
-    ensures joins { OnOk result (bases.new ≡ (if head.entry.adds then bases.old else with_name bases.old (name_of head.entry))) }
+/// The rule of a head's name, which must have one.
+fn rule_of_head<'t>(grammar: &Grammar<'t>, head: Head<'t>) -> RuleNo
+    requires { IsTrue (spec.has_name grammar.now.names (name_of head)) }
+    ensures { rule_number grammar.now.names (name_of head.entry) ≡ Some result }
 {
-    let name = Folded(head.name.text);
-    if head.adds {
-        Ok(bases.index_of(name).is_some())
-    } else {
-        Ok(bases.add(name)?.is_some())
+    match grammar.rule_of(Folded(head.name.text)) {
+        Some(rule) => rule,
+        None => unreachable!(),
     }
 }
 
-/// Adds what is found of a head, where the blocks before have these heads, and its name to theirs.
-fn push_head<'t>(
+/// What the blocks before say of the name of a head, which is one of theirs from now on.
+fn join_heads(seen: &mut [Seen], rule: RuleNo, head: Head<'_>) -> Seen
+    requires { rule < length seen.old }
+    ensures before { slice_get seen.old rule ≡ Some result }
+    ensures joined { seen.new ≡ slice_set seen.old rule (passes.seen_more result head.entry) }
+{
+    let before = seen[rule.get()];
+    seen[rule.get()] = Seen {
+        is_head: true,
+        is_base: before.is_base | !head.adds,
+    };
+    before
+}
+
+/// Adds what is found of a head, whose rule may be marked.
+fn push_head(
     alloc: Global,
-    grammar: &Grammar<'t>,
-    marks: &[bool],
-    heads: &mut Names<'t>,
-    bases: &mut Names<'t>,
-    head: Head<'t>,
+    before: Seen,
+    is_marked: bool,
+    head: Head<'_>,
     found: &mut List<Finding>,
 ) -> Result<(), AllocError>
-    ensures found { OnOk result (found.new ≡ found.old ++ spec.head_findings marks.now grammar.now.names heads.old bases.old head.entry) }
-    ensures heads { OnOk result (heads.new ≡ with_name heads.old (name_of head.entry)) }
-    ensures bases { OnOk result (bases.new ≡ (if head.entry.adds then bases.old else with_name bases.old (name_of head.entry))) }
+    ensures { OnOk result (found.new ≡ found.old ++ passes.head_found before is_marked head.entry) }
 {
     let text = head.name.text;
-    let name = Folded(text);
     let place = place_of(head.name);
-    let is_based = joins_bases(bases, head)?;
-    let is_duplicate = !head.adds & is_based;
-    let lacks_base = head.adds & !is_based;
-    let is_first = heads.add(name)?.is_none();
-    let is_unproductive = is_first && is_marked(grammar, marks, name);
+    let is_duplicate = !head.adds & before.is_base;
+    let lacks_base = head.adds & !before.is_base;
+    let is_unproductive = !before.is_head & is_marked;
     push_if(alloc, is_duplicate, Code::Duplicate, place, text, found)?;
     push_if(alloc, lacks_base, Code::NoBase, place, text, found)?;
     push_if(
@@ -76,38 +87,56 @@ fn push_head<'t>(
     )
 }
 
-/// Adds what is found of a block's fault, or of its items where it has none.
+/// Adds what is found of a block's fault, or of its items where it has none. The names in it may be known to stand for rules.
 fn push_said<'t>(
     alloc: Global,
     grammar: &Grammar<'t>,
+    is_known: bool,
     section: &Section<'t>,
     found: &mut List<Finding>,
 ) -> Result<(), AllocError>
+    requires { IsTrue is_known → passes.IsKnown grammar.now.names (excerpt section.now) }
     ensures { OnOk result (found.new ≡ found.old ++ spec.said_findings grammar.now.names (excerpt section.now)) }
 {
+    let items = section.block.items.as_slice();
     match section.fault {
         Some(fault) => push_fault(alloc, fault, found),
-        None => push_items(alloc, grammar, section.block.items.as_slice(), found),
+        None => {
+            if is_known {
+                push_known_items(alloc, items, found)
+            } else {
+                push_items(alloc, grammar, items, found)
+            }
+        }
     }
 }
 
-/// Adds what is found in a block, where the blocks before have these heads, and its head's name to theirs.
+/// Adds what is found in a block. Beside each rule stands what the blocks before say of its name, to which the block's head is added.
+/// All names that rules use may be known to stand for rules.
 pub(crate) fn push_block<'t>(
     alloc: Global,
     grammar: &Grammar<'t>,
     marks: &[bool],
-    heads: &mut Names<'t>,
-    bases: &mut Names<'t>,
+    knows_all: bool,
+    seen: &mut [Seen],
     section: &Section<'t>,
     found: &mut List<Finding>,
 ) -> Result<(), AllocError>
-    ensures found { OnOk result (found.new ≡ found.old ++ spec.block_findings marks.now grammar.now.names heads.old bases.old (excerpt section.now)) }
-    ensures heads { OnOk result (heads.new ≡ passes.with_head heads.old (excerpt section.now)) }
-    ensures bases { OnOk result (bases.new ≡ passes.with_base bases.old (excerpt section.now)) }
+    requires mark { passes.HasMark grammar.now.names seen.old (excerpt section.now) }
+    requires known { IsTrue knows_all → passes.IsKnownIfCounted grammar.now.names seen.old (excerpt section.now) }
+    ensures found { OnOk result ((heads bases : List Name) → passes.AreSeen grammar.now.names heads bases seen.old
+        → found.new ≡ found.old ++ spec.block_findings marks.now grammar.now.names heads bases (excerpt section.now)) }
+    ensures seen { OnOk result ((heads bases : List Name) → passes.AreSeen grammar.now.names heads bases seen.old
+        → passes.AreSeen grammar.now.names (passes.with_head heads (excerpt section.now)) (passes.with_base bases (excerpt section.now)) seen.new) }
 {
-    push_said(alloc, grammar, section, found)?;
     match section.block.head() {
-        Some(head) => push_head(alloc, grammar, marks, heads, bases, head, found),
-        None => Ok(()),
+        Some(head) => {
+            let rule = rule_of_head(grammar, head);
+            let before = join_heads(seen, rule, head);
+            let counts = head.adds | !before.is_base;
+            push_said(alloc, grammar, knows_all & counts, section, found)?;
+            push_head(alloc, before, is_marked(marks, rule), head, found)
+        }
+        None => push_said(alloc, grammar, false, section, found),
     }
 }

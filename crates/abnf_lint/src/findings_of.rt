@@ -1,37 +1,59 @@
 //! What is found in a text.
 
 ghost use Rattle.std.specs.Prelude.{◌≡◌, [], map, IfOk};
+ghost use Rattle.std.specs.List.{list_all};
 ghost use Rattle.abnf_cert.specs.Accepted.{IsAccepted};
-ghost use Rattle.abnf_names.specs.Excerpts.{excerpt};
+ghost use Rattle.abnf_names.specs.Excerpts.{HasSections, excerpt};
 ghost use Rattle.abnf_lint.specs.Findings as spec;
 ghost use Rattle.abnf_lint.specs.Passes as passes;
 ghost use Rattle.abnf_lint.specs.Order.{AreOrdered};
 
-use crate::block::push_block;
+use crate::block::{Seen, push_block};
 use crate::finding::Finding;
 use crate::unproductive::unproductive_rules;
 use abnf_cert::Cert;
-use abnf_names::{Grammar, Section};
-use abnf_parts::Names;
+use abnf_names::{Grammar, Node, Section};
 use ls_lists::List;
 use std::alloc::{AllocError, Global};
 
-/// What is found, block after block.
+/// Whether a node is no reference, or one whose name stands for a rule.
+fn is_resolved(node: &Node<'_>) -> bool
+    ensures { result ≡ passes.is_resolved node.now }
+{
+    match node {
+        Node::Ref { name: _, rule } => rule.is_some(),
+        _ => true,
+    }
+}
+
+/// Whether each name that rules use stands for a rule, by the nodes of the rules.
+fn knows_all_names(nodes: &[Node<'_>]) -> bool
+    ensures { result ≡ list_all passes.is_resolved nodes.now }
+{
+    nodes.iter().all(|node| is_resolved(node))
+}
+
+/// What is found, block after block. Beside each rule stands what is known of the heads of its name; uses are looked up only where one
+/// of them may stand for nothing.
 fn candidates<'t>(
     alloc: Global,
     grammar: &Grammar<'t>,
     marks: &[bool],
     sections: &[Section<'t>],
 ) -> Result<List<Finding>, AllocError>
+    requires { HasSections grammar.now sections.now }
     ensures { IfOk result (λ found. found ≡ passes.findings_behind marks.now grammar.now.names [] [] (map excerpt sections.now)) }
 {
-    let mut heads = Names::new(alloc);
-    let mut bases = Names::new(alloc);
+    let knows_all = knows_all_names(grammar.nodes());
+    let not_seen = Seen {
+        is_head: false,
+        is_base: false,
+    };
+    let mut table = vec![in alloc; not_seen; grammar.rule_count()]?;
+    let seen = table.as_mut_slice();
     let mut found = List::new(alloc);
     for section in sections {
-        push_block(
-            alloc, grammar, marks, &mut heads, &mut bases, section, &mut found,
-        )?;
+        push_block(alloc, grammar, marks, knows_all, seen, section, &mut found)?;
     }
     Ok(found)
 }

@@ -1,6 +1,6 @@
 -- What a grammar's fields hold once they were made.
-use Rattle.std.proofs.Common.{◌≡◌, ℕ, List, [], map, length, sym, ap, subst, ◌∙◌}
-use Rattle.std.specs.Prelude.{fold, filter}
+use Rattle.std.proofs.Common.{◌≡◌, ℕ, List, [], ◌∷◌, map, length, sym, ap, subst, ◌∙◌}
+use Rattle.std.specs.Prelude.{All, fold, filter}
 use Rattle.ls_text.specs.declared.position.Place.{Place}
 use Rattle.abnf_syntax.specs.declared.fault.SyntaxFault.{SyntaxFault}
 use Rattle.abnf_parts.specs.declared.node.Node.{Node}
@@ -9,14 +9,19 @@ use Rattle.abnf_names.specs.declared.grammar.Grammar.TheInside.{Inside}
 use Rattle.abnf_parts.specs.Part.{Part}
 use Rattle.abnf_parts.specs.Core.{core_rules, core_name, is_needed}
 use Rattle.abnf_parts.specs.CoreTable.{core_of}
-use Rattle.abnf_names.specs.Said.{Block, AreSaid}
+use Rattle.abnf_names.specs.Said.{Block, Says, AreWithin, AreSaid}
 use Rattle.abnf_parts.specs.Names.{Name, all_names, names_beside, with_name}
 use Rattle.abnf_names.specs.Places.{Named, named_at, places_of}
 use Rattle.abnf_parts.specs.Nodes.{trees_at, AreNumbered}
 use Rattle.abnf_parts.specs.Reach.{AreReaching}
 use Rattle.abnf_names.specs.Rules.{defined, needed, undefined, names_of, rules_of, faults_of, Grammar}
-use Rattle.abnf_names.specs.Passes.{stated, AreDefined, AreNames, AreOwn, AreRules, Grouped}
-use Rattle.abnf_names.specs.declared.definition.Definition.{Definition}
+use Rattle.abnf_names.specs.Passes.{stated, AreDefined, AreGrouped, AreNamePlaces, AreNames, AreRead, AreRules, AreSections, Grouped}
+use Rattle.abnf_names.specs.declared.own.NamePlaces.{NamePlaces}
+use Rattle.abnf_names.specs.declared.section.Section.{Section}
+use Rattle.abnf_token.specs.Classes.{Text}
+use Rattle.abnf_syntax.specs.Blocks.{line_texts}
+use Rattle.abnf_names.specs.declared.section.Listed.{Listed}
+use Rattle.std.proofs.lemmas.List.Elements.{All-cons, All-nil}
 use Rattle.abnf_names.specs.declared.rules.Rules.{Rules}
 use Rattle.abnf_names.specs.Excerpts.{excerpt, excerpt_of}
 use Rattle.abnf_names.specs.Inside.{IsGrammarInside}
@@ -24,6 +29,7 @@ use Rattle.abnf_parts.specs.Pushed.{AddsTrees}
 use Rattle.abnf_parts.proofs.ApartLaws.{map_both, needed_names}
 use Rattle.abnf_names.proofs.NeededPass.{needed_all}
 use Rattle.abnf_names.proofs.RulePass.{names_are}
+use Rattle.abnf_names.proofs.OwnPass.{grouped_defined}
 use Rattle.abnf_names.proofs.Closed.{rules_closed}
 use Rattle.abnf_names.proofs.OneGrammar.{one_defined}
 use Rattle.abnf_parts.proofs.Tied.{tied, IsTied}
@@ -40,29 +46,47 @@ same_grammar text names ns rules rs places ps faults fs n r p f =
 pub numbered : (blocks : List Block) (nodes : List Node) (roots : List ℕ) → AddsTrees (rules_of blocks) [] nodes [] roots → AreNumbered nodes roots
 numbered blocks nodes roots added = (tied (rules_of blocks) nodes roots added (rules_closed blocks)).numbered
 
+-- what is said of the blocks of a text
+pub each_says : (ls : List Text) (bounds : List (ℕ × ℕ)) (blocks : List Block) → AreWithin ls bounds blocks → All (λ block. Says block.items block.said) blocks
+each_says ls [] [] h = All-nil (λ block. Says block.items block.said)
+each_says ls [] (block ∷ blocks) h = absurd h
+each_says ls (b ∷ bounds) [] h = absurd h
+each_says ls (b ∷ bounds) (block ∷ blocks) h = All-cons (λ block. Says block.items block.said) block blocks h.0.says (each_says ls bounds blocks h.1)
+
+-- sections in which the names stand at these places
+pub read : (text : List ℕ) (sections given : List Section) (places : NamePlaces) (h : AreSections text sections) → given ≡ sections →
+    ((blocks : List Block) → map excerpt given ≡ map excerpt_of blocks → AreNamePlaces blocks places) → AreRead given places h.blocks
+read text sections given places h same found =
+    let excerpts : map excerpt given ≡ map excerpt_of h.blocks = ap (map excerpt) same ∙ h.excerpts in
+    record { says = each_says (line_texts text) h.of_text.bounds h.blocks h.of_text.each; excerpts = excerpts; places = found h.blocks excerpts }
+
 -- names that were parted from what stands beside them
-defined_parts : (blocks : List Block) (groups : Grouped Definition) (own : List Name) (definitions : List (List Definition)) → AreOwn blocks groups → own ≡ groups.0 → definitions ≡ groups.1 → length groups.0 ≡ length groups.1 →
-    AreDefined blocks own definitions
-defined_parts blocks groups own definitions are o d l =
-    subst (λ ns. AreDefined blocks ns definitions) (sym o) (subst (λ ds. AreDefined blocks groups.0 ds) (sym d) (record { groups = are; beside = l }))
+pub defined_parts : (blocks : List Block) (groups : Grouped Listed) (own names : List Name) (members given : List (List Listed)) → All (λ block. Says block.items block.said) blocks → AreGrouped (map excerpt_of blocks) groups →
+    own ≡ groups.0 → members ≡ groups.1 → length groups.0 ≡ length groups.1 → names ≡ own → given ≡ members → AreDefined blocks names given
+defined_parts blocks groups own names members given says are o m l n g =
+    subst (λ ns. AreDefined blocks ns given) (sym (n ∙ o)) (subst (λ ms. AreDefined blocks groups.0 ms) (sym (g ∙ m)) (record { says = says; groups = are; beside = l }))
 
 -- what was pushed by these parts are the rules of the blocks
-pub rules_added : (blocks : List Block) (groups : Grouped Definition) (definitions said : List (List Definition)) (names : List Name × List Name) (given cores : List Core) (nodes : List Node) (roots : List ℕ)
-    → ((blocks : List Block) → AreDefined blocks names.0 said → AreNames blocks names → map core_of given ≡ needed blocks → AddsTrees (rules_of blocks) [] nodes [] roots)
-    → AreOwn blocks groups → definitions ≡ groups.1 → length groups.0 ≡ length groups.1 → said ≡ definitions → AreNames blocks names × (map core_of cores ≡ needed blocks) → given ≡ cores → AddsTrees (rules_of blocks) [] nodes [] roots
-rules_added blocks groups definitions said names given cores nodes roots adds own d l s are g =
-    adds blocks (defined_parts blocks groups names.0 said own (are.0.own ∙ sym own.names) (s ∙ d) l) are.0 (ap (map core_of) g ∙ are.1)
+pub rules_added : (sections : List Section) (places : NamePlaces) (blocks : List Block) (groups : Grouped Listed) (own : List Name) (members given : List (List Listed)) (names : List Name × List Name) (listed cores : List Core) (nodes : List Node) (roots : List ℕ)
+    → AreRead sections places blocks → AreGrouped (map excerpt sections) groups → own ≡ groups.0 → members ≡ groups.1 → length groups.0 ≡ length groups.1 → given ≡ members → listed ≡ cores
+    → ((blocks : List Block) → own ≡ defined blocks → AreNamePlaces blocks places → AreNames blocks names × (map core_of cores ≡ needed blocks))
+    → ((blocks : List Block) → AreDefined blocks names.0 given → AreNames blocks names → map core_of listed ≡ needed blocks → AddsTrees (rules_of blocks) [] nodes [] roots)
+    → AreNames blocks names × AddsTrees (rules_of blocks) [] nodes [] roots
+rules_added sections places blocks groups own members given names listed cores nodes roots read grouped o m l g k named adds =
+    let are : AreGrouped (map excerpt_of blocks) groups = subst (λ seen. AreGrouped seen groups) read.excerpts grouped in
+    let own_is : own ≡ defined blocks = o ∙ grouped_defined blocks groups are in
+    let names_are = named blocks own_is read.places in
+    (names_are.0, adds blocks (defined_parts blocks groups own names.0 members given read.says are o m l (names_are.0.own ∙ sym own_is) g) names_are.0 (ap (map core_of) k ∙ names_are.1))
 
 -- the rules with what leads to an opaque part
-pub rules_made : (rules : Rules) (blocks : List Block) (ns : List Node) (ts : List ℕ) → AreNames blocks rules.names → AddsTrees (rules_of blocks) [] rules.nodes.items [] rules.roots.items → ns ≡ rules.nodes.items → ts ≡ rules.roots.items →
-    AreReaching (trees_at ns ts) rules.opaque.items → map excerpt rules.sections ≡ map excerpt_of blocks → AreRules blocks rules
-rules_made rules blocks ns ts names added nodes_from roots_from reaching excerpts = record {
-  names = names;
-  nodes = added;
+pub rules_made : (rules : Rules) (blocks : List Block) (ns : List Node) (ts : List ℕ) → AreNames blocks rules.names × AddsTrees (rules_of blocks) [] rules.nodes.items [] rules.roots.items → ns ≡ rules.nodes.items → ts ≡ rules.roots.items →
+    AreReaching (trees_at ns ts) rules.opaque.items → AreRules blocks rules
+rules_made rules blocks ns ts added nodes_from roots_from reaching = record {
+  names = added.0;
+  nodes = added.1;
   reaching =
       subst (λ (ns : List Node). AreReaching (trees_at ns rules.roots.items) rules.opaque.items) nodes_from
       (subst (λ (ts : List ℕ). AreReaching (trees_at ns ts) rules.opaque.items) roots_from reaching);
-  sections = excerpts;
 }
 
 pub kept : (g : Inside) (blocks : List Block) → AreSaid g.source.now blocks → AreNames blocks g.names → AddsTrees (rules_of blocks) [] g.nodes.items [] g.roots.items →

@@ -3,6 +3,7 @@ pub mod SearchLaws
 pub mod SpotLaws
 pub mod UsersLaws
 pub mod BlockPass
+pub mod SectionPass
 pub mod GroupLaws
 pub mod OwnPass
 pub mod NeededPass
@@ -15,3 +16,4 @@ pub mod OneGrammar
 pub mod Exist
 pub mod Ascending
 pub mod DefinedPlaces
+pub mod Clear

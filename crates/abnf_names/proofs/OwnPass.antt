@@ -1,25 +1,34 @@
 -- Blocks and places under their names.
-use Rattle.std.proofs.Common.{◌≡◌, ◌<◌, ◌+◌, ℕ, suc, Bool, true, false, List, [], ◌∷◌, ◌++◌, map, take, length, get_or, refl, sym, ap, subst, ◌∙◌, append-nil, append_assoc, arith}
+use Rattle.std.proofs.Common.{◌≡◌, ◌<◌, ◌+◌, ℕ, suc, Bool, true, false, List, [], ◌∷◌, ◌++◌, map, take, length, get_or, refl, sym, ap, subst, ◌∙◌, append-nil, arith}
 use Rattle.std.specs.Option.{option_map_or}
-use Rattle.std.specs.Prelude.{Result, Ok, Err, IfOk, Option, Some, None, option_map, fold, filter, filter_map, if◌then◌else◌}
+use Rattle.abnf_names.specs.declared.section.Listed.{Listed}
+use Rattle.std.specs.List.{cons_option}
+use Rattle.std.specs.Prelude.{Result, Ok, Err, IfOk, Option, Some, None, option_map, flat_map, fold, filter, filter_map, if◌then◌else◌}
 use Rattle.std.proofs.Math.Seq.{take-suc}
 use Rattle.std.proofs.lemmas.List.{map-append}
 use Rattle.std.proofs.lemmas.List.Elements.{filter-append, filter_map-append}
 use Rattle.std.proofs.lemmas.List.Sums.{fold-append}
 use Rattle.abnf_token.specs.Folded.{lowercase}
-use Rattle.abnf_names.specs.declared.parsed.Parsed.{Parsed}
 use Rattle.abnf_names.specs.declared.place.Spot.{Spot}
 use Rattle.std.specs.Str.{bytes_eq}
 use Rattle.abnf_parts.specs.Names.{Name, folded_text, with_name}
 use Rattle.abnf_syntax.specs.declared.block.Head.{Head}
+use Rattle.abnf_syntax.specs.declared.fault.SyntaxFault.{SyntaxFault}
+use Rattle.abnf_syntax.specs.declared.tree.Rule.{Rule}
 use Rattle.abnf_syntax.specs.Heads.{head_of}
+use Rattle.abnf_syntax.proofs.Cons.{cons_same}
 use Rattle.abnf_names.specs.Said.{Block, name_of}
-use Rattle.abnf_names.specs.Places.{Named, named_at}
-use Rattle.abnf_names.specs.Rules.{defined, defines, head_name}
-use Rattle.abnf_names.specs.Passes.{block_of, definition, definition_of, members_of, if_same, Grouped, AreOwn, stated, with_core_name}
-use Rattle.abnf_names.specs.Excerpts.{excerpt, excerpt_of}
-use Rattle.abnf_names.specs.declared.definition.Definition.{Definition}
+use Rattle.abnf_names.specs.Places.{Named, named_at, places_in, places_of}
+use Rattle.abnf_names.specs.Rules.{defined, head_name, fault_of, block_fault, faults_of}
+use Rattle.abnf_names.specs.Passes.{members_of, if_same, Grouped, AreGrouped, names_defined, defines_name, section_fault, stated, with_core_name}
+use Rattle.abnf_names.specs.Excerpts.{Excerpt, excerpt, excerpt_of, fault_shown}
 use Rattle.abnf_names.specs.declared.section.Section.{Section}
+
+abbrev name_in : Excerpt → Option Name
+name_in e = option_map name_of (head_of e.items)
+
+abbrev now_excerpt : Listed → Excerpt
+now_excerpt listed = excerpt listed.section.now
 
 -- one more item that a loop has seen
 pub map_take-next : {X Y : Type 0} (f : X → Y) (xs : List X) (i : ℕ) (x d : X) → i < length xs → x ≡ get_or xs i d → map f (take (i + 1) xs) ≡ map f (take i xs) ++ f x ∷ []
@@ -27,50 +36,81 @@ map_take-next f xs i x d lt is =
     ap (map f) (ap (λ k. take k xs) (let e : i + 1 ≡ suc i = omega arith in e) ∙ take-suc xs i d lt)
     ∙ (map-append f (take i xs) (get_or xs i d ∷ []) ∙ ap (λ y. map f (take i xs) ++ f y ∷ []) (sym is))
 
-one_if : {X Y : Type 0} (f : X → Y) (b : Bool) (x : X) → map f (if b then x ∷ [] else []) ≡ (if b then f x ∷ [] else [])
-one_if f true x = refl
-one_if f false x = refl
+names_more : (seen : List Excerpt) (e : Excerpt) (o : Option Name) → option_map name_of (head_of e.items) ≡ o → names_defined (seen ++ e ∷ []) ≡ fold with_name (names_defined seen) (filter_map (λ n. n) (o ∷ []))
+names_more seen e None h =
+    ap (fold with_name []) (filter_map-append name_in seen (e ∷ []) ∙ ap (λ o. filter_map name_in seen ++ filter_map (λ n. n) (o ∷ [])) h)
+    ∙ fold-append with_name [] (filter_map name_in seen) []
+names_more seen e (Some n) h =
+    ap (fold with_name []) (filter_map-append name_in seen (e ∷ []) ∙ ap (λ o. filter_map name_in seen ++ filter_map (λ n. n) (o ∷ [])) h)
+    ∙ fold-append with_name [] (filter_map name_in seen) (n ∷ [])
 
-heads_more : (blocks : List Block) (b : Block) (o : Option Name) → head_name b ≡ o → filter_map head_name (blocks ++ b ∷ []) ≡ filter_map head_name blocks ++ filter_map (λ n. n) (o ∷ [])
-heads_more blocks b None e = filter_map-append head_name blocks (b ∷ []) ∙ ap (λ o. filter_map head_name blocks ++ filter_map (λ n. n) (o ∷ [])) e
-heads_more blocks b (Some n) e = filter_map-append head_name blocks (b ∷ []) ∙ ap (λ o. filter_map head_name blocks ++ filter_map (λ n. n) (o ∷ [])) e
+one_if : (b : Bool) (listed : Listed) → map now_excerpt (if b then listed ∷ [] else []) ≡ (if b then excerpt listed.section.now ∷ [] else [])
+one_if true listed = refl
+one_if false listed = refl
 
-pub defined_more : (blocks : List Block) (b : Block) (n : Name) → head_name b ≡ Some n → defined (blocks ++ b ∷ []) ≡ with_name (defined blocks) n
-defined_more blocks b n e = ap (fold with_name []) (heads_more blocks b (Some n) e) ∙ fold-append with_name [] (filter_map head_name blocks) (n ∷ [])
+under : (m : Name) (listed : Listed) (h : Head) → head_of listed.section.now.block.items ≡ Some h → map now_excerpt (if_same (name_of h) m listed) ≡ filter (defines_name m) (excerpt listed.section.now ∷ [])
+under m listed h e =
+    one_if (bytes_eq (name_of h) m) listed
+    ∙ ap (λ o. if option_map_or (λ (head : Head). bytes_eq (name_of head) m) o false then excerpt listed.section.now ∷ [] else []) (sym e)
 
-pub defined_same : (blocks : List Block) (b : Block) → head_name b ≡ None → defined (blocks ++ b ∷ []) ≡ defined blocks
-defined_same blocks b e = ap (fold with_name []) (heads_more blocks b None e ∙ append-nil (filter_map head_name blocks))
-
-under : (m : Name) (b : Block) (h : Head) → head_of b.items ≡ Some h → if_same (name_of h) m (definition h.adds b.said) ≡ map definition_of (filter (defines m) (b ∷ []))
-under m b h e =
-    ap (if_same (name_of h) m) (sym (ap (λ o. definition (option_map_or (λ (head : Head). head.adds) o false) b.said) e))
-    ∙ (sym (one_if definition_of (bytes_eq (name_of h) m) b)
-    ∙ ap (λ x. map definition_of (if x then b ∷ [] else [])) (sym (ap (λ o. option_map_or (λ (head : Head). bytes_eq (name_of head) m) o false) e)))
-
--- what a block with a head says is put under its name
-pub own_more : (old new : Grouped Definition) (b : Block) (h : Head) → head_of b.items ≡ Some h → new.0 ≡ with_name old.0 (name_of h) →
-    ((m : Name) → members_of new m ≡ members_of old m ++ if_same (name_of h) m (definition h.adds b.said)) → (blocks : List Block) → AreOwn blocks old → AreOwn (blocks ++ b ∷ []) new
-own_more old new b h e names members blocks own = record {
-  names = names ∙ (ap (λ ns. with_name ns (name_of h)) own.names ∙ sym (defined_more blocks b (name_of h) (ap (option_map name_of) e)));
+-- a section whose block has a head is put under its name
+pub own_more : (old new : Grouped Listed) (listed : Listed) (h : Head) → head_of listed.section.now.block.items ≡ Some h → new.0 ≡ with_name old.0 (name_of h) →
+    ((m : Name) → members_of new m ≡ members_of old m ++ if_same (name_of h) m listed) → (seen : List Excerpt) → AreGrouped seen old → AreGrouped (seen ++ excerpt listed.section.now ∷ []) new
+own_more old new listed h e names members seen own = record {
+  names = names ∙ (ap (λ ns. with_name ns (name_of h)) own.names ∙ sym (names_more seen (excerpt listed.section.now) (Some (name_of h)) (ap (option_map name_of) e)));
   members = λ m.
-      members m
-      ∙ (ap (λ front. front ++ if_same (name_of h) m (definition h.adds b.said)) (own.members m)
-      ∙ (ap (λ back. map definition_of (filter (defines m) blocks) ++ back) (under m b h e)
-      ∙ (sym (map-append definition_of (filter (defines m) blocks) (filter (defines m) (b ∷ [])))
-      ∙ ap (map definition_of) (sym (filter-append (defines m) blocks (b ∷ []))))));
+      ap (map now_excerpt) (members m)
+      ∙ (map-append now_excerpt (members_of old m) (if_same (name_of h) m listed)
+      ∙ (ap (λ front. front ++ map now_excerpt (if_same (name_of h) m listed)) (own.members m)
+      ∙ (ap (λ back. filter (defines_name m) seen ++ back) (under m listed h e)
+      ∙ sym (filter-append (defines_name m) seen (excerpt listed.section.now ∷ [])))));
 }
 
--- what one without a head says isn't
-pub own_same : (groups : Grouped Definition) (b : Block) → head_of b.items ≡ None → (blocks : List Block) → AreOwn blocks groups → AreOwn (blocks ++ b ∷ []) groups
-own_same groups b e blocks own = record {
-  names = own.names ∙ sym (defined_same blocks b (ap (option_map name_of) e));
+-- one without a head isn't
+pub own_same : (groups : Grouped Listed) (listed : Listed) → head_of listed.section.now.block.items ≡ None → (seen : List Excerpt) → AreGrouped seen groups → AreGrouped (seen ++ excerpt listed.section.now ∷ []) groups
+own_same groups listed e seen own = record {
+  names = own.names ∙ sym (names_more seen (excerpt listed.section.now) None (ap (option_map name_of) e));
   members = λ m.
       own.members m
-      ∙ ap (map definition_of)
-      (sym (append-nil (filter (defines m) blocks))
-      ∙ (ap (λ x. filter (defines m) blocks ++ (if x then b ∷ [] else [])) (sym (ap (λ o. option_map_or (λ (head : Head). bytes_eq (name_of head) m) o false) e))
-      ∙ sym (filter-append (defines m) blocks (b ∷ []))));
+      ∙ (sym (append-nil (filter (defines_name m) seen))
+      ∙ (ap (λ o. filter (defines_name m) seen ++ (if option_map_or (λ (head : Head). bytes_eq (name_of head) m) o false then excerpt listed.section.now ∷ [] else [])) (sym e)
+      ∙ sym (filter-append (defines_name m) seen (excerpt listed.section.now ∷ []))));
 }
+
+-- what a loop has grouped
+pub grouped_next : (sections : List Section) (i : ℕ) (listed : Listed) (d : Section) (old new : Grouped Listed) → i < length sections → listed.section.now ≡ get_or sections i d → AreGrouped (map excerpt (take i sections)) old →
+    ((seen : List Excerpt) → AreGrouped seen old → AreGrouped (seen ++ excerpt listed.section.now ∷ []) new) → AreGrouped (map excerpt (take (i + 1) sections)) new
+grouped_next sections i listed d old new lt is before more =
+    subst (λ seen. AreGrouped seen new) (sym (map_take-next excerpt sections i listed.section.now d lt is)) (more (map excerpt (take i sections)) before)
+
+names_of_blocks : (blocks : List Block) → filter_map name_in (map excerpt_of blocks) ≡ filter_map head_name blocks
+names_of_blocks [] = refl
+names_of_blocks (block ∷ blocks) = ap (cons_option (head_name block)) (names_of_blocks blocks)
+
+pub grouped_defined : (blocks : List Block) (groups : Grouped Listed) → AreGrouped (map excerpt_of blocks) groups → groups.0 ≡ defined blocks
+grouped_defined blocks groups are = are.names ∙ ap (fold with_name []) (names_of_blocks blocks)
+
+-- the places and faults of sections are those of their blocks
+pub places_by : (sections : List Section) (blocks : List Block) → map excerpt sections ≡ map excerpt_of blocks → flat_map (λ section. places_in section.block.items) sections ≡ places_of blocks
+places_by [] [] e = refl
+places_by [] (b ∷ blocks) e = absurd (cc)
+places_by (s ∷ sections) [] e = absurd (cc)
+places_by (s ∷ sections) (b ∷ blocks) e =
+    let h = cons_same e in (λ i. places_in (h.0 i).items ++ places_by sections blocks h.1 i)
+
+fault_by : (block : Block) (fault : Option SyntaxFault) (section : Section) → section.fault ≡ fault → fault ≡ fault_shown block.said → section_fault section ≡ block_fault block
+fault_by block fault section e h = by block.said (e ∙ h)
+  where
+    by : (said : Result Rule SyntaxFault) → section.fault ≡ fault_shown said → section_fault section ≡ fault_of said
+    by (Ok rule) e = rw e refl
+    by (Err fault) e = rw e refl
+
+pub faults_by : (sections : List Section) (blocks : List Block) → map excerpt sections ≡ map excerpt_of blocks → filter_map section_fault sections ≡ faults_of blocks
+faults_by [] [] e = refl
+faults_by [] (b ∷ blocks) e = absurd (cc)
+faults_by (s ∷ sections) [] e = absurd (cc)
+faults_by (s ∷ sections) (b ∷ blocks) e =
+    let h = cons_same e in (λ i. cons_option (fault_by b s.fault s refl (ap (λ (x : Excerpt). x.fault) h.0) i) (faults_by sections blocks h.1 i))
 
 stated_more : (places : List Named) (n : Named) → stated (places ++ n ∷ []) ≡ with_core_name (stated places) (lowercase n.text)
 stated_more places n =
@@ -89,23 +129,3 @@ stated_next spots i spot d old new lt is before now =
 pub ok_both : {A E : Type 0} (r : Result A E) (P Q R : A → Type 0) → ((x : A) → P x → Q x → R x) → IfOk r P → IfOk r Q → IfOk r R
 ok_both (Ok x) P Q R f p q = f x p q
 ok_both (Err e) P Q R f p q = tt
-
--- the names and the sections of those blocks that were seen
-pub record IsSplit (all done rest : List Parsed) (groups : Grouped Definition) (sections : List Section) : Type 0 where
-  pub whole : all ≡ done ++ rest
-  pub own : AreOwn (map block_of done) groups
-  pub excerpts : map excerpt sections ≡ map excerpt_of (map block_of done)
-
-pub split_more : (all done : List Parsed) (p : Parsed) (rest left : List Parsed) (old new : Grouped Definition) (before now : List Section) (s : Section) → IsSplit all done left old before → left ≡ p ∷ rest →
-    ((blocks : List Block) → AreOwn blocks old → AreOwn (blocks ++ block_of p ∷ []) new) → now ≡ before ++ s ∷ [] → excerpt s ≡ excerpt_of (block_of p) → IsSplit all (done ++ p ∷ []) rest new now
-split_more all done p rest left old new before now s h next more is same = record {
-  whole = h.whole ∙ (ap (λ xs. done ++ xs) next ∙ sym (append_assoc done (p ∷ []) rest));
-  own = subst (λ blocks. AreOwn blocks new) (sym (map-append block_of done (p ∷ []))) (more (map block_of done) h.own);
-  excerpts =
-      ap (map excerpt) is
-      ∙ (map-append excerpt before (s ∷ [])
-      ∙ (ap (λ front. front ++ excerpt s ∷ []) h.excerpts
-      ∙ (ap (λ x. map excerpt_of (map block_of done) ++ x ∷ []) same
-      ∙ (sym (map-append excerpt_of (map block_of done) (block_of p ∷ []))
-      ∙ ap (map excerpt_of) (sym (map-append block_of done (p ∷ [])))))));
-}

@@ -1,22 +1,30 @@
 -- The alternatives of a rule, block by block.
-use Rattle.std.proofs.Common.{◌≡◌, ◌<◌, ◌+◌, ℕ, suc, Bool, true, false, List, [], ◌∷◌, ◌++◌, map, drop, length, get_or, refl, sym, ap, subst, ◌∙◌, append-nil, append_assoc, arith}
+use Rattle.std.proofs.Common.{◌≡◌, ◌<◌, ◌≤◌, ◌+◌, ℕ, zero, suc, Bool, true, false, List, [], ◌∷◌, ◌++◌, map, drop, take, length, length-append, get_or, refl, sym, ap, subst, ◌∙◌, append-nil, append_assoc, arith}
 use Rattle.std.proofs.Math.Seq.{drop-cons}
+use Rattle.std.proofs.lemmas.List.{drop_all, take_all}
 use Rattle.std.proofs.lemmas.Grind.{flat_map-append}
-use Rattle.std.specs.Prelude.{Option, flat_map, filter, not, ◌||◌, if◌then◌else◌}
+use Rattle.std.specs.Prelude.{All, Option, Result, Err, flat_map, filter, not, ◌||◌, if◌then◌else◌}
 use Rattle.abnf_parts.specs.declared.node.Node.{Node}
-use Rattle.abnf_names.specs.declared.definition.Definition.{Definition}
-use Rattle.abnf_parts.specs.Part.{Part, alt}
+use Rattle.abnf_names.specs.declared.section.Listed.{Listed}
+use Rattle.abnf_parts.specs.Part.{Part, alt, subparts}
 use Rattle.abnf_parts.specs.Tree.{parts}
-use Rattle.abnf_names.specs.Said.{Block}
+use Rattle.abnf_names.specs.Said.{Block, Says}
 use Rattle.abnf_parts.specs.Names.{Name, rule_number, all_names}
-use Rattle.abnf_names.specs.Rules.{counted, adds, defines, names_of, rule_tree, rules_of, core_tree, needed, defined, said_alternatives}
+use Rattle.abnf_syntax.specs.declared.fault.SyntaxFault.{SyntaxFault}
+use Rattle.abnf_syntax.specs.declared.fault.SyntaxFault.TheVariants as SyntaxFaults
+use Rattle.abnf_syntax.specs.declared.tree.Rule.{Rule}
+use Rattle.abnf_names.specs.Rules.{alternatives_said, counted, adds, defines, names_of, rule_tree, rules_of, core_tree, needed, defined, said_alternatives}
 use Rattle.abnf_parts.specs.CoreTable.{core_of, number_in}
 use Rattle.abnf_parts.specs.declared.core_rule.Core.{Core}
 use Rattle.abnf_parts.proofs.ApartLaws.{map_both}
-use Rattle.abnf_names.specs.Passes.{alternatives_of, counted_among, definition_of, is_adding, members_in, members_of, tree_of, Grouped, AreDefined, AreOwn, AreNames}
+use Rattle.abnf_names.specs.Passes.{alternatives_of, counted_among, definition_of, Definition, defines_name, is_addition, is_adding, IsSaidBy, IsTold, members_in, tree_of, AllTold, AreBeside, AreDefined, AreNames, AreTold}
+use Rattle.abnf_names.specs.Excerpts.{Excerpt, excerpt, excerpt_of}
+use Rattle.abnf_names.proofs.OwnPass.{grouped_defined}
+use Rattle.abnf_syntax.proofs.Cons.{cons_same}
+use Rattle.std.proofs.lemmas.List.Elements.{All-head, All-tail, All-cons}
 use Rattle.abnf_names.proofs.Once.{IsOnce, defined_once, members_are, map_same}
-use Rattle.abnf_parts.specs.Pushed.{AddsTrees}
-use Rattle.abnf_parts.proofs.Pushing.{trees_none, trees_both}
+use Rattle.abnf_parts.specs.Pushed.{Adds, AddsTrees}
+use Rattle.abnf_parts.proofs.Pushing.{trees_none, trees_both, trees_next}
 
 -- the alternatives of those definitions in front that count, where it is known whether one with `=` was among them
 pub record HasPushed (said : Definition → List Part) (all : List Definition) (is_defined : Bool) (left : List Definition) (old new : List Node) (before after : List ℕ) : Type 0 where
@@ -59,9 +67,6 @@ pub pushed_all : (said : Definition → List Part) (all : List Definition) (is_d
 pushed_all said all is_defined old new a c h =
     subst (λ blocks. AddsTrees (flat_map said blocks) old new a c) (sym (h.whole ∙ (ap (λ rest. h.front ++ rest) (if_empty is_defined) ∙ append-nil h.front))) h.added
 
-pub drop_next : (xs : List Definition) (i : ℕ) (x : Definition) → i < length xs → x ≡ get_or xs i x → drop i xs ≡ x ∷ drop (i + 1) xs
-drop_next xs i x lt is = drop-cons xs i x lt ∙ (ap (λ d. d ∷ drop (suc i) xs) (sym is) ∙ ap (λ k. x ∷ drop k xs) (let one : suc i ≡ i + 1 = omega arith in one))
-
 -- blocks count where what they say counts
 if_adding : (a : Bool) (bs cs : List Block) (ds es : List Definition) → ds ≡ map definition_of bs → es ≡ map definition_of cs → (if a then ds else es) ≡ map definition_of (if a then bs else cs)
 if_adding true bs cs ds es p q = p
@@ -83,37 +88,148 @@ said_of : (number : Name → Option ℕ) (bs : List Block) → flat_map (alterna
 said_of number [] = refl
 said_of number (b ∷ bs) = ap (λ ps. said_alternatives number b ++ ps) (said_of number bs)
 
--- the tree of a name's rule by the definitions that stand under it
-rule_is : (blocks : List Block) (groups : Grouped Definition) (number : Name → Option ℕ) → AreOwn blocks groups → number ≡ rule_number (names_of blocks) →
-    (n : Name) → tree_of number (members_of groups n) ≡ rule_tree blocks n
-rule_is blocks groups number own e n =
+-- the tree of a name's rule by what its blocks say
+rule_is : (blocks : List Block) (number : Name → Option ℕ) → number ≡ rule_number (names_of blocks) → (n : Name) → tree_of number (map definition_of (filter (defines n) blocks)) ≡ rule_tree blocks n
+rule_is blocks number e n =
     let bs = filter (defines n) blocks in
-    ap (λ ds. tree_of number ds) (own.members n)
-    ∙ (ap (λ ds. alt (parts (flat_map (alternatives_of number) ds))) (counted_of bs)
+    ap (λ ds. alt (parts (flat_map (alternatives_of number) ds))) (counted_of bs)
     ∙ (ap (λ ps. alt (parts ps)) (said_of number (counted bs))
-    ∙ ap (λ (it : Name → Option ℕ). alt (parts (flat_map (said_alternatives it) (counted bs)))) e))
+    ∙ ap (λ (it : Name → Option ℕ). alt (parts (flat_map (said_alternatives it) (counted bs)))) e)
 
--- the trees of the text's rules by the definitions that stand beside their names
-own_trees : (blocks : List Block) (own : List Name) (definitions : List (List Definition)) (number : Name → Option ℕ) → AreDefined blocks own definitions → number ≡ rule_number (names_of blocks) →
-    map (tree_of number) definitions ≡ map (rule_tree blocks) (defined blocks)
-own_trees blocks own definitions number are e =
-    ap (map (tree_of number)) (sym (members_are own definitions (subst IsOnce (sym are.groups.names) (defined_once blocks)) are.beside))
-    ∙ (sym (map_both (tree_of number) (members_in own definitions) own)
-    ∙ (map_same (λ n. tree_of number (members_in own definitions n)) (rule_tree blocks) (rule_is blocks (own, definitions) number are.groups e) own
-    ∙ ap (map (rule_tree blocks)) are.groups.names))
+-- ---- what sections tell
+
+pub beside_length : {A B : Type 0} (R : A → B → Type 0) (xs : List A) (ys : List B) → AreBeside R xs ys → length xs ≡ length ys
+beside_length R [] [] h = refl
+beside_length R [] (y ∷ ys) h = absurd h
+beside_length R (x ∷ xs) [] h = absurd h
+beside_length R (x ∷ xs) (y ∷ ys) h = ap suc (beside_length R xs ys h.1)
+
+pub beside_at : {A B : Type 0} (R : A → B → Type 0) (xs : List A) (ys : List B) → AreBeside R xs ys → (i : ℕ) (d : A) (e : B) → i < length xs → R (get_or xs i d) (get_or ys i e)
+beside_at R [] [] h i d e lt = absurd (omega (arith, lt))
+beside_at R [] (y ∷ ys) h i d e lt = absurd h
+beside_at R (x ∷ xs) [] h i d e lt = absurd h
+beside_at R (x ∷ xs) (y ∷ ys) h zero d e lt = h.0
+beside_at R (x ∷ xs) (y ∷ ys) h (suc i) d e lt = beside_at R xs ys h.1 i d e (omega (arith, lt))
+
+-- the next section, and the definition that it tells
+pub counted_next : (number : Name → Option ℕ) (sections : List Listed) (definitions : List Definition) (i : ℕ) (listed : Listed) (is_defined adding : Bool) (old mid new : List Node) (a b c : List ℕ) →
+    AreTold sections definitions → i < length sections → listed ≡ get_or sections i listed → adding ≡ is_addition listed.section.now.block.items → HasPushed (alternatives_of number) definitions is_defined (drop i definitions) old mid a b →
+    ((said : Result Rule SyntaxFault) → IsSaidBy listed.section.now said → AddsTrees (if adding || not is_defined then alternatives_said number said else []) mid new b c) →
+    HasPushed (alternatives_of number) definitions (is_defined || not adding) (drop (i + 1) definitions) old new a c
+counted_next number sections definitions i listed is_defined adding old mid new a b c told lt is adds h pushed =
+    let first : Definition = record { adds = adding; said = Err SyntaxFaults.Memory } in
+    let d = get_or definitions i first in
+    let tells : IsTold listed.section.now d = subst (λ (it : Listed). IsTold it.section.now d) (sym is) (beside_at (λ listed definition. IsTold listed.section.now definition) sections definitions told i listed first lt) in
+    let within : i < length definitions = subst (λ n. i < n) (beside_length (λ listed definition. IsTold listed.section.now definition) sections definitions told) lt in
+    pushed_more (alternatives_of number) definitions is_defined adding d (drop (i + 1) definitions) old mid new a b c
+    (subst (λ (left : List Definition). HasPushed (alternatives_of number) definitions is_defined left old mid a b)
+    (drop-cons definitions i first within ∙ ap (λ k. d ∷ drop k definitions) (let one : suc i ≡ i + 1 = omega arith in one)) h)
+    (adds ∙ tells.adds) (pushed d.said tells.said)
+
+pub counted_end : (number : Name → Option ℕ) (sections : List Listed) (definitions : List Definition) (i : ℕ) (is_defined : Bool) (old new : List Node) (a c : List ℕ) →
+    AreTold sections definitions → length sections ≤ i → HasPushed (alternatives_of number) definitions is_defined (drop i definitions) old new a c → AddsTrees (flat_map (alternatives_of number) (counted_among definitions)) old new a c
+counted_end number sections definitions i is_defined old new a c told end h =
+    let same = beside_length (λ listed definition. IsTold listed.section.now definition) sections definitions told in
+    pushed_all (alternatives_of number) definitions is_defined old new a c
+    (subst (λ (left : List Definition). HasPushed (alternatives_of number) definitions is_defined left old new a c) (drop_all i definitions (omega (arith, same, end))) h)
+
+-- the next name's rule
+pub own_next : (number : Name → Option ℕ) (own : List (List Listed)) (definitions : List (List Definition)) (i : ℕ) (listed : List Listed) (old mid new : List Node) (a b c : List ℕ) →
+    AllTold own definitions → i < length own → listed ≡ get_or own i listed → AddsTrees (map (tree_of number) (take i definitions)) old mid a b → c ≡ b ++ length mid ∷ [] →
+    ((said : List Definition) → AreTold listed said → Adds (subparts (tree_of number said)) mid new) → AddsTrees (map (tree_of number) (take (i + 1) definitions)) old new a c
+own_next number own definitions i listed old mid new a b c told lt is h e pushed =
+    let within : i < length definitions = subst (λ n. i < n) (beside_length AreTold own definitions told) lt in
+    let tells : AreTold listed (get_or definitions i []) = subst (λ (it : List Listed). AreTold it (get_or definitions i [])) (sym is) (beside_at AreTold own definitions told i listed [] lt) in
+    trees_next (tree_of number) definitions (get_or definitions i []) [] i old mid new a b c within refl h e (pushed (get_or definitions i []) tells)
+
+pub own_end : (number : Name → Option ℕ) (own : List (List Listed)) (definitions : List (List Definition)) (i : ℕ) (old new : List Node) (a c : List ℕ) →
+    AllTold own definitions → length own ≤ i → AddsTrees (map (tree_of number) (take i definitions)) old new a c → AddsTrees (map (tree_of number) definitions) old new a c
+own_end number own definitions i old new a c told end h =
+    let same = beside_length AreTold own definitions told in
+    subst (λ (them : List (List Definition)). AddsTrees (map (tree_of number) them) old new a c) (take_all i definitions (omega (arith, same, end))) h
+
+pub pushed_within : (at : ℕ) (old mid new : List Node) (node : Node) → at ≡ length old → mid ≡ old ++ node ∷ [] → length mid ≤ length new → at < length new
+pushed_within at old mid new node is pushed kept =
+    let count : length mid ≡ length old + 1 = ap length pushed ∙ length-append old (node ∷ []) in
+    omega (arith, is, count, kept)
+
+pub trees_kept : (trees : List Part) (old new : List Node) (before after : List ℕ) → AddsTrees trees old new before after → length old ≤ length new
+trees_kept trees old new before after h =
+    let count = ap length h.nodes.joined ∙ length-append old h.nodes.more in
+    omega (arith, count)
+
+beside_map : {X A B : Type 0} (R : A → B → Type 0) (f : X → A) (g : X → B) → ((x : X) → R (f x) (g x)) → (xs : List X) → AreBeside R (map f xs) (map g xs)
+beside_map R f g h [] = tt
+beside_map R f g h (x ∷ xs) = (h x, beside_map R f g h xs)
+
+abbrev Says_own : Block → Type 0
+Says_own block = Says block.items block.said
+
+kept_by : (b : Bool) (block : Block) (blocks kept : List Block) → Says_own block → All Says_own kept → All Says_own (if b then block ∷ kept else kept)
+kept_by true block blocks kept h rest = All-cons Says_own block kept h rest
+kept_by false block blocks kept h rest = rest
+
+says_filter : (test : Block → Bool) (blocks : List Block) → All Says_own blocks → All Says_own (filter test blocks)
+says_filter test [] h = h
+says_filter test (block ∷ blocks) h = kept_by (test block) block blocks (filter test blocks) (All-head Says_own block blocks h) (says_filter test blocks (All-tail Says_own block blocks h))
+
+-- sections tell what the blocks say whose excerpts they have
+told_by : (sections : List Listed) (blocks : List Block) → All Says_own blocks → map (λ listed. excerpt listed.section.now) sections ≡ map excerpt_of blocks → AreTold sections (map definition_of blocks)
+told_by [] [] says e = tt
+told_by [] (b ∷ blocks) says e = absurd (cc)
+told_by (s ∷ sections) [] says e = absurd (cc)
+told_by (s ∷ sections) (b ∷ blocks) says e =
+    let h = cons_same e in
+    let items : s.section.now.block.items ≡ b.items = ap (λ (x : Excerpt). x.items) h.0 in (
+      record {
+        adds = ap is_addition items;
+        said = record { says = subst (λ items. Says items b.said) (sym items) (All-head Says_own b blocks says); shown = ap (λ (x : Excerpt). x.fault) h.0 };
+      },
+      told_by sections blocks (All-tail Says_own b blocks says) h.1,
+    )
+
+filter_of : (n : Name) (blocks : List Block) → filter (defines_name n) (map excerpt_of blocks) ≡ map excerpt_of (filter (defines n) blocks)
+filter_of n [] = refl
+filter_of n (block ∷ blocks) = by (defines n block) (filter_of n blocks)
+  where
+    by : (b : Bool) → filter (defines_name n) (map excerpt_of blocks) ≡ map excerpt_of (filter (defines n) blocks)
+        → (if b then excerpt_of block ∷ filter (defines_name n) (map excerpt_of blocks) else filter (defines_name n) (map excerpt_of blocks)) ≡ map excerpt_of (if b then block ∷ filter (defines n) blocks else filter (defines n) blocks)
+    by true rest = ap (λ es. excerpt_of block ∷ es) rest
+    by false rest = rest
+
+-- what is said of a name by its blocks
+abbrev own_said : List Block → Name → List Definition
+own_said blocks n = map definition_of (filter (defines n) blocks)
+
+all_told : (blocks : List Block) (own : List Name) (sections : List (List Listed)) → AreDefined blocks own sections → AllTold sections (map (own_said blocks) own)
+all_told blocks own sections are =
+    let names = grouped_defined blocks (own, sections) are.groups in
+    subst (λ (them : List (List Listed)). AllTold them (map (own_said blocks) own)) (members_are own sections (subst IsOnce (sym names) (defined_once blocks)) are.beside)
+    (beside_map AreTold (members_in own sections) (own_said blocks)
+    (λ n. told_by (members_in own sections n) (filter (defines n) blocks) (says_filter (defines n) blocks are.says) (are.groups.members n ∙ filter_of n blocks)) own)
+
+-- the trees of the text's rules
+own_trees : (blocks : List Block) (own : List Name) (number : Name → Option ℕ) → own ≡ defined blocks → number ≡ rule_number (names_of blocks) →
+    map (tree_of number) (map (own_said blocks) own) ≡ map (rule_tree blocks) (defined blocks)
+own_trees blocks own number names e =
+    sym (map_both (tree_of number) (own_said blocks) own)
+    ∙ (map_same (λ n. tree_of number (own_said blocks n)) (rule_tree blocks) (rule_is blocks number e) own
+    ∙ ap (map (rule_tree blocks)) names)
 
 pub names_are : (blocks : List Block) (names : List Name × List Name) → AreNames blocks names → names_of blocks ≡ all_names names
 names_are blocks names are = sym (ap (λ own. own ++ names.1) are.own ∙ ap (λ core. defined blocks ++ core) are.core)
 
 -- the rules of the text, and then the core rules
-pub rules_added : (blocks : List Block) (names : List Name × List Name) (definitions : List (List Definition)) (cores : List Core) (first : ℕ) (old mid new : List Node) (a b c : List ℕ) → AreDefined blocks names.0 definitions →
+pub rules_added : (blocks : List Block) (names : List Name × List Name) (sections : List (List Listed)) (cores : List Core) (first : ℕ) (old mid new : List Node) (a b c : List ℕ) → AreDefined blocks names.0 sections →
     AreNames blocks names → first ≡ length names.0 → map core_of cores ≡ needed blocks →
-    AddsTrees (map (tree_of (rule_number (all_names names))) definitions) old mid a b → AddsTrees (map (λ core. (core_of core).tree (number_in first names.1)) cores) mid new b c → AddsTrees (rules_of blocks) old new a c
-rules_added blocks names definitions cores first old mid new a b c defined_are are f n h k =
+    ((definitions : List (List Definition)) → AllTold sections definitions → AddsTrees (map (tree_of (rule_number (all_names names))) definitions) old mid a b) →
+    AddsTrees (map (λ core. (core_of core).tree (number_in first names.1)) cores) mid new b c → AddsTrees (rules_of blocks) old new a c
+rules_added blocks names sections cores first old mid new a b c defined_are are f n h k =
     let said = tree_of (rule_number (all_names names)) in
+    let definitions = map (own_said blocks) names.0 in
     subst (λ trees. AddsTrees trees old new a c)
-    (ap (λ front. front ++ map (λ core. (core_of core).tree (number_in first names.1)) cores) (own_trees blocks names.0 definitions (rule_number (all_names names)) defined_are (ap rule_number (sym (names_are blocks names are))))
+    (ap (λ front. front ++ map (λ core. (core_of core).tree (number_in first names.1)) cores) (own_trees blocks names.0 (rule_number (all_names names)) are.own (ap rule_number (sym (names_are blocks names are))))
     ∙ ap (λ back. map (rule_tree blocks) (defined blocks) ++ back)
     (ap (λ (number : Name → Option ℕ). map (λ core. (core_of core).tree number) cores) (ap (λ k. number_in k names.1) (f ∙ ap length are.own) ∙ ap (number_in (length (defined blocks))) are.core)
     ∙ (map_both (core_tree blocks) core_of cores ∙ ap (map (core_tree blocks)) n)))
-    (trees_both (map said definitions) (map (λ core. (core_of core).tree (number_in first names.1)) cores) old mid new a b c h k)
+    (trees_both (map said definitions) (map (λ core. (core_of core).tree (number_in first names.1)) cores) old mid new a b c (h definitions (all_told blocks names.0 sections defined_are)) k)

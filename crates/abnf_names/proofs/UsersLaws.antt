@@ -135,7 +135,7 @@ leads_cases : (last : ℕ) (ps : List Part) (q : ℕ) → Contains (map (place_o
 leads_cases last ps q c = let found = map_contains (place_of_part last) ps (Some q) c in leads_by last ps q found.0 found.1 found.2
 
 module _ (trees : List Part) (nodes : List Node) (are : AreNodes trees nodes) where
-  in_parts : (rules : List Part) (r : ℕ) (root p : Part) → slice_get rules r ≡ Some root → Contains (subparts root) p → Contains (parts_of rules) p
+  pub in_parts : (rules : List Part) (r : ℕ) (root p : Part) → slice_get rules r ≡ Some root → Contains (subparts root) p → Contains (parts_of rules) p
   in_parts [] r root p e c = absurd (cc e)
   in_parts (t ∷ rules) zero root p e c = Contains-append_left (subparts t) (parts_of rules) p (subst (λ q. Contains (subparts q) p) (let same : root ≡ t = cc in same) c)
   in_parts (t ∷ rules) (suc r) root p e c = Contains-append_right (subparts t) (parts_of rules) p (in_parts rules r root p e c)

@@ -1,41 +1,94 @@
 -- What the passes over a text's blocks hold. Only contracts of private functions speak of it.
-use Rattle.std.specs.Prelude.{◌≡◌, ℕ, Bool, List, [], ◌∷◌, map, flat_map, fold, filter, find, length, Option, Result, if◌then◌else◌}
-use Rattle.std.specs.Option.{option_or}
+use Rattle.std.specs.Prelude.{◌≡◌, ℕ, Bool, List, [], ◌∷◌, All, map, flat_map, fold, filter, filter_map, find, length, Option, Some, None, option_map, Result, false, if◌then◌else◌}
+use Rattle.std.specs.Option.{option_or, option_map_or}
 use Rattle.ls_text.specs.declared.position.Place.{Place}
 use Rattle.abnf_syntax.specs.declared.item.Item.{Item}
 use Rattle.abnf_syntax.specs.declared.fault.SyntaxFault.{SyntaxFault}
 use Rattle.abnf_syntax.specs.declared.tree.Rule.{Rule}
-use Rattle.abnf_names.specs.declared.definition.Definition.{Definition}
-use Rattle.abnf_names.specs.declared.parsed.Parsed.{Parsed}
+use Rattle.abnf_names.specs.declared.section.Section.{Section}
+use Rattle.abnf_names.specs.declared.section.Listed.{Listed}
 use Rattle.abnf_names.specs.declared.place.Spot.{Spot}
 use Rattle.abnf_token.specs.Folded.{lowercase}
 use Rattle.abnf_parts.specs.Names.{Name, with_name}
 use Rattle.std.specs.Str.{bytes_eq}
-use Rattle.abnf_names.specs.Said.{Block}
+use Rattle.abnf_names.specs.Said.{Block, Says, AreSaid, name_of}
 use Rattle.abnf_names.specs.Places.{Named, named_at, holds, ends_at, places_of}
-use Rattle.abnf_names.specs.Rules.{adds, alternatives_said, defined, defines, needed, rules_of}
-use Rattle.abnf_names.specs.Excerpts.{excerpt, excerpt_of}
+use Rattle.abnf_names.specs.Rules.{adds, alternatives_said, defined, fault_place, needed, rules_of}
+use Rattle.abnf_names.specs.Excerpts.{Excerpt, excerpt, excerpt_of, fault_shown}
+use Rattle.abnf_syntax.specs.Heads.{head_of}
 use Rattle.abnf_names.specs.declared.own.NamePlaces.{NamePlaces}
 use Rattle.abnf_names.specs.declared.rules.Rules.{Rules}
 use Rattle.abnf_parts.specs.Nodes.{trees_at}
 use Rattle.abnf_parts.specs.Pushed.{AddsTrees}
 use Rattle.abnf_parts.specs.Reach.{AreReaching}
-use Rattle.abnf_parts.specs.Part.{Part, alt}
-use Rattle.abnf_parts.specs.Tree.{parts}
+use Rattle.abnf_parts.specs.Part.{Part, alt, opaque}
+use Rattle.abnf_parts.specs.Tree.{parts, alternatives}
 use Rattle.abnf_parts.specs.Core.{core_name, is_core_name}
 
-abbrev pub block_saying : List Item → Result Rule SyntaxFault → Block
-block_saying items said = record { items = items; said = said }
+-- the block shows this fault, or it says a rule and shows none
+pub record HasFault (items : List Item) (fault : Option SyntaxFault) : Type 0 where
+  pub said : Result Rule SyntaxFault
+  pub says : Says items said
+  pub shown : fault ≡ fault_shown said
 
-abbrev pub block_of : Parsed → Block
-block_of p = block_saying p.block.items p.said
+-- the blocks of a text, all of them and in order
+pub record AreSections (text : List ℕ) (sections : List Section) : Type 0 where
+  pub blocks : List Block
+  pub of_text : AreSaid text blocks
+  pub excerpts : map excerpt sections ≡ map excerpt_of blocks
 
-abbrev pub definition : Bool → Result Rule SyntaxFault → Definition
-definition adding said = record { adds = adding; said = said }
+-- the section's block says this
+pub record IsSaidBy (section : Section) (said : Result Rule SyntaxFault) : Type 0 where
+  pub says : Says section.block.items said
+  pub shown : section.fault ≡ fault_shown said
+
+-- the alternatives of a rule, or an opaque one where none is known
+abbrev pub alternatives_known : (Name → Option ℕ) → Option Rule → List Part
+alternatives_known number None = opaque ∷ []
+alternatives_known number (Some rule) = alternatives number rule.body
+
+-- both have the same alternatives
+abbrev pub AreAlike : Result Rule SyntaxFault → Option Rule → Type 0
+AreAlike said rule = (number : Name → Option ℕ) → alternatives_known number rule ≡ alternatives_said number said
+
+-- the fault of a section with its place
+abbrev pub section_fault : Section → Option (Place × SyntaxFault)
+section_fault section = shown_at section.fault
+  where
+    shown_at : Option SyntaxFault → Option (Place × SyntaxFault)
+    shown_at None = None
+    shown_at (Some fault) = option_map (λ place. (place, fault)) (fault_place fault)
+
+-- whether the items' head has `=/` behind its name
+abbrev pub is_addition : List Item → Bool
+is_addition items = option_map_or (λ head. head.adds) (head_of items) false
+
+-- whether `=/` follows the name at a block's head, and what the block says
+pub record Definition : Type 0 where
+  pub adds : Bool
+  pub said : Result Rule SyntaxFault
 
 -- of a block whether it adds to its name, and what it says
 abbrev pub definition_of : Block → Definition
-definition_of block = definition (adds block) block.said
+definition_of block = record { adds = adds block; said = block.said }
+
+-- the section's block says this of its name
+pub record IsTold (section : Section) (definition : Definition) : Type 0 where
+  pub adds : is_addition section.block.items ≡ definition.adds
+  pub said : IsSaidBy section definition.said
+
+-- the lists have the same length, and what stands side by side is related
+abbrev pub AreBeside : {A B : Type 0} → (A → B → Type 0) → List A → List B → Type 0
+AreBeside R [] [] = Unit {0}
+AreBeside R (x ∷ xs) (y ∷ ys) = R x y × AreBeside R xs ys
+AreBeside R _ _ = ⊥
+
+-- the sections' blocks say these definitions
+abbrev pub AreTold : List Listed → List Definition → Type 0
+AreTold sections definitions = AreBeside (λ listed definition. IsTold listed.section.now definition) sections definitions
+
+abbrev pub AllTold : List (List Listed) → List (List Definition) → Type 0
+AllTold own definitions = AreBeside AreTold own definitions
 
 abbrev pub is_adding : Definition → Bool
 is_adding d = d.adds
@@ -73,15 +126,23 @@ members_of groups name = members_in groups.0 groups.1 name
 abbrev pub if_same : {T : Type 0} → Name → Name → T → List T
 if_same name other item = if bytes_eq name other then item ∷ [] else []
 
--- the names that these blocks define, and under each name what its blocks say
-pub record AreOwn (blocks : List Block) (groups : Grouped Definition) : Type 0 where
-  pub names : groups.0 ≡ defined blocks
-  pub members : (name : Name) → members_of groups name ≡ map definition_of (filter (defines name) blocks)
+-- the names that excerpts define, each where it is defined first
+abbrev pub names_defined : List Excerpt → List Name
+names_defined excerpts = fold with_name [] (filter_map (λ e. option_map name_of (head_of e.items)) excerpts)
 
--- the names that these blocks define, and beside each what its blocks say
-pub record AreDefined (blocks : List Block) (own : List Name) (definitions : List (List Definition)) : Type 0 where
-  pub groups : AreOwn blocks (own, definitions)
-  pub beside : length own ≡ length definitions
+abbrev pub defines_name : Name → Excerpt → Bool
+defines_name name e = option_map_or (λ head. bytes_eq (name_of head) name) (head_of e.items) false
+
+-- the names that these excerpts define, and under each name the sections that have its excerpts
+pub record AreGrouped (excerpts : List Excerpt) (groups : Grouped Listed) : Type 0 where
+  pub names : groups.0 ≡ names_defined excerpts
+  pub members : (name : Name) → map (λ listed. excerpt listed.section.now) (members_of groups name) ≡ filter (defines_name name) excerpts
+
+-- the names that these blocks define, and beside each its sections
+pub record AreDefined (blocks : List Block) (own : List Name) (sections : List (List Listed)) : Type 0 where
+  pub says : All (λ block. Says block.items block.said) blocks
+  pub groups : AreGrouped (map excerpt_of blocks) (own, sections)
+  pub beside : length own ≡ length sections
 
 -- one more name, if a core rule has it
 abbrev pub with_core_name : List Name → Name → List Name
@@ -101,9 +162,18 @@ pub record AreNamePlaces (blocks : List Block) (found : NamePlaces) : Type 0 whe
   pub spots : map named_at found.spots ≡ places_of blocks
   pub stated : found.stated ≡ stated (map named_at found.spots)
 
--- the rules of these blocks, and the blocks without them
+-- the sections are those of these blocks, and the names stand at these places in them
+pub record AreRead (sections : List Section) (found : NamePlaces) (blocks : List Block) : Type 0 where
+  pub says : All (λ block. Says block.items block.said) blocks
+  pub excerpts : map excerpt sections ≡ map excerpt_of blocks
+  pub places : AreNamePlaces blocks found
+
+pub record HasBlocks (sections : List Section) (found : NamePlaces) : Type 0 where
+  pub blocks : List Block
+  pub are : AreRead sections found blocks
+
+-- the rules of these blocks
 pub record AreRules (blocks : List Block) (rules : Rules) : Type 0 where
   pub names : AreNames blocks rules.names
   pub nodes : AddsTrees (rules_of blocks) [] rules.nodes.items [] rules.roots.items
   pub reaching : AreReaching (trees_at rules.nodes.items rules.roots.items) rules.opaque.items
-  pub sections : map excerpt rules.sections ≡ map excerpt_of blocks

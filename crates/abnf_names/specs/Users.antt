@@ -1,6 +1,6 @@
 -- Where the parts of rules lead, and which rules lead to each place. The places are the rules, and behind them one for all opaque
 -- parts. Only contracts of private functions speak of it.
-use Rattle.std.specs.Prelude.{◌≡◌, ℕ, suc, ◌<◌, ◌≤◌, Option, Some, None, List, [], ◌∷◌, ◌++◌, map, length, slice_get, slice_set, slice_range, Contains}
+use Rattle.std.specs.Prelude.{◌≡◌, Bool, true, false, ℕ, suc, ◌<◌, ◌≤◌, Option, Some, None, List, [], ◌∷◌, ◌++◌, map, length, slice_get, slice_set, slice_range, Contains}
 use Rattle.abnf_parts.specs.declared.node.Node.{Node}
 use Rattle.abnf_parts.specs.declared.node.Node.TheVariants.{Ref, Opaque}
 use Rattle.abnf_parts.specs.Part.{Part, ref, opaque, subparts, root_number}
@@ -17,6 +17,11 @@ abbrev pub place_of_node : ℕ → Node → Option ℕ
 place_of_node last (Ref name rule) = rule
 place_of_node last Opaque = Some last
 place_of_node last _ = None
+
+-- the node is neither prose nor a faulty block
+abbrev pub is_clear : Node → Bool
+is_clear Opaque = false
+is_clear _ = true
 
 -- a part of rule r leads to the place
 abbrev pub LeadsTo : List Part → ℕ → ℕ → Type 0

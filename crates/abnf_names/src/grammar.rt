@@ -11,10 +11,9 @@ ghost use Rattle.abnf_names.specs.Rules.{IsGrammar, defined};
 ghost use Rattle.abnf_names.specs.Excerpts.{HasSections};
 
 use crate::own::{faults_of, name_places};
-use crate::parsed::parsed_blocks;
 use crate::place::{NamePlace, Spot, found_at, places_called};
 use crate::rules::rules_said;
-use crate::section::Section;
+use crate::section::{Section, sections_of};
 use abnf_parts::{Node, NodeNo, RuleNames, RuleNo};
 use abnf_syntax::SyntaxFault;
 use abnf_token::Folded;
@@ -70,10 +69,10 @@ impl<'t> Grammar<'t> {
         ensures text { IfOk result (λ g. g.text ≡ snapshot.entry.now) }
         ensures grammar { IfOk result IsGrammar }
     {
-        let parsed = parsed_blocks(alloc, snapshot)?;
-        let faults = faults_of(alloc, parsed.as_slice())?;
-        let places = name_places(alloc, parsed.as_slice())?;
-        let rules = rules_said(alloc, parsed, &places)?;
+        let sections = sections_of(alloc, snapshot)?;
+        let faults = faults_of(alloc, sections.as_slice())?;
+        let places = name_places(alloc, sections.as_slice())?;
+        let rules = rules_said(alloc, sections.as_slice(), &places)?;
         Ok(Grammar {
             source: snapshot,
             nodes: rules.nodes,
@@ -82,7 +81,7 @@ impl<'t> Grammar<'t> {
             spots: places.spots,
             faults,
             opaque: rules.opaque,
-            sections: rules.sections,
+            sections,
         })
     }
 

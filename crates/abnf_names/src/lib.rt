@@ -5,12 +5,10 @@
 //! looks through all names. [`Places::of`] reads the places alone. A text has at most one grammar ([`grammars_are_unique`]).
 #![tactic(auto)]
 
-mod definition;
 mod grammar;
 mod groups;
 mod laws;
 mod own;
-mod parsed;
 mod place;
 mod places;
 mod reach;

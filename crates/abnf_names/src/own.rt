@@ -1,64 +1,50 @@
 //! The names of a text: those that its blocks define, and those that stand in it.
 
-ghost use Rattle.std.specs.Prelude.{◌≡◌, ◌++◌, ◌∷◌, [], List, map, IfOk, OnOk};
+ghost use Rattle.std.specs.Prelude.{◌≡◌, ◌++◌, ◌∷◌, [], List, map, filter_map, IfOk, OnOk};
 ghost use Rattle.abnf_parts.specs.Names.{folded_text};
 ghost use Rattle.abnf_names.specs.Said as said;
-ghost use Rattle.abnf_names.specs.Rules.{defined, needed, faults_of, fault_place, block_fault};
-ghost use Rattle.abnf_names.specs.Places.{named_at, places_of};
+ghost use Rattle.abnf_names.specs.Rules.{defined, needed, fault_place};
+ghost use Rattle.abnf_names.specs.Places.{named_at};
 ghost use Rattle.abnf_names.specs.Passes as spec;
 ghost use Rattle.abnf_names.specs.Excerpts as excerpts;
 ghost use Rattle.abnf_parts.specs.CoreTable as table;
 
-use crate::definition::Definition;
 use crate::groups::Groups;
-use crate::parsed::Parsed;
 use crate::place::{Spot, places_of};
-use crate::section::{Section, fault_shown};
+use crate::section::{Listed, Section};
 use abnf_parts::{Core, Names, RuleNames, core_names, is_core_name, needed_rules};
-use abnf_syntax::{Block, Rule, SyntaxFault};
+use abnf_syntax::SyntaxFault;
 use abnf_token::Folded;
 use ls_lists::List;
 use ls_text::Place;
 use std::alloc::{AllocError, Global};
 
-/// What a block says under the name that it defines, if it defines one.
-fn with_block<'t>(
+/// One more section under the name that its block defines, if it defines one.
+fn with_section<'s, 't>(
     alloc: Global,
-    groups: Groups<'t, Definition<'t>>,
-    block: &Block<'t>,
-    rule: Result<Rule<'t>, SyntaxFault>,
-) -> Result<Groups<'t, Definition<'t>>, AllocError>
-    ensures { IfOk result (λ g. (blocks : List said.Block) → spec.AreOwn blocks groups.entry → spec.AreOwn (blocks ++ spec.block_saying block.now.items rule.entry ∷ []) g) }
+    groups: Groups<'t, Listed<'s, 't>>,
+    section: &'s Section<'t>,
+) -> Result<Groups<'t, Listed<'s, 't>>, AllocError>
+    ensures { IfOk result (λ g. (seen : List excerpts.Excerpt) → spec.AreGrouped seen groups.entry → spec.AreGrouped (seen ++ excerpts.excerpt section.now ∷ []) g) }
 {
-    match block.head() {
-        Some(head) => {
-            let definition = Definition {
-                adds: head.adds,
-                said: rule,
-            };
-            groups.with(alloc, Folded(head.name.text), definition)
-        }
+    match section.block.head() {
+        Some(head) => groups.with(alloc, Folded(head.name.text), Listed { section }),
         None => Ok(groups),
     }
 }
 
-/// The names that the blocks define with what its blocks say under each, and the blocks without their rules.
-pub(crate) fn own_groups<'t>(
+/// The names that the blocks define, and under each the sections of its blocks.
+pub(crate) fn own_groups<'s, 't>(
     alloc: Global,
-    parsed: Vec<Parsed<'t>>,
-) -> Result<(Groups<'t, Definition<'t>>, List<Section<'t>>), AllocError>
-    ensures own { IfOk result (λ r. spec.AreOwn (map spec.block_of parsed.entry.items) r.0) }
-    ensures sections { IfOk result (λ r. map excerpts.excerpt r.1 ≡ map excerpts.excerpt_of (map spec.block_of parsed.entry.items)) }
+    sections: &'s [Section<'t>],
+) -> Result<Groups<'t, Listed<'s, 't>>, AllocError>
+    ensures { IfOk result (λ g. spec.AreGrouped (map excerpts.excerpt sections.now) g) }
 {
     let mut groups = Groups::new(alloc);
-    let mut sections = List::new(alloc);
-    for p in parsed {
-        let Parsed { block, said } = p;
-        let fault = fault_shown(&said);
-        groups = with_block(alloc, groups, &block, said)?;
-        sections.push(Section { block, fault })?;
+    for section in sections {
+        groups = with_section(alloc, groups, section)?;
     }
-    Ok((groups, sections))
+    Ok(groups)
 }
 
 /// Adds a name that a core rule has, unless it is there.
@@ -92,11 +78,11 @@ pub(crate) struct NamePlaces<'t> {
 /// The places of the names in these blocks.
 pub(crate) fn name_places<'t>(
     alloc: Global,
-    parsed: &[Parsed<'t>],
+    sections: &[Section<'t>],
 ) -> Result<NamePlaces<'t>, AllocError>
-    ensures { IfOk result (λ found. spec.AreNamePlaces (map spec.block_of parsed.now) found) }
+    ensures { IfOk result (λ found. (blocks : List said.Block) → map excerpts.excerpt sections.now ≡ map excerpts.excerpt_of blocks → spec.AreNamePlaces blocks found) }
 {
-    let spots = places_of(alloc, parsed)?;
+    let spots = places_of(alloc, sections)?;
     let stated = core_names_stated(alloc, spots.as_slice())?;
     Ok(NamePlaces { spots, stated })
 }
@@ -132,29 +118,29 @@ fn fault_place(fault: SyntaxFault) -> Option<Place>
     }
 }
 
-/// The fault of a block with its place.
-fn fault_of(parsed: &Parsed<'_>) -> Option<(Place, SyntaxFault)>
-    ensures { result ≡ block_fault (spec.block_of parsed.now) }
+/// The fault of a section with its place.
+fn fault_of(section: &Section<'_>) -> Option<(Place, SyntaxFault)>
+    ensures { result ≡ spec.section_fault section.now }
 {
-    match parsed.said {
-        Ok(_) => None,
-        Err(fault) => match fault_place(fault) {
+    match section.fault {
+        Some(fault) => match fault_place(fault) {
             Some(place) => Some((place, fault)),
             None => None,
         },
+        None => None,
     }
 }
 
-/// The faults of the blocks, each with its place.
+/// The faults of the sections, each with its place.
 pub(crate) fn faults_of(
     alloc: Global,
-    parsed: &[Parsed<'_>],
+    sections: &[Section<'_>],
 ) -> Result<List<(Place, SyntaxFault)>, AllocError>
-    ensures { IfOk result (λ faults. faults ≡ faults_of (map spec.block_of parsed.now)) }
+    ensures { IfOk result (λ faults. faults ≡ filter_map spec.section_fault sections.now) }
 {
     let mut faults = List::new(alloc);
-    for p in parsed {
-        if let Some(fault) = fault_of(p) {
+    for section in sections {
+        if let Some(fault) = fault_of(section) {
             faults.push(fault)?;
         }
     }

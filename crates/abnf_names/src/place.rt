@@ -1,11 +1,11 @@
 //! The places of names.
 
-ghost use Rattle.std.specs.Prelude.{◌≡◌, ◌++◌, map, find, option_map, IfOk, OnOk};
+ghost use Rattle.std.specs.Prelude.{◌≡◌, ◌++◌, map, flat_map, find, option_map, IfOk, OnOk};
 ghost use Rattle.abnf_names.specs.Places as places;
 ghost use Rattle.abnf_names.specs.Passes as spec;
 ghost use Rattle.abnf_parts.specs.Names.{folded_text};
 
-use crate::parsed::Parsed;
+use crate::section::Section;
 use abnf_syntax::{Block, Item, place_of};
 use abnf_token::{Folded, Kind};
 use ls_lists::List;
@@ -91,13 +91,13 @@ pub(crate) fn push_places<'t>(
 /// The places in a text.
 pub(crate) fn places_of<'t>(
     alloc: Global,
-    parsed: &[Parsed<'t>],
+    sections: &[Section<'t>],
 ) -> Result<List<Spot<'t>>, AllocError>
-    ensures { IfOk result (λ spots. map places.named_at spots ≡ places.places_of (map spec.block_of parsed.now)) }
+    ensures { IfOk result (λ spots. map places.named_at spots ≡ flat_map (λ section. places.places_in section.block.items) sections.now) }
 {
     let mut spots = List::new(alloc);
-    for p in parsed {
-        push_places(&mut spots, &p.block)?;
+    for section in sections {
+        push_places(&mut spots, &section.block)?;
     }
     Ok(spots)
 }

@@ -3,7 +3,8 @@
 //! The search goes against the direction of uses, from one place that stands for all opaque parts, and takes each rule once. Places
 //! are the numbers of the rules, and behind them the number of rules for the opaque parts.
 
-ghost use Rattle.std.specs.Prelude.{◌≡◌, ℕ, ◌<◌, ◌+◌, suc, map, fold, length, slice_get, slice_index_or, IfOk, IfSome, OnOk, OnErr, OnSome, IsTrue, ◌↔◌, Contains, Some, [], false};
+ghost use Rattle.std.specs.Prelude.{◌≡◌, ℕ, ◌<◌, ◌+◌, suc, map, fold, length, replicate, slice_get, slice_index_or, IfOk, IfSome, OnOk, OnErr, OnSome, IsTrue, ◌↔◌, Contains, Some, [], false};
+ghost use Rattle.std.specs.List.{list_all};
 ghost use Rattle.std.specs.Option.{ForSome};
 ghost use Rattle.abnf_parts.specs.Part.{root_number};
 ghost use Rattle.abnf_parts.specs.Nodes.{AreNumbered, trees_at};
@@ -211,8 +212,8 @@ fn users_of(
     Ok(users)
 }
 
-/// For each rule whether it leads to prose or to a faulty block.
-pub(crate) fn reaching(
+/// For each rule whether it leads to prose or to a faulty block, by the uses of all rules.
+fn reaching_by_uses(
     alloc: Global,
     nodes: &[Node<'_>],
     roots: &[NodeNo],
@@ -224,4 +225,44 @@ pub(crate) fn reaching(
     let mut marks = marks_of(alloc, users.as_slice())?;
     marks.pop();
     Ok(marks)
+}
+
+/// Whether a node is neither prose nor a faulty block.
+fn is_clear(node: &Node<'_>) -> bool
+    ensures { result ≡ spec.is_clear node.now }
+{
+    match node {
+        Node::Opaque => false,
+        _ => true,
+    }
+}
+
+/// Whether no node is prose or a faulty block.
+fn are_clear(nodes: &[Node<'_>]) -> bool
+    ensures { result ≡ list_all spec.is_clear nodes.now }
+{
+    nodes.iter().all(|node| is_clear(node))
+}
+
+/// No mark for each of so many rules.
+fn no_marks(alloc: Global, count: usize) -> Result<Vec<bool>, AllocError>
+    ensures { IfOk result (λ marks. marks.items ≡ replicate count false) }
+{
+    vec![in alloc; false; count]
+}
+
+/// For each rule whether it leads to prose or to a faulty block. Uses are looked at only where there is such a part.
+pub(crate) fn reaching(
+    alloc: Global,
+    nodes: &[Node<'_>],
+    roots: &[NodeNo],
+) -> Result<Vec<bool>, AllocError>
+    requires { AreNumbered nodes.now roots.now }
+    ensures { IfOk result (λ marks. AreReaching (trees_at nodes.now roots.now) marks.items) }
+{
+    if are_clear(nodes) {
+        no_marks(alloc, roots.len())
+    } else {
+        reaching_by_uses(alloc, nodes, roots)
+    }
 }

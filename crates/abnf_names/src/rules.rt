@@ -1,6 +1,8 @@
 //! The nodes of the rules.
 
-ghost use Rattle.std.specs.Prelude.{◌≡◌, List, [], map, if◌then◌else◌, flat_map, IfOk, OnOk};
+ghost use Rattle.std.specs.Prelude.{◌≡◌, ◌≤◌, length, List, [], map, if◌then◌else◌, flat_map, Result, IfOk, OnOk};
+ghost use Rattle.abnf_syntax.specs.declared.fault.SyntaxFault.{SyntaxFault};
+ghost use Rattle.abnf_syntax.specs.declared.tree.Rule.{Rule};
 ghost use Rattle.abnf_parts.specs.Part.{subparts, alt};
 ghost use Rattle.abnf_parts.specs.Tree.{parts};
 ghost use Rattle.abnf_parts.specs.Names.{all_names, rule_number};
@@ -10,28 +12,27 @@ ghost use Rattle.abnf_names.specs.Passes as spec;
 ghost use Rattle.abnf_parts.specs.CoreTable as table;
 ghost use Rattle.abnf_parts.specs.Pushed.{Adds, AddsTrees};
 
-use crate::definition::Definition;
 use crate::own::{NamePlaces, own_groups, rule_names};
-use crate::parsed::Parsed;
 use crate::reach::reaching;
-use crate::section::Section;
+use crate::section::{Listed, Section, rule_of};
 use abnf_parts::{Core, Node, NodeNo, RuleNames, fill, push_concatenations, push_needed};
-use abnf_syntax::MAX_NESTING;
+use abnf_syntax::{MAX_NESTING, Rule};
 use ls_lists::List;
 use std::alloc::{AllocError, Global};
 
-/// The alternatives that a definition says, whose numbers are added to `numbers`.
-fn push_alternatives<'t>(
+/// The alternatives of a rule, or the opaque one where none is known, whose numbers are added to `numbers`.
+fn push_known<'t>(
     alloc: Global,
     names: &RuleNames<'t>,
-    definition: &Definition<'t>,
+    rule: &Option<Rule<'t>>,
     nodes: &mut Vec<Node<'t>>,
     numbers: &mut List<NodeNo>,
 ) -> Result<(), AllocError>
-    ensures { OnOk result (AddsTrees (spec.alternatives_of (rule_number (all_names names.now)) definition.now) nodes.old.items nodes.new.items numbers.old numbers.new) }
+    ensures alternatives { OnOk result (AddsTrees (spec.alternatives_known (rule_number (all_names names.now)) rule.now) nodes.old.items nodes.new.items numbers.old numbers.new) }
+    ensures kept { OnOk result (length nodes.old.items ≤ length nodes.new.items) }
 {
-    match &definition.said {
-        Ok(rule) => push_concatenations(
+    match rule {
+        Some(rule) => push_concatenations(
             alloc,
             names,
             MAX_NESTING,
@@ -39,7 +40,7 @@ fn push_alternatives<'t>(
             nodes,
             numbers,
         ),
-        Err(_) => {
+        None => {
             numbers.push(NodeNo::new(nodes.len()))?;
             nodes.push(Node::Opaque)?;
             Ok(())
@@ -47,82 +48,121 @@ fn push_alternatives<'t>(
     }
 }
 
-/// The same if the definition counts.
+/// The alternatives that a section's block says, whose numbers are added to `numbers`.
+fn push_alternatives<'t>(
+    alloc: Global,
+    names: &RuleNames<'t>,
+    section: &Section<'t>,
+    nodes: &mut Vec<Node<'t>>,
+    numbers: &mut List<NodeNo>,
+) -> Result<(), AllocError>
+    ensures alternatives { OnOk result ((tells : Result Rule SyntaxFault) → spec.IsSaidBy section.now tells
+        → AddsTrees (rules.alternatives_said (rule_number (all_names names.now)) tells) nodes.old.items nodes.new.items numbers.old numbers.new) }
+    ensures kept { OnOk result (length nodes.old.items ≤ length nodes.new.items) }
+{
+    let rule = rule_of(alloc, section)?;
+    push_known(alloc, names, &rule, nodes, numbers)
+}
+
+/// The same if the section counts.
 fn push_if<'t>(
     alloc: Global,
     counts: bool,
     names: &RuleNames<'t>,
-    definition: &Definition<'t>,
+    section: &Section<'t>,
     nodes: &mut Vec<Node<'t>>,
     numbers: &mut List<NodeNo>,
 ) -> Result<(), AllocError>
-    ensures { OnOk result (AddsTrees (if counts then spec.alternatives_of (rule_number (all_names names.now)) definition.now else []) nodes.old.items nodes.new.items numbers.old numbers.new) }
+    ensures alternatives { OnOk result ((tells : Result Rule SyntaxFault) → spec.IsSaidBy section.now tells
+        → AddsTrees (if counts then rules.alternatives_said (rule_number (all_names names.now)) tells else []) nodes.old.items nodes.new.items numbers.old numbers.new) }
+    ensures kept { OnOk result (length nodes.old.items ≤ length nodes.new.items) }
 {
     if counts {
-        push_alternatives(alloc, names, definition, nodes, numbers)
+        push_alternatives(alloc, names, section, nodes, numbers)
     } else {
         Ok(())
     }
 }
 
-/// The alternatives that those of a name's definitions say which count, whose numbers are added to `numbers`.
-fn push_counted<'t>(
+/// Whether `=/` follows the name at the head of a section's block.
+fn adds(section: &Section<'_>) -> bool
+    ensures { result ≡ spec.is_addition section.now.block.items }
+{
+    match section.block.head() {
+        Some(head) => head.adds,
+        None => false,
+    }
+}
+
+/// The alternatives that those of a name's sections say which count, whose numbers are added to `numbers`.
+fn push_counted<'s, 't>(
     alloc: Global,
     names: &RuleNames<'t>,
-    definitions: &[Definition<'t>],
+    sections: &[Listed<'s, 't>],
     nodes: &mut Vec<Node<'t>>,
     numbers: &mut List<NodeNo>,
 ) -> Result<(), AllocError>
-    ensures { OnOk result (AddsTrees (flat_map (spec.alternatives_of (rule_number (all_names names.now))) (spec.counted_among definitions.now)) nodes.old.items nodes.new.items numbers.old numbers.new) }
+    ensures alternatives { OnOk result ((definitions : List spec.Definition) → spec.AreTold sections.now definitions
+        → AddsTrees (flat_map (spec.alternatives_of (rule_number (all_names names.now))) (spec.counted_among definitions)) nodes.old.items nodes.new.items numbers.old numbers.new) }
+    ensures kept { OnOk result (length nodes.old.items ≤ length nodes.new.items) }
 {
     let mut is_defined = false;
-    for definition in definitions {
-        let counts = definition.adds | !is_defined;
-        push_if(alloc, counts, names, definition, nodes, numbers)?;
-        is_defined = is_defined | !definition.adds;
+    for listed in sections {
+        let adds = adds(listed.section);
+        push_if(
+            alloc,
+            adds | !is_defined,
+            names,
+            listed.section,
+            nodes,
+            numbers,
+        )?;
+        is_defined = is_defined | !adds;
     }
     Ok(())
 }
 
-/// The rule whose name has these definitions.
-fn push_rule<'t>(
+/// The rule whose name has these sections.
+fn push_rule<'s, 't>(
     alloc: Global,
     names: &RuleNames<'t>,
-    definitions: &[Definition<'t>],
+    sections: &[Listed<'s, 't>],
     nodes: &mut Vec<Node<'t>>,
 ) -> Result<(), AllocError>
-    ensures { OnOk result (Adds (subparts (spec.tree_of (rule_number (all_names names.now)) definitions.now)) nodes.old.items nodes.new.items) }
+    ensures { OnOk result ((definitions : List spec.Definition) → spec.AreTold sections.now definitions
+        → Adds (subparts (spec.tree_of (rule_number (all_names names.now)) definitions)) nodes.old.items nodes.new.items) }
 {
     let at = nodes.len();
     let mut numbers = List::new(alloc);
     nodes.push(Node::Opaque)?;
-    push_counted(alloc, names, definitions, nodes, &mut numbers)?;
+    push_counted(alloc, names, sections, nodes, &mut numbers)?;
     fill(nodes, at, Node::Alt(numbers));
     Ok(())
 }
 
-/// The rules of the text, by the definitions of each, whose roots' numbers are added to `roots`.
-fn push_own<'t>(
+/// The rules of the text, by the sections of each, whose roots' numbers are added to `roots`.
+fn push_own<'s, 't>(
     alloc: Global,
     names: &RuleNames<'t>,
-    own: &[List<Definition<'t>>],
+    own: &[List<Listed<'s, 't>>],
     nodes: &mut Vec<Node<'t>>,
     roots: &mut List<NodeNo>,
 ) -> Result<(), AllocError>
-    ensures { OnOk result (AddsTrees (map (spec.tree_of (rule_number (all_names names.now))) own.now) nodes.old.items nodes.new.items roots.old roots.new) }
+    ensures { OnOk result ((definitions : List (List spec.Definition)) → spec.AllTold own.now definitions
+        → AddsTrees (map (spec.tree_of (rule_number (all_names names.now))) definitions) nodes.old.items nodes.new.items roots.old roots.new) }
 {
-    for definitions in own {
+    for sections in own {
         roots.push(NodeNo::new(nodes.len()))?;
-        push_rule(alloc, names, definitions.as_slice(), nodes)?;
+        push_rule(alloc, names, sections.as_slice(), nodes)?;
     }
     Ok(())
 }
 
 /// All rules, those of the text first.
-fn push_rules<'t>(
+fn push_rules<'s, 't>(
     alloc: Global,
     names: &RuleNames<'t>,
-    own: &[List<Definition<'t>>],
+    own: &[List<Listed<'s, 't>>],
     needed: &[Core],
     nodes: &mut Vec<Node<'t>>,
     roots: &mut List<NodeNo>,
@@ -134,10 +174,10 @@ fn push_rules<'t>(
 }
 
 /// The nodes of all rules, and the numbers of their roots.
-fn numbered_rules<'t>(
+fn numbered_rules<'s, 't>(
     alloc: Global,
     names: &RuleNames<'t>,
-    own: &[List<Definition<'t>>],
+    own: &[List<Listed<'s, 't>>],
     needed: &[Core],
 ) -> Result<(Vec<Node<'t>>, Vec<NodeNo>), AllocError>
     ensures { IfOk result (λ r. (blocks : List said.Block) → spec.AreDefined blocks names.now.0 own.now → spec.AreNames blocks names.now → map table.core_of needed.now ≡ rules.needed blocks → AddsTrees (rules.rules_of blocks) [] r.0.items [] r.1.items) }
@@ -148,36 +188,33 @@ fn numbered_rules<'t>(
     Ok((nodes, roots.into_vec()))
 }
 
-/// The rules of a text: their names, nodes and roots, and for each whether it leads to prose or to a faulty block; and beside them the
-/// blocks without their rules.
+/// The rules of a text: their names, nodes and roots, and for each whether it leads to prose or to a faulty block.
 #[derive(Drop)]
 pub(crate) struct Rules<'t> {
     pub names: RuleNames<'t>,
     pub nodes: Vec<Node<'t>>,
     pub roots: Vec<NodeNo>,
     pub opaque: Vec<bool>,
-    pub sections: List<Section<'t>>,
 }
 
-/// The rules of these blocks, in which the names stand at these places.
+/// The rules that these sections say, in which the names stand at these places.
 pub(crate) fn rules_said<'t>(
     alloc: Global,
-    parsed: Vec<Parsed<'t>>,
+    sections: &[Section<'t>],
     places: &NamePlaces<'t>,
 ) -> Result<Rules<'t>, AllocError>
-    requires { spec.AreNamePlaces (map spec.block_of parsed.items) places.now }
-    ensures { IfOk result (λ r. spec.AreRules (map spec.block_of parsed.entry.items) r) }
+    requires { spec.HasBlocks sections.now places.now }
+    ensures { IfOk result (λ r. (blocks : List said.Block) → spec.AreRead sections.now places.now blocks → spec.AreRules blocks r) }
 {
-    let (groups, sections) = own_groups(alloc, parsed)?;
-    let (own, definitions) = groups.into_parts();
+    let groups = own_groups(alloc, sections)?;
+    let (own, members) = groups.into_parts();
     let (names, needed) = rule_names(alloc, own, places)?;
-    let (nodes, roots) = numbered_rules(alloc, &names, definitions.as_slice(), needed.as_slice())?;
+    let (nodes, roots) = numbered_rules(alloc, &names, members.as_slice(), needed.as_slice())?;
     let opaque = reaching(alloc, nodes.as_slice(), roots.as_slice())?;
     Ok(Rules {
         names,
         nodes,
         roots,
         opaque,
-        sections,
     })
 }

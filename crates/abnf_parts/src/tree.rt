@@ -65,6 +65,7 @@ pub fn push_concatenations<'t>(
 ) -> Result<(), AllocError>
     ensures { OnOk result (AddsTrees (map (concatenation_part (rule_number (all_names names.now)) (tree_inside (rule_number (all_names names.now)) room)) alternation.now) nodes.old.items nodes.new.items numbers.old numbers.new) }
 {
+    numbers.reserve(alternation.len())?;
     for concatenation in alternation {
         numbers.push(NodeNo::new(nodes.len()))?;
         push_concatenation(alloc, names, room, concatenation.as_slice(), nodes)?;
@@ -106,6 +107,7 @@ fn push_repetitions<'t>(
 ) -> Result<(), AllocError>
     ensures { OnOk result (AddsTrees (map (repetition_part (rule_number (all_names names.now)) (tree_inside (rule_number (all_names names.now)) room)) concatenation.now) nodes.old.items nodes.new.items numbers.old numbers.new) }
 {
+    numbers.reserve(concatenation.len())?;
     for repetition in concatenation {
         numbers.push(NodeNo::new(nodes.len()))?;
         push_repetition(alloc, names, room, repetition, nodes)?;

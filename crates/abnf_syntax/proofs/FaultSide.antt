@@ -33,7 +33,7 @@ close_last : (os : List Opened) (l : Level) (item : Item) → (close_in os l ite
 close_last [] l item = refl
 close_last (o ∷ os) l item = refl
 
-shift_brackets : (kind : Kind) (s : State) (item : Item) → brackets (shift_by kind s item).outer ≡ (if opens kind then item.token ∷ brackets s.outer else (if closes kind then without_first (brackets s.outer) else brackets s.outer))
+pub shift_brackets : (kind : Kind) (s : State) (item : Item) → brackets (shift_by kind s item).outer ≡ (if opens kind then item.token ∷ brackets s.outer else (if closes kind then without_first (brackets s.outer) else brackets s.outer))
 shift_brackets k.Name s item = refl
 shift_brackets k.Defines s item = refl
 shift_brackets k.Adds s item = refl
@@ -50,7 +50,7 @@ shift_brackets k.Comment s item = refl
 shift_brackets k.Blank s item = refl
 shift_brackets k.Bad s item = refl
 
-shift_last : (kind : Kind) (s : State) (item : Item) → (shift_by kind s item).last ≡ item
+pub shift_last : (kind : Kind) (s : State) (item : Item) → (shift_by kind s item).last ≡ item
 shift_last k.ParenR s item = close_last s.outer s.level item
 shift_last k.BracketR s item = close_last s.outer s.level item
 shift_last k.Name s item = refl

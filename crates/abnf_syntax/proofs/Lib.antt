@@ -15,3 +15,4 @@ pub mod Bare
 pub mod Exist
 pub mod Early
 pub mod Cons
+pub mod CheckLaws

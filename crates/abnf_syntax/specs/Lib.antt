@@ -2,6 +2,7 @@ pub mod Kinds
 pub mod Numbers
 pub mod Grammar
 pub mod Faults
+pub mod Check
 pub mod Machine
 pub mod Fitting
 pub mod Blocks

@@ -8,9 +8,10 @@ ghost use Rattle.abnf_syntax.specs.declared.tree.Rule.{Rule};
 
 use crate::block::Block;
 use crate::fault::SyntaxFault;
+use crate::heading::Heading;
 use crate::item::Item;
-use crate::kinds::{is_adds, is_defined_as, is_name};
-use crate::parser::{body_of, place_after, place_of};
+use crate::kinds::is_adds;
+use crate::parser::body_of;
 use crate::tree::Rule;
 use std::alloc::Global;
 
@@ -20,22 +21,11 @@ fn parsed<'t>(alloc: Global, items: &[Item<'t>]) -> Result<Rule<'t>, SyntaxFault
     ensures gives { spec.GivesRule result (spec.parse items.now) }
     ensures early { (fault : SyntaxFault) → spec.early items.now ≡ Some fault → result ≡ Err fault }
 {
-    let Some((head, rest)) = items.split_first() else {
-        unreachable!()
-    };
-    if !is_name(head.token.kind) {
-        return Err(SyntaxFault::NoName(place_of(head.token)));
-    }
-    let Some((defined, body)) = rest.split_first() else {
-        return Err(SyntaxFault::NoDefinedAs(place_after(head.token)));
-    };
-    if !is_defined_as(defined.token.kind) {
-        return Err(SyntaxFault::NoDefinedAs(place_of(defined.token)));
-    }
-    let body = body_of(alloc, *defined, body)?;
+    let heading = Heading::of(items)?;
+    let body = body_of(alloc, heading.defined, heading.body)?;
     Ok(Rule {
-        name: head.token,
-        adds: is_adds(defined.token.kind),
+        name: heading.head.token,
+        adds: is_adds(heading.defined.token.kind),
         body,
     })
 }

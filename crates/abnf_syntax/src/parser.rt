@@ -1,25 +1,17 @@
 //! The parser: a stack of the brackets that are open, which takes one item after another.
 
 ghost use Rattle.std.specs.Prelude.{◌≡◌, ◌⊎◌, ◌∷◌, [], reverse, length, Some, IfOk, IfErr, OnOk, Err};
-ghost use Rattle.abnf_syntax.specs.Faults.{place_of, place_after, first_of, is_followed};
+ghost use Rattle.abnf_syntax.specs.Faults.{first_of};
 ghost use Rattle.abnf_syntax.specs.Machine as spec;
 
 use crate::fault::SyntaxFault;
 use crate::item::Item;
-use crate::kinds::{
-    begins_element, closes, closes_it, ends_element, is_bad, is_defined_as, is_repeat,
-    needs_element, opens,
-};
-use crate::number::numbers_fit;
+use crate::table::Front;
 use crate::tree::{Alternation, Concatenation, Element, Repetition};
 use abnf_token::{Kind, Token};
 use ls_lists::List;
-use ls_text::Place;
 use std::alloc::{AllocError, Global};
 use std::mem;
-
-/// How deep groups and options may nest.
-pub const MAX_NESTING: usize = 64;
 
 /// What stands between two brackets so far: the concatenations that a slash ended, the repetitions
 /// since, and a repeat that waits for its element.
@@ -84,12 +76,15 @@ impl<'t> Level<'t> {
         self.repeat = Some(repeat);
     }
 
-    /// A slash ends the concatenation.
+    /// A slash ends the concatenation. The first that one ends gets room for the next beside it, since one follows.
     fn bar(&mut self, alloc: Global) -> Result<(), AllocError>
         ensures { OnOk result (self.new ≡ spec.barred self.old) }
     {
         let row = mem::replace(&mut self.row, List::new(alloc));
         self.repeat = None;
+        if self.done.is_empty() {
+            self.done.reserve(2)?;
+        }
         self.done.push(row)
     }
 
@@ -104,29 +99,6 @@ impl<'t> Level<'t> {
         } = self;
         done.push(row)?;
         Ok(done)
-    }
-}
-
-/// The place of a token: its line, and the bytes of its text there.
-pub fn place_of<'t>(token: Token<'t>) -> Place
-    ensures { result ≡ place_of token.entry }
-{
-    Place {
-        line: token.line,
-        start: token.start,
-        end: token.start + token.text.len(),
-    }
-}
-
-/// The empty place behind a token.
-pub(crate) fn place_after<'t>(token: Token<'t>) -> Place
-    ensures { result ≡ place_after token.entry }
-{
-    let end = token.start + token.text.len();
-    Place {
-        line: token.line,
-        start: end,
-        end,
     }
 }
 
@@ -148,16 +120,6 @@ fn depth<'t>(outer: &List<Opened<'t>>) -> usize
     ensures { result ≡ length (spec.brackets (reverse outer.now)) }
 {
     outer.len()
-}
-
-/// Whether an element follows at once.
-fn is_followed(rest: &[Item<'_>]) -> bool
-    ensures { result ≡ is_followed rest.now }
-{
-    match rest.first() {
-        None => false,
-        Some(next) => begins_element(next.token.kind) && !next.apart,
-    }
 }
 
 impl<'t> Parser<'t> {
@@ -220,64 +182,33 @@ impl<'t> Parser<'t> {
         }
     }
 
-    /// The fault that the end shows.
-    #[tactic(auto, unfolding(crate::specs::Machine::fault_at))]
-    fn end_fault(&self) -> Option<SyntaxFault>
-        ensures { result ≡ spec.fault_at (spec.state_of self.now) [] }
+    /// What the table of faults looks at.
+    fn front(&self) -> Front<'t>
+        ensures { result ≡ record {
+          inner = first_of (spec.brackets (reverse self.now.outer));
+          depth = length (spec.brackets (reverse self.now.outer));
+          last = self.now.last;
+        } }
     {
-        let last = self.last.token;
-        if needs_element(last.kind) {
-            return Some(SyntaxFault::ElementExpected(place_after(last)));
-        }
-        let bracket = innermost(&self.outer)?;
-        if ends_element(last.kind) {
-            Some(SyntaxFault::Unclosed(place_of(bracket)))
-        } else {
-            None
+        Front {
+            inner: innermost(&self.outer),
+            depth: depth(&self.outer),
+            last: self.last,
         }
     }
 
+    /// The fault that the end shows.
+    fn end_fault(&self) -> Option<SyntaxFault>
+        ensures { result ≡ spec.fault_at (spec.state_of self.now) [] }
+    {
+        self.front().end_fault()
+    }
+
     /// The fault that the next item shows, with what follows it.
-    #[tactic(auto, unfolding(crate::specs::Machine::fault_at))]
     fn item_fault(&self, item: &Item<'t>, rest: &[Item<'t>]) -> Option<SyntaxFault>
         ensures { result ≡ spec.fault_at (spec.state_of self.now) (item.now ∷ rest.now) }
     {
-        let kind = item.token.kind;
-        let last = self.last.token.kind;
-        let begins = is_repeat(kind) || begins_element(kind);
-        if is_bad(kind) {
-            return Some(SyntaxFault::BadToken(place_of(item.token)));
-        }
-        if !begins && needs_element(last) {
-            return Some(SyntaxFault::ElementExpected(place_of(item.token)));
-        }
-        if is_defined_as(kind) && ends_element(last) {
-            return Some(SyntaxFault::ElementExpected(place_of(item.token)));
-        }
-        let inner = innermost(&self.outer);
-        if closes(kind) && inner.is_none() {
-            return Some(SyntaxFault::ElementExpected(place_of(item.token)));
-        }
-        if is_repeat(kind) && !is_followed(rest) {
-            return Some(SyntaxFault::ElementExpected(place_of(item.token)));
-        }
-        if begins && ends_element(last) && !item.apart {
-            return Some(SyntaxFault::BlankExpected(place_of(item.token)));
-        }
-        if let Some(bracket) = inner
-            && closes(kind)
-            && !closes_it(bracket.kind, kind)
-            && ends_element(last)
-        {
-            return Some(SyntaxFault::Unclosed(place_of(bracket)));
-        }
-        if !numbers_fit(&item.token) {
-            return Some(SyntaxFault::NumberTooLarge(place_of(item.token)));
-        }
-        if opens(kind) && depth(&self.outer) >= MAX_NESTING {
-            return Some(SyntaxFault::TooDeep(place_of(item.token)));
-        }
-        None
+        self.front().item_fault(item, rest)
     }
 
     /// Takes the next item.

@@ -1,61 +1,62 @@
 -- What is inserted of the name at the start of a range.
 use Rattle.std.proofs.Common.{◌≡◌, ℕ, Bool, true, false, List, [], ◌∷◌, map, Option, Some, None, option_map, Result, Ok, Err, IfOk, refl, sym, ap, subst, ◌∙◌}
-use Rattle.std.specs.Prelude.{find, min}
+use Rattle.std.specs.Prelude.{◌&&◌, bytes_eq, find, min}
 use Rattle.abnf_token.specs.Folded.{lowercase}
 use Rattle.ls_text.specs.Edits.{position_offset}
 use Rattle.ls_text.specs.Lines.{utf16_len}
 use Rattle.ls_text.specs.Positions.{place_range}
 use Rattle.ls_text.specs.declared.position.Place.{Place}
 use Rattle.ls_text.specs.declared.position.Range.{Range}
-use Rattle.abnf_parts.specs.Names.{rule_number}
-use Rattle.abnf_names.specs.Places.{Named, at_offset, name_place, place_and_text}
+use Rattle.abnf_parts.specs.Names.{Name, folded_text, rule_number}
+use Rattle.abnf_names.specs.Places.{Named, at_offset, named_at, place_and_text, places_of_name}
 use Rattle.abnf_names.specs.Rules.{Grammar, IsGrammar}
-use Rattle.abnf_names.specs.declared.place.NamePlace.{NamePlace}
+use Rattle.abnf_names.specs.declared.place.Spot.{Spot}
 use Rattle.ls_answers.specs.Insertions.{IsInsertion, IsInsertionBy, IsInsertionOfRule, IsInsertionThere, first_head, name_at_start}
 use Rattle.ls_answers.specs.declared.answer.Insertion.{Insertion}
 use Rattle.ls_answers.proofs.Definitions.{found, none}
 
-find_by : (n : Named) (ns : List Named) (b : Bool) → n.defines ≡ b → find (λ (p : NamePlace). p.defines) (map name_place ns) ≡ option_map name_place (find (λ (n : Named). n.defines) ns)
-    → find (λ (p : NamePlace). p.defines) (map name_place (n ∷ ns)) ≡ option_map name_place (find (λ (n : Named). n.defines) (n ∷ ns))
-find_by n ns true e rest = rw e refl
-find_by n ns false e rest = rw e rest
+abbrev is_head_of : Name → Spot → Bool
+is_head_of name s = s.defines && bytes_eq name (folded_text s.name)
 
--- a place keeps whether it defines
-find_same : (ns : List Named) → find (λ (p : NamePlace). p.defines) (map name_place ns) ≡ option_map name_place (find (λ (n : Named). n.defines) ns)
-find_same [] = refl
-find_same (n ∷ ns) = find_by n ns n.defines refl (find_same ns)
+abbrev head_among : Name → List Spot → Option Named
+head_among name spots = find (λ (n : Named). n.defines) (places_of_name name (map named_at spots))
 
--- the first of a name's places that defines it
-head_is : (ns : List Named) (places : List NamePlace) (o : Option NamePlace) → o ≡ find (λ (p : NamePlace). p.defines) places → places ≡ map name_place ns
-    → o ≡ option_map name_place (find (λ (n : Named). n.defines) ns)
-head_is ns places o e f = e ∙ (ap (find (λ (p : NamePlace). p.defines)) f ∙ find_same ns)
+head_by : (name : Name) (s : Spot) (spots : List Spot) (is_called defines : Bool) → bytes_eq name (folded_text s.name) ≡ is_called → s.defines ≡ defines
+    → option_map named_at (find (is_head_of name) spots) ≡ head_among name spots → option_map named_at (find (is_head_of name) (s ∷ spots)) ≡ head_among name (s ∷ spots)
+head_by name s spots true true e f rest = rw (e, f) refl
+head_by name s spots true false e f rest = rw (e, f) rest
+head_by name s spots false true e f rest = rw (e, f) rest
+head_by name s spots false false e f rest = rw (e, f) rest
 
-of_none : (g : Grammar) (head : Option Named) (rule : Option ℕ) → None ≡ option_map name_place head → IsInsertionBy g head rule None
+-- the first spot that is a head with a name is the first of the name's places that defines it
+head_is : (name : Name) (spots : List Spot) → option_map named_at (find (is_head_of name) spots) ≡ head_among name spots
+head_is name [] = refl
+head_is name (s ∷ spots) = head_by name s spots (bytes_eq name (folded_text s.name)) s.defines refl refl (head_is name spots)
+
+first_is : (g : Grammar) (name : Name) (spots : List Spot) (o : Option Spot) → map named_at spots ≡ g.places → o ≡ find (is_head_of name) spots → option_map named_at o ≡ first_head g name
+first_is g name spots o same e = ap (option_map named_at) e ∙ (head_is name spots ∙ ap (λ ns. find (λ (n : Named). n.defines) (places_of_name name ns)) same)
+
+of_none : (g : Grammar) (head : Option Named) (rule : Option ℕ) → None ≡ head → IsInsertionBy g head rule None
 of_none g None rule e = refl
 of_none g (Some n) rule e = absurd (cc)
 
-pub by-none : (g : Grammar) (ns : List Named) (places : List NamePlace) (rule : Option ℕ) → None ≡ find (λ (p : NamePlace). p.defines) places → places ≡ map name_place ns
-    → IsInsertionBy g (find (λ (n : Named). n.defines) ns) rule None
-by-none g ns places rule e f = of_none g (find (λ (n : Named). n.defines) ns) rule (head_is ns places None e f)
+pub by-none : (g : Grammar) (name : Name) (spots : List Spot) (rule : Option ℕ) → map named_at spots ≡ g.places → None ≡ find (is_head_of name) spots → IsInsertionBy g (first_head g name) rule None
+by-none g name spots rule same e = of_none g (first_head g name) rule (first_is g name spots None same e)
 
 pub by-no-rule : (g : Grammar) (head : Option Named) (rule : Option ℕ) → None ≡ rule → IsInsertionBy g head rule None
 by-no-rule g None rule e = refl
 by-no-rule g (Some n) rule e = subst (λ rule. IsInsertionBy g (Some n) rule None) e refl
 
-of_head : (g : Grammar) (head : Option Named) (rule : Option ℕ) (r line : ℕ) (place : NamePlace) (insertion : Option Insertion) → Some place ≡ option_map name_place head → Some r ≡ rule
-    → line ≡ (place_range utf16_len g.text place.place).start.line → IsInsertionOfRule g.rules line r insertion → IsInsertionBy g head rule insertion
-of_head g None rule r line place insertion e f l is = absurd (cc)
-of_head g (Some n) rule r line place insertion e f l is =
-    let same : place ≡ name_place n = cc in
-    let at : line ≡ (place_range utf16_len g.text n.place).start.line = l ∙ ap (λ (p : NamePlace). (place_range utf16_len g.text p.place).start.line) same in
-    subst (λ rule. IsInsertionBy g (Some n) rule insertion) f (subst (λ line. IsInsertionOfRule g.rules line r insertion) at is)
+of_head : (g : Grammar) (head : Option Named) (rule : Option ℕ) (r line : ℕ) (n : Named) (insertion : Option Insertion) → Some n ≡ head → Some r ≡ rule
+    → line ≡ (place_range utf16_len g.text n.place).start.line → IsInsertionOfRule g.rules line r insertion → IsInsertionBy g head rule insertion
+of_head g head rule r line n insertion e f at is =
+    subst (λ head. IsInsertionBy g head rule insertion) e (subst (λ rule. IsInsertionBy g (Some n) rule insertion) f (subst (λ line. IsInsertionOfRule g.rules line r insertion) at is))
 
-pub by-some : {E : Type 0} (g : Grammar) (ns : List Named) (places : List NamePlace) (rule : Option ℕ) (r line : ℕ) (place : NamePlace) (given : Result (Option Insertion) E)
-    → Some place ≡ find (λ (p : NamePlace). p.defines) places → places ≡ map name_place ns → Some r ≡ rule → line ≡ (place_range utf16_len g.text place.place).start.line
-    → IfOk given (λ insertion. IsInsertionOfRule g.rules line r insertion) → IfOk given (λ insertion. IsInsertionBy g (find (λ (n : Named). n.defines) ns) rule insertion)
-by-some g ns places rule r line place (Ok insertion) e f h l is =
-    of_head g (find (λ (n : Named). n.defines) ns) rule r line place insertion (head_is ns places (Some place) e f) h l is
-by-some g ns places rule r line place (Err x) e f h l is = is
+pub by-some : {E : Type 0} (g : Grammar) (name : Name) (spots : List Spot) (rule : Option ℕ) (r line : ℕ) (s : Spot) (given : Result (Option Insertion) E) → map named_at spots ≡ g.places
+    → Some s ≡ find (is_head_of name) spots → Some r ≡ rule → line ≡ (place_range utf16_len g.text s.place).start.line
+    → IfOk given (λ insertion. IsInsertionOfRule g.rules line r insertion) → IfOk given (λ insertion. IsInsertionBy g (first_head g name) rule insertion)
+by-some g name spots rule r line s (Ok insertion) same e h l is = of_head g (first_head g name) rule r line (named_at s) insertion (first_is g name spots (Some s) same e) h l is
+by-some g name spots rule r line s (Err x) same e h l is = is
 
 -- ---- the name that is found
 

@@ -1,5 +1,5 @@
 //! What could be inserted at a range.
-ghost use Rattle.std.specs.Prelude.{◌≡◌, ◌<◌, IfOk, find, length, min, option_map};
+ghost use Rattle.std.specs.Prelude.{◌≡◌, ◌<◌, ◌&&◌, IfOk, bytes_eq, find, length, min, option_map};
 ghost use Rattle.ls_text.specs.Edits.{position_offset};
 ghost use Rattle.ls_text.specs.Lines.{utf16_len};
 ghost use Rattle.abnf_parts.specs.Names.{folded_text, rule_number};
@@ -8,7 +8,7 @@ ghost use Rattle.ls_answers.specs.Insertions as spec;
 use crate::answer::Insertion;
 use abnf_cert::Cert;
 use abnf_least::{Shortest, example, least, render};
-use abnf_names::{Grammar, NamePlace};
+use abnf_names::{Grammar, Spot};
 use abnf_parts::RuleNo;
 use abnf_token::Folded;
 use ls_lists::Text;
@@ -50,8 +50,7 @@ fn insertion_of_name(
     ensures { IfOk result (λ insertion. spec.IsInsertionBy grammar.now
         (spec.first_head grammar.now (folded_text name.entry)) (rule_number grammar.now.names (folded_text name.entry)) insertion) }
 {
-    let places = grammar.places(alloc, name)?;
-    let Some(head) = first_definition(places.as_slice()) else {
+    let Some(head) = first_definition(grammar.spots(), name) else {
         return Ok(None);
     };
     let Some(rule) = grammar.rule_of(name) else {
@@ -61,11 +60,18 @@ fn insertion_of_name(
     insertion_of_rule(alloc, grammar, line, rule)
 }
 
-/// The first of the places that defines its name.
-fn first_definition(places: &[NamePlace]) -> Option<&NamePlace>
-    ensures { option_map (λ place. place.now) result ≡ find (λ p. p.defines) places.now }
+/// Whether a place is that of a head with this name.
+fn is_head_of(spot: &Spot, name: Folded) -> bool
+    ensures { result ≡ (spot.now.defines && bytes_eq (folded_text name.entry) (folded_text spot.now.name)) }
 {
-    places.iter().find(|place| place.defines)
+    spot.defines && name == spot.name
+}
+
+/// The first place that defines a name.
+fn first_definition<'s, 't>(spots: &'s [Spot<'t>], name: Folded) -> Option<&'s Spot<'t>>
+    ensures { option_map (λ spot. spot.now) result ≡ find (λ spot. spot.defines && bytes_eq (folded_text name.entry) (folded_text spot.name)) spots.now }
+{
+    spots.iter().find(|spot| is_head_of(spot, name))
 }
 
 /// What could be inserted before this line of a rule.

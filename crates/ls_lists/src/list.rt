@@ -107,6 +107,13 @@ impl<T: Drop> List<T> {
         self.vec[at] = item;
     }
 
+    /// Makes room for so many more items, and for none beyond them. The items stay as they are.
+    pub fn reserve(&mut self, more: usize) -> Result<(), AllocError>
+        ensures { self.new ≡ self.old }
+    {
+        self.vec.reserve_exact(more)
+    }
+
     /// Puts an item at the end. The first item gets room for itself alone, as most lists have one.
     pub fn push(&mut self, item: T) -> Result<(), AllocError>
         ensures ok { OnOk result (self.new ≡ self.old ++ item ∷ []) }

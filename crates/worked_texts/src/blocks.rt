@@ -3,7 +3,7 @@
 ghost use Rattle.std.specs.Prelude.{◌<◌, length};
 
 use super::texts::snapshot;
-use abnf_syntax::{Block, Item, SyntaxFault, blocks, parse_block};
+use abnf_syntax::{Block, Item, SyntaxFault, blocks, check_block, parse_block};
 use ls_text::{Place, TextFault};
 use std::alloc::{AllocError, Global};
 
@@ -37,10 +37,16 @@ fn is_fault(fault: SyntaxFault, name: &str, place: Place) -> bool {
     }
 }
 
+/// The fault that a block shows, by its parse and by its check; `Memory` where these differ.
 fn fault_of(alloc: Global, block: &Block<'_>) -> Option<SyntaxFault>
     requires { 0 < length block.now.items }
 {
-    parse_block(alloc, block).err()
+    let fault = parse_block(alloc, block).err();
+    if check_block(alloc, block).err() == fault {
+        fault
+    } else {
+        Some(SyntaxFault::Memory)
+    }
 }
 
 fn has_fault(alloc: Global, block: &Block<'_>, name: &str, place: Place) -> bool

@@ -1,10 +1,7 @@
-use Rattle.std.proofs.Common.{ap}
-use Rattle.abnf_names.specs.Excerpts.{Excerpt}
-use Rattle.abnf_names.proofs.OwnPass.{split_more}
+use Rattle.abnf_names.proofs.OwnPass.{grouped_next}
 use Rattle.abnf_names.proofs.own.own_groups.Goals as goal
 
-pub loop-p-preserved : goal.loop-p-preserved
-loop-p-preserved c =
-    split_more c.args.parsed.items c.loop-p.yielded c.in-Some.p c.next.new.self.rest.items c.loop-p.p-iterator.rest.items c.loop-p.groups c.in_ok-groups.groups c.loop-p.sections c.push.new.self
-    (record { block = c.in-Some.p.block; fault = c.fault_shown-fault.result }) c.loop-p.invariant c.in-Some.ensures.steps.0 c.in_ok-groups.ensures c.in_ok-push.ensures.ok
-    (ap (λ fault. (let e : Excerpt = record { items = c.in-Some.p.block.items; fault = fault } in e)) c.fault_shown-fault.ensures)
+pub loop-section-preserved : goal.loop-section-preserved
+loop-section-preserved c =
+    grouped_next c.args.sections.now c.loop-section.section-index (record { section = record { ref_ptr = (0, 0); now = c.section-item.result } }) c.section-item.result c.loop-section.groups c.in_ok-groups.groups c.loop-section-test.true
+    c.section-item.is c.loop-section.invariant c.in_ok-groups.ensures

@@ -1,5 +1,7 @@
-use Rattle.abnf_names.proofs.OwnPass.{IsSplit}
+use Rattle.std.proofs.Common.{map, take}
+use Rattle.abnf_names.specs.Excerpts.{excerpt}
+use Rattle.abnf_names.specs.Passes.{AreGrouped}
 use Rattle.abnf_names.proofs.own.own_groups.Given as goal
 
-abbrev pub invariant-loop-p : goal.invariant-loop-p
-invariant-loop-p l = IsSplit l.fn.parsed.items l.yielded l.p-iterator.rest.items l.groups l.sections
+abbrev pub invariant-loop-section : goal.invariant-loop-section
+invariant-loop-section l = AreGrouped (map excerpt (take l.section-index l.sections)) l.groups

@@ -1,9 +1,11 @@
-use Rattle.std.proofs.Common.{drop}
+use Rattle.std.proofs.Common.{◌≤◌, List, drop, length}
 use Rattle.abnf_parts.specs.Names.{all_names, rule_number}
-use Rattle.abnf_names.specs.Passes.{alternatives_of}
+use Rattle.abnf_names.specs.Passes.{AreTold, Definition, alternatives_of}
 use Rattle.abnf_names.proofs.RulePass.{HasPushed}
 use Rattle.abnf_names.proofs.rules.push_counted.Given as goal
 
-abbrev pub invariant-loop-definition : goal.invariant-loop-definition
-invariant-loop-definition l =
-    HasPushed (alternatives_of (rule_number (all_names l.names))) l.definitions l.is_defined (drop l.definition-index l.definitions) l.initial.nodes.items l.nodes.items l.initial.numbers l.numbers
+abbrev pub invariant-loop-listed : goal.invariant-loop-listed
+invariant-loop-listed l =
+    (length l.initial.nodes.items ≤ length l.nodes.items)
+    × ((definitions : List Definition) → AreTold l.sections definitions →
+    HasPushed (alternatives_of (rule_number (all_names l.names))) definitions l.is_defined (drop l.listed-index definitions) l.initial.nodes.items l.nodes.items l.initial.numbers l.numbers)

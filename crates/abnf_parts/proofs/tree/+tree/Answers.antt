@@ -11,7 +11,7 @@ use Rattle.abnf_parts.proofs.tree.+tree.Goals as goal
 pub push_concatenations-loop-concatenation-preserved : goal.push_concatenations-loop-concatenation-preserved
 push_concatenations-loop-concatenation-preserved t c =
     trees_next (concatenation_part (rule_number (all_names c.args.names.now)) (tree_inside (rule_number (all_names c.args.names.now)) c.args.room)) c.args.alternation.now c.concatenation-item.result c.concatenation-item.result c.loop-concatenation.concatenation-index
-    c.args.nodes.now.items c.loop-concatenation.nodes.items c.push_concatenation.new.nodes.items c.args.numbers.now c.loop-concatenation.numbers c.push.new.self
+    c.args.nodes.now.items c.loop-concatenation.nodes.items c.push_concatenation.new.nodes.items c.reserve.new.self c.loop-concatenation.numbers c.push.new.self
     c.loop-concatenation-test.true (sym c.concatenation-item.is) c.loop-concatenation.invariant
     (c.in_ok-push.ensures.ok ∙ ap (λ n. c.loop-concatenation.numbers ++ n ∷ []) (c.new.ensures ∙ (c.len.ensures ∙ c.loop-concatenation.nodes.ok.0)))
     (rw (sym c.as_slice.ensures) c.in_ok-push_concatenation.ensures)
@@ -19,7 +19,7 @@ push_concatenations-loop-concatenation-preserved t c =
 pub push_repetitions-loop-repetition-preserved : goal.push_repetitions-loop-repetition-preserved
 push_repetitions-loop-repetition-preserved t c =
     trees_next (repetition_part (rule_number (all_names c.args.names.now)) (tree_inside (rule_number (all_names c.args.names.now)) c.args.room)) c.args.concatenation.now c.repetition-item.result c.repetition-item.result c.loop-repetition.repetition-index
-    c.args.nodes.now.items c.loop-repetition.nodes.items c.push_repetition.new.nodes.items c.args.numbers.now c.loop-repetition.numbers c.push.new.self
+    c.args.nodes.now.items c.loop-repetition.nodes.items c.push_repetition.new.nodes.items c.reserve.new.self c.loop-repetition.numbers c.push.new.self
     c.loop-repetition-test.true (sym c.repetition-item.is) c.loop-repetition.invariant
     (c.in_ok-push.ensures.ok ∙ ap (λ n. c.loop-repetition.numbers ++ n ∷ []) (c.new.ensures ∙ (c.len.ensures ∙ c.loop-repetition.nodes.ok.0)))
     c.in_ok-push_repetition.ensures

@@ -7,3 +7,6 @@ returns-then-takes c = joins_row c.push.result c.args.self.now c.self.inside.row
 pub returns-else-takes : goal.returns-else-takes
 returns-else-takes c =
     joins_heap c.push-else-takes.result c.args.self.now c.self.inside.row c.self.inside.heap c.push-else-takes.new.self c.args.candidate c.self.view_is c.push-else-takes.ensures
+
+pub push-requires : goal.push-requires
+push-requires c = c.takes.ensures.0 c.if-takes.true

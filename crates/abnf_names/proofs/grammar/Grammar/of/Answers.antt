@@ -1,29 +1,35 @@
-use Rattle.std.proofs.Common.{◌≡◌, List, map, ap, subst, ◌∙◌}
-use Rattle.abnf_names.specs.declared.parsed.Parsed.{Parsed}
-use Rattle.abnf_names.specs.declared.own.NamePlaces.{NamePlaces}
-use Rattle.abnf_names.specs.Rules.{faults_of}
-use Rattle.abnf_names.specs.Passes.{block_of, AreNamePlaces}
-use Rattle.abnf_names.proofs.Kept.{kept}
+use Rattle.std.proofs.Common.{◌∙◌, map, ap, sym}
+use Rattle.abnf_names.specs.Excerpts.{excerpt}
+use Rattle.abnf_names.proofs.Kept.{kept, read}
+use Rattle.abnf_names.proofs.OwnPass.{faults_by}
 use Rattle.abnf_names.proofs.grammar.Grammar.of.Goals as goal
 
-found_in : (ps qs : List Parsed) (places : NamePlaces) → qs ≡ ps → AreNamePlaces (map block_of qs) places → AreNamePlaces (map block_of ps) places
-found_in ps qs places read found = subst (λ (ps : List Parsed). AreNamePlaces (map block_of ps) places) read found
-
 pub rules_said-requires : goal.rules_said-requires
-rules_said-requires c =
-    let found = found_in c.in_ok-parsed.parsed.items c.as_slice-2.result.now c.in_ok-places.places c.as_slice-2.ensures.value c.in_ok-places.ensures in
-    found
+rules_said-requires c = record {
+  blocks = c.in_ok-sections.ensures.blocks;
+  are =
+      read c.args.snapshot.now c.in_ok-sections.sections c.as_slice-3.result.now c.in_ok-places.places c.in_ok-sections.ensures c.as_slice-3.ensures
+      (λ blocks same. c.in_ok-places.ensures blocks (ap (map excerpt) (c.as_slice-2.ensures ∙ sym c.as_slice-3.ensures) ∙ same));
+}
 
 pub invariant_of-result : goal.invariant_of-result
 invariant_of-result c =
-    let found = found_in c.in_ok-parsed.parsed.items c.as_slice-2.result.now c.in_ok-places.places c.as_slice-2.ensures.value c.in_ok-places.ensures in
-    kept _ (map block_of c.in_ok-parsed.parsed.items) c.in_ok-parsed.ensures c.in_ok-rules.ensures.names c.in_ok-rules.ensures.nodes found.spots
-    (c.in_ok-faults.ensures ∙ ap (λ (ps : List Parsed). faults_of (map block_of ps)) c.as_slice.ensures.value)
-    c.in_ok-rules.ensures.reaching c.in_ok-rules.ensures.sections
+    let sections = c.in_ok-sections.ensures in
+    let are =
+    read c.args.snapshot.now c.in_ok-sections.sections c.as_slice-3.result.now c.in_ok-places.places sections c.as_slice-3.ensures
+    (λ blocks same. c.in_ok-places.ensures blocks (ap (map excerpt) (c.as_slice-2.ensures ∙ sym c.as_slice-3.ensures) ∙ same)) in
+    let rules = c.in_ok-rules.ensures sections.blocks are in
+    kept _ sections.blocks sections.of_text rules.names rules.nodes are.places.spots
+    (c.in_ok-faults.ensures ∙ faults_by c.as_slice.result.now sections.blocks (ap (map excerpt) c.as_slice.ensures ∙ sections.excerpts))
+    rules.reaching sections.excerpts
 
 pub returns-clause-grammar : goal.returns-clause-grammar
 returns-clause-grammar c =
-    let found = found_in c.in_ok-parsed.parsed.items c.as_slice-2.result.now c.in_ok-places.places c.as_slice-2.ensures.value c.in_ok-places.ensures in
+    let sections = c.in_ok-sections.ensures in
+    let are =
+    read c.args.snapshot.now c.in_ok-sections.sections c.as_slice-3.result.now c.in_ok-places.places sections c.as_slice-3.ensures
+    (λ blocks same. c.in_ok-places.ensures blocks (ap (map excerpt) (c.as_slice-2.ensures ∙ sym c.as_slice-3.ensures) ∙ same)) in
+    let rules = c.in_ok-rules.ensures sections.blocks are in
     let inside =
     kept (record {
       source = c.args.snapshot;
@@ -33,9 +39,9 @@ returns-clause-grammar c =
       spots = c.in_ok-places.places.spots;
       faults = c.in_ok-faults.faults;
       opaque = c.in_ok-rules.rules.opaque;
-      sections = c.in_ok-rules.rules.sections;
+      sections = c.in_ok-sections.sections;
     })
-    (map block_of c.in_ok-parsed.parsed.items) c.in_ok-parsed.ensures c.in_ok-rules.ensures.names c.in_ok-rules.ensures.nodes found.spots
-    (c.in_ok-faults.ensures ∙ ap (λ (ps : List Parsed). faults_of (map block_of ps)) c.as_slice.ensures.value)
-    c.in_ok-rules.ensures.reaching c.in_ok-rules.ensures.sections
+    sections.blocks sections.of_text rules.names rules.nodes are.places.spots
+    (c.in_ok-faults.ensures ∙ faults_by c.as_slice.result.now sections.blocks (ap (map excerpt) c.as_slice.ensures ∙ sections.excerpts))
+    rules.reaching sections.excerpts
     in inside.is_grammar

@@ -1,0 +1,22 @@
+-- The check of a block, over lists. No public contract speaks of it.
+use Rattle.std.specs.Prelude.{◌⊎◌, ◌≡◌, List, [], ◌∷◌, Option, Some, None, Result, Ok, Err}
+use Rattle.std.specs.Option.{option_or}
+use Rattle.abnf_token.specs.declared.token.Token.{Token}
+use Rattle.abnf_syntax.specs.declared.item.Item.{Item}
+use Rattle.abnf_syntax.specs.declared.fault.SyntaxFault.{SyntaxFault}
+use Rattle.abnf_syntax.specs.declared.fault.SyntaxFault.TheVariants.{Memory}
+use Rattle.abnf_syntax.specs.Faults.{rows_of, least, open_after}
+
+-- what the table says behind a last item and open brackets
+unfoldable pub fault_behind : Item → List Token → List Item → Option SyntaxFault
+fault_behind last brackets rest = least (rows_of last brackets rest)
+
+-- the first fault that is shown from there on
+abbrev pub first_fault : Item → List Token → List Item → Option SyntaxFault
+first_fault last brackets [] = fault_behind last brackets []
+first_fault last brackets (item ∷ items) = option_or (fault_behind last brackets (item ∷ items)) (first_fault item (open_after brackets item) items)
+
+-- What a check returned is this fault, or that there is none, unless memory ran out.
+abbrev pub Shows : Result (Unit {0}) SyntaxFault → Option SyntaxFault → Type 0
+Shows (Ok done) shown = shown ≡ None
+Shows (Err fault) shown = (fault ≡ Memory) ⊎ (shown ≡ Some fault)
