@@ -1,13 +1,15 @@
 #!/usr/bin/env python3
 """Runs the gate, or the command that is given, and tells the processor minutes that each crate takes in it.
 
-    tools/gate_minutes.py [COMMAND ..]
+    tools/gate_minutes.py [--write] [COMMAND ..]
 
-All that the command prints goes to out/gate.log. The table has, for each crate, the processor minutes of its proof, of the proof of
-its tests and of its must-fail edits, and the count of those. They are read from /proc twice a second while the command runs.
+All that the command prints goes to out/gate.log. The table has, for each crate, the processor minutes of its proof, of its edits that
+must be refused and of the proof of its tests. They are read from /proc twice a second while the command runs. With --write the table goes
+into docs/GATE.md, in the place of the one that stands there: to be done from nothing, on a machine that does nothing else.
 """
 import collections
 import os
+import re
 import resource
 import subprocess
 import sys
@@ -15,7 +17,9 @@ import time
 
 TOP = os.path.dirname(os.path.dirname(os.path.abspath(__file__)))
 TICKS = os.sysconf("SC_CLK_TCK")
-KINDS = ("proof", "tests", "edits")
+KINDS = ("proof", "edits", "tests")
+PAGE = os.path.join(TOP, "docs", "GATE.md")
+PLACE = re.compile(r"(?s)(<!-- the figures of one run -->\n).*?(<!-- their end -->)")
 
 
 def processes():
@@ -67,34 +71,58 @@ def watched(gate):
         time.sleep(0.5)
 
 
+def edits_of(crate):
+    folder = os.path.join(TOP, "crates", crate, "edits")
+    return sum(it.endswith(".edit") for it in os.listdir(folder)) if os.path.isdir(folder) else 0
+
+
+def crates():
+    with open(os.path.join(TOP, "crates.txt"), encoding="utf-8") as file:
+        return [line.split()[0].rstrip(":") for line in file if ":" in line.partition("#")[0]]
+
+
 def table(seconds, works):
-    minutes, counts = collections.Counter(), collections.Counter()
+    """Of each crate the minutes of its checks, how many edits it has, and in how many checks they were tried."""
+    minutes, checks = collections.Counter(), collections.Counter()
     for key, work in works.items():
         minutes[work] += seconds[key] / 60
-        counts[work] += 1
-    crates = sorted({crate for crate, _ in works.values()})
-    lines = [f"{'crate':18}{'proof':>8}{'tests':>8}{'edits':>8}{'count':>7}{'together':>10}"]
-    for crate in crates:
-        row = [minutes[crate, kind] for kind in KINDS]
-        lines.append(f"{crate:18}" + "".join(f"{it:8.1f}" for it in row) + f"{counts[crate, 'edits']:7}{sum(row):10.1f}")
-    row = [sum(minutes[crate, kind] for crate in crates) for kind in KINDS]
-    lines.append(f"{'together':18}" + "".join(f"{it:8.1f}" for it in row) + f"{sum(counts[crate, 'edits'] for crate in crates):7}{sum(row):10.1f}")
-    return "\n".join(lines)
+        checks[work] += 1
+    lines, sums = ["| crate | proof | edits | tests | together |", "|---|---|---|---|---|"], collections.Counter()
+    for crate in crates():
+        row = {it: minutes[crate, it] for it in KINDS}
+        edits, tries = edits_of(crate), checks[crate, "edits"]
+        sums.update({**row, "all": edits, "tries": tries})
+        lines.append(line_of(f"`{crate}`", row, edits, tries))
+    return "\n".join([*lines, line_of("together", sums, sums["all"], sums["tries"])])
 
 
-def main():
+def line_of(name, row, edits, tries):
+    told = {it: f"{row[it]:.1f}" if row[it] else "–" for it in KINDS}
+    told["edits"] += f" for {edits} in {tries}" if tries else ""
+    return f"| {name} | {' | '.join(told[it] for it in KINDS)} | {sum(row[it] for it in KINDS):.1f} |"
+
+
+def main(words):
+    does_write = words[:1] == ["--write"]
     os.makedirs(f"{TOP}/out", exist_ok=True)
     began = time.time()
     with open(f"{TOP}/out/gate.log", "wb") as log:
-        gate = subprocess.Popen(sys.argv[1:] or ["./test"], cwd=TOP, stdin=subprocess.DEVNULL, stdout=log, stderr=subprocess.STDOUT)
+        command = words[does_write:] or ["./test"]
+        gate = subprocess.Popen(command, cwd=TOP, stdin=subprocess.DEVNULL, stdout=log, stderr=subprocess.STDOUT)
         seconds, works = watched(gate)
-    print(table(seconds, works))
     used = resource.getrusage(resource.RUSAGE_CHILDREN)
-    print(f"{(time.time() - began) / 60:.1f} minutes, {(used.ru_utime + used.ru_stime) / 60:.1f} of all processors; out/gate.log ends:")
+    said = f"{(time.time() - began) / 60:.1f} minutes on {len(os.sched_getaffinity(0))} processors, {(used.ru_utime + used.ru_stime) / 60:.1f} of all together."
+    figures = f"{table(seconds, works)}\n\n{said}\n"
+    print(f"{figures}out/gate.log ends:")
     with open(f"{TOP}/out/gate.log", encoding="utf-8", errors="replace") as log:
         print("".join(log.readlines()[-2:]), end="")
+    if does_write and not gate.returncode:
+        with open(PAGE, encoding="utf-8") as file:
+            page = file.read()
+        with open(PAGE, "w", encoding="utf-8") as file:
+            file.write(PLACE.sub(lambda it: f"{it[1]}\n{figures}\n{it[2]}", page))
     return gate.returncode
 
 
 if __name__ == "__main__":
-    sys.exit(main())
+    sys.exit(main(sys.argv[1:]))

@@ -1,0 +1,505 @@
+#!/usr/bin/env python3
+"""Tries the edits crates/NAME/edits/*.edit, many of a crate in one check: the prover must refuse each.
+
+    tools/refused_edits.py [--jobs N] [--beside FILE] [--kept | --alone] [--log FOLDER] [CRATE ..] [CRATE/NAME.edit ..]
+
+An edit has the form of a must-fail edit of `rt`: a line 'file: PATH', then pairs of lines 'old: TEXT' and 'new: TEXT'.
+
+Edits that change bodies of functions alone are tried together on one copy of the crate, each in functions of its own: a function is
+proved against the contracts of what it calls, and no such edit changes one. Further edits of the same functions stand in for the first
+ones in the next copy, whose check takes all else from the one before. An edit of anything else (a definition, a contract) comes on top
+of the first copy, by itself.
+
+An edit of bodies is refused where a function that it changes has a goal of its own that isn't proved. That what it calls isn't proved
+is no such goal, nor is a proof file that names what is gone. Any other edit is refused where something isn't proved that no edit of the
+first copy changes. A copy counts only if all of it was read, and nothing failed by itself that isn't edited; else its edits are halved
+and tried again. What no copy shows to be refused is tried alone and from nothing, as `rt must-fail` does, and has that verdict.
+
+Without names all edits are tried, and with them this tool: the edits in tools/same_meaning/, which mean the same as before, stand in one
+copy of abnf_token among its own, and must be found not refused.
+
+With --beside it works beside an `rt ci` in this checkout, which runs as long as FILE is there: the edits of a crate are tried once the
+libraries below it are proved. With --kept the first check of a crate begins with what `rt check` kept of it, and not from nothing. With
+--alone each edit is tried by `rt must-fail` itself.
+
+What an edit came to is kept as `rt ci` keeps such, outside the checkout, by a sum over this tool, the edit, the crate and the libraries
+below it, and isn't sought again. The last line is 'N passed, M failed'.
+"""
+import argparse
+import collections
+import concurrent.futures
+import contextlib
+import copy
+import hashlib
+import importlib.machinery
+import importlib.util
+import json
+import os
+import re
+import shutil
+import signal
+import subprocess
+import sys
+import tempfile
+import threading
+import time
+
+TOP = os.path.dirname(os.path.dirname(os.path.abspath(__file__)))
+SAME_MEANING = os.path.join(TOP, "tools", "same_meaning")
+TESTED_ON = "abnf_token"
+PARTS = ("src", "specs", "proofs")
+NAME = re.compile(r"[A-Za-z0-9_-][A-Za-z0-9_.-]*\.edit")
+BAD_NAME = "BAD EDIT: its name is of letters, digits, _, - and . and ends in .edit (or .md, if it is only to be read)"
+
+# All that is taken of the toolchain's own `rt`: the crates below a folder, the texts that an edit makes of a crate's files, a check of a
+# crate over what earlier checks kept in a folder, the try of one edit from nothing, and the store of what earlier runs passed.
+sys.dont_write_bytecode = True
+LOADER = importlib.machinery.SourceFileLoader("rt", os.path.realpath(shutil.which("rt") or sys.exit("there is no command rt")))
+RT = importlib.util.module_from_spec(importlib.util.spec_from_loader("rt", LOADER))
+LOADER.exec_module(RT)
+ONE_JOB = ["--jobs", "1"]
+REFUSED, SAME = (RT.REFUSED, RT.AT_LIMIT), "same"
+
+# A function with a body, as rt fmt lays it out: what stands above it, how far in it stands, its name and its body.
+FUNCTION = re.compile(
+    r"(?m)^((?: *(?:#\[|//).*\n)*)( *)(?:pub(?:\(\w+\))? )?fn (\w+)"
+    r"(?:.* \{|.*(?:\n(?:\2[ )>].*|\2where|))*?\n\2(?:[)>].* )?\{)\n((?:.*\n)*?)\2\}$"
+)
+BLOCK = re.compile(r"(?m)^(?:pub(?:\(\w+\))? )?(impl|trait|mod)\b(.*)")
+TYPE = re.compile(r"(?m)^(?:pub(?:\(\w+\))? )?(?:struct|enum) (\w+)")
+# What may stand in a body and reaches beyond it.
+REACHES_OUT = re.compile(r"\b(impl|trait|macro_rules)\b")
+GOAL = re.compile(r"note: (?:\./)?(src/[^:]*):(\d+):\d+: it is not proved")
+ERROR = re.compile(r"(?:\./)?(\S+?):\d+:\d+: error: (`[^`]*`(?:: | is not admitted)|\d+ declarations? that depend|module `)?")
+PROOF_FILE = re.compile(r"proofs/(.*)/(Answers|Proof|Invariants)\.antt")
+# What isn't proved only since something else isn't.
+WAITS = re.compile(
+    r"(no proof: |not proved; )(in `[^`]*`, of this cycle of calls: )?it (calls|passes the block|waits for the proof of) "
+    r"|no proof: the borrow checker's part in its proof is not made yet: a call of "
+)
+# What says little: that something isn't proved, or that a text names what isn't there.
+SAYS_LITTLE = re.compile(
+    r"[a-z]+ \S+: |.*(has no field|is not in scope|has no `|was not admitted|is not admitted|that depend|is no name|operand is missing|expected the end|cannot continue)"
+)
+
+
+def text_of(path):
+    with open(path, encoding="utf-8") as file:
+        return file.read()
+
+
+def module_of(path):
+    """The module that a file of src/ holds, as the names of its functions begin."""
+    return [it for it in path[len("src/") : -len(".rt")].split("/") if it not in ("lib", "main", "mod")]
+
+
+def block_of(text):
+    """The words of the block that is open where this text ends: of an impl its type and then its trait, of a module its name.
+
+    None for a trait, and for an impl of one at some type, whose name has more to it.
+    """
+    kind, head = (BLOCK.findall(text) or [("trait", "")])[-1]
+    is_named = kind != "trait" and "> for " not in head
+    while kind == "impl" and "<" in head:
+        head = re.sub(r"<[^<>]*>", "", head)
+    words = [it.rpartition("::")[2] for it in re.sub(r" where .*|[&{]", " ", head).split() if it != "for"]
+    return words[::-1] if is_named else None
+
+
+def place_of(found, path, homes):
+    """The module and the block of a function that stands in a file: a method's module is that of its type."""
+    block = block_of(found.string[: found.start()]) if found[2] else []
+    return homes.get((block or [""])[0], module_of(path)), block
+
+
+def split(path, text, homes):
+    """A file's text without the bodies of its functions; and each body by the function's name, with whether it is proved by itself."""
+    bodies = {}
+    for it in FUNCTION.finditer(text):
+        above, indent, name, body = it.groups()
+        module, block = place_of(it, path, homes)
+        name = "::".join([*module, *filter(None, ["".join(block or [])]), name])
+        # (a cycle's functions have one proof, a trait's one at each impl; and two impls can give their functions the same names)
+        is_own = block is not None and len(indent) <= 4 and "#[cycle(" not in above and name not in bodies
+        bodies[name] = bodies.get(name, ("",))[0] + body, is_own
+    return FUNCTION.sub(lambda it: it[0].removesuffix(it[4] + it[2] + "}"), text), bodies
+
+
+def is_closed(body):
+    """Whether a body is all within its braces, and nothing in it reaches beyond them."""
+    depth = [0]
+    for brace in re.findall("[{}]", body):
+        depth.append(depth[-1] + (1 if brace == "{" else -1))
+    return min(depth) == depth[-1] == 0 and not REACHES_OUT.search(body)
+
+
+def function_at(crate, path, number, homes):
+    """The module and the function that a line of a file is in; no function for one of a cycle, whose goals are told of each of them."""
+    text = text_of(f"{crate.folder}/{path}")
+    found = [it for it in FUNCTION.finditer(text) if text.count("\n", 0, it.start()) < number <= text.count("\n", 0, it.end()) + 1]
+    if not found:
+        return module_of(path), None
+    return place_of(found[0], path, homes)[0], found[0][3] if "#[cycle(" not in found[0][1] else None
+
+
+def faults_of(said, crate, homes):
+    """What isn't proved for a reason of its own: by its name, or by the file where it is no function's, what is said of it.
+
+    None where not all that rattle said was read. Before a function's line stand its goals that aren't proved; an error in a proof file
+    names the file, whose folder is the function's.
+    """
+    faults, goals = collections.defaultdict(list), []
+    for line in said.rstrip("\n").split("\n"):
+        goal, error = GOAL.match(line), ERROR.match(line)
+        # (a closure of f in module m is m::fn::f::..)
+        item = re.match(rf"[a-z]+ {crate.name}::(\S+): (.*)", line.replace("::fn::", "::"))
+        if goal:
+            goals.append((function_at(crate, goal[1], int(goal[2]), homes), line))
+        elif item:
+            parts = item[1].split("::")
+            if any(parts[: len(module)] != module or function not in (*parts, None) for (module, function), _ in goals):
+                return None
+            if not item[2].startswith("proved") and (goals or not WAITS.match(item[2])):
+                faults[item[1]] += [line for _, line in goals] or [line]
+            goals = []
+        elif error:
+            if not error[2] or not error[1].startswith("proofs/"):
+                return None
+            inside = PROOF_FILE.fullmatch(error[1])
+            faults[inside[1].replace("/fn/", "/").replace("/", "::") if inside else error[1]].append(line)
+    return faults if line.startswith("logic=") and not goals else None
+
+
+class Edit:
+    """An edit, and the functions whose bodies alone it changes, or none where it changes something else."""
+
+    def __init__(self, file, crate, files, homes):
+        self.file, self.name, self.functions = file, os.path.basename(file), set()
+        self.is_same = os.path.dirname(file) == SAME_MEANING
+        texts, self.why = RT.read_edit(file, crate.folder)
+        self.paths = list(texts or {})
+        for path, text in (texts or {}).items():
+            rest, own = files.get(path, (None, {}))
+            now_rest, now = split(path, text, homes) if own else ("", {})
+            changed = {it for it in own if own[it] != now.get(it)}
+            if rest != now_rest or own.keys() != now.keys() or not all(now[it][1] and is_closed(now[it][0]) for it in changed):
+                self.functions = set()
+                break
+            self.functions |= changed
+
+    def changes(self, name):
+        return any(f"{name}::".startswith(f"{it}::") for it in self.functions)
+
+
+def are_made(edits, folder):
+    """Makes edits in a copy's folder, one after the other. Gives whether each could be made."""
+    for edit in edits:
+        texts, why = RT.read_edit(edit.file, folder)
+        if why:
+            return False
+        for path, text in texts.items():
+            with open(f"{folder}/{path}", "w", encoding="utf-8") as file:
+                file.write(text)
+    return True
+
+
+class Store:
+    """The libraries that checks stand on, and what earlier runs on this machine came to, which `rt` keeps beside itself.
+
+    An edit's entry is named by the sum of all that its verdict was made from, this tool among it, so none goes stale, and `rt` itself
+    finds none of them.
+    """
+
+    def __init__(self, crates):
+        self.kept, self.lock = RT.Kept(crates), threading.Lock()
+        with open(__file__, "rb") as file:
+            self.tool = hashlib.sha256(file.read()).hexdigest()
+
+    def is_proved(self, crate):
+        """Whether the crate's library is, file for file, one that `rt ci` proved here from these sources over these libraries."""
+        try:
+            made = json.loads(text_of(f"{self.kept.place(crate, False, self.kept.key(crate))}/made.json"))
+            files = [[it, RT.rtlib.sum_of(f"{crate.folder}/out/{it}")] for it in self.kept.made(crate, False)]
+            return bool(files) and made["files"] == files
+        except (OSError, ValueError, KeyError):
+            return False
+
+    def need(self, crate, running):
+        """Sees that the crate's library is there, as soon as an `rt ci` has proved it that runs as long as a file is there, or builds it. Those
+        below it have been seen to."""
+        while running and os.path.exists(running) and not self.is_proved(crate):
+            time.sleep(1)
+        if not self.is_proved(crate) and not crate.is_built():
+            if subprocess.run(["rt", "lib"], cwd=crate.folder).returncode:
+                sys.exit(f"{crate.name} isn't proved")
+        self.kept.is_built(crate)
+
+    def name(self, crate, edit):
+        with self.lock:
+            return self.kept.of_edit(edit.file, f"{self.tool} {self.kept.key(crate)}")
+
+    def told(self, name):
+        """What an earlier run said of the edit of this name, where it went well."""
+        try:
+            found = json.loads(text_of(f"{self.kept.at}/edits/{name}"))
+            return found["text"] if found["edit"] == name and found["kind"] in (*REFUSED, SAME) else None
+        except (OSError, ValueError, KeyError):
+            return None
+
+    def keep(self, crate, edit, name, text):
+        """Keeps what is said of an edit, where nothing that it stands on was touched since this run began."""
+        libraries_stand = all(self.kept.mark(it) == self.kept.marks[it.name] for it in crate.below())
+        if libraries_stand and self.kept.is_untouched(crate) and self.name(crate, edit) == name:
+            with self.lock:
+                self.kept.keep_tried(name, SAME if edit.is_same else RT.REFUSED, text)
+
+
+class Memory:
+    """Lets checks begin that the machine's memory has room for, and one at least."""
+
+    def __init__(self):
+        self.lock, self.running, self.young = threading.Lock(), 0, []
+
+    def may_begin(self, needed):
+        with self.lock:
+            # (a check takes a minute to grow to what it needs)
+            self.young = [it for it in self.young if it[0] > time.monotonic() - 60]
+            if self.running and RT.free() - sum(it for _, it in self.young) < needed:
+                return False
+            self.running += 1
+            self.young.append((time.monotonic(), needed))
+            return True
+
+    @contextlib.contextmanager
+    def of(self, crate):
+        while not self.may_begin(RT.need(crate)):
+            time.sleep(1)
+        try:
+            yield
+        finally:
+            with self.lock:
+                self.running -= 1
+
+
+MEMORY = Memory()
+
+
+class Trial:
+    """The edits of one crate, and what each came to: whether that is well, and what is said of it."""
+
+    def __init__(self, crate, given, store):
+        self.crate, self.given, self.store, self.results, self.checks = crate, given, store, {}, 0
+        found = [f"{at}/{name}" for at, _, names in os.walk(f"{crate.folder}/src") for name in names]
+        texts = {os.path.relpath(it, crate.folder): text_of(it) for it in found}
+        # (where each type stands, but for one of which there are several)
+        homes = collections.defaultdict(list)
+        for path, text in texts.items():
+            for name in TYPE.findall(text):
+                homes[name].append(module_of(path))
+        self.homes = {name: modules[0] for name, modules in homes.items() if len(modules) == 1}
+        self.files = {path: split(path, text, self.homes) for path, text in texts.items()}
+        # (those that mean the same come first, so that all of them are in the first copy)
+        is_tested = crate.name == TESTED_ON and not given.names
+        self.edits = [*(self.edits_in(SAME_MEANING) if is_tested else ()), *self.edits_in(f"{crate.folder}/edits")]
+
+    def edits_in(self, folder):
+        for name in sorted(os.listdir(folder)) if os.path.isdir(folder) else []:
+            if self.given.names and not {self.crate.name, f"{self.crate.name}/{name}"} & {*self.given.names}:
+                continue
+            if NAME.fullmatch(name):
+                yield Edit(f"{folder}/{name}", self.crate, self.files, self.homes)
+            elif not name.endswith(".md"):
+                self.results[name] = False, BAD_NAME
+
+    def are_apart(self, edits):
+        """Whether each of these edits can be made where the others are."""
+        with tempfile.TemporaryDirectory(prefix=f"rt-edits-{os.getpid()}-") as folder:
+            for path in {path for edit in edits for path in edit.paths}:
+                os.makedirs(os.path.dirname(f"{folder}/{path}"), exist_ok=True)
+                shutil.copyfile(f"{self.crate.folder}/{path}", f"{folder}/{path}")
+            return are_made(edits, folder)
+
+    def faults(self, edits, kept):
+        """Checks a copy of the crate with these edits, one made after the other. Gives its faults, or None where it says nothing."""
+        made = copy.copy(self.crate)
+        with tempfile.TemporaryDirectory(prefix=f"rt-edits-{os.getpid()}-") as made.folder:
+            for part in PARTS:
+                if os.path.isdir(f"{self.crate.folder}/{part}"):
+                    shutil.copytree(f"{self.crate.folder}/{part}", f"{made.folder}/{part}")
+            if not are_made(edits, made.folder):
+                return None
+            with MEMORY.of(self.crate):
+                ran = RT.checked(made, {}, ONE_JOB, kept)
+                if ran.returncode == -signal.SIGKILL:
+                    # most likely for memory
+                    ran = RT.checked(made, {}, ONE_JOB, kept)
+            self.checks += 1
+            if self.given.log:
+                with open(f"{self.given.log}/{self.crate.name}", "a", encoding="utf-8") as it:
+                    it.write(f"== {' '.join(it.name for it in edits)}\n{ran.stdout}")
+            return faults_of(ran.stdout, made, self.homes)
+
+    def is_refused(self, edit, lines):
+        """Whether what is said shows that an edit is refused."""
+        lines = [it for it in lines if not SAYS_LITTLE.match(it)]
+        if lines:
+            self.results[edit.name] = True, f"refused, as it must be: {lines[0][:160]}"
+        return bool(lines)
+
+    def beside(self, base, edits):
+        """Those edits of a base that leave others their functions and their texts."""
+        rest = []
+        for it in base:
+            if not any(it.functions & edit.functions for edit in edits) and self.are_apart([*rest, it, *edits]):
+                rest.append(it)
+        return rest
+
+    def together(self, base, edits, kept):
+        """Tries edits of bodies on one copy, with those of the base that change other functions. Gives those that are refused."""
+        rest = self.beside(base, edits)
+        faults = self.faults([*rest, *edits], kept)
+        if faults is None or any(not any(it.changes(name) for it in [*rest, *edits]) for name in faults):
+            half = len(edits) // 2
+            return [it for some in (edits[:half], edits[half:]) for it in self.together(base, some, kept)] if half else []
+        return [it for it in edits if self.is_refused(it, [line for name in faults if it.changes(name) for line in faults[name]])]
+
+    def on_top(self, base, edit, kept):
+        """Tries an edit of something else than bodies by itself, on top of edits of bodies that are refused."""
+        base = self.beside(base, [edit])
+        faults = self.faults([*base, edit], kept) or {}
+        self.is_refused(edit, [line for name in faults if not any(it.changes(name) for it in base) for line in faults[name]])
+
+    def shared_out(self, edits):
+        """Edits of bodies by copies: in each copy they change functions of their own, and can all be made."""
+        copies = []
+        for edit in edits:
+            for some in copies:
+                if not any(edit.functions & it.functions for it in some) and self.are_apart([*some, edit]):
+                    some.append(edit)
+                    break
+            else:
+                copies.append([edit])
+        return copies
+
+    def by_copies(self, edits, kept):
+        """Tries edits on copies. Gives what to say of how many went together."""
+        others = [it for it in edits if not it.functions]
+        copies, base = self.shared_out([it for it in edits if it.functions]), []
+        for some in copies:
+            found = self.together(base, some, kept)
+            base = base or found
+            self.look_at_same(some)
+        for edit in others:
+            self.on_top(base, edit, kept)
+        return f"{' + '.join(str(len(it)) for it in copies) or 'none'} in copies, {len(others)} on top"
+
+    def look_at_same(self, copied):
+        """Sees that edits that mean the same are found not refused by the first copy, in which real ones are."""
+        found = [it for it in copied if it.name in self.results]
+        for edit in (it for it in copied if it.is_same):
+            if edit in found:
+                self.results[edit.name] = False, f"MEANS THE SAME AS BEFORE, and is found refused: {self.results[edit.name][1]}"
+            elif self.checks > 1 or not found:
+                self.results[edit.name] = False, "MEANS THE SAME AS BEFORE, and did not stand among refused edits in one copy that counts"
+            else:
+                self.results[edit.name] = True, f"means the same as before, and is not found refused where {len(found)} others are"
+
+    def by_itself(self, edit):
+        """Tries an edit alone and from nothing."""
+        with MEMORY.of(self.crate):
+            kind, text = RT.must_fail(self.crate, edit.file, ONE_JOB)
+        self.results[edit.name] = kind in REFUSED, text.partition(": ")[2]
+
+    def run(self):
+        names = {}
+        for edit in self.edits:
+            if edit.why:
+                self.results[edit.name] = False, f"BAD EDIT: {edit.why}"
+            else:
+                names[edit] = self.store.name(self.crate, edit)
+        told = {it: self.store.told(name) for it, name in names.items()}
+        if any(it.is_same and not text for it, text in told.items()):
+            # (they are to stand among real ones)
+            told = {}
+        left = [it for it in names if not told.get(it)]
+        self.results.update({it.name: (True, told[it]) for it in names if told.get(it)})
+        with tempfile.TemporaryDirectory(prefix=f"rt-edits-{os.getpid()}-") as kept:
+            if self.given.kept and os.path.isdir(f"{self.crate.folder}/out/incremental"):
+                shutil.copytree(f"{self.crate.folder}/out/incremental", kept, dirs_exist_ok=True)
+            counts = self.by_copies(left, kept)
+        alone = [it for it in left if it.name not in self.results]
+        for edit in alone:
+            self.by_itself(edit)
+        for edit in left:
+            is_well, text = self.results[edit.name]
+            if is_well:
+                self.store.keep(self.crate, edit, names[edit], text)
+        return [
+            *(f"{self.crate.name}/{name}: {text}" for name, (_, text) in sorted(self.results.items())),
+            f"{self.crate.name}: {counts}, {len(alone)} alone, {len(names) - len(left)} by earlier runs; {self.checks} checks",
+        ]
+
+
+def alone(names):
+    """Tries edits by `rt must-fail` itself, which looks for them in another folder."""
+
+    def edits_of(crate):
+        folder = f"{crate.folder}/edits"
+        names = sorted(os.listdir(folder)) if os.path.isdir(folder) else []
+        good = [f"{folder}/{it}" for it in names if NAME.fullmatch(it)]
+        return good, [f"{folder}/{it}" for it in names if not NAME.fullmatch(it) and not it.endswith(".md")]
+
+    RT.edits_of = edits_of
+    RT.share_work(False)
+    return RT.where_disk_lasts(RT.edits_alone, names)
+
+
+def tried(trials, crates, given, store):
+    """Tries the edits of each crate, those first whose libraries are there first, and gives whether each came to what it must."""
+    wells, running, there = [], {}, set()
+    needed = {below for trial in trials for below in trial.crate.below()}
+    trials.sort(key=lambda it: -it.crate.count(rb"\n") * len(it.edits))
+    with concurrent.futures.ThreadPoolExecutor(given.jobs) as pool:
+
+        def begin():
+            for trial in [it for it in trials if there >= {*it.crate.below()}]:
+                trials.remove(trial)
+                running[pool.submit(trial.run)] = trial
+
+        begin()
+        for crate in (it for it in crates if it in needed):
+            store.need(crate, given.beside)
+            there.add(crate)
+            begin()
+        for it in concurrent.futures.as_completed(running):
+            print("\n".join(it.result()), flush=True)
+            wells += [well for well, _ in running[it].results.values()]
+    return wells
+
+
+def main():
+    parser = argparse.ArgumentParser(usage=__doc__.split("\n\n")[1].strip())
+    parser.add_argument("--jobs", type=int, default=len(os.sched_getaffinity(0)))
+    parser.add_argument("--beside")
+    parser.add_argument("--kept", action="store_true")
+    parser.add_argument("--alone", action="store_true")
+    parser.add_argument("--log")
+    parser.add_argument("names", nargs="*")
+    given = parser.parse_args()
+    os.chdir(TOP)
+    if given.alone:
+        return alone(given.names)
+    RT.rtlib.guarded()
+    # (the sums by which `rt ci` keeps what it proved rest on the handles too)
+    RT.Crate.allowed = RT.handles_of(TOP)
+    began, crates = time.time(), RT.crates_of(TOP)
+    store = Store(crates)
+    trials = [it for it in (Trial(crate, given, store) for crate in crates) if it.edits or it.results]
+    wells = tried(trials, crates, given, store)
+    print(f"{(time.time() - began) / 60:.1f} minutes")
+    print(f"{wells.count(True)} passed, {wells.count(False)} failed")
+    return 1 if wells.count(False) or not wells else 0
+
+
+if __name__ == "__main__":
+    sys.exit(main())
