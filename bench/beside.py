@@ -19,7 +19,7 @@ import sys
 import tempfile
 import time
 
-from bench import INITIALIZE, PROGRAM, SYMBOLS, TOP, Server, about, grammar, notice, opened, typed
+from bench import INITIALIZE, PROGRAM, SYMBOLS, TOP, Server, about, grammar, notice, opened, request, typed
 
 SOURCE = os.path.join(TOP, "bench", "plain", "main.rs")
 FLAGS = ("--edition", "2024", "-C", "opt-level=3", "-C", "target-cpu=x86-64-v2")
@@ -48,13 +48,13 @@ class Timed(Server):
         return self.seconds() - before
 
 
-def compared(name, text, once, asked, count, rounds, commands):
+def compared(name, text, once, asked, count, rounds, commands, initialize=INITIALIZE):
     """One line: what each server takes for what is asked about a text, of which there are so many, and the memory after it was asked once; the
     program first."""
     servers = [Timed(command) for command in commands]
     memories = []
     for server in servers:
-        server.until_answered(INITIALIZE + opened(text) + once)
+        server.until_answered(initialize + opened(text) + once)
         memories.append(server.memory() * 1024)
         server.until_answered(asked)
     idle = [min(server.took(b"") for _ in range(20)) for server in servers]
@@ -77,10 +77,10 @@ def erased(line, character):
                   contentChanges=[{"range": {"start": start, "end": end}, "text": ""}])
 
 
-def questions(text):
-    """What is asked about a text, each by its name, and how many of that it is: about the last name of its first line, and a character typed
-    behind it and erased again."""
-    at = {"line": 0, "character": len(text.split("\n", 1)[0])}
+def questions(text, end=None):
+    """What is asked about a text, each by its name, and how many of that it is: about the last name of its first line, which ends the line or
+    at this place in it, and a character typed behind it and erased again."""
+    at = {"line": 0, "character": len(text.split("\n", 1)[0]) if end is None else end}
     return {
         "opening": (CLOSED + opened(text), 1),
         "keystroke": (typed(**at) + erased(**at), 2),
@@ -103,6 +103,26 @@ GRAMMARS = (
 )
 
 
+# What positions count, and the units of a text
+ENCODINGS = {"utf-8": lambda text: len(text.encode()), "utf-16": lambda text: len(text.encode("utf-16-le")) // 2, "utf-32": len}
+
+
+def wide(text):
+    """A grammar each of whose lines has prose before its names and a comment behind them, none of which is ASCII."""
+    return "".join(line.replace(" = ", " = <\u00e9\u4e2d\U0001f600> / ") + " ; \u00e9\u4e2d\U0001f600 \u00e9\n" for line in text.splitlines())
+
+
+def compare_encodings(rules, each, count, rounds, commands):
+    """What is asked about a grammar whose lines aren't ASCII, by each of the three encodings."""
+    text = wide(grammar(rules, each))
+    first = text.split("\n", 1)[0].partition(" ; ")[0]
+    for encoding, units in ENCODINGS.items():
+        initialize = request(0, "initialize", capabilities={"general": {"positionEncodings": [encoding]}})
+        for name, (given, steps) in questions(text, units(first)).items():
+            once = b"" if name == "opening" else given
+            compared(f"{name}, {rules:,} wide rules, {encoding}", text, once, given * count, steps * count, rounds, commands, initialize)
+
+
 def compare(names, commands):
     print(f"{'':<40}" + "".join(f"  {name:<42}" for name in names))
     for rules, each, count, rounds, asked in GRAMMARS:
@@ -112,6 +132,8 @@ def compare(names, commands):
             once = b"" if name == "opening" else given
             line = f"{name}, {rules:,} rules of {each} name{'s' * (each > 1)}"
             compared(line, text, once, given * count, steps * count, rounds, commands)
+    for rules, each, count, rounds in ((1_000, 1, 3, 30), (20_000, 1, 1, 7)):
+        compare_encodings(rules, each, count, rounds, commands)
     compared("outline of one rule", 'a = "x"', SYMBOLS, SYMBOLS * 200, 200, 30, commands)
 
 

@@ -1,14 +1,21 @@
 #!/usr/bin/env python3
-"""Drives the server on one thread through long sessions and prints what a request and an edit cost, and what a session keeps.
+"""Drives the server through long sessions and prints what a request and an edit cost, and what a session keeps.
 
-Run it from anywhere: bench/desk.py [PROGRAM], where PROGRAM is that of the crate served_plainly if left out. Times are wall-clock, from the first byte sent to
-the last reply, with all messages sent as fast as they are read: the least of three sessions. Memory is the most that the program has had
-(peak resident set), in units of 1,000,000 bytes.
+Run it from anywhere: bench/desk.py [PROGRAM [THREADED]], where PROGRAM is that of the crate served_plainly and THREADED out/abnf_ls where they are
+left out. Times are wall-clock, from the first byte sent to the last reply, with all messages sent as fast as they are read: the least of three
+sessions on PROGRAM. Memory is the most that a program has had (peak resident set), in units of 1,000,000 bytes.
 
-A session has at most 1,000,000 events, the replies that wait to be sent among them. A request costs four (asked, taken, finished, sent), and so
-does an edit, whose findings are a job: so the sessions here have 400,000, 400,000, 40,000 and 900,000, and a dozen for their start and end.
+A journal begins anew once it has 1,000,000 events. A request costs four (asked, taken, finished, sent), and so does an edit, whose findings are a
+job: these sessions have 400,000, 400,000, 40,000 and 900,000, and a dozen for their start and end, so none of them comes to that.
+
+At last a client types into a small text and waits for the findings of each character, on both programs, for 3,000,000 events. It is told what memory
+there is after each 500,000 of them, and how long the client waited for findings: in the middle, and the three longest waits with the events after
+which they came, where the journal begins anew among them.
 """
 import os
+import statistics
+import subprocess
+import sys
 import threading
 import time
 
@@ -18,6 +25,7 @@ RUNS = 3
 REQUESTS = 100_000
 EDITS = 100_000
 MIXED = 112_500
+TYPED = 3_000_000
 
 
 def pumped(process, given):
@@ -80,6 +88,39 @@ def edits(line, character, count):
     return pair * (count // 2)
 
 
+class Typist(bench.Server):
+    """A client that waits for what is said to each of its messages."""
+
+    def __init__(self, program):
+        self.process = subprocess.Popen([program], stdin=subprocess.PIPE, stdout=subprocess.PIPE)
+
+    def waits(self, given, bodies=1):
+        """Sends the bytes and waits for so many bodies: the seconds that they took."""
+        start = time.perf_counter()
+        self.process.stdin.write(given)
+        self.process.stdin.flush()
+        for _ in range(bodies):
+            length = int(self.process.stdout.readline()[16:])
+            self.process.stdout.read(length + 2)
+        return time.perf_counter() - start
+
+
+def typed_on(name, program, text, events):
+    """So many events of typing into a text: the memory on the way, and the waits."""
+    typist = Typist(program)
+    typist.waits(bench.INITIALIZE + bench.opened(text), 2)
+    pair = edit(0, 5, 5, "x"), edit(0, 5, 6, "")
+    waits, memories = [], []
+    for number in range(1, events // 4 + 1):
+        waits.append((typist.waits(pair[number % 2 == 0]), 4 * number))
+        if number % 125_000 == 0:
+            memories.append(f"{typist.memory() * 1024 / 1e6:.0f}")
+    typist.end()
+    longest = ", ".join(f"{seconds * 1e3:.1f} ms after {after:,}" for seconds, after in sorted(waits)[:-4:-1])
+    middle = statistics.median(seconds for seconds, _ in waits)
+    print(f"{name:<46} {' '.join(memories)} MB after each 500,000 events; waits {middle * 1e6:.0f} us, {longest}", flush=True)
+
+
 def main():
     small = 'a = "x"\n'
     row(f"{REQUESTS:,} hovers on a small text", small, b"".join(hover(number) for number in range(REQUESTS)), REQUESTS)
@@ -89,6 +130,9 @@ def main():
     row(f"{EDITS // 10:,} edits of 30 kB of rules", rules, edits(375, 20, EDITS // 10), EDITS // 10)
     both = b"".join(hover(number) + edit(0, 5, 6, "yx"[number % 2]) for number in range(MIXED))
     row(f"{MIXED:,} hovers and as many edits, a small text", small, both, 2 * MIXED)
+    threaded = sys.argv[2] if len(sys.argv) > 2 else os.path.join(bench.TOP, "out", "abnf_ls")
+    for program in filter(os.path.isfile, (bench.PROGRAM, threaded)):
+        typed_on(f"{TYPED:,} events of typing, {os.path.basename(program)}", program, small, TYPED)
 
 
 if __name__ == "__main__":

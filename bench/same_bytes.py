@@ -4,8 +4,8 @@
     bench/same_bytes.py PROGRAM OTHER [COUNT] [SEED]
 
 PROGRAM is that of the crate served_plainly and OTHER the plain Rust server, each a command; COUNT sessions (200 if left out) are made from SEED
-(a number, 0 if left out). A session opens random grammars, right and faulty ones, changes them and asks about random places, with some messages
-between that can't be served. The first session that gives other bytes, or ends with another exit status, is told with its messages and ends the
+(a number, 0 if left out). A session offers encodings of positions, or something else in their place, opens random grammars, right and faulty ones,
+changes them and asks about random places, with some messages between that can't be served. The first session that gives other bytes, or ends with another exit status, is told with its messages and ends the
 run.
 """
 import random
@@ -14,7 +14,7 @@ import shlex
 import subprocess
 import sys
 
-from bench import END, INITIALIZE, about, frame, notice, opened, request
+from bench import END, about, frame, notice, opened, request
 
 NAMES = ["a", "b", "rule-1", "Rule-2", "c3", "long-name-of-a-rule", "d", "E", "A", "rule-2", "LONG-name-of-a-rule"]
 CORE = ["ALPHA", "digit", "HexDig", "CRLF", "LWSP", "wsp", "LF", "DQUOTE", "vchar", "OCTET", "CHAR", "CTL", "CR", "SP", "HTAB", "BIT"]
@@ -26,11 +26,15 @@ PROSE = ["<prose>", "<>", "<\u00e9\U0001f600>", "<unclosed"]
 COMMENTS = ["; comment", ";", "; \u00e9\u4e2d\U0001f600 wide", "  ; \"quoted\"", "\t;x"]
 SCRAPS = [*NAMES, *CORE[:4], *NUMBERS, *QUOTED, *REPEATS, *PROSE, *COMMENTS[:3], *"=/()[]?_\u00e9\U0001f600\\\t \n\r\0", "=/", " ", "\r\n"]
 ENDS = ["\n", "\r\n", "\r"]
+# The units of a text by the encoding that is agreed, and what is offered; where it isn't one of these three, they are UTF-16
+UNITS = {"utf-8": lambda text: len(text.encode()), "utf-16": lambda text: len(text.encode("utf-16-le")) // 2, "utf-32": len}
+NO_OFFERS = [None, [], ["x"], "utf-8", {"utf-8": 1}, ["UTF-8", "utf8"], [["utf-8"]], 7, True]
 
 
 class Dice(random.Random):
-    """Chance, which may make mistakes or none."""
+    """Chance, which may make mistakes or none; and what positions count."""
     errs = True
+    units = staticmethod(UNITS["utf-16"])
 
     def slips(self, chance):
         return self.errs and self.random() < chance
@@ -110,16 +114,16 @@ def name_in(dice, text):
     return dice.choice(list(re.finditer("[A-Za-z][A-Za-z0-9-]*|$", text))).span()
 
 
-def position_of(offset, text):
+def position_of(dice, offset, text):
     before = text[:offset].replace("\r\n", "\n").replace("\r", "\n").split("\n")
-    return {"line": len(before) - 1, "character": len(before[-1].encode("utf-16-le")) // 2}
+    return {"line": len(before) - 1, "character": dice.units(before[-1])}
 
 
 def position(dice, text):
     """A position of a text, or one past its end or that of its line: often at a name."""
     if dice.random() < 0.02:
         return {"line": dice.choice([2 ** 40, 3]), "character": 4294967296}
-    at = position_of(dice.randint(*name_in(dice, text)) if dice.random() < 0.8 else dice.randrange(len(text) + 1), text)
+    at = position_of(dice, dice.randint(*name_in(dice, text)) if dice.random() < 0.8 else dice.randrange(len(text) + 1), text)
     return {**at, "character": at["character"] + dice.choice([0, 0, 0, 0, 0, 0, 1, 5])}
 
 
@@ -130,7 +134,7 @@ def edit(dice, text):
         start, end = {"line": line, "character": 0}, {"line": line, "character": dice.choice([0, 0, 1, 200])}
         return {"range": {"start": start, "end": end}, "text": dice.choice([*ENDS, ""])}
     if not dice.slips(0.8):
-        start, end = (position_of(offset, text) for offset in name_in(dice, text))
+        start, end = (position_of(dice, offset, text) for offset in name_in(dice, text))
         return {"range": {"start": start, "end": end}, "text": dice.choice([dice.choice(NAMES), element(dice, 1)])}
     new = dice.choice([dice.choice(SCRAPS), dice.choice(SCRAPS), rule(dice, dice.choice(NAMES)), "", grammar(dice)])
     if dice.random() < 0.05:
@@ -180,11 +184,23 @@ def message(dice, text):
     return frame(dice.choice(STRANGE))
 
 
+def initialize(dice):
+    """The first message, which settles what positions count."""
+    agreed = dice.choice([None, *UNITS])
+    if agreed is None:
+        offers = dice.choice(NO_OFFERS)
+    else:
+        offers = dice.choice([[], ["x"], [None, 8, "UTF-8"]]) + [agreed] + dice.choice([[], ["utf-8"], ["utf-16", "utf-32"], [{}]])
+    dice.units = UNITS[agreed or "utf-16"]
+    general = {} if offers is None and dice.random() < 0.5 else {"positionEncodings": offers}
+    return request(0, "initialize", capabilities=dice.choice([{"general": general}, {"general": general, "workspace": {}}]))
+
+
 def session(dice):
     """The messages of a session."""
     dice.errs = dice.random() < 0.5
     text = grammar(dice)
-    first = [] if dice.random() < 0.02 else [INITIALIZE]
+    first = [] if dice.random() < 0.02 else [initialize(dice)]
     rest = [message(dice, text) for _ in range(dice.choice([1, 5, 20, 60]))]
     end = dice.choice([[END], [END], [request(2, "shutdown"), rest[0], notice("exit")], [notice("exit")], [], [b"Content-Length: 5\r\n\r\nabc"]])
     return first + [opened(text)] + rest + end

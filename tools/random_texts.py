@@ -1,13 +1,14 @@
 #!/usr/bin/env python3
 """Asks the built program about random texts, and compares what it answers with a plain reading of them.
 
-    tools/random_texts.py [PROGRAM [SEED [COUNT]]]
+    tools/random_texts.py [PROGRAM [SEED [COUNT [ENCODING]]]]
 
-PROGRAM is out/abnf_ls, SEED 1 and COUNT 600 where they aren't given. For each text the tokens are asked for, and at random positions
-references, renames and code actions. The plain reading below knows tokens, blocks and places of names; what it doesn't know is which string
-is the shortest, so a code action is compared with the program's own hover. At last the edits of a rename that is granted are made in the
-text: its tokens are the same but at the places of the name, and at each place the same is shown as before. It ends nonzero where an answer
-differs. The gate asks about 800 texts (tools/program_ends.py).
+PROGRAM is out/abnf_ls, SEED 1, COUNT 600 and ENCODING each of the three where they aren't given. For each text the tokens are asked for, and
+at random positions references, renames and code actions. The plain reading below knows tokens, blocks and places of names; what it doesn't
+know is which string is the shortest, so a code action is compared with the program's own hover. Then the edits of a rename that is granted
+are made in the text: its tokens are the same but at the places of the name, and at each place the same is shown as before. At last random
+edits are made, at positions inside characters and past the ends too, and tokens and references are asked for again. All positions count
+what the session agreed on. It ends nonzero where an answer differs. The gate asks about 1,600 texts (tools/program_ends.py).
 """
 import json
 import os
@@ -37,9 +38,12 @@ CLASSES = tuple(
 TYPES = {"name": 0, "quoted": 1, "number": 2, "defines": 3, "operator": 3, "comment": 4, "prose": 5}
 
 
-def units(text):
-    """The UTF-16 units of a text."""
-    return len(text.encode("utf-16-le")) // 2
+# What positions count: the units of a text (LSP 3.17, "PositionEncodingKind")
+UNITS = {
+    "utf-8": lambda text: len(text.encode()),
+    "utf-16": lambda text: len(text.encode("utf-16-le")) // 2,
+    "utf-32": len,
+}
 
 
 def tokens_of(line):
@@ -68,9 +72,10 @@ class Place:
 
 
 class Reading:
-    """What a text says, read plainly."""
+    """What a text says, read plainly, by positions that count what an encoding has."""
 
-    def __init__(self, text):
+    def __init__(self, text, encoding):
+        self.encoding, self.units = encoding, UNITS[encoding]
         self.lines = re.split("\r\n|\n|\r", text)
         self.ends = re.findall("\r\n|\n|\r", text) + [""]
         self.tokens = [tokens_of(line) for line in self.lines]
@@ -104,13 +109,20 @@ class Reading:
         return any(place.defines for place in self.named(name))
 
     def point(self, line, character):
-        """The line and the character of a position of UTF-16 units."""
+        """The line and the character of a position: one inside a character's units is before that character."""
         if line >= len(self.lines):
             return len(self.lines) - 1, len(self.lines[-1])
         text, at = self.lines[line], 0
-        while at < len(text) and units(text[: at + 1]) <= character:
+        while at < len(text) and self.units(text[: at + 1]) <= character:
             at += 1
         return line, at
+
+    def edited(self, ends, new):
+        """The text with what is between two positions replaced, whichever comes first."""
+        lines = [line + end for line, end in zip(self.lines, self.ends)]
+        offsets = sorted(sum(map(len, lines[:line])) + at for line, at in (self.point(*end) for end in ends))
+        text = "".join(lines)
+        return Reading(text[: offsets[0]] + new + text[offsets[1] :], self.encoding)
 
     def place_at(self, position):
         line, at = self.point(*position)
@@ -119,7 +131,7 @@ class Reading:
         return next(iter(holding + [place for place in here if place.end == at]), None)
 
     def range_of(self, place):
-        ends = (units(self.lines[place.line][:at]) for at in (place.start, place.end))
+        ends = (self.units(self.lines[place.line][:at]) for at in (place.start, place.end))
         start, end = ({"line": place.line, "character": character} for character in ends)
         return {"start": start, "end": end}
 
@@ -130,9 +142,9 @@ class Reading:
         for line, tokens in enumerate(self.tokens):
             for kind, text, at in tokens:
                 if kind in TYPES:
-                    start = units(self.lines[line][:at])
+                    start = self.units(self.lines[line][:at])
                     behind = start - last_start if line == last_line else start
-                    told += [line - last_line, behind, units(text), TYPES[kind], self.modifiers(by_start.get((line, at)))]
+                    told += [line - last_line, behind, self.units(text), TYPES[kind], self.modifiers(by_start.get((line, at)))]
                     last_line, last_start = line, start
         return told
 
@@ -159,7 +171,7 @@ class Reading:
         return [self.range_of(it) for it in self.named(place.text)]
 
     def start_of(self, place):
-        return place.line, units(self.lines[place.line][: place.start])
+        return place.line, self.units(self.lines[place.line][: place.start])
 
     def with_name(self, old, new):
         """The text with the new name at each place of the old one."""
@@ -186,9 +198,9 @@ class Reading:
 FRAGMENTS = (
     *("a", "b", "A", "item", "ITEM", "DIGIT", "digit", "HEXDIG", "CRLF", "x41", "c-1", " ", "  ", "\t"),
     *(" = ", " =/ ", "=", "=/", "/", " / ", "(", ")", "[", "]", "*", "2", "1*3", "3*2", "0*"),
-    *('"x"', '"', "%x41", "%d13.10", "%x30-39", "%", '%s"Q"', '%i"q"', "<p r>", "<", "é", "😀"),
+    *('"x"', '"', "%x41", "%d13.10", "%x30-39", "%", '%s"Q"', '%i"q"', "<p r>", "<", "é", "€", "😀"),
     *("; c item\n", ";", "\n", "\n", "\n", "\r\n", "\r", "?", "_", "-", "\n a", "\nb = ", "\nitem = ", "\n="),
-    *('a = "x"\n', "b = a b\n", "item = 1*DIGIT\n", 'A =/ "y"\n', "a = %x41 / <é> b ; 😀\n"),
+    *('a = "x"\n', "b = a b\n", "item = 1*DIGIT\n", 'A =/ "y"\n', "a = %x41 / <é> b ; 😀\n", "b = <€😀é> a ; 😀 a\r\n"),
 )
 NEW_NAMES = ("a", "b", "c", "item2", "ITEM", "digit", "crlf", "2x", "", "a b", "x41", "d0", "-a", "Q", "A", "hexdig", "c-1", "C-1", "é")
 
@@ -196,11 +208,13 @@ NEW_NAMES = ("a", "b", "c", "item2", "ITEM", "digit", "crlf", "2x", "", "a b", "
 class Session:
     """Messages to the program, and what must be answered to each request: a function of its result or of its error's text."""
 
-    def __init__(self, choose):
-        self.choose, self.messages, self.wanted = choose, [], {}
+    def __init__(self, choose, encoding):
+        self.choose, self.encoding, self.messages, self.wanted = choose, encoding, [], {}
         # of each rename that was made, whether the plain reading finds the promised tokens after it
         self.renames = []
-        self.request("initialize", {"capabilities": {}}, lambda answers: answers[0])
+        # where nothing is offered it is UTF-16
+        offered = {} if encoding == "utf-16" else {"general": {"positionEncodings": ["x", encoding, "utf-16"]}}
+        self.request("initialize", {"capabilities": offered}, lambda answers: agreed(answers[0], encoding))
 
     def request(self, method, params, want):
         number = len(self.wanted)
@@ -215,7 +229,7 @@ class Session:
         if reading.places and self.choose.random() < 0.8:
             place = self.choose.choice(reading.places)
             at = self.choose.choice((place.start, (place.start + place.end) // 2, place.end))
-            return place.line, units(reading.lines[place.line][:at])
+            return place.line, reading.units(reading.lines[place.line][:at])
         return self.choose.randrange(len(reading.lines) + 1), self.choose.randrange(12)
 
     def ask(self, uri, method, want, **params):
@@ -223,15 +237,26 @@ class Session:
 
     def about(self, uri, text):
         """Opens a text, asks about it and closes it."""
-        reading = Reading(text)
+        reading = Reading(text, self.encoding)
         self.notice("didOpen", {"uri": uri, "languageId": "abnf", "version": 1, "text": text})
         self.ask(uri, "semanticTokens/full", {"data": reading.numbers()})
         for _ in range(3):
             self.ask_references(uri, reading)
             self.ask_rename(uri, reading)
             self.ask_action(uri, reading)
-        self.rename_one(uri, reading)
+        self.edit_some(uri, self.rename_one(uri, reading))
         self.notice("didClose", {"uri": uri})
+
+    def edit_some(self, uri, reading):
+        """Makes up to three random edits at once, and asks about what they leave."""
+        changes = []
+        for _ in range(self.choose.randrange(4)):
+            ends, new = [self.position(reading) for _ in range(2)], self.choose.choice(FRAGMENTS)
+            changes.append({"range": dict(zip(("start", "end"), map(as_json, ends))), "text": new})
+            reading = reading.edited(ends, new)
+        self.notice("didChange", {"uri": uri, "version": 3}, contentChanges=changes)
+        self.ask(uri, "semanticTokens/full", {"data": reading.numbers()})
+        self.ask_references(uri, reading)
 
     def ask_references(self, uri, reading):
         at, declarations = self.position(reading), self.choose.choice((True, False))
@@ -245,12 +270,12 @@ class Session:
         self.ask(uri, "rename", want, position=as_json(at), newName=new)
 
     def rename_one(self, uri, reading):
-        """Makes the edits of a rename that is granted, if there is one, and asks for what it keeps."""
+        """Makes the edits of a rename that is granted, if there is one, and asks for what it keeps. Gives what the text says then."""
         named = [(place.text, new) for place in reading.places for new in NEW_NAMES if self.is_granted(reading, place, new)]
         if not named:
-            return
+            return reading
         old, new = self.choose.choice(named)
-        after = Reading(reading.with_name(old, new))
+        after = Reading(reading.with_name(old, new), self.encoding)
         before = [self.hover(uri, reading.start_of(place)) for place in reading.places]
         changes = [{"range": reading.range_of(place), "text": new} for place in reversed(reading.named(old))]
         self.notice("didChange", {"uri": uri, "version": 2}, contentChanges=changes)
@@ -258,6 +283,7 @@ class Session:
         self.ask(uri, "semanticTokens/full", {"data": after.numbers()})
         for place, number in zip(after.places, before):
             self.hover(uri, after.start_of(place), lambda answers, it=place, was=number: {**answers[was], "range": after.range_of(it)})
+        return after
 
     def is_granted(self, reading, place, new):
         return isinstance(reading.rename(reading.start_of(place), new), list)
@@ -272,6 +298,11 @@ class Session:
         line = reading.head_line(start)
         params = {"textDocument": {"uri": uri}, "range": dict(zip(("start", "end"), map(as_json, ends)))}
         self.request("textDocument/codeAction", params, lambda answers: action(uri, line, answers[hover]))
+
+
+def agreed(answer, encoding):
+    """An answer to initialize by which this encoding is agreed."""
+    return {**answer, "capabilities": {**answer["capabilities"], "positionEncoding": encoding}}
 
 
 def as_json(position):
@@ -306,9 +337,9 @@ def answers_of(program, messages):
     return answers
 
 
-def compared(program, seed, count):
+def compared(program, seed, count, encoding):
     """The session on so many random texts, and the numbers of the requests in it that the program answers otherwise."""
-    session = Session(random.Random(seed))
+    session = Session(random.Random(seed), encoding)
     for number in range(count):
         text = "".join(session.choose.choices(FRAGMENTS, k=session.choose.choice((1, 3, 6, 10, 20, 40))))
         session.about(f"file:///{number}", text)
@@ -319,12 +350,15 @@ def compared(program, seed, count):
     return session, wrong
 
 
-def main(program=os.path.join(TOP, "out", "abnf_ls"), seed="1", count="600"):
-    session, wrong = compared(program, int(seed), int(count))
-    lost = session.renames.count(False)
-    print(f"random_texts.py: {len(session.wanted)} requests about {count} texts, {len(wrong)} answered otherwise")
-    print(f"random_texts.py: {len(session.renames)} renames made, {lost} with other tokens than promised")
-    return 1 if wrong or lost else 0
+def main(program=os.path.join(TOP, "out", "abnf_ls"), seed="1", count="600", *encodings):
+    bad = 0
+    for encoding in encodings or UNITS:
+        session, wrong = compared(program, int(seed), int(count), encoding)
+        lost = session.renames.count(False)
+        print(f"random_texts.py: {encoding}: {len(session.wanted)} requests about {count} texts, {len(wrong)} answered otherwise")
+        print(f"random_texts.py: {encoding}: {len(session.renames)} renames made, {lost} with other tokens than promised")
+        bad += len(wrong) + lost
+    return 1 if bad else 0
 
 
 if __name__ == "__main__":

@@ -3,7 +3,7 @@
 use crate::answers::{Ask, put_answer};
 use crate::findings::put_findings;
 use crate::json::{Json, put_text};
-use crate::text::{Position, Text};
+use crate::text::{Encoding, Position, Text};
 use std::collections::HashMap;
 use std::io::Write;
 
@@ -16,13 +16,18 @@ const INVALID_PARAMS: (i32, &str) = (-32602, "invalid params");
 const NOT_OPEN: (i32, &str) = (-32602, "document not open");
 const NOT_INITIALIZED: (i32, &str) = (-32002, "not initialized");
 
-/// What the server beside which it is timed can do.
-const CAPABILITIES: &str = concat!(
-    r#"{"capabilities":{"codeActionProvider":true,"definitionProvider":true,"documentSymbolProvider":true,"#,
-    r#""hoverProvider":true,"positionEncoding":"utf-16","referencesProvider":true,"renameProvider":true,"#,
-    r#""semanticTokensProvider":{"full":true,"legend":{"tokenModifiers":["definition","defaultLibrary"],"#,
-    r#""tokenTypes":["type","string","number","operator","comment","macro"]}},"#,
-    r#""textDocumentSync":{"change":2,"openClose":true}},"serverInfo":{"name":"abnf_ls"}}"#
+/// What the server beside which it is timed can do: before the name of an encoding and behind it.
+const CAPABILITIES: (&str, &str) = (
+    concat!(
+        r#"{"capabilities":{"codeActionProvider":true,"definitionProvider":true,"documentSymbolProvider":true,"#,
+        r#""hoverProvider":true,"positionEncoding":""#
+    ),
+    concat!(
+        r#"","referencesProvider":true,"renameProvider":true,"#,
+        r#""semanticTokensProvider":{"full":true,"legend":{"tokenModifiers":["definition","defaultLibrary"],"#,
+        r#""tokenTypes":["type","string","number","operator","comment","macro"]}},"#,
+        r#""textDocumentSync":{"change":2,"openClose":true}},"serverInfo":{"name":"abnf_ls"}}"#
+    ),
 );
 
 #[derive(Clone, Copy, PartialEq)]
@@ -39,6 +44,7 @@ struct Document {
 
 pub struct Session {
     stage: Stage,
+    encoding: Encoding,
     documents: HashMap<String, Document>,
 }
 
@@ -56,7 +62,7 @@ type Edit<'b> = (Option<(Position, Position)>, &'b str);
 
 impl Session {
     pub fn new() -> Session {
-        Session { stage: Stage::BeforeInitialize, documents: HashMap::new() }
+        Session { stage: Stage::BeforeInitialize, encoding: Encoding::Utf16, documents: HashMap::new() }
     }
 
     /// Hears a message and writes what is said to it. At the exit tells whether the session was shut down before.
@@ -99,7 +105,9 @@ impl Session {
         match (self.stage, method) {
             (Stage::BeforeInitialize, "initialize") => {
                 self.stage = Stage::Running;
-                reply(out, id, |out| out.extend_from_slice(CAPABILITIES.as_bytes()));
+                self.encoding = offered(params).unwrap_or(Encoding::Utf16);
+                let parts = [CAPABILITIES.0, self.encoding.name(), CAPABILITIES.1];
+                reply(out, id, |out| out.extend(parts.concat().as_bytes()));
             }
             (Stage::BeforeInitialize, _) => refuse(out, Some(id), NOT_INITIALIZED),
             (Stage::ShutDown, _) | (_, "initialize") => refuse(out, Some(id), INVALID_REQUEST),
@@ -164,7 +172,7 @@ impl Session {
         if self.documents.contains_key(uri) || self.documents.len() == MOST_DOCUMENTS {
             return None;
         }
-        let text = Text::new(text)?;
+        let text = Text::new(text, self.encoding)?;
         self.documents.insert(uri.to_owned(), Document { version, text });
         Some(())
     }
@@ -177,7 +185,7 @@ impl Session {
             edits.into_iter().try_for_each(|(range, new)| match range {
                 Some((start, end)) => document.text.edit(start, end, new),
                 None => {
-                    document.text = Text::new(new.to_owned())?;
+                    document.text = Text::new(new.to_owned(), document.text.encoding())?;
                     Some(())
                 }
             })
@@ -197,6 +205,14 @@ impl Session {
         put_text(out, uri);
         write!(out, ",\"version\":{}}}}}", document.version).expect("a vector takes all");
     }
+}
+
+/// The first encoding that a client offers of those that are known.
+fn offered(params: &Json) -> Option<Encoding> {
+    let Json::Array(offers) = params.get("capabilities")?.get("general")?.get("positionEncodings")? else {
+        return None;
+    };
+    offers.iter().find_map(|offer| Encoding::named(offer.text()?))
 }
 
 fn uri<'p>(params: &'p Json) -> Option<&'p str> {

@@ -5,7 +5,58 @@ use std::ops::Range;
 /// The most bytes that a document may have.
 const MOST_BYTES: usize = 4 << 20;
 
-/// A position as a client gives it: UTF-16 units within a line.
+/// What positions count within their line.
+#[derive(Clone, Copy, PartialEq)]
+pub enum Encoding {
+    Utf8,
+    Utf16,
+    Utf32,
+}
+
+impl Encoding {
+    const ALL: [Encoding; 3] = [Encoding::Utf8, Encoding::Utf16, Encoding::Utf32];
+
+    pub fn name(self) -> &'static str {
+        match self {
+            Encoding::Utf8 => "utf-8",
+            Encoding::Utf16 => "utf-16",
+            Encoding::Utf32 => "utf-32",
+        }
+    }
+
+    pub fn named(name: &str) -> Option<Encoding> {
+        Encoding::ALL.into_iter().find(|encoding| encoding.name() == name)
+    }
+
+    /// The units of a text. In UTF-8 and in ASCII they are its bytes.
+    fn units(self, text: &str) -> usize {
+        match self {
+            Encoding::Utf16 if !text.is_ascii() => text.encode_utf16().count(),
+            Encoding::Utf32 if !text.is_ascii() => text.chars().count(),
+            _ => text.len(),
+        }
+    }
+
+    /// How many bytes of a line stand before so many units, by characters that are whole in them.
+    fn bytes_before(self, line: &str, units: usize) -> usize {
+        match self {
+            Encoding::Utf8 => line.floor_char_boundary(units),
+            Encoding::Utf16 => {
+                let mut left = units;
+                for (at, character) in line.char_indices() {
+                    match left.checked_sub(character.len_utf16()) {
+                        Some(less) => left = less,
+                        None => return at,
+                    }
+                }
+                line.len()
+            }
+            Encoding::Utf32 => line.char_indices().nth(units).map_or(line.len(), |(at, _)| at),
+        }
+    }
+}
+
+/// A position as a client gives it: units within a line.
 #[derive(Clone, Copy)]
 pub struct Position {
     pub line: u32,
@@ -20,10 +71,11 @@ pub struct Place {
     pub end: u32,
 }
 
-/// A text and the byte at which each of its lines starts.
+/// A text, the byte at which each of its lines starts, and what its client's positions count.
 pub struct Text {
     text: String,
     starts: Vec<u32>,
+    encoding: Encoding,
 }
 
 /// Where the first byte stands that is one of two, found eight bytes at a time.
@@ -55,27 +107,19 @@ fn push_starts(text: &str, within: Range<usize>, starts: &mut Vec<u32>) {
     }
 }
 
-/// How many bytes of a line stand before so many UTF-16 units.
-fn bytes_before(line: &str, units: usize) -> usize {
-    let mut left = units;
-    for (at, character) in line.char_indices() {
-        match left.checked_sub(character.len_utf16()) {
-            Some(less) => left = less,
-            None => return at,
-        }
-    }
-    line.len()
-}
-
 impl Text {
     /// None if it is too large.
-    pub fn new(text: String) -> Option<Text> {
+    pub fn new(text: String, encoding: Encoding) -> Option<Text> {
         let mut starts = vec![0];
         if text.len() > MOST_BYTES {
             return None;
         }
         push_starts(&text, 0..text.len(), &mut starts);
-        Some(Text { text, starts })
+        Some(Text { text, starts, encoding })
+    }
+
+    pub fn encoding(&self) -> Encoding {
+        self.encoding
     }
 
     pub fn as_bytes(&self) -> &[u8] {
@@ -109,7 +153,7 @@ impl Text {
             return (self.line_count() - 1, self.text.len());
         }
         let line = self.line(at.line);
-        (at.line, line.start + bytes_before(&self.text[line], at.character as usize))
+        (at.line, line.start + self.encoding.bytes_before(&self.text[line], at.character as usize))
     }
 
     /// Replaces what stands between two positions. None if the text grows too large.
@@ -132,7 +176,7 @@ impl Text {
     }
 }
 
-/// Tells positions. Those that come in the order of the text cost one pass over their lines.
+/// Tells positions. Those that come in the order of the text cost one pass over their lines, and none where bytes are units.
 pub struct Ruler<'t> {
     text: &'t Text,
     line: u32,
@@ -147,11 +191,13 @@ impl<'t> Ruler<'t> {
 
     pub fn position(&mut self, line: u32, byte: u32) -> Position {
         let byte = byte as usize;
+        if self.text.encoding == Encoding::Utf8 {
+            return Position { line, character: (byte - self.text.start_of(line)) as u32 };
+        }
         if line != self.line || byte < self.byte {
             (self.line, self.byte, self.units) = (line, self.text.start_of(line), 0);
         }
-        let passed = &self.text.text[self.byte..byte];
-        self.units += if passed.is_ascii() { passed.len() } else { passed.encode_utf16().count() };
+        self.units += self.text.encoding.units(&self.text.text[self.byte..byte]);
         self.byte = byte;
         Position { line, character: self.units as u32 }
     }

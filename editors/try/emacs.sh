@@ -2,7 +2,8 @@
 # Runs a real Emacs (28 with the package eglot, or 29 and later) in batch mode against the language server, by the set-up that
 # editors/emacs-eglot.el gives: opens a grammar, asks for its outline, a definition and a hover, looks at its diagnostics, goes through
 # the references of a name, renames it and back, takes the code action, asks for the semantic tokens, edits, asks again, opens a CRLF
-# file, and shuts down. Usage: emacs.sh PROGRAM. EMACS names the editor (emacs if left out). Status 0: all right, 1: a wrong answer, 2: it
+# file and one with characters of one to four bytes before names, and shuts down. It does so with what this Emacs offers of itself, and then
+# with positions that count characters (utf-32) offered alone. Usage: emacs.sh PROGRAM. EMACS names the editor (emacs if left out). Status 0: all right, 1: a wrong answer, 2: it
 # could not be tried. Of the snippet the program's path is another, and eglot-ensure is left out: it waits for a command, and
 # none comes in batch mode.
 set -euo pipefail
@@ -17,6 +18,7 @@ trap 'rm -rf -- "$folder"' EXIT
 export TRY_FOLDER=$folder HOME=$folder LC_ALL=C.UTF-8
 printf '; a gr\303\244mmar \360\237\230\200\n\ngreeting = hello SP name ; \360\237\230\200\nhello    = "hi" / "hello"\nNAME     = 1*ALPHA\nname    =/ "\360\237\230\200"/hello/name\n' > "$folder/a.abnf"
 sed 's/$/\r/' "$folder/a.abnf" > "$folder/dos.abnf"
+printf 'a = <\303\251\342\202\254\360\237\230\200> / b / nope ; \360\237\230\200 \303\251\nb = "x"\n' > "$folder/wide.abnf"
 
 ln -s -- "$program" "$folder/the program"
 sed -e "s#/path/to/abnf_ls/out/abnf_ls#$folder/the program#" -e '/eglot-ensure/d' "$snippet" > "$folder/set-up.el"
@@ -29,6 +31,22 @@ cat > "$folder/try.el" <<'EL'
 (load (expand-file-name "set-up.el" (getenv "TRY_FOLDER")) nil t)
 (setq make-backup-files nil create-lockfiles nil auto-save-default nil enable-local-variables nil)
 (defvar failed 0)
+(defvar offered (getenv "TRY_ENCODING"))
+(unless (equal offered "")
+  (advice-add 'eglot-client-capabilities :filter-return
+              (lambda (it) (plist-put it :general (list :positionEncodings (vector offered)))))
+  ;; an older eglot doesn't read what is agreed
+  (when (boundp 'eglot-current-column-function)
+    (setq-default eglot-current-column-function 'eglot-current-column
+                  eglot-move-to-column-function 'eglot-move-to-column)))
+(defun encoding ()
+  "What positions count."
+  (plist-get (eglot--capabilities (eglot-current-server)) :positionEncoding))
+(defun units (text)
+  (pcase (encoding)
+    ("utf-8" (string-bytes text))
+    ("utf-32" (length text))
+    (_ (+ (length text) (cl-count-if (lambda (it) (> it #xffff)) text)))))
 (defun is (what got want)
   (if (equal got want) (princ (format "ok   %s\n" what))
     (cl-incf failed)
@@ -106,6 +124,7 @@ cat > "$folder/try.el" <<'EL'
     (progn
       (start "a.abnf")
       (is "mode" major-mode 'abnf-mode)
+      (is "what positions count" (encoding) (if (equal offered "") (encoding) offered))
       (is "outline" (outline) '((3 . "greeting") (4 . "hello") (5 . "NAME") (6 . "name")))
       (is "definition" (definition 3 "hello") '(4))
       (is "definition in two places" (definition 3 "name") '(5 6))
@@ -114,10 +133,10 @@ cat > "$folder/try.el" <<'EL'
       (is "diagnostics" (diagnostics 1) '((6 "abnf [syntax]: bad character")))
       (is "references" (references 3 "hello") '((3 . 11) (4 . 0) (6 . 15)))
       (is "semantic tokens" (tokens)
-          '(0 0 14 4 0 2 0 8 0 1 0 9 1 3 0 0 2 5 0 0 0 6 2 0 2 0 3 4 0 0 0 5 4 4 0
+          `(0 0 ,(units "; a grämmar 😀") 4 0 2 0 8 0 1 0 9 1 3 0 0 2 5 0 0 0 6 2 0 2 0 3 4 0 0 0 5 ,(units "; 😀") 4 0
             1 0 5 0 1 0 9 1 3 0 0 2 4 1 0 0 5 1 3 0 0 2 7 1 0
             1 0 4 0 1 0 9 1 3 0 0 2 2 3 0 0 2 5 0 2
-            1 0 4 0 1 0 8 2 3 0 0 7 1 3 0 0 1 5 0 0 0 5 1 3 0 0 1 4 0 0))
+            1 0 4 0 1 0 8 2 3 0 0 ,(units "=/ \"😀\"") 1 3 0 0 1 5 0 0 0 5 1 3 0 0 1 4 0 0))
       (is "a name in use" (renamed 4 "hello" "Greeting") "name in use")
       (is "no name" (renamed 4 "hello" "2x") "not a rule name")
       (is "a core rule" (renamed 3 "SP" "space") "nothing to rename")
@@ -159,16 +178,29 @@ cat > "$folder/try.el" <<'EL'
         (is "a rename with CRLF" (renamed 3 "hello" "hi") (with whole "= hello" "= hi" "^hello" "hi" "/hello" "/hi")))
       (is "references with CRLF" (references 4 "hi") '((3 . 11) (4 . 0) (6 . 6) (7 . 15)))
       (set-buffer-modified-p nil)
+      (start "wide.abnf")
+      (is "a diagnostic behind wide characters" (diagnostics 1) '((1 "abnf [undefined]: undefined rule nope")))
+      (is "its column, in characters from 0" (with-current-buffer (current-buffer) (1- (flymake-diagnostic-beg (car (flymake-diagnostics))))) 16)
+      (is "a definition from there" (definition 1 "b") '(2))
+      (is "hover there" (hover 1 "b") "shortest length 1\nexample x")
+      (is "hover on a name that nothing defines" (hover 1 "nope") "undefined")
+      (let ((whole (text)))
+        (is "a rename there" (renamed 1 "b" "bee") (with whole " b " " bee " "^b" "bee")))
+      (is "references there" (references 2 "bee") '((1 . 12) (2 . 0)))
+      (set-buffer-modified-p nil)
       (eglot-shutdown (eglot-current-server)))
   (error (cl-incf failed) (princ (format "FAIL %S\n" err))))
 (kill-emacs (if (zerop failed) 0 1))
 EL
-status=0
-timeout 18 "$emacs" -q --batch -l "$folder/try.el" 2>"$folder/stderr" || status=$?
-[ "$status" != 2 ] || { cat "$folder/stderr" >&2; exit 2; }
-if [ "$status" != 0 ]; then
-  cat "$folder/stderr" >&2
-  echo "emacs.sh: failed with status $status ($("$emacs" --version | head -1))" >&2
-  exit 1
-fi
+for encoding in '' utf-32; do
+  status=0
+  echo "offered: ${encoding:-what it does of itself}"
+  TRY_ENCODING=$encoding timeout 18 "$emacs" -q --batch -l "$folder/try.el" 2>"$folder/stderr" || status=$?
+  [ "$status" != 2 ] || { cat "$folder/stderr" >&2; exit 2; }
+  if [ "$status" != 0 ]; then
+    cat "$folder/stderr" >&2
+    echo "emacs.sh: failed with status $status ($("$emacs" --version | head -1))" >&2
+    exit 1
+  fi
+done
 echo "emacs.sh: passed ($("$emacs" --version | head -1))"

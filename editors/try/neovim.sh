@@ -1,8 +1,9 @@
 #!/usr/bin/env bash
 # Runs a real Neovim (0.7 or later) headless against the language server, by the set-up that editors/neovim.lua gives: opens
 # a grammar, asks for its outline, a definition and a hover, looks at its diagnostics, edits, asks again, reloads, goes through the
-# references of a name, renames it and back, takes the code action, asks for the semantic tokens, opens a CRLF file, and ends.
-# Usage: neovim.sh PROGRAM. NVIM names the editor (nvim if left out). Status 0: all right, 1: a wrong answer, 2: it could not be
+# references of a name, renames it and back, takes the code action, asks for the semantic tokens, opens a CRLF file and one with
+# characters of one to four bytes before names, and ends. It does so with what this Neovim offers of itself, and then with each of the three
+# encodings of positions offered alone. Usage: neovim.sh PROGRAM. NVIM names the editor (nvim if left out). Status 0: all right, 1: a wrong answer, 2: it could not be
 # tried. The snippet is taken as it stands, but for the path of the program.
 set -euo pipefail
 [ $# -eq 1 ] || { echo "usage: neovim.sh PROGRAM" >&2; exit 2; }
@@ -17,10 +18,27 @@ export ABNF_LS_PROGRAM=$program TRY_FOLDER=$folder
 export XDG_CONFIG_HOME=$folder/config XDG_DATA_HOME=$folder/data XDG_STATE_HOME=$folder/state XDG_CACHE_HOME=$folder/cache
 mkdir -p "$XDG_CONFIG_HOME/nvim"
 
-sed 's#"/path/to/abnf_ls/[^"]*"#vim.env.ABNF_LS_PROGRAM#' "$snippet" > "$XDG_CONFIG_HOME/nvim/init.lua"
+cat > "$XDG_CONFIG_HOME/nvim/init.lua" <<'LUA'
+local encoding = vim.env.TRY_ENCODING
+if encoding ~= "" then
+  for _, name in ipairs({ "start", "start_client" }) do
+    local plain = vim.lsp[name]
+    if plain then
+      vim.lsp[name] = function(config, ...)
+        config.capabilities = config.capabilities or vim.lsp.protocol.make_client_capabilities()
+        config.capabilities.general = { positionEncodings = { encoding } }
+        config.offset_encoding = encoding -- an older one doesn't read what is agreed
+        return plain(config, ...)
+      end
+    end
+  end
+end
+LUA
+sed 's#"/path/to/abnf_ls/[^"]*"#vim.env.ABNF_LS_PROGRAM#' "$snippet" >> "$XDG_CONFIG_HOME/nvim/init.lua"
 grep -q ABNF_LS_PROGRAM "$XDG_CONFIG_HOME/nvim/init.lua" || { echo "neovim.sh: no program named in $snippet" >&2; exit 2; }
 printf '; a gr\303\244mmar \360\237\230\200\n\ngreeting = hello SP name ; \360\237\230\200\nhello    = "hi" / "hello"\nNAME     = 1*ALPHA\nname    =/ "\360\237\230\200"/hello/name\n' > "$folder/a.abnf"
 sed 's/$/\r/' "$folder/a.abnf" > "$folder/dos.abnf"
+printf 'a = <\303\251\342\202\254\360\237\230\200> / b / nope ; \360\237\230\200 \303\251\nb = "x"\n' > "$folder/wide.abnf"
 
 cat > "$folder/try.lua" <<'LUA'
 local failed = 0
@@ -30,6 +48,13 @@ local function is(what, got, want)
   io.stdout:write(("%s %s%s\n"):format(ok and "ok  " or "FAIL", what, ok and "" or "\n     got  " .. got .. "\n     want " .. want))
 end
 local function clients() return (vim.lsp.get_clients or vim.lsp.get_active_clients)() end
+local function client() return select(2, next(clients())) end
+-- what positions count, and the units of a text
+local function encoding() return client().offset_encoding end
+local function units(text)
+  if encoding() == "utf-8" then return #text end
+  return vim.fn.strchars(text) + (encoding() == "utf-16" and select(2, text:gsub("[\240-\244]", "")) or 0)
+end
 local function ready()
   return vim.wait(5000, function()
     for _, client in pairs(clients()) do
@@ -55,7 +80,7 @@ local function definition(row, word)
   local at = vim.fn.getline(row):find(word, 1, true)
   vim.api.nvim_win_set_cursor(0, { row, at - 1 })
   local places = {}
-  for _, place in ipairs(ask("textDocument/definition", vim.lsp.util.make_position_params(0, "utf-16"))) do
+  for _, place in ipairs(ask("textDocument/definition", vim.lsp.util.make_position_params(0, encoding()))) do
     places[#places + 1] = place.range.start.line .. ":" .. place.range.start.character .. "-" .. place.range["end"].character
   end
   return table.concat(places, " ")
@@ -64,7 +89,7 @@ end
 local function hover(row, word)
   local at = vim.fn.getline(row):find(word, 1, true)
   vim.api.nvim_win_set_cursor(0, { row, at - 1 })
-  return ask("textDocument/hover", vim.lsp.util.make_position_params(0, "utf-16")).contents.value
+  return ask("textDocument/hover", vim.lsp.util.make_position_params(0, encoding())).contents.value
 end
 local function text() return table.concat(vim.api.nvim_buf_get_lines(0, 0, -1, false), "\n") end
 local function go(row, word) vim.api.nvim_win_set_cursor(0, { row, vim.fn.getline(row):find(word, 1, true) - 1 }) end
@@ -91,7 +116,7 @@ local function renamed(row, word, new)
 end
 local function refused(row, word, new)
   go(row, word)
-  local params = vim.lsp.util.make_position_params(0, "utf-16")
+  local params = vim.lsp.util.make_position_params(0, encoding())
   params.newName = new
   local ok, why = pcall(ask, "textDocument/rename", params)
   return ok and "granted" or tostring(why):match('message = "([^"]*)"')
@@ -122,6 +147,7 @@ end
 local ok, err = pcall(function()
   is("file type", vim.bo.filetype, "abnf")
   is("attached", tostring(ready()), "true")
+  is("what positions count", client().server_capabilities.positionEncoding, vim.env.TRY_ENCODING ~= "" and vim.env.TRY_ENCODING or encoding())
   is("outline", outline(), "greeting@2 hello@3 NAME@4 name@5")
   is("definition", definition(3, "hello"), "3:0-5")
   is("definition in two places", definition(3, "name"), "4:0-4 5:0-4")
@@ -162,10 +188,10 @@ local ok, err = pcall(function()
   is("references", references(3, "hello"), "3:12 4:1 6:19")
   is("references without the definition", references(6, "hello", { includeDeclaration = false }), "3:12 6:19")
   is("semantic tokens", tokens(), table.concat({
-    "0 0 14 4 0 2 0 8 0 1 0 9 1 3 0 0 2 5 0 0 0 6 2 0 2 0 3 4 0 0 0 5 4 4 0",
+    ("0 0 %d 4 0 2 0 8 0 1 0 9 1 3 0 0 2 5 0 0 0 6 2 0 2 0 3 4 0 0 0 5 %d 4 0"):format(units("; a grämmar 😀"), units("; 😀")),
     "1 0 5 0 1 0 9 1 3 0 0 2 4 1 0 0 5 1 3 0 0 2 7 1 0",
     "1 0 4 0 1 0 9 1 3 0 0 2 2 3 0 0 2 5 0 2",
-    "1 0 4 0 1 0 8 2 3 0 0 7 1 3 0 0 1 5 0 0 0 5 1 3 0 0 1 4 0 0",
+    ("1 0 4 0 1 0 8 2 3 0 0 %d 1 3 0 0 1 5 0 0 0 5 1 3 0 0 1 4 0 0"):format(units('=/ "😀"')),
   }, " "))
   is("a name in use", refused(4, "hello", "Greeting"), "name in use")
   is("no name", refused(4, "hello", "2x"), "not a rule name")
@@ -190,6 +216,16 @@ local ok, err = pcall(function()
   local new = text():gsub("= hello", "= hi"):gsub("\nhello", "\nhi"):gsub("/hello", "/hi")
   is("a rename with CRLF", renamed(3, "hello", "hi"), new)
   is("references with CRLF", references(4, "hi"), "3:12 4:1 6:7 7:19")
+  vim.cmd("edit! " .. vim.fn.fnameescape(vim.env.TRY_FOLDER .. "/wide.abnf"))
+  is("attached to a file with wide lines", tostring(ready()), "true")
+  vim.wait(3000, function() return #vim.diagnostic.get(0) == 1 end, 10)
+  is("a diagnostic behind wide characters", diagnostics(), "0:22-26 1 undefined undefined rule nope")
+  is("a definition from there", definition(1, "b"), "1:0-1")
+  is("hover there", hover(1, "b"), "shortest length 1\nexample x")
+  is("hover on a name that nothing defines", hover(1, "nope"), "undefined")
+  local wide = text():gsub(" b ", " bee "):gsub("\nb", "\nbee")
+  is("a rename there", renamed(1, "b", "bee"), wide)
+  is("references there", references(2, "bee"), "1:19 2:1")
 end)
 if not ok then failed = failed + 1 io.stdout:write("FAIL " .. tostring(err) .. "\n") end
 -- a crash of the server, or a complaint of it, stands in the editor's log
@@ -199,11 +235,15 @@ for line in log and log:lines() or function() end do
 end
 vim.cmd(failed == 0 and "qall!" or "cquit 1")
 LUA
-status=0
-timeout 18 "$nvim" -n --headless "$folder/a.abnf" -c "luafile $(printf '%s' "$folder/try.lua" | sed 's/ /\\ /g')" 2>"$folder/stderr" || status=$?
-if [ "$status" != 0 ]; then
-  cat "$folder/stderr" >&2
-  echo "neovim.sh: failed with status $status ($("$nvim" --version | head -1))" >&2
-  exit 1
-fi
+for encoding in '' utf-8 utf-16 utf-32; do
+  status=0
+  echo "offered: ${encoding:-what it does of itself}"
+  TRY_ENCODING=$encoding timeout 18 "$nvim" -n --headless "$folder/a.abnf" \
+    -c "luafile $(printf '%s' "$folder/try.lua" | sed 's/ /\\ /g')" 2>"$folder/stderr" || status=$?
+  if [ "$status" != 0 ]; then
+    cat "$folder/stderr" >&2
+    echo "neovim.sh: failed with status $status ($("$nvim" --version | head -1))" >&2
+    exit 1
+  fi
+done
 echo "neovim.sh: passed ($("$nvim" --version | head -1))"

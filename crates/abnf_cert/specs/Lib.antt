@@ -4,3 +4,4 @@ pub mod Test
 pub mod Says
 pub mod Text
 pub mod Read
+pub mod Agreed

@@ -1,11 +1,17 @@
 //! Laws of certificates and of their texts. The functions do nothing.
 
+ghost use Rattle.abnf_cert.specs.Agreed.{AcceptedAgree};
 ghost use Rattle.abnf_cert.specs.Says.{AcceptedIsRight};
 ghost use Rattle.abnf_cert.specs.Read.{TextsAreRead, TextsAreUnique};
 
 /// Each entry of an accepted certificate is right, for any grammar and whoever made the certificate.
 pub fn accepted_is_right()
     ensures { AcceptedIsRight }
+{}
+
+/// Two accepted certificates of a grammar agree, but for heights and choices where a length is the greatest.
+pub fn accepted_agree()
+    ensures { AcceptedAgree }
 {}
 
 /// A certificate has one text: what reads as the certificate is what is written of it.

@@ -14,5 +14,5 @@ mod unproductive;
 
 pub use finding::{Code, Finding};
 pub use findings_of::findings;
-pub use laws::{findings_are_the_rows, findings_are_unique, findings_exist};
+pub use laws::{findings_are_the_rows, findings_are_unique};
 pub use message::Severity;

@@ -6,9 +6,12 @@ use Rattle.std.specs.Str.{chars, encode_utf8_all as encodes}
 use Rattle.std.proofs.Math.Utf8.{scalars}
 use Rattle.std.proofs.lemmas.Bool.Decides.{nat_tests}
 use Rattle.std.proofs.lemmas.List.Elements.{All-head, All-tail}
-use Rattle.ls_text.specs.Lines.{utf16_len}
+use Rattle.std.proofs.lemmas.Str.{len_utf8_bounds}
+use Rattle.ls_text.specs.Lines.{units, utf16_len}
 use Rattle.ls_text.specs.Positions.{place_range}
 use Rattle.ls_text.specs.Cut.{text_of, AreLines}
+use Rattle.ls_text.specs.declared.position.Encoding.{Encoding}
+use Rattle.ls_text.specs.declared.position.Encoding.TheVariants.{Utf8, Utf16, Utf32}
 use Rattle.ls_text.specs.declared.position.Place.{Place}
 use Rattle.ls_text.specs.declared.position.Range.{Range}
 use Rattle.abnf_token.specs.Classes.{Text, is_name}
@@ -61,16 +64,22 @@ all_listed old text blocks pss said h =
 utf16_some : (c : ℕ) → 1 ≤ utf16_len c
 utf16_some c = grind (arith, nat_tests)
 
+-- each character has a unit
+units_some : (encoding : Encoding) (c : ℕ) → 1 ≤ units encoding c
+units_some Utf8 c = (len_utf8_bounds c).0
+units_some Utf16 c = utf16_some c
+units_some Utf32 c = omega arith
+
 -- ---- the lines of the text after the edits
 
-abbrev range_in : List ℕ → Named → Range
-range_in text named = place_range utf16_len text named.place
+abbrev range_in : Encoding → List ℕ → Named → Range
+range_in encoding text named = place_range (units encoding) text named.place
 
-abbrev HasRenamedLines : Name → Text → List ℕ → List Block → Type 0
-HasRenamedLines old new text blocks =
-    AreRenamedLines old new (line_texts text) (line_texts (text_renamed text new (map (range_in text) (places_of_name old (places_of blocks)))))
+abbrev HasRenamedLines : Encoding → Name → Text → List ℕ → List Block → Type 0
+HasRenamedLines encoding old new text blocks =
+    AreRenamedLines old new (line_texts text) (line_texts (text_renamed encoding text new (map (range_in encoding text) (places_of_name old (places_of blocks)))))
 
-module _ (old : Name) (new : Text) (named : is_name new ≡ true) where
+module _ (encoding : Encoding) (old : Name) (new : Text) (named : is_name new ≡ true) where
   module _ (cuts : List Cut) (c : AreLineCuts cuts) (h : AreLines (map row_of (rows_of old cuts))) where
     abbrev whole_text : List ℕ
     whole_text = text_of (map row_of (rows_of old cuts))
@@ -82,50 +91,50 @@ module _ (old : Name) (new : Text) (named : is_name new ≡ true) where
     are = subst (λ l. ArePieces (map encodes l) pieces) (sym (lines_rows (rows_of old cuts) h)) (are_pieces old new (name_utf8 new named) cuts c)
 
     abbrev spot_of : Place → ℕ × ℕ
-    spot_of = spot old utf16_len utf16_some (map row_of (rows_of old cuts)) h
+    spot_of = spot old (units encoding) (units_some encoding) (map row_of (rows_of old cuts)) h
 
-    ranges_spots : (ns : List Named) → map (offsets utf16_len whole_text) (map (range_in whole_text) ns) ≡ map spot_of (map (the_place old) ns)
+    ranges_spots : (ns : List Named) → map (offsets (units encoding) whole_text) (map (range_in encoding whole_text) ns) ≡ map spot_of (map (the_place old) ns)
     ranges_spots [] = refl
-    ranges_spots (n ∷ ns) = ap (λ l. offsets utf16_len whole_text (range_in whole_text n) ∷ l) (ranges_spots ns)
+    ranges_spots (n ∷ ns) = ap (λ l. offsets (units encoding) whole_text (range_in encoding whole_text n) ∷ l) (ranges_spots ns)
 
     edited : (blocks : List Block) → AreSaid whole_text blocks →
-        text_renamed whole_text new (map (range_in whole_text) (places_of_name old (places_of blocks))) ≡ put_in whole_text (chars new) (spots 0 (whole (rows_of old cuts)))
+        text_renamed encoding whole_text new (map (range_in encoding whole_text) (places_of_name old (places_of blocks))) ≡ put_in whole_text (chars new) (spots 0 (whole (rows_of old cuts)))
     edited blocks said =
-        with_ranges-is utf16_len whole_text (chars new) (map (range_in whole_text) (places_of_name old (places_of blocks)))
+        with_ranges-is (units encoding) whole_text (chars new) (map (range_in encoding whole_text) (places_of_name old (places_of blocks)))
         ∙ ap (put_in whole_text (chars new))
         (ranges_spots (places_of_name old (places_of blocks))
-        ∙ (ap (map spot_of) (all_listed old whole_text blocks pieces said are) ∙ all_spots old utf16_len utf16_some cuts c h))
+        ∙ (ap (map spot_of) (all_listed old whole_text blocks pieces said are) ∙ all_spots old (units encoding) (units_some encoding) cuts c h))
 
-    cuts_kept : (blocks : List Block) → AreSaid whole_text blocks → HasRenamedLines old new whole_text blocks
+    cuts_kept : (blocks : List Block) → AreSaid whole_text blocks → HasRenamedLines encoding old new whole_text blocks
     cuts_kept blocks said =
         subst (λ t. AreRenamedLines old new (line_texts whole_text) (line_texts t)) (sym (edited blocks said))
         (text_kept old new (name_utf8 new named) (name_solid new named) (name_plain new named) cuts c (solid_rows old new named cuts c) h)
 
-  lines_kept : (text : List ℕ) → scalars text ≡ true → (blocks : List Block) → AreSaid text blocks → HasRenamedLines old new text blocks
+  lines_kept : (text : List ℕ) → scalars text ≡ true → (blocks : List Block) → AreSaid text blocks → HasRenamedLines encoding old new text blocks
   lines_kept text s blocks said =
       let rows = each_text text in
       let cuts = row_cuts old rows.0 (ap scalars rows.1.1 ∙ s) in
       let is : text_of (map row_of (rows_of old cuts.cuts)) ≡ text = ap text_of cuts.are ∙ rows.1.1 in
-      subst (λ t. HasRenamedLines old new t blocks) is
+      subst (λ t. HasRenamedLines encoding old new t blocks) is
       (cuts_kept cuts.cuts cuts.cut (subst AreLines (sym cuts.are) rows.1.0) blocks (subst (λ t. AreSaid t blocks) (sym is) said))
 
 scalars_of : (cs : List ℕ) → All IsScalar cs → scalars cs ≡ true
 scalars_of [] h = refl
 scalars_of (c ∷ cs) h = (λ i. All-head IsScalar c cs h i && scalars_of cs (All-tail IsScalar c cs h) i)
 
-pub grammar_kept : (old : Name) (new : Text) (g : Grammar) → IsGrammar g → All IsScalar g.text → IsGranted old new g → KeepsTheGrammar old new g (ranges_of g old)
-grammar_kept old new g right s granted =
+pub grammar_kept : (encoding : Encoding) (old : Name) (new : Text) (g : Grammar) → IsGrammar g → All IsScalar g.text → IsGranted old new g → KeepsTheGrammar encoding old new g (ranges_of encoding g old)
+grammar_kept encoding old new g right s granted =
     let places : places_of right.blocks ≡ g.places = sym (ap (λ (h : Grammar). h.places) right.is) in
-    let lines : AreRenamedLines old new (line_texts g.text) (line_texts (text_renamed g.text new (ranges_of g old))) =
-    subst (λ ns. AreRenamedLines old new (line_texts g.text) (line_texts (text_renamed g.text new (map (range_in g.text) (places_of_name old ns))))) places
-    (lines_kept old new granted.named g.text (scalars_of g.text s) right.blocks right.of_text)
+    let lines : AreRenamedLines old new (line_texts g.text) (line_texts (text_renamed encoding g.text new (ranges_of encoding g old))) =
+    subst (λ ns. AreRenamedLines old new (line_texts g.text) (line_texts (text_renamed encoding g.text new (map (range_in encoding g.text) (places_of_name old ns))))) places
+    (lines_kept encoding old new granted.named g.text (scalars_of g.text s) right.blocks right.of_text)
     in
-    let both : (after : Grammar) → IsGrammar after → after.text ≡ text_renamed g.text new (ranges_of g old) → AreSameRules old new g after × KeepsNames old new g after =
+    let both : (after : Grammar) → IsGrammar after → after.text ≡ text_renamed encoding g.text new (ranges_of encoding g old) → AreSameRules old new g after × KeepsNames old new g after =
     λ after is of_text. both_kept old new g after right is granted (subst (λ t. AreRenamedLines old new (line_texts g.text) (line_texts t)) (sym of_text) lines)
     in
     record {
       lines = lines;
-      tokens = tokens_kept old new granted.named (line_texts g.text) (line_texts (text_renamed g.text new (ranges_of g old))) lines;
+      tokens = tokens_kept old new granted.named (line_texts g.text) (line_texts (text_renamed encoding g.text new (ranges_of encoding g old))) lines;
       rules = λ after is of_text. (both after is of_text).0;
       names = λ after is of_text. (both after is of_text).1;
     }

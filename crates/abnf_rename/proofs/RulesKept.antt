@@ -1,6 +1,6 @@
 -- The rules of renamed blocks are the same but for the name.
-use Rattle.std.proofs.Common.{◌≡◌, ℕ, ◌+◌, true, not, List, [], ◌∷◌, ◌++◌, length, map, Option, Some, None, option_map, refl, sym, ap, ◌∙◌, arith}
-use Rattle.std.specs.Prelude.{filter, fold, slice_set, flat_map, filter_map}
+use Rattle.std.proofs.Common.{◌≡◌, ℕ, ◌+◌, true, not, List, [], ◌∷◌, ◌++◌, length, map, Option, Some, None, option_map, refl, sym, ap, subst, ◌∙◌, arith}
+use Rattle.std.specs.Prelude.{◌↔◌, filter, fold, slice_set, flat_map, filter_map}
 use Rattle.std.specs.List.{list_any}
 use Rattle.std.specs.Str.{bytes_eq}
 use Rattle.std.proofs.lemmas.List.{length-map, map-append}
@@ -13,9 +13,12 @@ use Rattle.abnf_parts.specs.Core.{CoreRule, core_rules, core_name, is_needed}
 use Rattle.abnf_names.specs.Said.{Block}
 use Rattle.abnf_names.specs.Places.{places_of}
 use Rattle.abnf_names.specs.Rules.{defines, counted, head_name, defined, undefined, needed, names_of, core_number, said_alternatives, rule_tree, core_tree, rules_of, grammar_of}
-use Rattle.abnf_rename.specs.Parts.{renamed_part, renamed_rules}
+use Rattle.abnf_parts.specs.Generates.{RuleGen}
+use Rattle.abnf_parts.specs.Reach.{ReachesOpaque}
+use Rattle.abnf_rename.specs.Parts.{renamed_part, renamed_rules, KeepsMeaning}
 use Rattle.abnf_rename.specs.Rules.{told, AreSameRules}
 use Rattle.abnf_rename.proofs.Rows.{parts_renamed}
+use Rattle.abnf_rename.proofs.TreeLaws.{meaning_kept}
 use Rattle.abnf_rename.proofs.Shapes.{place_after}
 use Rattle.abnf_rename.proofs.NameLaws.{Fresh, AreFresh, after, fold_fresh, fold_after, filter_after, number_after}
 use Rattle.abnf_names.proofs.Once.{defined_once}
@@ -85,6 +88,9 @@ module _ (old : Name) (new : Text) (bs cs : List Block) (h : AreRenamedBlocks ol
       ∙ (ap (λ l. l ++ map (renamed_part own.rule new) (map (core_tree bs) (needed bs))) (trees_kept (defined bs) own_fresh)
       ∙ sym (map-append (renamed_part own.rule new) (map (rule_tree bs) (defined bs)) (map (core_tree bs) (needed bs))))
 
+  kept_rules : KeepsMeaning (rules_of bs) (renamed_rules own.rule new (rules_of bs)) (renamed_part own.rule new)
+  kept_rules = meaning_kept own.rule new (rules_of bs)
+
   pub blocks_kept : (text other : List ℕ) → AreSameRules old new (grammar_of text bs) (grammar_of other cs)
   blocks_kept text other = record {
     rule = own.rule;
@@ -93,4 +99,6 @@ module _ (old : Name) (new : Text) (bs cs : List Block) (h : AreRenamedBlocks ol
     rules = rules_kept;
     places = places_are old new bs cs h ∙ map_map old new told (place_after old new) (places_of bs);
     stands = λ name f. ap (λ l. rule_number l (after old new name)) names_is ∙ number_after old new (defined bs) (map core_name (needed bs)) name there f own_fresh;
+    generates = λ k r s. subst (λ rules. RuleGen (rules_of bs) k r s ↔ RuleGen rules k r s) (sym rules_kept) (kept_rules.rule_generates k r s);
+    reaches = λ r. subst (λ rules. ReachesOpaque (rules_of bs) r ↔ ReachesOpaque rules r) (sym rules_kept) (kept_rules.reaches r);
   }

@@ -45,7 +45,8 @@ abbrev pub IsApart : Name → Text → Name → Type 0
 IsApart old new name = name ≡ lowercase new → old ≡ lowercase new
 
 -- The rules are the same but for one name: that of the rule that the old name stood for. Names but the new one stand for the rules for
--- which they stood, the old one as the new one.
+-- which they stood, the old one as the new one. By its number each rule generates the same strings, with as many nested references, and
+-- leads to an opaque part where it did.
 pub record AreSameRules (old : Name) (new : Text) (g h : Grammar) : Type 0 where
   pub rule : ℕ
   pub is_rule : rule_number g.names old ≡ Some rule
@@ -53,6 +54,8 @@ pub record AreSameRules (old : Name) (new : Text) (g h : Grammar) : Type 0 where
   pub rules : h.rules ≡ renamed_rules rule new g.rules
   pub places : map told h.places ≡ map (told_after old new) g.places
   pub stands : (name : Name) → IsApart old new name → rule_number h.names (name_after old new name) ≡ rule_number g.names name
+  pub generates : (k r : ℕ) (s : List ℕ) → RuleGen g.rules k r s ↔ RuleGen h.rules k r s
+  pub reaches : (r : ℕ) → ReachesOpaque g.rules r ↔ ReachesOpaque h.rules r
 
 -- the rule that the name stands for generates the string
 pub record NameGenerates (g : Grammar) (name : Name) (s : List ℕ) : Type 0 where

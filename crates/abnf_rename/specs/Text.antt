@@ -1,9 +1,10 @@
 -- The text after a rename, and what is kept of its grammar (LSP 3.17, "Rename Request").
 use Rattle.std.specs.Prelude.{◌≡◌, ℕ, List, [], ◌∷◌, map}
 use Rattle.std.specs.Str.{chars}
-use Rattle.ls_text.specs.Lines.{utf16_len}
+use Rattle.ls_text.specs.Lines.{units}
 use Rattle.ls_text.specs.Positions.{place_range}
 use Rattle.ls_text.specs.Edits.{replaced, position_offset}
+use Rattle.ls_text.specs.declared.position.Encoding.{Encoding}
 use Rattle.ls_text.specs.declared.position.Range.{Range}
 use Rattle.abnf_token.specs.Classes.{Text}
 use Rattle.abnf_syntax.specs.Blocks.{line_texts}
@@ -20,21 +21,21 @@ with_ranges width text new [] = text
 with_ranges width text new (r ∷ rs) =
     replaced (with_ranges width text new rs) (position_offset width text r.start) (position_offset width text r.end) new
 
--- the text with the new one in each of these ranges, whose positions count UTF-16 units
-abbrev pub text_renamed : List ℕ → Text → List Range → List ℕ
-text_renamed text new ranges = with_ranges utf16_len text (chars new) ranges
+-- the text with the new one in each of these ranges, whose positions count the units of this encoding
+abbrev pub text_renamed : Encoding → List ℕ → Text → List Range → List ℕ
+text_renamed encoding text new ranges = with_ranges (units encoding) text (chars new) ranges
 
 -- the ranges of the places of a name, in the order of the text
-abbrev pub ranges_of : Grammar → Name → List Range
-ranges_of g name = map (λ named. place_range utf16_len g.text named.place) (places_of_name name g.places)
+abbrev pub ranges_of : Encoding → Grammar → Name → List Range
+ranges_of encoding g name = map (λ named. place_range (units encoding) g.text named.place) (places_of_name name g.places)
 
 -- What a rename of this name keeps, of the text after its edits.
 --
 -- The lines are the renamed lines. Line by line, the tokens have the same kinds and texts, but that each place of the name has the new
 -- text; no line comes or goes. And each grammar of the text after the edits has the same rules but for that name, generates the same strings from each name, and leads to
 -- opaque parts from the same names, the old one as the new one.
-pub record KeepsTheGrammar (old : Name) (new : Text) (before : Grammar) (ranges : List Range) : Type 0 where
-  pub lines : AreRenamedLines old new (line_texts before.text) (line_texts (text_renamed before.text new ranges))
-  pub tokens : HaveRenamedTokens old new (line_texts before.text) (line_texts (text_renamed before.text new ranges))
-  pub rules : (after : Grammar) → IsGrammar after → after.text ≡ text_renamed before.text new ranges → AreSameRules old new before after
-  pub names : (after : Grammar) → IsGrammar after → after.text ≡ text_renamed before.text new ranges → KeepsNames old new before after
+pub record KeepsTheGrammar (encoding : Encoding) (old : Name) (new : Text) (before : Grammar) (ranges : List Range) : Type 0 where
+  pub lines : AreRenamedLines old new (line_texts before.text) (line_texts (text_renamed encoding before.text new ranges))
+  pub tokens : HaveRenamedTokens old new (line_texts before.text) (line_texts (text_renamed encoding before.text new ranges))
+  pub rules : (after : Grammar) → IsGrammar after → after.text ≡ text_renamed encoding before.text new ranges → AreSameRules old new before after
+  pub names : (after : Grammar) → IsGrammar after → after.text ≡ text_renamed encoding before.text new ranges → KeepsNames old new before after

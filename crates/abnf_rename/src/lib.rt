@@ -25,6 +25,7 @@
 
 ghost use Rattle.std.specs.Prelude.{ℕ, List, All};
 ghost use Rattle.std.specs.Char.{IsScalar};
+ghost use Rattle.ls_text.specs.declared.position.Encoding.{Encoding};
 ghost use Rattle.abnf_token.specs.Classes.{Text};
 ghost use Rattle.abnf_syntax.specs.Blocks.{line_texts};
 ghost use Rattle.abnf_parts.specs.Names.{Name};
@@ -56,8 +57,8 @@ pub fn grammars_are_kept()
 /// name: its lines are those of the text with the new text at the places of the old name, and each grammar of it has the same rules
 /// but for that name, as [`grammars_are_kept`] says.
 ///
-/// A text is made of Unicode scalar values, as every document is.
+/// What a position counts within its line may be any of the encodings on which client and server agree. A text is made of Unicode scalar values, as every document is.
 pub fn renames_keep_grammars()
-    ensures { (old : Name) (new : Text) (before : Grammar) → IsGrammar before → All IsScalar before.text → IsGranted old new before →
-        KeepsTheGrammar old new before (ranges_of before old) }
+    ensures { (encoding : Encoding) (old : Name) (new : Text) (before : Grammar) → IsGrammar before → All IsScalar before.text → IsGranted old new before →
+        KeepsTheGrammar encoding old new before (ranges_of encoding before old) }
 {}

@@ -1,5 +1,5 @@
 use ls_answers::{Answer, Ask, Job, run};
-use ls_text::Snapshot;
+use ls_text::{Encoding, Snapshot};
 use std::sync::Arc;
 use std::test::Fail;
 
@@ -13,6 +13,7 @@ fn an_outline(rt: HostRuntime) -> Result<(), Fail> {
     let job = Job {
         ticket: 7,
         snapshot: Arc::new(alloc, snapshot)?,
+        encoding: Encoding::Utf16,
         ask: Ask::Symbols.copy()?,
     };
     let done = run(alloc, job);

@@ -3,7 +3,7 @@ use ls_desk::{DeskFault, Out};
 use ls_lists::{List, Text};
 use ls_rpc::Id;
 use ls_session::{ClientEvent, Refusal, Session, Turn, body_of, refusal_body};
-use ls_text::Snapshot;
+use ls_text::{Encoding, Snapshot};
 use std::alloc::{AllocError as Memory, Global};
 use std::sync::Arc;
 use std::test::Fail;
@@ -43,8 +43,9 @@ fn a_notice_before_initialize(rt: HostRuntime) -> Result<(), Fail> {
 fn an_open(rt: HostRuntime) -> Result<(), Fail> {
     match &turn_of(rt.alloc(), OPEN)? {
         Turn::Event(event) => match &event.copy()? {
-            ClientEvent::DidOpen(uri, label, text) => {
+            ClientEvent::DidOpen(uri, label, text, encoding) => {
                 assert!(rt; uri.as_str() == "file:///g" && *label == 7 && text.as_str() == "a");
+                assert!(rt; *encoding == Encoding::Utf16);
             }
             _ => panic!(rt; "another event"),
         },
@@ -100,6 +101,7 @@ fn outline_of(alloc: Global, text: &str) -> Result<Done, Fail> {
     let job = Job {
         ticket: 1,
         snapshot: Arc::new(alloc, Snapshot::of_text(alloc, text)?)?,
+        encoding: Encoding::Utf16,
         ask: Ask::Symbols,
     };
     Ok(run(alloc, job))

@@ -1,9 +1,10 @@
 -- The ranges of the places of a name.
 use Rattle.std.proofs.Common.{◌≡◌, ℕ, List, map, filter, Option, None, Some, option_map, Result, Ok, Err, IfOk, refl, sym, ◌∙◌, ap, subst}
-use Rattle.ls_text.specs.Lines.{utf16_len, offset_of}
+use Rattle.ls_text.specs.Lines.{offset_of, units}
 use Rattle.ls_text.specs.declared.position.Place.{Place}
 use Rattle.ls_text.specs.declared.position.Position.{Position}
 use Rattle.ls_text.specs.declared.position.Range.{Range}
+use Rattle.ls_text.specs.declared.position.Encoding.{Encoding}
 use Rattle.abnf_names.specs.Places.{Named, at_offset, place_and_text}
 use Rattle.abnf_names.specs.Rules.{Grammar, HasPlaces, IsGrammar}
 use Rattle.ls_answers.specs.Places.{ArePlaces, is_wanted, name_at, name_range, places_alike, ranges_alike}
@@ -18,38 +19,39 @@ pub none : (o : Option Named) → None ≡ option_map place_and_text o → o ≡
 none None e = refl
 none (Some n) e = absurd (cc)
 
--- ---- the ranges of its places
+module _ (encoding : Encoding) where
+  -- ---- the ranges of its places
 
-alike : (wanted : Wanted) (g : Grammar) (o : Option Named) → ranges_alike wanted g.text g.places (option_map place_and_text o) ≡ map (name_range g.text) (filter (λ named. is_wanted wanted named.defines) (places_alike g o))
-alike wanted g None = refl
-alike wanted g (Some n) = refl
+  alike : (wanted : Wanted) (g : Grammar) (o : Option Named) → ranges_alike encoding wanted g.text g.places (option_map place_and_text o) ≡ map (name_range encoding g.text) (filter (λ named. is_wanted wanted named.defines) (places_alike g o))
+  alike wanted g None = refl
+  alike wanted g (Some n) = refl
 
-has_ranges : (wanted : Wanted) (g : Grammar) (at : Position) (text : List ℕ) (places : List Named) (offset : ℕ) (found : Option (Place × List ℕ)) (ranges : List Range) → IsGrammar g → text ≡ g.text → places ≡ g.places →
-    offset ≡ offset_of utf16_len g.text at.line at.character → found ≡ option_map place_and_text (at_offset g.text g.places offset) → ranges ≡ ranges_alike wanted text places found → ArePlaces wanted g.text at ranges
-has_ranges wanted g at text places offset found ranges right of_text are is_offset is_found is = record {
-  grammar = g;
-  of_text = refl;
-  right = right;
-  ranges_are =
-      is
-      ∙ ((λ i. ranges_alike wanted (of_text i) (are i) (is_found i))
-      ∙ (ap (λ o. ranges_alike wanted g.text g.places (option_map place_and_text (at_offset g.text g.places o))) is_offset
-      ∙ alike wanted g (name_at g at)));
-}
+  has_ranges : (wanted : Wanted) (g : Grammar) (at : Position) (text : List ℕ) (places : List Named) (offset : ℕ) (found : Option (Place × List ℕ)) (ranges : List Range) → IsGrammar g → text ≡ g.text → places ≡ g.places →
+      offset ≡ offset_of (units encoding) g.text at.line at.character → found ≡ option_map place_and_text (at_offset g.text g.places offset) → ranges ≡ ranges_alike encoding wanted text places found → ArePlaces encoding wanted g.text at ranges
+  has_ranges wanted g at text places offset found ranges right of_text are is_offset is_found is = record {
+    grammar = g;
+    of_text = refl;
+    right = right;
+    ranges_are =
+        is
+        ∙ ((λ i. ranges_alike encoding wanted (of_text i) (are i) (is_found i))
+        ∙ (ap (λ o. ranges_alike encoding wanted g.text g.places (option_map place_and_text (at_offset g.text g.places o))) is_offset
+        ∙ alike wanted g (name_at encoding g at)));
+  }
 
-pub ranges_there : {E : Type 0} (wanted : Wanted) (g : Grammar) (at : Position) (text : List ℕ) (places : List Named) (offset : ℕ) (found : Option (Place × List ℕ)) (given : Result (List Range) E) → IsGrammar g → text ≡ g.text →
-    places ≡ g.places → offset ≡ offset_of utf16_len g.text at.line at.character → found ≡ option_map place_and_text (at_offset g.text g.places offset) →
-    IfOk given (λ ranges. ranges ≡ ranges_alike wanted text places found) → IfOk given (λ ranges. ArePlaces wanted g.text at ranges)
-ranges_there wanted g at text places offset found (Ok ranges) right of_text are is_offset is_found is = has_ranges wanted g at text places offset found ranges right of_text are is_offset is_found is
-ranges_there wanted g at text places offset found (Err e) right of_text are is_offset is_found is = is
+  pub ranges_there : {E : Type 0} (wanted : Wanted) (g : Grammar) (at : Position) (text : List ℕ) (places : List Named) (offset : ℕ) (found : Option (Place × List ℕ)) (given : Result (List Range) E) → IsGrammar g → text ≡ g.text →
+      places ≡ g.places → offset ≡ offset_of (units encoding) g.text at.line at.character → found ≡ option_map place_and_text (at_offset g.text g.places offset) →
+      IfOk given (λ ranges. ranges ≡ ranges_alike encoding wanted text places found) → IfOk given (λ ranges. ArePlaces encoding wanted g.text at ranges)
+  ranges_there wanted g at text places offset found (Ok ranges) right of_text are is_offset is_found is = has_ranges wanted g at text places offset found ranges right of_text are is_offset is_found is
+  ranges_there wanted g at text places offset found (Err e) right of_text are is_offset is_found is = is
 
--- ---- where the places of a text are known
+  -- ---- where the places of a text are known
 
-pub ranges_known : {E : Type 0} (wanted : Wanted) (at : Position) (text t : List ℕ) (places ps : List Named) (offset : ℕ) (found : Option (Place × List ℕ)) (given : Result (List Range) E) → HasPlaces t ps → text ≡ t →
-    places ≡ ps → offset ≡ offset_of utf16_len t at.line at.character → found ≡ option_map place_and_text (at_offset t ps offset) →
-    IfOk given (λ ranges. ranges ≡ ranges_alike wanted text places found) → IfOk given (λ ranges. ArePlaces wanted t at ranges)
-ranges_known wanted at text t places ps offset found given has of_text are is_offset is_found is =
-    subst (λ x. IfOk given (λ ranges. ArePlaces wanted x at ranges)) has.of_text
-    (ranges_there wanted has.grammar at text places offset found given has.right (of_text ∙ sym has.of_text) (are ∙ sym has.are)
-    (is_offset ∙ ap (λ x. offset_of utf16_len x at.line at.character) (sym has.of_text))
-    (is_found ∙ (λ i. option_map place_and_text (at_offset (sym has.of_text i) (sym has.are i) offset))) is)
+  pub ranges_known : {E : Type 0} (wanted : Wanted) (at : Position) (text t : List ℕ) (places ps : List Named) (offset : ℕ) (found : Option (Place × List ℕ)) (given : Result (List Range) E) → HasPlaces t ps → text ≡ t →
+      places ≡ ps → offset ≡ offset_of (units encoding) t at.line at.character → found ≡ option_map place_and_text (at_offset t ps offset) →
+      IfOk given (λ ranges. ranges ≡ ranges_alike encoding wanted text places found) → IfOk given (λ ranges. ArePlaces encoding wanted t at ranges)
+  ranges_known wanted at text t places ps offset found given has of_text are is_offset is_found is =
+      subst (λ x. IfOk given (λ ranges. ArePlaces encoding wanted x at ranges)) has.of_text
+      (ranges_there wanted has.grammar at text places offset found given has.right (of_text ∙ sym has.of_text) (are ∙ sym has.are)
+      (is_offset ∙ ap (λ x. offset_of (units encoding) x at.line at.character) (sym has.of_text))
+      (is_found ∙ (λ i. option_map place_and_text (at_offset (sym has.of_text i) (sym has.are i) offset))) is)

@@ -8,6 +8,7 @@ use Rattle.abnf_token.specs.Classes.{is_name}
 use Rattle.abnf_token.specs.Folded.{lowercase}
 use Rattle.ls_text.specs.declared.position.Position.{Position}
 use Rattle.ls_text.specs.declared.position.Range.{Range}
+use Rattle.ls_text.specs.declared.position.Encoding.{Encoding}
 use Rattle.abnf_names.specs.Places.{Named, is_defined}
 use Rattle.abnf_names.specs.Rules.{Grammar, IsGrammar}
 use Rattle.abnf_rename.specs.Rules.{IsGranted, is_in_use}
@@ -31,70 +32,71 @@ defined-unused true false e = (refl, refl)
 defined-unused true true e = absurd (cc (e))
 defined-unused false used e = absurd (cc (e))
 
-pub record GrantedAt (g : Grammar) (at : Position) (new : List ℕ) : Type 0 where
-  pub named : Named
-  pub found : name_at g at ≡ Some named
-  pub granted : IsGranted (lowercase named.text) new g
+module _ (encoding : Encoding) where
+  pub record GrantedAt (g : Grammar) (at : Position) (new : List ℕ) : Type 0 where
+    pub named : Named
+    pub found : name_at encoding g at ≡ Some named
+    pub granted : IsGranted (lowercase named.text) new g
 
-granted_there : (g : Grammar) (at : Position) (new : List ℕ) (n : Option Named) → name_at g at ≡ n → is_name new ≡ true → fault_there g n new ≡ None → GrantedAt g at new
-granted_there g at new None found name e = absurd (cc (e))
-granted_there g at new (Some n) found name e =
-    let old = lowercase n.text in
-    let h = defined-unused (is_defined g.places old) (not (bytes_eq (lowercase new) old) && is_in_use g (lowercase new)) e in
-    record { named = n; found = found; granted = record { named = name; defined = h.0; unused = h.1 } }
+  granted_there : (g : Grammar) (at : Position) (new : List ℕ) (n : Option Named) → name_at encoding g at ≡ n → is_name new ≡ true → fault_there g n new ≡ None → GrantedAt g at new
+  granted_there g at new None found name e = absurd (cc (e))
+  granted_there g at new (Some n) found name e =
+      let old = lowercase n.text in
+      let h = defined-unused (is_defined g.places old) (not (bytes_eq (lowercase new) old) && is_in_use g (lowercase new)) e in
+      record { named = n; found = found; granted = record { named = name; defined = h.0; unused = h.1 } }
 
-granted_at : (g : Grammar) (at : Position) (new : List ℕ) → rename_fault g at new ≡ None → GrantedAt g at new
-granted_at g at new e = by (is_name new) refl e
-  where
-    by : (b : Bool) → is_name new ≡ b → (if not b then Some NotAName else fault_there g (name_at g at) new) ≡ None → GrantedAt g at new
-    by true name e = granted_there g at new (name_at g at) refl name e
-    by false name e = absurd (cc (e))
+  granted_at : (g : Grammar) (at : Position) (new : List ℕ) → rename_fault encoding g at new ≡ None → GrantedAt g at new
+  granted_at g at new e = by (is_name new) refl e
+    where
+      by : (b : Bool) → is_name new ≡ b → (if not b then Some NotAName else fault_there g (name_at encoding g at) new) ≡ None → GrantedAt g at new
+      by true name e = granted_there g at new (name_at encoding g at) refl name e
+      by false name e = absurd (cc (e))
 
--- ---- its ranges
+  -- ---- its ranges
 
-abbrev ranges_in : Answer → List Range
-ranges_in (answer.Edits ranges given) = ranges
-ranges_in _ = []
+  abbrev ranges_in : Answer → List Range
+  ranges_in (answer.Edits ranges given) = ranges
+  ranges_in _ = []
 
-abbrev text_in : Answer → List ℕ
-text_in (answer.Edits ranges given) = given
-text_in _ = []
+  abbrev text_in : Answer → List ℕ
+  text_in (answer.Edits ranges given) = given
+  text_in _ = []
 
-abbrev are_edits : Answer → Bool
-are_edits (answer.Edits ranges given) = true
-are_edits _ = false
+  abbrev are_edits : Answer → Bool
+  are_edits (answer.Edits ranges given) = true
+  are_edits _ = false
 
-edits_keep : (g : Grammar) (at : Position) (new given : List ℕ) (ranges : List Range) (fault : Option RenameFault) → IsGrammar g → All IsScalar g.text → rename_fault g at new ≡ fault →
-    answer.Edits ranges given ≡ renamed g at new fault → RenameKeeps g.text at given ranges × (given ≡ new)
-edits_keep g at new given ranges (Some fault) right s is e = let no : true ≡ false = ap are_edits e in absurd (cc (no))
-edits_keep g at new given ranges None right s is e =
-    let found = granted_at g at new is in
-    let same : given ≡ new = ap text_in e in
-    let old = lowercase found.named.text in
-    let kept = grammar_kept old new g right s found.granted in
-    let are : ranges ≡ map (name_range g.text) (places_alike g (Some found.named)) = ap ranges_in e ∙ ap (λ n. map (name_range g.text) (places_alike g n)) found.found in (
-      record {
-        grammar = g;
-        of_text = refl;
-        right = right;
-        named = found.named;
-        found = found.found;
-        keeps = subst (λ t. KeepsTheGrammar old t g ranges) (sym same) (subst (λ rs. KeepsTheGrammar old new g rs) (sym are) kept);
-      },
-      same,
-    )
+  edits_keep : (g : Grammar) (at : Position) (new given : List ℕ) (ranges : List Range) (fault : Option RenameFault) → IsGrammar g → All IsScalar g.text → rename_fault encoding g at new ≡ fault →
+      answer.Edits ranges given ≡ renamed encoding g at new fault → RenameKeeps encoding g.text at given ranges × (given ≡ new)
+  edits_keep g at new given ranges (Some fault) right s is e = let no : true ≡ false = ap are_edits e in absurd (cc (no))
+  edits_keep g at new given ranges None right s is e =
+      let found = granted_at g at new is in
+      let same : given ≡ new = ap text_in e in
+      let old = lowercase found.named.text in
+      let kept = grammar_kept encoding old new g right s found.granted in
+      let are : ranges ≡ map (name_range encoding g.text) (places_alike g (Some found.named)) = ap ranges_in e ∙ ap (λ n. map (name_range encoding g.text) (places_alike g n)) found.found in (
+        record {
+          grammar = g;
+          of_text = refl;
+          right = right;
+          named = found.named;
+          found = found.found;
+          keeps = subst (λ t. KeepsTheGrammar encoding old t g ranges) (sym same) (subst (λ rs. KeepsTheGrammar encoding old new g rs) (sym are) kept);
+        },
+        same,
+      )
 
-rename_keeps : (text : List ℕ) (at : Position) (new given : List ℕ) (ranges : List Range) → All IsScalar text → IsRename text at new (answer.Edits ranges given) → RenameKeeps text at given ranges × (given ≡ new)
-rename_keeps text at new given ranges s h =
-    subst (λ t. RenameKeeps t at given ranges × (given ≡ new)) h.of_text
-    (edits_keep h.grammar at new given ranges (rename_fault h.grammar at new) h.right (subst (All IsScalar) (sym h.of_text) s) refl h.answer_is)
+  rename_keeps : (text : List ℕ) (at : Position) (new given : List ℕ) (ranges : List Range) → All IsScalar text → IsRename encoding text at new (answer.Edits ranges given) → RenameKeeps encoding text at given ranges × (given ≡ new)
+  rename_keeps text at new given ranges s h =
+      subst (λ t. RenameKeeps encoding t at given ranges × (given ≡ new)) h.of_text
+      (edits_keep h.grammar at new given ranges (rename_fault encoding h.grammar at new) h.right (subst (All IsScalar) (sym h.of_text) s) refl h.answer_is)
 
-pub answer_keeps : (text : List ℕ) (question : Ask) (answer : Answer) → All IsScalar text → IsAnswer text question answer → KeepsIfRenamed text question answer
-answer_keeps text (ask.Rename at new) (answer.Edits ranges given) s h = rename_keeps text at new given ranges s h
-answer_keeps text question answer s h = tt
+  pub answer_keeps : (text : List ℕ) (question : Ask) (answer : Answer) → All IsScalar text → IsAnswer encoding text question answer → KeepsIfRenamed encoding text question answer
+  answer_keeps text (ask.Rename at new) (answer.Edits ranges given) s h = rename_keeps text at new given ranges s h
+  answer_keeps text question answer s h = tt
 
--- the same of an answer that may be missing
-pub result_keeps : {E : Type 0} (text : List ℕ) (question : Ask) (r : Result Answer E) → All IsScalar text → IfOk r (λ answer. IsAnswer text question answer)
-    → IfSome (result_ok r) (λ answer. KeepsIfRenamed text question answer)
-result_keeps text question (Ok answer) s h = answer_keeps text question answer s h
-result_keeps text question (Err e) s h = tt
+  -- the same of an answer that may be missing
+  pub result_keeps : {E : Type 0} (text : List ℕ) (question : Ask) (r : Result Answer E) → All IsScalar text → IfOk r (λ answer. IsAnswer encoding text question answer)
+      → IfSome (result_ok r) (λ answer. KeepsIfRenamed encoding text question answer)
+  result_keeps text question (Ok answer) s h = answer_keeps text question answer s h
+  result_keeps text question (Err e) s h = tt

@@ -4,6 +4,7 @@ use Rattle.std.specs.Prelude.{◌||◌, ◌&&◌, nat_lt, nat_eq, find, flat_map
 use Rattle.std.specs.List.{filter_map, cons_option}
 use Rattle.std.proofs.lemmas.Bool.{lt-ltb, ltb-true, le-ltb, eq-eqb, eqb-true, false≢true}
 use Rattle.std.proofs.lemmas.List.Elements.{All-head, All-tail}
+use Rattle.ls_text.specs.declared.position.Encoding.{Encoding}
 use Rattle.abnf_token.specs.Classes.{Text}
 use Rattle.abnf_token.specs.Marks.{AreMarks, mark_of}
 use Rattle.abnf_token.specs.Tokens.{TokensOf}
@@ -125,134 +126,135 @@ found_first : (m t : ℕ) (ns : List Named) → Ascend ns → first_at m t (from
 found_first m t [] all = refl
 found_first m t (n ∷ ns) all = found_by m t n ns (begins_before m t n) refl all.0 (found_first m t ns all.1)
 
--- ---- the tokens of a line
+module _ (encoding : Encoding) where
+  -- ---- the tokens of a line
 
-one_told : (o : Option SemanticToken) (xs : List SemanticToken) → as_list o ++ xs ≡ cons_option o xs
-one_told None xs = refl
-one_told (Some x) xs = refl
+  one_told : (o : Option SemanticToken) (xs : List SemanticToken) → as_list o ++ xs ≡ cons_option o xs
+  one_told None xs = refl
+  one_told (Some x) xs = refl
 
-module _ (g : Grammar) (ascend : Ascend g.places) where
-  abbrev at_point : ℕ → ℕ → List Named
-  at_point l s = from_point l s g.places
+  module _ (g : Grammar) (ascend : Ascend g.places) where
+    abbrev at_point : ℕ → ℕ → List Named
+    at_point l s = from_point l s g.places
 
-  line_told : (line start l s : ℕ) (left : Text) (ts : List Token) → TokensOf line start left ts → Reaches l s line start
-      → told_in_line g line (map mark_of ts) (at_point l s) ≡ filter_map (told g) ts
-  line_told line start l s left [] h r = refl
-  line_told line start l s left (t ∷ ts) h r =
-      let of_line : t.line ≡ line = h.0.line in
-      let of_start : t.start ≡ start = h.0.start in
-      let there : Reaches l s line t.start = subst (λ n. Reaches l s line n) (sym of_start) r in
-      let places_are : from_point line t.start (at_point l s) ≡ at_point line t.start = from_later l s line t.start g.places there in
-      let found : first_at line t.start (at_point line t.start) ≡ find (stands_at t.line t.start) g.places =
-      found_first line t.start g.places ascend ∙ ap (λ n. find (stands_at n t.start) g.places) (sym of_line) in
-      let rest = line_told line (start + length t.text.now) line t.start (drop (length t.text.now) left) ts h.1 (inr (refl, omega (arith, of_start))) in
-      (λ i. as_list (told_of g (sym of_line i) (mark_of t) ((ap (first_at line t.start) places_are ∙ found) i)) ++ told_in_line g line (map mark_of ts) (places_are i))
-      ∙ (ap (λ l. as_list (told g t) ++ l) rest ∙ one_told (told g t) (filter_map (told g) ts))
+    line_told : (line start l s : ℕ) (left : Text) (ts : List Token) → TokensOf line start left ts → Reaches l s line start
+        → told_in_line encoding g line (map mark_of ts) (at_point l s) ≡ filter_map (told encoding g) ts
+    line_told line start l s left [] h r = refl
+    line_told line start l s left (t ∷ ts) h r =
+        let of_line : t.line ≡ line = h.0.line in
+        let of_start : t.start ≡ start = h.0.start in
+        let there : Reaches l s line t.start = subst (λ n. Reaches l s line n) (sym of_start) r in
+        let places_are : from_point line t.start (at_point l s) ≡ at_point line t.start = from_later l s line t.start g.places there in
+        let found : first_at line t.start (at_point line t.start) ≡ find (stands_at t.line t.start) g.places =
+        found_first line t.start g.places ascend ∙ ap (λ n. find (stands_at n t.start) g.places) (sym of_line) in
+        let rest = line_told line (start + length t.text.now) line t.start (drop (length t.text.now) left) ts h.1 (inr (refl, omega (arith, of_start))) in
+        (λ i. as_list (told_of encoding g (sym of_line i) (mark_of t) ((ap (first_at line t.start) places_are ∙ found) i)) ++ told_in_line encoding g line (map mark_of ts) (places_are i))
+        ∙ (ap (λ l. as_list (told encoding g t) ++ l) rest ∙ one_told (told encoding g t) (filter_map (told encoding g) ts))
 
-  -- where the walk stands behind a line
-  line_left : (line start l s : ℕ) (left : Text) (ts : List Token) → TokensOf line start left ts → Reaches l s line start
-      → (m : ℕ) × (t : ℕ) × (left_behind line (map mark_of ts) (at_point l s) ≡ at_point m t) × Reaches m t (suc line) 0
-  line_left line start l s left [] h r = (l, s, refl, reaches_next l s line start r)
-  line_left line start l s left (t ∷ ts) h r =
-      let of_start : t.start ≡ start = h.0.start in
-      let there : Reaches l s line t.start = subst (λ n. Reaches l s line n) (sym of_start) r in
-      let rest = line_left line (start + length t.text.now) line t.start (drop (length t.text.now) left) ts h.1 (inr (refl, omega (arith, of_start))) in
-      (rest.0, rest.1, ap (left_behind line (map mark_of ts)) (from_later l s line t.start g.places there) ∙ rest.2, rest.3)
+    -- where the walk stands behind a line
+    line_left : (line start l s : ℕ) (left : Text) (ts : List Token) → TokensOf line start left ts → Reaches l s line start
+        → (m : ℕ) × (t : ℕ) × (left_behind line (map mark_of ts) (at_point l s) ≡ at_point m t) × Reaches m t (suc line) 0
+    line_left line start l s left [] h r = (l, s, refl, reaches_next l s line start r)
+    line_left line start l s left (t ∷ ts) h r =
+        let of_start : t.start ≡ start = h.0.start in
+        let there : Reaches l s line t.start = subst (λ n. Reaches l s line n) (sym of_start) r in
+        let rest = line_left line (start + length t.text.now) line t.start (drop (length t.text.now) left) ts h.1 (inr (refl, omega (arith, of_start))) in
+        (rest.0, rest.1, ap (left_behind line (map mark_of ts)) (from_later l s line t.start g.places there) ∙ rest.2, rest.3)
 
-  -- ---- the tokens of all lines
+    -- ---- the tokens of all lines
 
-  record LinesTold (ls : List Text) (at count : ℕ) (tokens : List SemanticToken) : Type 0 where
-    lists : List (List Token)
-    count_is : length lists ≡ count
-    are : AreTokens ls at lists
-    told_are : tokens ≡ flat_map (filter_map (told g)) lists
+    record LinesTold (ls : List Text) (at count : ℕ) (tokens : List SemanticToken) : Type 0 where
+      lists : List (List Token)
+      count_is : length lists ≡ count
+      are : AreTokens ls at lists
+      told_are : tokens ≡ flat_map (filter_map (told encoding g)) lists
 
-  lines_told : (ls : List Text) (at l s : ℕ) (lines : List (List TokenMark)) → AreLineMarks ls at lines → Reaches l s at 0
-      → LinesTold ls at (length lines) (told_in_lines g at lines (at_point l s))
-  lines_told ls at l s [] marks r = record { lists = []; count_is = refl; are = tt; told_are = refl }
-  lines_told ls at l s (m ∷ lines) marks r =
-      let line = marks.0 at in
-      let own : told_in_line g at m (at_point l s) ≡ filter_map (told g) line.0 =
-      ap (λ m. told_in_line g at m (at_point l s)) (sym line.2) ∙ line_told at 0 l s (slice_index_or ls at []) line.0 line.1 r in
-      let behind = line_left at 0 l s (slice_index_or ls at []) line.0 line.1 r in
-      let left : left_behind at m (at_point l s) ≡ at_point behind.0 behind.1 = ap (λ m. left_behind at m (at_point l s)) (sym line.2) ∙ behind.2 in
-      let rest = lines_told ls (suc at) behind.0 behind.1 lines marks.1 behind.3 in
+    lines_told : (ls : List Text) (at l s : ℕ) (lines : List (List TokenMark)) → AreLineMarks ls at lines → Reaches l s at 0
+        → LinesTold ls at (length lines) (told_in_lines encoding g at lines (at_point l s))
+    lines_told ls at l s [] marks r = record { lists = []; count_is = refl; are = tt; told_are = refl }
+    lines_told ls at l s (m ∷ lines) marks r =
+        let line = marks.0 at in
+        let own : told_in_line encoding g at m (at_point l s) ≡ filter_map (told encoding g) line.0 =
+        ap (λ m. told_in_line encoding g at m (at_point l s)) (sym line.2) ∙ line_told at 0 l s (slice_index_or ls at []) line.0 line.1 r in
+        let behind = line_left at 0 l s (slice_index_or ls at []) line.0 line.1 r in
+        let left : left_behind at m (at_point l s) ≡ at_point behind.0 behind.1 = ap (λ m. left_behind at m (at_point l s)) (sym line.2) ∙ behind.2 in
+        let rest = lines_told ls (suc at) behind.0 behind.1 lines marks.1 behind.3 in
+        record {
+          lists = line.0 ∷ rest.lists;
+          count_is = ap suc rest.count_is;
+          are = (line.1, rest.are);
+          told_are = (λ i. own i ++ told_in_lines encoding g (suc at) lines (left i)) ∙ ap (λ l. filter_map (told encoding g) line.0 ++ l) rest.told_are;
+        }
+
+  -- nothing begins before the first byte
+  from_start : (ns : List Named) → from_point 0 0 ns ≡ ns
+  from_start [] = refl
+  from_start (n ∷ ns) = rw (le-ltb n.place.line 0 (omega arith), le-ltb n.place.start 0 (omega arith)) (by (nat_eq n.place.line 0))
+    where
+      by : (b : Bool) → (if b && false then from_point 0 0 ns else n ∷ ns) ≡ n ∷ ns
+      by true = refl
+      by false = refl
+
+  told_tokens : (g : Grammar) (tokens : List SemanticToken) (numbers : List ℕ) → IsGrammar g → AreTold encoding g tokens → numbers ≡ relative origin tokens → AreSemanticTokens encoding g.text numbers
+  told_tokens g tokens numbers right walked are =
+      let w = walked.1 in
+      let all = lines_told g (places_ascend g right) (line_texts g.text) 0 0 0 w.lines w.marks (inr (refl, omega arith)) in
       record {
-        lists = line.0 ∷ rest.lists;
-        count_is = ap suc rest.count_is;
-        are = (line.1, rest.are);
-        told_are = (λ i. own i ++ told_in_lines g (suc at) lines (left i)) ∙ ap (λ l. filter_map (told g) line.0 ++ l) rest.told_are;
+        grammar = g;
+        of_text = refl;
+        right = right;
+        tokens = all.lists;
+        all = all.count_is ∙ w.count_is;
+        tokens_are = all.are;
+        numbers_are = are ∙ ap (relative origin) (w.told ∙ (ap (told_in_lines encoding g 0 w.lines) (sym (from_start g.places)) ∙ all.told_are));
       }
 
--- nothing begins before the first byte
-from_start : (ns : List Named) → from_point 0 0 ns ≡ ns
-from_start [] = refl
-from_start (n ∷ ns) = rw (le-ltb n.place.line 0 (omega arith), le-ltb n.place.start 0 (omega arith)) (by (nat_eq n.place.line 0))
-  where
-    by : (b : Bool) → (if b && false then from_point 0 0 ns else n ∷ ns) ≡ n ∷ ns
-    by true = refl
-    by false = refl
+  pub told_numbers : {E : Type 0} (g : Grammar) (tokens given : List SemanticToken) (numbers : Result (List ℕ) E) → IsGrammar g → AreTold encoding g tokens → given ≡ tokens
+      → IfOk numbers (λ numbers. numbers ≡ relative origin given) → IfOk numbers (λ numbers. AreSemanticTokens encoding g.text numbers)
+  told_numbers g tokens given (Ok numbers) right walked same are = told_tokens g tokens numbers right walked (are ∙ ap (relative origin) same)
+  told_numbers g tokens given (Err e) right walked same are = are
 
-told_tokens : (g : Grammar) (tokens : List SemanticToken) (numbers : List ℕ) → IsGrammar g → AreTold g tokens → numbers ≡ relative origin tokens → AreSemanticTokens g.text numbers
-told_tokens g tokens numbers right walked are =
-    let w = walked.1 in
-    let all = lines_told g (places_ascend g right) (line_texts g.text) 0 0 0 w.lines w.marks (inr (refl, omega arith)) in
-    record {
-      grammar = g;
-      of_text = refl;
-      right = right;
-      tokens = all.lists;
-      all = all.count_is ∙ w.count_is;
-      tokens_are = all.are;
-      numbers_are = are ∙ ap (relative origin) (w.told ∙ (ap (told_in_lines g 0 w.lines) (sym (from_start g.places)) ∙ all.told_are));
-    }
+  -- ---- the walk, line by line
 
-pub told_numbers : {E : Type 0} (g : Grammar) (tokens given : List SemanticToken) (numbers : Result (List ℕ) E) → IsGrammar g → AreTold g tokens → given ≡ tokens
-    → IfOk numbers (λ numbers. numbers ≡ relative origin given) → IfOk numbers (λ numbers. AreSemanticTokens g.text numbers)
-told_numbers g tokens given (Ok numbers) right walked same are = told_tokens g tokens numbers right walked (are ∙ ap (relative origin) same)
-told_numbers g tokens given (Err e) right walked same are = are
+  append_nil : (xs : List SemanticToken) → xs ++ [] ≡ xs
+  append_nil [] = refl
+  append_nil (x ∷ xs) = ap (λ l. x ∷ l) (append_nil xs)
 
--- ---- the walk, line by line
+  told_more : (g : Grammar) (at : ℕ) (lines : List (List TokenMark)) (m : List TokenMark) (ns : List Named) (last : ℕ) → length lines + at ≡ last
+      → told_in_lines encoding g at (lines ++ m ∷ []) ns ≡ told_in_lines encoding g at lines ns ++ told_in_line encoding g last m (left_behind_all at lines ns)
+  told_more g at [] m ns last e =
+      let n : at ≡ last = omega (arith, e) in
+      append_nil (told_in_line encoding g at m ns) ∙ ap (λ n. told_in_line encoding g n m ns) n
+  told_more g at (l ∷ lines) m ns last e =
+      let first = told_in_line encoding g at l ns in
+      let behind = left_behind at l ns in
+      ap (λ x. first ++ x) (told_more g (suc at) lines m behind last (omega (arith, e)))
+      ∙ sym (append_assoc first (told_in_lines encoding g (suc at) lines behind) (told_in_line encoding g last m (left_behind_all (suc at) lines behind)))
 
-append_nil : (xs : List SemanticToken) → xs ++ [] ≡ xs
-append_nil [] = refl
-append_nil (x ∷ xs) = ap (λ l. x ∷ l) (append_nil xs)
+  left_more : (at : ℕ) (lines : List (List TokenMark)) (m : List TokenMark) (ns : List Named) (last : ℕ) → length lines + at ≡ last
+      → left_behind_all at (lines ++ m ∷ []) ns ≡ left_behind last m (left_behind_all at lines ns)
+  left_more at [] m ns last e = let n : at ≡ last = omega (arith, e) in ap (λ n. left_behind n m ns) n
+  left_more at (l ∷ lines) m ns last e = left_more (suc at) lines m (left_behind at l ns) last (omega (arith, e))
 
-told_more : (g : Grammar) (at : ℕ) (lines : List (List TokenMark)) (m : List TokenMark) (ns : List Named) (last : ℕ) → length lines + at ≡ last
-    → told_in_lines g at (lines ++ m ∷ []) ns ≡ told_in_lines g at lines ns ++ told_in_line g last m (left_behind_all at lines ns)
-told_more g at [] m ns last e =
-    let n : at ≡ last = omega (arith, e) in
-    append_nil (told_in_line g at m ns) ∙ ap (λ n. told_in_line g n m ns) n
-told_more g at (l ∷ lines) m ns last e =
-    let first = told_in_line g at l ns in
-    let behind = left_behind at l ns in
-    ap (λ x. first ++ x) (told_more g (suc at) lines m behind last (omega (arith, e)))
-    ∙ sym (append_assoc first (told_in_lines g (suc at) lines behind) (told_in_line g last m (left_behind_all (suc at) lines behind)))
+  marks_more : (ls : List Text) (at : ℕ) (lines : List (List TokenMark)) (m : List TokenMark) (last : ℕ) → length lines + at ≡ last → AreLineMarks ls at lines
+      → AreMarks (slice_index_or ls last []) m → AreLineMarks ls at (lines ++ m ∷ [])
+  marks_more ls at [] m last e h k = let n : last ≡ at = omega (arith, e) in (subst (λ n. AreMarks (slice_index_or ls n []) m) n k, tt)
+  marks_more ls at (l ∷ lines) m last e h k = (h.0, marks_more ls (suc at) lines m last (omega (arith, e)) h.1 k)
 
-left_more : (at : ℕ) (lines : List (List TokenMark)) (m : List TokenMark) (ns : List Named) (last : ℕ) → length lines + at ≡ last
-    → left_behind_all at (lines ++ m ∷ []) ns ≡ left_behind last m (left_behind_all at lines ns)
-left_more at [] m ns last e = let n : at ≡ last = omega (arith, e) in ap (λ n. left_behind n m ns) n
-left_more at (l ∷ lines) m ns last e = left_more (suc at) lines m (left_behind at l ns) last (omega (arith, e))
+  pub nothing_walked : (g : Grammar) (tokens : List SemanticToken) → tokens ≡ [] → HasWalked encoding g 0 tokens g.places
+  nothing_walked g tokens none = record { lines = []; count_is = refl; marks = tt; told = none; left_is = refl }
 
-marks_more : (ls : List Text) (at : ℕ) (lines : List (List TokenMark)) (m : List TokenMark) (last : ℕ) → length lines + at ≡ last → AreLineMarks ls at lines
-    → AreMarks (slice_index_or ls last []) m → AreLineMarks ls at (lines ++ m ∷ [])
-marks_more ls at [] m last e h k = let n : last ≡ at = omega (arith, e) in (subst (λ n. AreMarks (slice_index_or ls n []) m) n k, tt)
-marks_more ls at (l ∷ lines) m last e h k = (h.0, marks_more ls (suc at) lines m last (omega (arith, e)) h.1 k)
+  pub line_walked : (g : Grammar) (at : ℕ) (tokens new : List SemanticToken) (left behind : List Named) (m : List TokenMark) → HasWalked encoding g at tokens left → AreMarks (slice_index_or (line_texts g.text) at []) m
+      → new ≡ tokens ++ told_in_line encoding g at m left → behind ≡ left_behind at m left → HasWalked encoding g (at + 1) new behind
+  line_walked g at tokens new left behind m w marks told_is behind_is =
+      let last : length w.lines + 0 ≡ at = omega (arith, w.count_is) in
+      record {
+        lines = w.lines ++ m ∷ [];
+        count_is = length-append w.lines (m ∷ []) ∙ ap (λ n. n + 1) w.count_is;
+        marks = marks_more (line_texts g.text) 0 w.lines m at last w.marks marks;
+        told = told_is ∙ ((λ i. w.told i ++ told_in_line encoding g at m (w.left_is i)) ∙ sym (told_more g 0 w.lines m g.places at last));
+        left_is = behind_is ∙ (ap (left_behind at m) w.left_is ∙ sym (left_more 0 w.lines m g.places at last));
+      }
 
-pub nothing_walked : (g : Grammar) (tokens : List SemanticToken) → tokens ≡ [] → HasWalked g 0 tokens g.places
-nothing_walked g tokens none = record { lines = []; count_is = refl; marks = tt; told = none; left_is = refl }
-
-pub line_walked : (g : Grammar) (at : ℕ) (tokens new : List SemanticToken) (left behind : List Named) (m : List TokenMark) → HasWalked g at tokens left → AreMarks (slice_index_or (line_texts g.text) at []) m
-    → new ≡ tokens ++ told_in_line g at m left → behind ≡ left_behind at m left → HasWalked g (at + 1) new behind
-line_walked g at tokens new left behind m w marks told_is behind_is =
-    let last : length w.lines + 0 ≡ at = omega (arith, w.count_is) in
-    record {
-      lines = w.lines ++ m ∷ [];
-      count_is = length-append w.lines (m ∷ []) ∙ ap (λ n. n + 1) w.count_is;
-      marks = marks_more (line_texts g.text) 0 w.lines m at last w.marks marks;
-      told = told_is ∙ ((λ i. w.told i ++ told_in_line g at m (w.left_is i)) ∙ sym (told_more g 0 w.lines m g.places at last));
-      left_is = behind_is ∙ (ap (left_behind at m) w.left_is ∙ sym (left_more 0 w.lines m g.places at last));
-    }
-
-pub all_walked : (g : Grammar) (at : ℕ) (tokens : List SemanticToken) (left : List Named) → at ≡ length (line_texts g.text) → HasWalked g at tokens left → AreTold g tokens
-all_walked g at tokens left e w = (left, subst (λ n. HasWalked g n tokens left) e w)
+  pub all_walked : (g : Grammar) (at : ℕ) (tokens : List SemanticToken) (left : List Named) → at ≡ length (line_texts g.text) → HasWalked encoding g at tokens left → AreTold encoding g tokens
+  all_walked g at tokens left e w = (left, subst (λ n. HasWalked encoding g n tokens left) e w)

@@ -1,5 +1,6 @@
 -- What the answer to a question about a text is.
 use Rattle.std.specs.Prelude.{ℕ, List, [], option_map}
+use Rattle.ls_text.specs.declared.position.Encoding.{Encoding}
 use Rattle.ls_answers.specs.Diagnostics.{AreDiagnostics}
 use Rattle.ls_answers.specs.Hovers.{IsHover}
 use Rattle.ls_answers.specs.Outline.{IsOutline}
@@ -15,16 +16,16 @@ use Rattle.ls_answers.specs.declared.answer.HoverText.{HoverText}
 use Rattle.ls_answers.specs.declared.answer.Insertion.{Insertion}
 
 -- the answer to the question about the text with these characters
-abbrev pub IsAnswer : List ℕ → Ask → Answer → Type 0
-IsAnswer text (ask.Hover at) (answer.Hover hover) = IsHover text at hover
-IsAnswer text (ask.Definition at) (answer.Places ranges) = AreDefinitions text at ranges
-IsAnswer text (ask.References at declarations) (answer.Places ranges) = AreReferences text at declarations ranges
-IsAnswer text ask.Symbols (answer.Symbols symbols) = IsOutline text symbols
-IsAnswer text (ask.Rename at new) answer = IsRename text at new answer
-IsAnswer text (ask.Action range) (answer.Insert insertion) = IsInsertion text range insertion
-IsAnswer text ask.Tokens (answer.Numbers numbers) = AreSemanticTokens text numbers
-IsAnswer text ask.Diagnose (answer.Findings diagnostics) = AreDiagnostics text diagnostics
-IsAnswer text _ _ = ⊥
+abbrev pub IsAnswer : Encoding → List ℕ → Ask → Answer → Type 0
+IsAnswer encoding text (ask.Hover at) (answer.Hover hover) = IsHover encoding text at hover
+IsAnswer encoding text (ask.Definition at) (answer.Places ranges) = AreDefinitions encoding text at ranges
+IsAnswer encoding text (ask.References at declarations) (answer.Places ranges) = AreReferences encoding text at declarations ranges
+IsAnswer encoding text ask.Symbols (answer.Symbols symbols) = IsOutline encoding text symbols
+IsAnswer encoding text (ask.Rename at new) answer = IsRename encoding text at new answer
+IsAnswer encoding text (ask.Action range) (answer.Insert insertion) = IsInsertion encoding text range insertion
+IsAnswer encoding text ask.Tokens (answer.Numbers numbers) = AreSemanticTokens encoding text numbers
+IsAnswer encoding text ask.Diagnose (answer.Findings diagnostics) = AreDiagnostics encoding text diagnostics
+IsAnswer encoding text _ _ = ⊥
 
 -- the same with an empty certificate beside the example
 abbrev pub hover_without_cert : HoverText → HoverText

@@ -1,18 +1,19 @@
 -- What is wrong or doubtful in a text, as a client is told (LSP 3.17, "PublishDiagnostics Notification").
 use Rattle.std.specs.Prelude.{◌≡◌, ℕ, List, map}
-use Rattle.ls_text.specs.Lines.{utf16_len}
+use Rattle.ls_text.specs.Lines.{units}
 use Rattle.ls_text.specs.Positions.{place_range}
+use Rattle.ls_text.specs.declared.position.Encoding.{Encoding}
 use Rattle.abnf_lint.specs.declared.finding.Finding.{Finding}
 use Rattle.abnf_lint.specs.Findings.{AreFindings}
 use Rattle.abnf_lint.specs.Messages.{message_of}
 use Rattle.ls_answers.specs.declared.answer.Diagnostic.{Diagnostic}
 
 -- a finding with the range of its place and its message
-abbrev pub diagnostic_of : List ℕ → Finding → Diagnostic
-diagnostic_of text finding = record { range = place_range utf16_len text finding.place; code = finding.code; message = message_of finding.code finding.name }
+abbrev pub diagnostic_of : Encoding → List ℕ → Finding → Diagnostic
+diagnostic_of encoding text finding = record { range = place_range (units encoding) text finding.place; code = finding.code; message = message_of finding.code finding.name }
 
 -- These are the findings of the text, in its order.
-pub record AreDiagnostics (text : List ℕ) (diagnostics : List Diagnostic) : Type 0 where
+pub record AreDiagnostics (encoding : Encoding) (text : List ℕ) (diagnostics : List Diagnostic) : Type 0 where
   pub findings : List Finding
   pub of_text : AreFindings text findings
-  pub diagnostics_are : diagnostics ≡ map (diagnostic_of text) findings
+  pub diagnostics_are : diagnostics ≡ map (diagnostic_of encoding text) findings

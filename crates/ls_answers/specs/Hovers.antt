@@ -1,10 +1,11 @@
 -- What is shown at a position of a text (LSP 3.17, "Hover Request").
 use Rattle.std.specs.Prelude.{◌≡◌, ℕ, List, Option, Some, None}
 use Rattle.abnf_token.specs.Folded.{lowercase}
-use Rattle.ls_text.specs.Lines.{utf16_len}
+use Rattle.ls_text.specs.Lines.{units}
 use Rattle.ls_text.specs.Positions.{place_range}
 use Rattle.ls_text.specs.declared.position.Position.{Position}
 use Rattle.ls_text.specs.declared.position.Range.{Range}
+use Rattle.ls_text.specs.declared.position.Encoding.{Encoding}
 use Rattle.abnf_parts.specs.Names.{Name, rule_number}
 use Rattle.abnf_parts.specs.Part.{Part}
 use Rattle.abnf_names.specs.Places.{Named}
@@ -34,14 +35,14 @@ abbrev pub IsHoverOfName : Grammar → Range → Name → HoverText → Type 0
 IsHoverOfName g range name hover = IsHoverOfRule g.rules range (rule_number g.names name) hover
 
 -- what is shown of the name at a place; where no name stands nothing is
-abbrev pub IsHoverAt : Grammar → Option Named → Option HoverText → Type 0
-IsHoverAt g None hover = hover ≡ None
-IsHoverAt g (Some named) None = ⊥
-IsHoverAt g (Some named) (Some hover) = IsHoverOfName g (place_range utf16_len g.text named.place) (lowercase named.text) hover
+abbrev pub IsHoverAt : Encoding → Grammar → Option Named → Option HoverText → Type 0
+IsHoverAt encoding g None hover = hover ≡ None
+IsHoverAt encoding g (Some named) None = ⊥
+IsHoverAt encoding g (Some named) (Some hover) = IsHoverOfName g (place_range (units encoding) g.text named.place) (lowercase named.text) hover
 
 -- This is shown of the name at the position.
-pub record IsHover (text : List ℕ) (at : Position) (hover : Option HoverText) : Type 0 where
+pub record IsHover (encoding : Encoding) (text : List ℕ) (at : Position) (hover : Option HoverText) : Type 0 where
   pub grammar : Grammar
   pub of_text : grammar.text ≡ text
   pub right : IsGrammar grammar
-  pub shown : IsHoverAt grammar (name_at grammar at) hover
+  pub shown : IsHoverAt encoding grammar (name_at encoding grammar at) hover

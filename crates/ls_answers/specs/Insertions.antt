@@ -2,8 +2,9 @@
 use Rattle.std.specs.Prelude.{◌≡◌, ℕ, ◌++◌, ◌∷◌, List, [], min, codes, find, Option, Some, None}
 use Rattle.abnf_token.specs.Folded.{lowercase}
 use Rattle.ls_text.specs.Edits.{position_offset}
-use Rattle.ls_text.specs.Lines.{utf16_len}
+use Rattle.ls_text.specs.Lines.{units}
 use Rattle.ls_text.specs.declared.position.Range.{Range}
+use Rattle.ls_text.specs.declared.position.Encoding.{Encoding}
 use Rattle.abnf_parts.specs.Names.{Name, rule_number}
 use Rattle.abnf_parts.specs.Part.{Part}
 use Rattle.abnf_names.specs.Places.{Named, at_offset, places_of_name}
@@ -17,8 +18,8 @@ use Rattle.ls_answers.specs.Places.{name_range}
 use Rattle.ls_answers.specs.declared.answer.Insertion.{Insertion}
 
 -- the name at the start of a range, whichever of its ends comes first
-abbrev pub name_at_start : Grammar → Range → Option Named
-name_at_start g range = at_offset g.text g.places (min (position_offset utf16_len g.text range.start) (position_offset utf16_len g.text range.end))
+abbrev pub name_at_start : Encoding → Grammar → Range → Option Named
+name_at_start encoding g range = at_offset g.text g.places (min (position_offset (units encoding) g.text range.start) (position_offset (units encoding) g.text range.end))
 
 -- an example as a comment on a line of its own
 abbrev pub comment_of : List ℕ → List ℕ
@@ -44,23 +45,23 @@ abbrev pub IsInsertionOfRule : List Part → ℕ → ℕ → Option Insertion �
 IsInsertionOfRule roots line r insertion = (shown : Shortest) × IsShown roots r shown × IsInsertedBefore roots line shown insertion
 
 -- what is inserted of a name by the first place that defines it and by its rule
-abbrev pub IsInsertionBy : Grammar → Option Named → Option ℕ → Option Insertion → Type 0
-IsInsertionBy g (Some head) (Some r) insertion = IsInsertionOfRule g.rules (name_range g.text head).start.line r insertion
-IsInsertionBy g None rule insertion = insertion ≡ None
-IsInsertionBy g (Some head) None insertion = insertion ≡ None
+abbrev pub IsInsertionBy : Encoding → Grammar → Option Named → Option ℕ → Option Insertion → Type 0
+IsInsertionBy encoding g (Some head) (Some r) insertion = IsInsertionOfRule g.rules (name_range encoding g.text head).start.line r insertion
+IsInsertionBy encoding g None rule insertion = insertion ≡ None
+IsInsertionBy encoding g (Some head) None insertion = insertion ≡ None
 
 -- the first place that defines a name; of the blocks of a name the first always counts
 abbrev pub first_head : Grammar → Name → Option Named
 first_head g name = find (λ n. n.defines) (places_of_name name g.places)
 
 -- what is inserted of the name that was found
-abbrev pub IsInsertionThere : Grammar → Option Named → Option Insertion → Type 0
-IsInsertionThere g None insertion = insertion ≡ None
-IsInsertionThere g (Some named) insertion = IsInsertionBy g (first_head g (lowercase named.text)) (rule_number g.names (lowercase named.text)) insertion
+abbrev pub IsInsertionThere : Encoding → Grammar → Option Named → Option Insertion → Type 0
+IsInsertionThere encoding g None insertion = insertion ≡ None
+IsInsertionThere encoding g (Some named) insertion = IsInsertionBy encoding g (first_head g (lowercase named.text)) (rule_number g.names (lowercase named.text)) insertion
 
 -- This can be inserted at the range.
-pub record IsInsertion (text : List ℕ) (range : Range) (insertion : Option Insertion) : Type 0 where
+pub record IsInsertion (encoding : Encoding) (text : List ℕ) (range : Range) (insertion : Option Insertion) : Type 0 where
   pub grammar : Grammar
   pub of_text : grammar.text ≡ text
   pub right : IsGrammar grammar
-  pub inserted : IsInsertionThere grammar (name_at_start grammar range) insertion
+  pub inserted : IsInsertionThere encoding grammar (name_at_start encoding grammar range) insertion

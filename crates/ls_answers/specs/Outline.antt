@@ -1,9 +1,10 @@
 -- The outline of a text (LSP 3.17, "Document Symbols Request"): its blocks that have a head.
 use Rattle.std.specs.Prelude.{◌≡◌, ℕ, List, [], ◌∷◌, All, map, Option, None, Some, option_map}
 use Rattle.std.specs.List.{filter_map}
-use Rattle.ls_text.specs.Lines.{utf16_len}
+use Rattle.ls_text.specs.Lines.{units}
 use Rattle.ls_text.specs.Positions.{place_range}
 use Rattle.ls_text.specs.declared.position.Range.{Range}
+use Rattle.ls_text.specs.declared.position.Encoding.{Encoding}
 use Rattle.abnf_token.specs.declared.token.Token.{Token}
 use Rattle.abnf_syntax.specs.Blocks.{line_texts, AreBlocks}
 use Rattle.abnf_syntax.specs.Bounds.{bounds}
@@ -16,32 +17,32 @@ use Rattle.abnf_syntax.specs.declared.item.Item.{Item}
 use Rattle.ls_answers.specs.declared.answer.Symbol.{Symbol}
 
 -- the range of a token
-abbrev pub token_range : List ℕ → Token → Range
-token_range text token = place_range utf16_len text (place_of token)
+abbrev pub token_range : Encoding → List ℕ → Token → Range
+token_range encoding text token = place_range (units encoding) text (place_of token)
 
 -- from the start of the first item to the end of the last
-abbrev pub extent : List ℕ → Item → Item → Range
-extent text first last = record { start = (token_range text first.token).start; end = (token_range text last.token).end }
+abbrev pub extent : Encoding → List ℕ → Item → Item → Range
+extent encoding text first last = record { start = (token_range encoding text first.token).start; end = (token_range encoding text last.token).end }
 
-abbrev pub symbol_with : List ℕ → Item → Item → Head → Symbol
-symbol_with text first last head = record { name = head.name.text.now; range = extent text first last; name_range = token_range text head.name }
+abbrev pub symbol_with : Encoding → List ℕ → Item → Item → Head → Symbol
+symbol_with encoding text first last head = record { name = head.name.text.now; range = extent encoding text first last; name_range = token_range encoding text head.name }
 
 -- the symbol of a block's items, if these have a head; the block may be faulty behind it, and its name may be defined elsewhere too
-abbrev pub symbol_of : List ℕ → List Item → Option Symbol
-symbol_of text [] = None
-symbol_of text (first ∷ items) = option_map (symbol_with text first (last_of first items)) (head_of (first ∷ items))
+abbrev pub symbol_of : Encoding → List ℕ → List Item → Option Symbol
+symbol_of encoding text [] = None
+symbol_of encoding text (first ∷ items) = option_map (symbol_with encoding text first (last_of first items)) (head_of (first ∷ items))
 
 -- the same as a list
 abbrev pub as_list : Option Symbol → List Symbol
 as_list None = []
 as_list (Some symbol) = symbol ∷ []
 
-abbrev pub symbols_in : List ℕ → Block → List Symbol
-symbols_in text block = as_list (symbol_of text block.items)
+abbrev pub symbols_in : Encoding → List ℕ → Block → List Symbol
+symbols_in encoding text block = as_list (symbol_of encoding text block.items)
 
 -- These are the symbols of the text's blocks, in their order.
-pub record IsOutline (text : List ℕ) (symbols : List Symbol) : Type 0 where
+pub record IsOutline (encoding : Encoding) (text : List ℕ) (symbols : List Symbol) : Type 0 where
   pub blocks : List Block
   pub all : AreBlocks (line_texts text) 0 (map bounds blocks)
   pub items : All (λ b. AreItems (line_texts text) b.first b.end b.items) blocks
-  pub symbols_are : symbols ≡ filter_map (λ b. symbol_of text b.items) blocks
+  pub symbols_are : symbols ≡ filter_map (λ b. symbol_of encoding text b.items) blocks

@@ -1,11 +1,12 @@
 -- The places of the name at a position (LSP 3.17, "Goto Definition Request" and "Find References Request").
 use Rattle.std.specs.Prelude.{◌≡◌, ℕ, List, [], map, filter, Bool, true, false, not, Option, Some, None}
 use Rattle.abnf_token.specs.Folded.{lowercase}
-use Rattle.ls_text.specs.Lines.{utf16_len, offset_of}
+use Rattle.ls_text.specs.Lines.{offset_of, units}
 use Rattle.ls_text.specs.Positions.{place_range}
 use Rattle.ls_text.specs.declared.position.Position.{Position}
 use Rattle.ls_text.specs.declared.position.Range.{Range}
 use Rattle.ls_text.specs.declared.position.Place.{Place}
+use Rattle.ls_text.specs.declared.position.Encoding.{Encoding}
 use Rattle.abnf_parts.specs.Names.{Name}
 use Rattle.abnf_names.specs.Places.{Named, at_offset, places_of_name}
 use Rattle.abnf_names.specs.Rules.{Grammar, IsGrammar}
@@ -13,8 +14,8 @@ use Rattle.ls_answers.specs.declared.places.Wanted.{Wanted}
 use Rattle.ls_answers.specs.declared.places.Wanted.TheVariants.{Definitions, Uses, Both}
 
 -- the name whose place holds the position, else the one whose place ends there
-abbrev pub name_at : Grammar → Position → Option Named
-name_at g at = at_offset g.text g.places (offset_of utf16_len g.text at.line at.character)
+abbrev pub name_at : Encoding → Grammar → Position → Option Named
+name_at encoding g at = at_offset g.text g.places (offset_of (units encoding) g.text at.line at.character)
 
 -- the places of the same name; names are compared without case (RFC 5234, section 2.1)
 abbrev pub places_alike : Grammar → Option Named → List Named
@@ -28,33 +29,33 @@ is_wanted Uses defines = not defines
 is_wanted Both defines = true
 
 -- the range of a name
-abbrev pub name_range : List ℕ → Named → Range
-name_range text named = place_range utf16_len text named.place
+abbrev pub name_range : Encoding → List ℕ → Named → Range
+name_range encoding text named = place_range (units encoding) text named.place
 
 -- These are the ranges of the wanted places of the name at the position, in the order of the text.
-pub record ArePlaces (wanted : Wanted) (text : List ℕ) (at : Position) (ranges : List Range) : Type 0 where
+pub record ArePlaces (encoding : Encoding) (wanted : Wanted) (text : List ℕ) (at : Position) (ranges : List Range) : Type 0 where
   pub grammar : Grammar
   pub of_text : grammar.text ≡ text
   pub right : IsGrammar grammar
-  pub ranges_are : ranges ≡ map (name_range text) (filter (λ named. is_wanted wanted named.defines) (places_alike grammar (name_at grammar at)))
+  pub ranges_are : ranges ≡ map (name_range encoding text) (filter (λ named. is_wanted wanted named.defines) (places_alike grammar (name_at encoding grammar at)))
 
 -- those that define it
-abbrev pub AreDefinitions : List ℕ → Position → List Range → Type 0
-AreDefinitions text at ranges = ArePlaces Definitions text at ranges
+abbrev pub AreDefinitions : Encoding → List ℕ → Position → List Range → Type 0
+AreDefinitions encoding text at ranges = ArePlaces encoding Definitions text at ranges
 
 -- all of them, or those that don't define it
 abbrev pub wanted_with : Bool → Wanted
 wanted_with true = Both
 wanted_with false = Uses
 
-abbrev pub AreReferences : List ℕ → Position → Bool → List Range → Type 0
-AreReferences text at declarations ranges = ArePlaces (wanted_with declarations) text at ranges
+abbrev pub AreReferences : Encoding → List ℕ → Position → Bool → List Range → Type 0
+AreReferences encoding text at declarations ranges = ArePlaces encoding (wanted_with declarations) text at ranges
 
 -- the ranges of the wanted places of a name
-abbrev pub ranges_of : Wanted → List ℕ → Name → List Named → List Range
-ranges_of wanted text name places = map (name_range text) (filter (λ named. is_wanted wanted named.defines) (places_of_name name places))
+abbrev pub ranges_of : Encoding → Wanted → List ℕ → Name → List Named → List Range
+ranges_of encoding wanted text name places = map (name_range encoding text) (filter (λ named. is_wanted wanted named.defines) (places_of_name name places))
 
 -- the same of a name with its place, if there is one
-abbrev pub ranges_alike : Wanted → List ℕ → List Named → Option (Place × List ℕ) → List Range
-ranges_alike wanted text places None = []
-ranges_alike wanted text places (Some found) = ranges_of wanted text (lowercase found.1) places
+abbrev pub ranges_alike : Encoding → Wanted → List ℕ → List Named → Option (Place × List ℕ) → List Range
+ranges_alike encoding wanted text places None = []
+ranges_alike encoding wanted text places (Some found) = ranges_of encoding wanted text (lowercase found.1) places

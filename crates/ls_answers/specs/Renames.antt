@@ -4,6 +4,7 @@ use Rattle.std.specs.Str.{bytes_eq}
 use Rattle.abnf_token.specs.Classes.{is_name}
 use Rattle.abnf_token.specs.Folded.{lowercase}
 use Rattle.ls_text.specs.declared.position.Position.{Position}
+use Rattle.ls_text.specs.declared.position.Encoding.{Encoding}
 use Rattle.abnf_parts.specs.Names.{Name}
 use Rattle.abnf_names.specs.Places.{Named, is_defined}
 use Rattle.abnf_names.specs.Rules.{Grammar, IsGrammar}
@@ -27,17 +28,17 @@ fault_there g None new = Some NothingToRename
 fault_there g (Some named) new = fault_of_name g (lowercase named.text) new
 
 -- the first cause that holds
-abbrev pub rename_fault : Grammar → Position → List ℕ → Option RenameFault
-rename_fault g at new = if not (is_name new) then Some NotAName else fault_there g (name_at g at) new
+abbrev pub rename_fault : Encoding → Grammar → Position → List ℕ → Option RenameFault
+rename_fault encoding g at new = if not (is_name new) then Some NotAName else fault_there g (name_at encoding g at) new
 
 -- the refusal, or else each place of the name with the new text as it was given
-abbrev pub renamed : Grammar → Position → List ℕ → Option RenameFault → Answer
-renamed g at new (Some fault) = answer.Refused fault
-renamed g at new None = answer.Edits (map (name_range g.text) (places_alike g (name_at g at))) new
+abbrev pub renamed : Encoding → Grammar → Position → List ℕ → Option RenameFault → Answer
+renamed encoding g at new (Some fault) = answer.Refused fault
+renamed encoding g at new None = answer.Edits (map (name_range encoding g.text) (places_alike g (name_at encoding g at))) new
 
 -- This is answered to a rename of the name at the position.
-pub record IsRename (text : List ℕ) (at : Position) (new : List ℕ) (answer : Answer) : Type 0 where
+pub record IsRename (encoding : Encoding) (text : List ℕ) (at : Position) (new : List ℕ) (answer : Answer) : Type 0 where
   pub grammar : Grammar
   pub of_text : grammar.text ≡ text
   pub right : IsGrammar grammar
-  pub answer_is : answer ≡ renamed grammar at new (rename_fault grammar at new)
+  pub answer_is : answer ≡ renamed encoding grammar at new (rename_fault encoding grammar at new)

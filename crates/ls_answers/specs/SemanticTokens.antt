@@ -8,9 +8,10 @@ use Rattle.abnf_token.specs.declared.mark.TokenMark.{TokenMark}
 use Rattle.abnf_token.specs.declared.token.Kind.{Kind}
 use Rattle.abnf_token.specs.declared.token.Kind.TheVariants.{Name, Defines, Adds, Slash, Repeat, ParenL, ParenR, BracketL, BracketR, Quoted, Number, Prose, Comment, Blank, Bad}
 use Rattle.abnf_token.specs.declared.token.Token.{Token}
-use Rattle.ls_text.specs.Lines.{utf16_len}
+use Rattle.ls_text.specs.Lines.{units}
 use Rattle.ls_text.specs.Positions.{place_range}
 use Rattle.ls_text.specs.declared.position.Position.{Position}
+use Rattle.ls_text.specs.declared.position.Encoding.{Encoding}
 use Rattle.abnf_syntax.specs.Blocks.{line_texts}
 use Rattle.abnf_syntax.specs.Items.{AreTokens}
 use Rattle.abnf_parts.specs.Names as names
@@ -56,16 +57,16 @@ modifiers_of g Name found = option_map_or (place_modifiers g) found 0
 modifiers_of g _ found = 0
 
 -- what is told of a token in this line with this mark
-abbrev pub told_of : Grammar → ℕ → TokenMark → Option Named → Option SemanticToken
-told_of g line mark found = option_map (λ kind. record {
-  range = place_range utf16_len g.text (record { line = line; start = mark.start; end = mark.end });
+abbrev pub told_of : Encoding → Grammar → ℕ → TokenMark → Option Named → Option SemanticToken
+told_of encoding g line mark found = option_map (λ kind. record {
+  range = place_range (units encoding) g.text (record { line = line; start = mark.start; end = mark.end });
   kind = kind;
   modifiers = modifiers_of g mark.kind found;
 }) (type_of mark.kind)
 
 -- what is told of a token
-abbrev pub told : Grammar → Token → Option SemanticToken
-told g token = told_of g token.line (mark_of token) (find (stands_at token.line token.start) g.places)
+abbrev pub told : Encoding → Grammar → Token → Option SemanticToken
+told encoding g token = told_of encoding g token.line (mark_of token) (find (stands_at token.line token.start) g.places)
 
 -- the five numbers of a token behind the start of the token before: how many lines below it, how far behind it in the same line or else
 -- behind the line's start, its length, type and modifiers
@@ -87,11 +88,11 @@ abbrev pub origin : Position
 origin = record { line = 0; character = 0 }
 
 -- These are the numbers of the tokens of the text, in its order.
-pub record AreSemanticTokens (text : List ℕ) (numbers : List ℕ) : Type 0 where
+pub record AreSemanticTokens (encoding : Encoding) (text : List ℕ) (numbers : List ℕ) : Type 0 where
   pub grammar : Grammar
   pub of_text : grammar.text ≡ text
   pub right : IsGrammar grammar
   pub tokens : List (List Token)
   pub all : length tokens ≡ length (line_texts text)
   pub tokens_are : AreTokens (line_texts text) 0 tokens
-  pub numbers_are : numbers ≡ relative origin (flat_map (filter_map (told grammar)) tokens)
+  pub numbers_are : numbers ≡ relative origin (flat_map (filter_map (told encoding grammar)) tokens)

@@ -1,5 +1,6 @@
 -- The walk over the tokens of a text beside the places of its names. Only contracts of private functions speak of it.
 use Rattle.std.specs.Prelude.{◌≡◌, ℕ, suc, List, [], ◌∷◌, ◌++◌, length, slice_index_or, Option, Some, None, if◌then◌else◌}
+use Rattle.ls_text.specs.declared.position.Encoding.{Encoding}
 use Rattle.abnf_token.specs.Classes.{Text}
 use Rattle.abnf_token.specs.Marks.{AreMarks}
 use Rattle.abnf_token.specs.declared.mark.TokenMark.{TokenMark}
@@ -24,10 +25,10 @@ as_list None = []
 as_list (Some token) = token ∷ []
 
 -- what is told of the tokens of a line with these marks, where these places are left
-abbrev pub told_in_line : Grammar → ℕ → List TokenMark → List Named → List SemanticToken
-told_in_line g line [] places = []
-told_in_line g line (mark ∷ marks) places =
-    as_list (told_of g line mark (first_at line mark.start (from_point line mark.start places))) ++ told_in_line g line marks (from_point line mark.start places)
+abbrev pub told_in_line : Encoding → Grammar → ℕ → List TokenMark → List Named → List SemanticToken
+told_in_line encoding g line [] places = []
+told_in_line encoding g line (mark ∷ marks) places =
+    as_list (told_of encoding g line mark (first_at line mark.start (from_point line mark.start places))) ++ told_in_line encoding g line marks (from_point line mark.start places)
 
 -- the places that are left behind a line
 abbrev pub left_behind : ℕ → List TokenMark → List Named → List Named
@@ -35,9 +36,9 @@ left_behind line [] places = places
 left_behind line (mark ∷ marks) places = left_behind line marks (from_point line mark.start places)
 
 -- what is told of the tokens of lines from this one on
-abbrev pub told_in_lines : Grammar → ℕ → List (List TokenMark) → List Named → List SemanticToken
-told_in_lines g line [] places = []
-told_in_lines g line (marks ∷ lines) places = told_in_line g line marks places ++ told_in_lines g (suc line) lines (left_behind line marks places)
+abbrev pub told_in_lines : Encoding → Grammar → ℕ → List (List TokenMark) → List Named → List SemanticToken
+told_in_lines encoding g line [] places = []
+told_in_lines encoding g line (marks ∷ lines) places = told_in_line encoding g line marks places ++ told_in_lines encoding g (suc line) lines (left_behind line marks places)
 
 -- the places that are left behind these lines
 abbrev pub left_behind_all : ℕ → List (List TokenMark) → List Named → List Named
@@ -50,13 +51,13 @@ AreLineMarks ls at [] = Unit {0}
 AreLineMarks ls at (marks ∷ lines) = AreMarks (slice_index_or ls at []) marks × AreLineMarks ls (suc at) lines
 
 -- So many lines have been walked: what is told of their tokens, and the places that are left.
-pub record HasWalked (g : Grammar) (count : ℕ) (tokens : List SemanticToken) (left : List Named) : Type 0 where
+pub record HasWalked (encoding : Encoding) (g : Grammar) (count : ℕ) (tokens : List SemanticToken) (left : List Named) : Type 0 where
   pub lines : List (List TokenMark)
   pub count_is : length lines ≡ count
   pub marks : AreLineMarks (line_texts g.text) 0 lines
-  pub told : tokens ≡ told_in_lines g 0 lines g.places
+  pub told : tokens ≡ told_in_lines encoding g 0 lines g.places
   pub left_is : left ≡ left_behind_all 0 lines g.places
 
 -- This is told of the tokens of all lines.
-abbrev pub AreTold : Grammar → List SemanticToken → Type 0
-AreTold g tokens = (left : List Named) × HasWalked g (length (line_texts g.text)) tokens left
+abbrev pub AreTold : Encoding → Grammar → List SemanticToken → Type 0
+AreTold encoding g tokens = (left : List Named) × HasWalked encoding g (length (line_texts g.text)) tokens left

@@ -9,7 +9,7 @@ use thiserror::Error;
 #[derive(Drop)]
 pub struct Symbol {
     pub name: Text,
-    /// From the block's first item to the end of its last, in UTF-16 units.
+    /// From the block's first item to the end of its last.
     pub range: Range,
     /// The rule's name alone.
     pub name_range: Range,
@@ -18,7 +18,7 @@ pub struct Symbol {
 /// What is shown of a name (LSP 3.17, "Hover Request").
 #[derive(Drop)]
 pub struct HoverText {
-    /// Where the name stands, in UTF-16 units.
+    /// Where the name stands.
     pub range: Range,
     /// What is known of the shortest strings of its rule, in one or two lines.
     pub text: Text,
@@ -29,7 +29,7 @@ pub struct HoverText {
 /// What is wrong or doubtful at a place (LSP 3.17, "PublishDiagnostics Notification").
 #[derive(Drop)]
 pub struct Diagnostic {
-    /// Where it stands, in UTF-16 units.
+    /// Where it stands.
     pub range: Range,
     pub code: Code,
     pub message: Text,
@@ -59,15 +59,15 @@ pub enum RenameFault {
     NameInUse,
 }
 
-/// What is answered to a question about a document.
+/// What is answered to a question about a document. Positions and ranges count what those of the question do.
 #[derive(Drop)]
 pub enum Answer {
     /// What is shown at a position. None where no name stands there.
     Hover(Option<HoverText>),
-    /// Ranges of places in the text, in UTF-16 units and in the order of the text.
+    /// Ranges of places in the text, in its order.
     Places(List<Range>),
     Symbols(List<Symbol>),
-    /// The ranges that a rename writes anew, in UTF-16 units and in the order of the text, and what each gets.
+    /// The ranges that a rename writes anew, in the order of the text, and what each gets.
     Edits(List<Range>, Text),
     /// A rename isn't granted.
     Refused(RenameFault),

@@ -8,17 +8,21 @@ use abnf_least::least;
 use abnf_lint::{Finding, findings};
 use abnf_names::Grammar;
 use ls_lists::List;
-use ls_text::{Ruler, Snapshot};
+use ls_text::{Encoding, Ruler, Snapshot};
 use std::alloc::{AllocError as Memory, Global};
 
-/// What is found in a text, in its order.
+/// What is found in a text, in its order, by positions that count these units.
 ///
 /// `Memory` says that an allocation was refused.
-pub fn diagnostics(alloc: Global, grammar: &Grammar) -> Result<List<Diagnostic>, Memory>
-    ensures { IfOk result (λ diagnostics. AreDiagnostics grammar.now.text diagnostics) }
+pub fn diagnostics(
+    alloc: Global,
+    grammar: &Grammar,
+    encoding: Encoding,
+) -> Result<List<Diagnostic>, Memory>
+    ensures { IfOk result (λ diagnostics. AreDiagnostics encoding grammar.now.text diagnostics) }
 {
     let found = found_in(alloc, grammar)?;
-    told(alloc, grammar.source(), found.as_slice())
+    told(alloc, grammar.source(), encoding, found.as_slice())
 }
 
 /// The findings of a grammar's text.
@@ -30,10 +34,15 @@ fn found_in(alloc: Global, grammar: &Grammar) -> Result<List<Finding>, Memory>
 }
 
 /// Findings with their ranges and messages.
-fn told(alloc: Global, snapshot: &Snapshot, found: &[Finding]) -> Result<List<Diagnostic>, Memory>
-    ensures { IfOk result (λ diagnostics. diagnostics ≡ map (diagnostic_of snapshot.now) found.now) }
+fn told(
+    alloc: Global,
+    snapshot: &Snapshot,
+    encoding: Encoding,
+    found: &[Finding],
+) -> Result<List<Diagnostic>, Memory>
+    ensures { IfOk result (λ diagnostics. diagnostics ≡ map (diagnostic_of encoding snapshot.now) found.now) }
 {
-    let mut ruler = Ruler::new(snapshot);
+    let mut ruler = Ruler::new(snapshot, encoding);
     let mut diagnostics = List::new(alloc);
     for finding in found {
         diagnostics.push(diagnostic(alloc, &mut ruler, finding)?)?;
@@ -44,7 +53,7 @@ fn told(alloc: Global, snapshot: &Snapshot, found: &[Finding]) -> Result<List<Di
 /// A finding with its range and its message.
 fn diagnostic(alloc: Global, ruler: &mut Ruler<'_>, finding: &Finding) -> Result<Diagnostic, Memory>
     ensures text { ruler.new ≡ ruler.old }
-    ensures told { IfOk result (λ diagnostic. diagnostic ≡ diagnostic_of ruler.old finding.now) }
+    ensures told { IfOk result (λ diagnostic. diagnostic ≡ diagnostic_of ruler.old.encoding ruler.old.text finding.now) }
 {
     let message = finding.message(alloc)?;
     Ok(Diagnostic {

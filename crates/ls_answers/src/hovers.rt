@@ -10,19 +10,24 @@ use abnf_names::Grammar;
 use abnf_parts::RuleNo;
 use abnf_token::Folded;
 use ls_lists::Text;
-use ls_text::{Position, Range};
+use ls_text::{Encoding, Position, Range};
 use std::alloc::{AllocError as Memory, Global};
 
 /// What is shown of the name at a position. None where no name stands there.
 ///
 /// `Memory` says that an allocation was refused.
-pub fn hover(alloc: Global, grammar: &Grammar, at: Position) -> Result<Option<HoverText>, Memory>
-    ensures { IfOk result (λ hover. IsHover grammar.now.text at hover) }
+pub fn hover(
+    alloc: Global,
+    grammar: &Grammar,
+    at: Position,
+    encoding: Encoding,
+) -> Result<Option<HoverText>, Memory>
+    ensures { IfOk result (λ hover. IsHover encoding grammar.now.text at hover) }
 {
     let snapshot = grammar.source();
-    match grammar.name_at(snapshot.offset_of(at)) {
+    match grammar.name_at(snapshot.offset_of(at, encoding)) {
         Some((place, name)) => {
-            let range = snapshot.range_of(&place);
+            let range = snapshot.range_of(&place, encoding);
             Ok(Some(hover_of_name(alloc, grammar, range, name)?))
         }
         None => Ok(None),

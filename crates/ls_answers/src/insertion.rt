@@ -1,7 +1,7 @@
 //! What could be inserted at a range.
 ghost use Rattle.std.specs.Prelude.{◌≡◌, ◌<◌, ◌&&◌, IfOk, bytes_eq, find, length, min, option_map};
 ghost use Rattle.ls_text.specs.Edits.{position_offset};
-ghost use Rattle.ls_text.specs.Lines.{utf16_len};
+ghost use Rattle.ls_text.specs.Lines.{units};
 ghost use Rattle.abnf_parts.specs.Names.{folded_text, rule_number};
 ghost use Rattle.ls_answers.specs.Insertions as spec;
 
@@ -12,7 +12,7 @@ use abnf_names::{Grammar, Spot};
 use abnf_parts::RuleNo;
 use abnf_token::Folded;
 use ls_lists::Text;
-use ls_text::{Position, Range, Snapshot};
+use ls_text::{Encoding, Position, Range, Snapshot};
 use std::alloc::{AllocError as Memory, Global};
 
 /// What could be inserted at a range: where a name stands at its start that the text defines, and whose rule has an example that is
@@ -23,22 +23,23 @@ pub fn insertion(
     alloc: Global,
     grammar: &Grammar,
     range: Range,
+    encoding: Encoding,
 ) -> Result<Option<Insertion>, Memory>
-    ensures { IfOk result (λ insertion. spec.IsInsertion grammar.now.text range insertion) }
+    ensures { IfOk result (λ insertion. spec.IsInsertion encoding grammar.now.text range insertion) }
 {
-    match grammar.name_at(start_of(grammar.source(), range)) {
-        Some((_, name)) => insertion_of_name(alloc, grammar, name),
+    match grammar.name_at(start_of(grammar.source(), range, encoding)) {
+        Some((_, name)) => insertion_of_name(alloc, grammar, name, encoding),
         None => Ok(None),
     }
 }
 
 /// The offset at which a range starts, whichever of its ends comes first.
-fn start_of(snapshot: &Snapshot, range: Range) -> usize
-    ensures { result ≡ min (position_offset utf16_len snapshot.now range.start) (position_offset utf16_len snapshot.now range.end) }
+fn start_of(snapshot: &Snapshot, range: Range, encoding: Encoding) -> usize
+    ensures { result ≡ min (position_offset (units encoding) snapshot.now range.start) (position_offset (units encoding) snapshot.now range.end) }
 {
     snapshot
-        .offset_of(range.start)
-        .min(snapshot.offset_of(range.end))
+        .offset_of(range.start, encoding)
+        .min(snapshot.offset_of(range.end, encoding))
 }
 
 /// What could be inserted of a name.
@@ -46,8 +47,9 @@ fn insertion_of_name(
     alloc: Global,
     grammar: &Grammar,
     name: Folded,
+    encoding: Encoding,
 ) -> Result<Option<Insertion>, Memory>
-    ensures { IfOk result (λ insertion. spec.IsInsertionBy grammar.now
+    ensures { IfOk result (λ insertion. spec.IsInsertionBy encoding grammar.now
         (spec.first_head grammar.now (folded_text name.entry)) (rule_number grammar.now.names (folded_text name.entry)) insertion) }
 {
     let Some(head) = first_definition(grammar.spots(), name) else {
@@ -56,7 +58,7 @@ fn insertion_of_name(
     let Some(rule) = grammar.rule_of(name) else {
         return Ok(None);
     };
-    let line = grammar.source().range_of(&head.place).start.line;
+    let line = grammar.source().range_of(&head.place, encoding).start.line;
     insertion_of_rule(alloc, grammar, line, rule)
 }
 

@@ -14,7 +14,7 @@ use crate::places::{definitions, references};
 use crate::rename::rename;
 use crate::semantic_tokens::semantic_tokens;
 use abnf_names::Grammar;
-use ls_text::Snapshot;
+use ls_text::{Encoding, Snapshot};
 use std::alloc::{AllocError as Memory, Global};
 use std::marker::Model;
 use std::sync::Arc;
@@ -25,14 +25,17 @@ pub struct Job {
     /// The number of the request, from 1 over the session.
     pub ticket: u64,
     pub snapshot: Arc<Snapshot>,
+    /// What the positions of the question and of its answer count.
+    pub encoding: Encoding,
     pub ask: Ask,
 }
 
-/// A job that has run. Its answer is the definition's for its own text and ask, or memory was refused.
+/// A job that has run. Its answer is the definition's for its own text, encoding and ask, or memory was refused.
 #[derive(Drop)]
 pub struct Done {
     ticket: u64,
     snapshot: Arc<Snapshot>,
+    encoding: Encoding,
     ask: Ask,
     answer: Result<Answer, Memory>,
 }
@@ -46,9 +49,9 @@ impl Model for Done {
 
     ghost Value = { Told };
 
-    ghost view = { λ d. record { ticket = d.ticket; text = arc_value d.snapshot; ask = d.ask; answer = result_ok d.answer } };
+    ghost view = { λ d. record { ticket = d.ticket; text = arc_value d.snapshot; encoding = d.encoding; ask = d.ask; answer = result_ok d.answer } };
 
-    ghost invariant = { λ d. IfOk d.answer (λ a. IsAnswer (arc_value d.snapshot) d.ask a) };
+    ghost invariant = { λ d. IfOk d.answer (λ a. IsAnswer d.encoding (arc_value d.snapshot) d.ask a) };
 }
 
 impl Done {
@@ -66,6 +69,22 @@ impl Done {
         &self.snapshot
     }
 
+    /// One more owner of the text, which isn't copied.
+    ///
+    /// `Memory` says that an allocation was refused.
+    pub fn share(&self) -> Result<Arc<Snapshot>, Memory>
+        ensures { IfOk result (λ arc. arc_value arc ≡ self.now.text) }
+    {
+        self.snapshot.clone()
+    }
+
+    /// What the positions of the question and of its answer count.
+    pub fn encoding(&self) -> Encoding
+        ensures { result ≡ self.now.encoding }
+    {
+        self.encoding
+    }
+
     /// The question.
     pub fn ask(&self) -> &Ask
         ensures { result.now ≡ self.now.ask }
@@ -73,11 +92,11 @@ impl Done {
         &self.ask
     }
 
-    /// The answer for the job's own text and ask, or that memory was refused. The edits of a rename keep the grammar of the text.
+    /// The answer for the job's own text, encoding and ask, or that memory was refused. The edits of a rename keep the grammar of the text.
     pub fn answer(&self) -> Result<&Answer, Memory>
         ensures value { MatchResult result (λ a. self.now.answer ≡ Some a.now) (λ _. self.now.answer ≡ None) }
-        ensures right { IfOk result (λ a. IsAnswer self.now.text self.now.ask a.now) }
-        ensures keeps { IfOk result (λ a. KeepsIfRenamed self.now.text self.now.ask a.now) }
+        ensures right { IfOk result (λ a. IsAnswer self.now.encoding self.now.text self.now.ask a.now) }
+        ensures keeps { IfOk result (λ a. KeepsIfRenamed self.now.encoding self.now.text self.now.ask a.now) }
     {
         let _count = self.snapshot.char_count();
         match &self.answer {
@@ -88,50 +107,72 @@ impl Done {
 }
 
 /// The answer to a question about a text. An outline and the places of a name need no rules; all else is asked of the text's grammar.
-fn answer_of(alloc: Global, snapshot: &Snapshot, ask: &Ask) -> Result<Answer, Memory>
-    ensures { IfOk result (λ answer. IsAnswer snapshot.now ask.now answer) }
+fn answer_of(
+    alloc: Global,
+    snapshot: &Snapshot,
+    encoding: Encoding,
+    ask: &Ask,
+) -> Result<Answer, Memory>
+    ensures { IfOk result (λ answer. IsAnswer encoding snapshot.now ask.now answer) }
 {
     match ask {
-        Ask::Symbols => Ok(Answer::Symbols(symbols(alloc, snapshot)?)),
-        Ask::Definition(at) => Ok(Answer::Places(definitions(alloc, snapshot, *at)?)),
+        Ask::Symbols => Ok(Answer::Symbols(symbols(alloc, snapshot, encoding)?)),
+        Ask::Definition(at) => Ok(Answer::Places(definitions(alloc, snapshot, *at, encoding)?)),
         Ask::References(at, declarations) => Ok(Answer::Places(references(
             alloc,
             snapshot,
             *at,
+            encoding,
             *declarations,
         )?)),
-        _ => by_grammar(alloc, snapshot, ask),
+        _ => by_grammar(alloc, snapshot, encoding, ask),
     }
 }
 
 /// The answer by the grammar of the text, which is made once and let go here.
-fn by_grammar(alloc: Global, snapshot: &Snapshot, ask: &Ask) -> Result<Answer, Memory>
-    ensures { IfOk result (λ answer. IsAnswer snapshot.now ask.now answer) }
+fn by_grammar(
+    alloc: Global,
+    snapshot: &Snapshot,
+    encoding: Encoding,
+    ask: &Ask,
+) -> Result<Answer, Memory>
+    ensures { IfOk result (λ answer. IsAnswer encoding snapshot.now ask.now answer) }
 {
     let grammar = Grammar::of(alloc, snapshot)?;
-    let answer = answer_in(alloc, &grammar, ask);
+    let answer = answer_in(alloc, &grammar, encoding, ask);
     drop(grammar);
     answer
 }
 
 /// The answer to a question about the text of a grammar.
-fn answer_in(alloc: Global, grammar: &Grammar, ask: &Ask) -> Result<Answer, Memory>
-    ensures { IfOk result (λ answer. IsAnswer grammar.now.text ask.now answer) }
+fn answer_in(
+    alloc: Global,
+    grammar: &Grammar,
+    encoding: Encoding,
+    ask: &Ask,
+) -> Result<Answer, Memory>
+    ensures { IfOk result (λ answer. IsAnswer encoding grammar.now.text ask.now answer) }
 {
     match ask {
-        Ask::Hover(at) => Ok(Answer::Hover(hover(alloc, grammar, *at)?)),
-        Ask::Definition(at) => Ok(Answer::Places(definitions(alloc, grammar.source(), *at)?)),
+        Ask::Hover(at) => Ok(Answer::Hover(hover(alloc, grammar, *at, encoding)?)),
+        Ask::Definition(at) => Ok(Answer::Places(definitions(
+            alloc,
+            grammar.source(),
+            *at,
+            encoding,
+        )?)),
         Ask::References(at, declarations) => Ok(Answer::Places(references(
             alloc,
             grammar.source(),
             *at,
+            encoding,
             *declarations,
         )?)),
-        Ask::Symbols => Ok(Answer::Symbols(symbols(alloc, grammar.source())?)),
-        Ask::Rename(at, new) => rename(alloc, grammar, *at, new),
-        Ask::Action(range) => Ok(Answer::Insert(insertion(alloc, grammar, *range)?)),
-        Ask::Tokens => Ok(Answer::Numbers(semantic_tokens(alloc, grammar)?)),
-        Ask::Diagnose => Ok(Answer::Findings(diagnostics(alloc, grammar)?)),
+        Ask::Symbols => Ok(Answer::Symbols(symbols(alloc, grammar.source(), encoding)?)),
+        Ask::Rename(at, new) => rename(alloc, grammar, *at, encoding, new),
+        Ask::Action(range) => Ok(Answer::Insert(insertion(alloc, grammar, *range, encoding)?)),
+        Ask::Tokens => Ok(Answer::Numbers(semantic_tokens(alloc, grammar, encoding)?)),
+        Ask::Diagnose => Ok(Answer::Findings(diagnostics(alloc, grammar, encoding)?)),
     }
 }
 
@@ -142,19 +183,22 @@ fn answer_in(alloc: Global, grammar: &Grammar, ask: &Ask) -> Result<Answer, Memo
 pub fn run(alloc: Global, job: Job) -> Done
     ensures ticket { result.ticket ≡ job.ticket }
     ensures text { result.text ≡ arc_value job.snapshot }
+    ensures encoding { result.encoding ≡ job.encoding }
     ensures ask { result.ask ≡ job.ask }
-    ensures keeps { IfSome result.answer (λ answer. KeepsIfRenamed (arc_value job.snapshot) job.ask answer) }
+    ensures keeps { IfSome result.answer (λ answer. KeepsIfRenamed job.encoding (arc_value job.snapshot) job.ask answer) }
 {
     let Job {
         ticket,
         snapshot,
+        encoding,
         ask,
     } = job;
     let _count = snapshot.char_count();
-    let answer = answer_of(alloc, &snapshot, &ask);
+    let answer = answer_of(alloc, &snapshot, encoding, &ask);
     Done {
         ticket,
         snapshot,
+        encoding,
         ask,
         answer,
     }

@@ -1,6 +1,9 @@
 //! Laws of answers.
 ghost use Rattle.std.specs.Prelude.{◌≡◌, ◌<◌, ◌^◌, All, List, ℕ, length};
 ghost use Rattle.std.specs.Char.{IsScalar};
+ghost use Rattle.ls_text.specs.declared.position.Encoding.{Encoding};
+ghost use Rattle.abnf_lint.specs.Findings.{AreFindings};
+ghost use Rattle.abnf_lint.specs.declared.finding.Finding.{Finding};
 ghost use Rattle.ls_answers.specs.Answers.{IsAnswer, without_cert};
 ghost use Rattle.ls_answers.specs.Hover.{AtMostOneHoverText, HoverTextsExist};
 ghost use Rattle.ls_answers.specs.RenameKeeps.{KeepsIfRenamed};
@@ -9,21 +12,21 @@ ghost use Rattle.ls_answers.specs.declared.ask.Ask.{Ask};
 
 /// A question about a text has at most one answer, but for the certificate beside an example.
 pub fn answers_are_unique()
-    ensures { (text : List ℕ) (question : Ask) (a b : Answer) → IsAnswer text question a → IsAnswer text question b
+    ensures { (encoding : Encoding) (text : List ℕ) (question : Ask) (a b : Answer) → IsAnswer encoding text question a → IsAnswer encoding text question b
         → without_cert a ≡ without_cert b }
 {}
 
 /// Each question about a text of fewer than 2^62 characters has an answer.
 pub fn answers_exist()
-    ensures { (text : List ℕ) (question : Ask) → length text < 2 ^ 62 → (a : Answer) × IsAnswer text question a }
+    ensures { (encoding : Encoding) (text : List ℕ) (question : Ask) → length text < 2 ^ 62 → (a : Answer) × IsAnswer encoding text question a }
 {}
 
 /// A rename that is granted keeps the grammar: the text after its edits has the tokens of the text but at the places of the name, and each
 /// grammar of it has the same rules but for that name, which generate the same strings. A text is made of Unicode scalar values, as every
 /// document is.
 pub fn renames_keep_the_grammar()
-    ensures { (text : List ℕ) (question : Ask) (answer : Answer) → All IsScalar text → IsAnswer text question answer
-        → KeepsIfRenamed text question answer }
+    ensures { (encoding : Encoding) (text : List ℕ) (question : Ask) (answer : Answer) → All IsScalar text → IsAnswer encoding text question answer
+        → KeepsIfRenamed encoding text question answer }
 {}
 
 /// Of a rule, or of a name that stands for none, one text is shown at most, by whatever certificate.
@@ -34,4 +37,9 @@ pub fn hover_texts_are_unique()
 /// Of each rule of the grammar of a text, and of a name that stands for none, a text is shown.
 pub fn hover_texts_exist()
     ensures { HoverTextsExist }
+{}
+
+/// Each text of fewer than 2^62 characters has its findings, and so each text of a document, which has at most 4,194,304 bytes.
+pub fn findings_exist()
+    ensures { (text : List ℕ) → length text < 2 ^ 62 → (found : List Finding) × AreFindings text found }
 {}

@@ -1,6 +1,6 @@
 //! Answers to questions about a text, each with its text and its question.
 //!
-//! A [`Job`] is a question about a snapshot; [`run`] gives a [`Done`], whose type keeps that its answer is the definition's for
+//! A [`Job`] is a question about a snapshot, with the encoding in which its positions count; [`run`] gives a [`Done`], whose type keeps that its answer is the definition's for
 //! its own text and question, or that memory was refused. A question about a text has an answer ([`answers_exist`]), and at most
 //! one, but for the certificate beside an example ([`answers_are_unique`]).
 //!
@@ -28,6 +28,6 @@ pub use ask::Ask;
 pub use hover::hover_text;
 pub use job::{Done, Job, run};
 pub use laws::{
-    answers_are_unique, answers_exist, hover_texts_are_unique, hover_texts_exist,
+    answers_are_unique, answers_exist, findings_exist, hover_texts_are_unique, hover_texts_exist,
     renames_keep_the_grammar,
 };

@@ -7,7 +7,7 @@ ghost use Rattle.ls_answers.specs.Places.{AreDefinitions, ArePlaces, AreReferenc
 use abnf_names::{Grammar, Places, Spot};
 use abnf_token::Folded;
 use ls_lists::List;
-use ls_text::{Place, Position, Range, Ruler, Snapshot};
+use ls_text::{Encoding, Place, Position, Range, Ruler, Snapshot};
 use std::alloc::{AllocError as Memory, Global};
 
 /// Which places of a name are wanted.
@@ -47,10 +47,15 @@ impl Wanted {
 /// The places that define the name at a position, in the order of the text. None where no name stands there.
 ///
 /// `Memory` says that an allocation was refused.
-pub fn definitions(alloc: Global, snapshot: &Snapshot, at: Position) -> Result<List<Range>, Memory>
-    ensures { IfOk result (λ ranges. AreDefinitions snapshot.now at ranges) }
+pub fn definitions(
+    alloc: Global,
+    snapshot: &Snapshot,
+    at: Position,
+    encoding: Encoding,
+) -> Result<List<Range>, Memory>
+    ensures { IfOk result (λ ranges. AreDefinitions encoding snapshot.now at ranges) }
 {
-    ranges_at(alloc, snapshot, at, Wanted::Definitions)
+    ranges_at(alloc, snapshot, at, encoding, Wanted::Definitions)
 }
 
 /// The places of the name at a position, with those that define it or without them, in the order of the text. None where no name
@@ -61,11 +66,12 @@ pub fn references(
     alloc: Global,
     snapshot: &Snapshot,
     at: Position,
+    encoding: Encoding,
     declarations: bool,
 ) -> Result<List<Range>, Memory>
-    ensures { IfOk result (λ ranges. AreReferences snapshot.now at declarations ranges) }
+    ensures { IfOk result (λ ranges. AreReferences encoding snapshot.now at declarations ranges) }
 {
-    ranges_at(alloc, snapshot, at, Wanted::with(declarations))
+    ranges_at(alloc, snapshot, at, encoding, Wanted::with(declarations))
 }
 
 /// The wanted places of the name at a position, in the order of the text. None where no name stands there. They need no rules.
@@ -73,12 +79,13 @@ fn ranges_at(
     alloc: Global,
     snapshot: &Snapshot,
     at: Position,
+    encoding: Encoding,
     wanted: Wanted,
 ) -> Result<List<Range>, Memory>
-    ensures { IfOk result (λ ranges. ArePlaces wanted snapshot.now at ranges) }
+    ensures { IfOk result (λ ranges. ArePlaces encoding wanted snapshot.now at ranges) }
 {
     let places = Places::of(alloc, snapshot)?;
-    let ranges = ranges_among(alloc, &places, at, wanted);
+    let ranges = ranges_among(alloc, &places, at, encoding, wanted);
     drop(places);
     ranges
 }
@@ -88,36 +95,50 @@ fn ranges_among(
     alloc: Global,
     places: &Places,
     at: Position,
+    encoding: Encoding,
     wanted: Wanted,
 ) -> Result<List<Range>, Memory>
-    ensures { IfOk result (λ ranges. ArePlaces wanted places.now.0 at ranges) }
+    ensures { IfOk result (λ ranges. ArePlaces encoding wanted places.now.0 at ranges) }
 {
     let snapshot = places.source();
-    let found = places.name_at(snapshot.offset_of(at));
-    ranges_alike(alloc, snapshot, places.spots(), found, wanted)
+    let found = places.name_at(snapshot.offset_of(at, encoding));
+    ranges_alike(alloc, snapshot, encoding, places.spots(), found, wanted)
 }
 
 /// All places of the name at a position, in the order of the text, where its grammar is known. None where no name stands there.
-pub fn ranges_in(alloc: Global, grammar: &Grammar, at: Position) -> Result<List<Range>, Memory>
-    ensures { IfOk result (λ ranges. ArePlaces Wanted.Both grammar.now.text at ranges) }
+pub fn ranges_in(
+    alloc: Global,
+    grammar: &Grammar,
+    at: Position,
+    encoding: Encoding,
+) -> Result<List<Range>, Memory>
+    ensures { IfOk result (λ ranges. ArePlaces encoding Wanted.Both grammar.now.text at ranges) }
 {
     let snapshot = grammar.source();
-    let found = grammar.name_at(snapshot.offset_of(at));
-    ranges_alike(alloc, snapshot, grammar.spots(), found, Wanted::Both)
+    let found = grammar.name_at(snapshot.offset_of(at, encoding));
+    ranges_alike(
+        alloc,
+        snapshot,
+        encoding,
+        grammar.spots(),
+        found,
+        Wanted::Both,
+    )
 }
 
 /// The ranges of the wanted places of a name, if there is one.
 fn ranges_alike(
     alloc: Global,
     snapshot: &Snapshot,
+    encoding: Encoding,
     spots: &[Spot<'_>],
     found: Option<(Place, Folded<'_>)>,
     wanted: Wanted,
 ) -> Result<List<Range>, Memory>
-    ensures { IfOk result (λ ranges. ranges ≡ ranges_alike wanted snapshot.now (map named_at spots.now) (option_map place_and_name found.entry)) }
+    ensures { IfOk result (λ ranges. ranges ≡ ranges_alike encoding wanted snapshot.now (map named_at spots.now) (option_map place_and_name found.entry)) }
 {
     match found {
-        Some((_, name)) => ranges_of(alloc, snapshot, spots, name, wanted),
+        Some((_, name)) => ranges_of(alloc, snapshot, encoding, spots, name, wanted),
         None => Ok(List::new(alloc)),
     }
 }
@@ -126,13 +147,14 @@ fn ranges_alike(
 fn ranges_of(
     alloc: Global,
     snapshot: &Snapshot,
+    encoding: Encoding,
     spots: &[Spot<'_>],
     name: Folded<'_>,
     wanted: Wanted,
 ) -> Result<List<Range>, Memory>
-    ensures { IfOk result (λ ranges. ranges ≡ ranges_of wanted snapshot.now (folded_text name.entry) (map named_at spots.now)) }
+    ensures { IfOk result (λ ranges. ranges ≡ ranges_of encoding wanted snapshot.now (folded_text name.entry) (map named_at spots.now)) }
 {
-    let mut ruler = Ruler::new(snapshot);
+    let mut ruler = Ruler::new(snapshot, encoding);
     let mut ranges = List::new(alloc);
     for spot in spots {
         if name == spot.name && wanted.takes(spot.defines) {

@@ -15,35 +15,46 @@ use abnf_names::{Grammar, Spot};
 use abnf_parts::is_core_name;
 use abnf_token::Folded;
 use ls_lists::Text;
-use ls_text::Position;
+use ls_text::{Encoding, Position};
 use std::alloc::{AllocError as Memory, Global};
 
 /// What gives the name at a position another text: the ranges of all its places, in the order of the text, or why it isn't granted,
 /// which is the first of [`RenameFault`] that holds. The same text, or the same name in another case, is granted.
 ///
 /// `Memory` says that an allocation was refused.
-pub fn rename(alloc: Global, grammar: &Grammar, at: Position, new: &Text) -> Result<Answer, Memory>
-    ensures { IfOk result (λ answer. spec.IsRename grammar.now.text at new.now answer) }
+pub fn rename(
+    alloc: Global,
+    grammar: &Grammar,
+    at: Position,
+    encoding: Encoding,
+    new: &Text,
+) -> Result<Answer, Memory>
+    ensures { IfOk result (λ answer. spec.IsRename encoding grammar.now.text at new.now answer) }
 {
-    match rename_fault(grammar, at, new.as_str()) {
+    match rename_fault(grammar, at, encoding, new.as_str()) {
         Some(fault) => Ok(Answer::Refused(fault)),
         None => {
-            let ranges = ranges_in(alloc, grammar, at)?;
+            let ranges = ranges_in(alloc, grammar, at, encoding)?;
             Ok(Answer::Edits(ranges, new.copy()?))
         }
     }
 }
 
 /// Why the name at a position isn't given this new text.
-fn rename_fault(grammar: &Grammar, at: Position, new: &str) -> Option<RenameFault>
-    ensures fault { result ≡ spec.rename_fault grammar.now at new.now }
+fn rename_fault(
+    grammar: &Grammar,
+    at: Position,
+    encoding: Encoding,
+    new: &str,
+) -> Option<RenameFault>
+    ensures fault { result ≡ spec.rename_fault encoding grammar.now at new.now }
     ensures grammar { IsGrammar grammar.now }
 {
     let snapshot = grammar.source();
     if !is_name(new) {
         return Some(RenameFault::NotAName);
     }
-    match grammar.name_at(snapshot.offset_of(at)) {
+    match grammar.name_at(snapshot.offset_of(at, encoding)) {
         Some((_, old)) => fault_of_name(grammar, old, new),
         None => Some(RenameFault::NothingToRename),
     }

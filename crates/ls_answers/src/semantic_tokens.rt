@@ -11,7 +11,7 @@ ghost use Rattle.ls_answers.specs.Walk as walk;
 use abnf_names::{Grammar, Spot};
 use abnf_token::{Folded, Kind, TokenMark};
 use ls_lists::List;
-use ls_text::{Place, Position, Range, Ruler, Snapshot};
+use ls_text::{Encoding, Place, Position, Range, Ruler, Snapshot};
 use std::alloc::{AllocError as Memory, Global};
 
 /// The modifier of a place that defines its name.
@@ -23,7 +23,7 @@ const DEFAULT_LIBRARY: u32 = 2;
 /// What is told of a token.
 #[derive(Clone, Copy, Debug, PartialEq, Eq)]
 pub struct SemanticToken {
-    /// Where it stands, in UTF-16 units.
+    /// Where it stands.
     pub range: Range,
     /// The number of its type in the legend.
     pub kind: u32,
@@ -32,13 +32,18 @@ pub struct SemanticToken {
 }
 
 /// Five numbers for each token of a text, in its order: how many lines it stands below the token before, how far behind that one in
-/// the same line or else behind the line's start, its length, its type and its modifiers. Starts and lengths are UTF-16 units.
+/// the same line or else behind the line's start, its length, its type and its modifiers. Starts and lengths count the units of the
+/// encoding.
 ///
 /// `Memory` says that an allocation was refused.
-pub fn semantic_tokens(alloc: Global, grammar: &Grammar) -> Result<List<u32>, Memory>
-    ensures { IfOk result (λ numbers. spec.AreSemanticTokens grammar.now.text numbers) }
+pub fn semantic_tokens(
+    alloc: Global,
+    grammar: &Grammar,
+    encoding: Encoding,
+) -> Result<List<u32>, Memory>
+    ensures { IfOk result (λ numbers. spec.AreSemanticTokens encoding grammar.now.text numbers) }
 {
-    let tokens = told(alloc, grammar)?;
+    let tokens = told(alloc, grammar, encoding)?;
     relative(alloc, tokens.as_slice())
 }
 
@@ -82,13 +87,13 @@ fn push_numbers(
 }
 
 /// What is told of the tokens of a text.
-fn told(alloc: Global, grammar: &Grammar) -> Result<List<SemanticToken>, Memory>
-    ensures told { IfOk result (λ tokens. walk.AreTold grammar.now tokens) }
+fn told(alloc: Global, grammar: &Grammar, encoding: Encoding) -> Result<List<SemanticToken>, Memory>
+    ensures told { IfOk result (λ tokens. walk.AreTold encoding grammar.now tokens) }
     ensures grammar { IsGrammar grammar.now }
 {
     let snapshot = grammar.source();
     let spots = grammar.spots();
-    let mut ruler = Ruler::new(snapshot);
+    let mut ruler = Ruler::new(snapshot, encoding);
     let mut tokens = List::new(alloc);
     let mut passed = 0;
     for line in 0..snapshot.line_count() {
@@ -118,12 +123,12 @@ fn push_line(
     line: usize,
     marks: &[TokenMark],
 ) -> Result<usize, Memory>
-    requires text { ruler.old ≡ grammar.now.text }
+    requires text { ruler.old.text ≡ grammar.now.text }
     requires within { passed ≤ length spots.now }
     ensures text { ruler.new ≡ ruler.old }
     ensures within { IfOk result (λ now. now ≤ length spots.now) }
     ensures left { IfOk result (λ now. map named_at (drop now spots.now) ≡ walk.left_behind line marks.now (map named_at (drop passed spots.now))) }
-    ensures told { OnOk result (tokens.new ≡ tokens.old ++ walk.told_in_line grammar.now line marks.now (map named_at (drop passed spots.now))) }
+    ensures told { OnOk result (tokens.new ≡ tokens.old ++ walk.told_in_line ruler.old.encoding grammar.now line marks.now (map named_at (drop passed spots.now))) }
 {
     let mut now = passed;
     for mark in marks {
@@ -163,9 +168,9 @@ fn told_of(
     line: usize,
     mark: &TokenMark,
 ) -> Option<SemanticToken>
-    requires { ruler.old ≡ grammar.now.text }
+    requires { ruler.old.text ≡ grammar.now.text }
     ensures text { ruler.new ≡ ruler.old }
-    ensures told { result ≡ spec.told_of grammar.now line mark.now (walk.first_at line mark.now.start (map named_at left.now)) }
+    ensures told { result ≡ spec.told_of ruler.old.encoding grammar.now line mark.now (walk.first_at line mark.now.start (map named_at left.now)) }
 {
     let kind = type_of(mark.kind)?;
     let start = mark.start as usize;

@@ -7,16 +7,19 @@ use Rattle.std.proofs.lemmas.Slice.Eq.{bytes_eq-Decides}
 use Rattle.std.specs.Bool.{beq}
 use Rattle.std.specs.Cmp.{booleans_Decides}
 use Rattle.ls_text.specs.Edits.{is_too_large}
+use Rattle.ls_text.specs.Positions.{Measured}
+use Rattle.ls_text.specs.declared.position.Encoding.{Encoding}
+use Rattle.ls_text.specs.declared.position.Encoding.TheVariants.{Utf8, Utf16, Utf32}
 use Rattle.std.proofs.Common.{append-nil}
 use Rattle.ls_text.specs.declared.edit.Edit.{Edit}
-use Rattle.ls_desk.specs.declared.event.Event.{Event}
-use Rattle.ls_desk.specs.declared.event.Event.TheVariants.{Opened, Changed, Closed, Asked, Cancelled, Said, Took, Returned, Finished}
-use Rattle.ls_desk.specs.declared.event.Out.{Out}
-use Rattle.ls_desk.specs.declared.state.Document.{Document}
-use Rattle.ls_desk.specs.declared.state.Waiting.{Waiting}
-use Rattle.ls_desk.specs.declared.state.Entry.{Entry}
-use Rattle.ls_desk.specs.declared.state.Entry.TheVariants.{Body}
-use Rattle.ls_desk.specs.declared.event.Out.TheVariants as out
+use Rattle.ls_machine.specs.declared.event.Event.{Event}
+use Rattle.ls_machine.specs.declared.event.Event.TheVariants.{Opened, Changed, Closed, Asked, Cancelled, Said, Took, Returned, Finished}
+use Rattle.ls_machine.specs.declared.event.Out.{Out}
+use Rattle.ls_machine.specs.declared.state.Document.{Document}
+use Rattle.ls_machine.specs.declared.state.Waiting.{Waiting}
+use Rattle.ls_machine.specs.declared.state.Entry.{Entry}
+use Rattle.ls_machine.specs.declared.state.Entry.TheVariants.{Body}
+use Rattle.ls_machine.specs.declared.event.Out.TheVariants as out
 use Rattle.ls_desk.specs.declared.outs.Next.{Next}
 use Rattle.ls_rpc.specs.declared.message.Id.{Id}
 use Rattle.ls_answers.specs.declared.ask.Ask.{Ask}
@@ -26,107 +29,98 @@ use Rattle.ls_answers.specs.Told.{Told}
 use Rattle.ls_answers.specs.Answers.{IsAnswer}
 use Rattle.ls_text.specs.declared.position.Position.{Position}
 use Rattle.ls_text.specs.declared.position.Range.{Range}
-use Rattle.ls_desk.specs.Machine.{State, step, IsPossible, is_open, document_of, edited_at, others, going_on, ends, version_if, put_text, close_text, asked, ask_at, requests, id_waits, asks_with, request_cancelled, internal_error, told_at, told_end, left_at, left_by, is_held, is_queued, on_first, with_taken, without_first}
-use Rattle.ls_desk.specs.Journal.{replay}
+use Rattle.ls_machine.specs.declared.state.State.{State}
+use Rattle.ls_machine.specs.Machine.{step, IsPossible, is_open, document_of, edited_at, measured, others, going_on, ends, version_if, put_text, close_text, asked, ask_at, requests, id_waits, asks_with, request_cancelled, internal_error, told_at, told_end, left_at, left_by, is_held, is_queued, on_first, with_taken, without_first}
 use Rattle.ls_desk.specs.Stands.{AreOutsFor, IsOutFor, failures, failed, finished, out_of}
-use Rattle.ls_desk.specs.Faults.{is_for}
-use Rattle.ls_desk.specs.Same.{ask_eq, position_eq, range_eq}
+use Rattle.ls_machine.specs.Same.{is_for}
+use Rattle.ls_machine.specs.Same.{ask_eq, encoding_eq, position_eq, range_eq}
 use Rattle.ls_desk.specs.Puts.{next_of, documents_of, jobs_of, count_of}
-use Rattle.ls_desk.specs.Kept.{IsKept}
-use Rattle.ls_desk.proofs.Grows.{Goes, goes, outs-append, outs-length, failures-outs, failed-outs}
-use Rattle.ls_desk.proofs.Places.{found-passes}
+use Rattle.ls_desk.proofs.Grows.{Holds, Stepped, outs-append, outs-length, failures-outs, failed-outs}
+use Rattle.ls_machine.proofs.Places.{found-passes}
 
 -- ---- a new text
 
-record Puts (s : State) (uri : List ℕ) (label : ℤ) (x : Option (List ℕ)) : Type 0 where
+record Puts (s : State) (uri : List ℕ) (label : ℤ) (x : Option Measured) : Type 0 where
   pub documents : s.documents ++ documents_of (next_of s.next_version s.next_ticket uri label x) ≡ (put_text s uri label x).documents
   pub waiting : s.waiting ++ jobs_of (next_of s.next_version s.next_ticket uri label x) ≡ (put_text s uri label x).waiting
   pub version : s.next_version + count_of (next_of s.next_version s.next_ticket uri label x) ≡ (put_text s uri label x).next_version
   pub ticket : s.next_ticket + count_of (next_of s.next_version s.next_ticket uri label x) ≡ (put_text s uri label x).next_ticket
   pub unsent : s.unsent ≡ (put_text s uri label x).unsent
 
-puts : (s : State) (uri : List ℕ) (label : ℤ) (x : Option (List ℕ)) → Puts s uri label x
+puts : (s : State) (uri : List ℕ) (label : ℤ) (x : Option Measured) → Puts s uri label x
 puts s uri label None = record { documents = append-nil s.documents; waiting = append-nil s.waiting; version = omega arith; ticket = omega arith; unsent = refl }
-puts s uri label (Some text) = record { documents = refl; waiting = refl; version = refl; ticket = refl; unsent = refl }
+puts s uri label (Some m) = record { documents = refl; waiting = refl; version = refl; ticket = refl; unsent = refl }
 
 count-le : (n : Option Next) → count_of n ≤ 1
 count-le None = omega arith
 count-le (Some n) = omega arith
 
-version-same : (n v t : ℕ) (uri : List ℕ) (label : ℤ) (x : Option (List ℕ)) → version_if n (next_of v t uri label x) ≡ version_if n x
+version-same : (n v t : ℕ) (uri : List ℕ) (label : ℤ) (x : Option Measured) → version_if n (next_of v t uri label x) ≡ version_if n x
 version-same n v t uri label None = refl
-version-same n v t uri label (Some text) = refl
+version-same n v t uri label (Some m) = refl
 
 change-possible : (s : State) (uri : List ℕ) (label : ℤ) (edits : List Edit) (version : Option ℕ) → is_open uri s.documents ≡ true → version ≡ version_if s.next_version (edited_at (document_of uri s.documents) edits) → IsPossible s (Changed uri label edits version)
 unfolding IsPossible
 change-possible s uri label edits version there is = (there, is)
 
-pub changed : (D : List Document) (W : List Waiting) (v t : ℕ) (O : List Out) (J : List Event) (most room : ℕ) (uri : List ℕ) (label : ℤ) (edits : List Edit) (next : Option Next)
-    (D' : List Document) (W' : List Waiting) (v' t' : ℕ) (O' : List Out) (J' : List Event) (room' : ℕ)
-    → IsKept D W v t O J most room
-    → is_open uri (replay J).documents ≡ true
-    → next ≡ next_of (replay J).next_version (replay J).next_ticket uri label (edited_at (document_of uri (replay J).documents) edits)
+pub changed : (s : State) (D : List Document) (W : List Waiting) (v t : ℕ) (O : List Out) (uri : List ℕ) (label : ℤ) (edits : List Edit) (next : Option Next)
+    (D' : List Document) (W' : List Waiting) (v' t' : ℕ) (O' : List Out)
+    → Holds s D W v t O
+    → is_open uri s.documents ≡ true
+    → next ≡ next_of s.next_version s.next_ticket uri label (edited_at (document_of uri s.documents) edits)
     → D' ≡ others uri D ++ documents_of next
     → W' ≡ going_on uri W ++ jobs_of next
     → v' ≡ v + count_of next
     → t' ≡ t + count_of next
-    → O' ≡ O ++ failures uri (replay J).waiting
-    → J' ≡ J ++ Changed uri label edits (version_if v next) ∷ []
-    → length J + 1 + length O' ≤ most
-    → length J + 1 + length O' ≤ room'
-    → Goes J (Changed uri label edits (version_if v next)) D' W' v' t' O' J' most room'
+    → O' ≡ O ++ failures uri s.waiting
+    → Stepped s (Changed uri label edits (version_if v next)) v t D' W' v' t' O'
 unfolding step
-changed D W v t O J most room uri label edits next D' W' v' t' O' J' room' kept there is_next is_d is_w is_v is_t is_o is_j used reserved =
-    let s = replay J in
+changed s D W v t O uri label edits next D' W' v' t' O' kept there is_next is_d is_w is_v is_t is_o =
     let x = edited_at (document_of uri s.documents) edits in
     let p = puts (close_text s uri) uri label x in
     let one = count-le next in
     let P : List Out → Type 0 = λ os. AreOutsFor (s.unsent ++ ends uri s.waiting) os in
     let Q : List Entry → Type 0 = λ es. AreOutsFor es O' in
-    goes D W v t O J most room (Changed uri label edits (version_if v next)) D' W' v' t' O' J' room'
-    kept
-    (change-possible s uri label edits _ there ((λ i. version_if (kept.version_is i) (is_next i)) ∙ version-same s.next_version s.next_version s.next_ticket uri label x))
-    is_j
-    (record {
-      documents_are = is_d ∙ ((λ i. others uri (kept.documents_are i) ++ documents_of (is_next i)) ∙ p.documents);
-      waiting_are = is_w ∙ ((λ i. going_on uri (kept.waiting_are i) ++ jobs_of (is_next i)) ∙ p.waiting);
-      version_is = is_v ∙ ((λ i. kept.version_is i + count_of (is_next i)) ∙ p.version);
-      ticket_is = is_t ∙ ((λ i. kept.ticket_is i + count_of (is_next i)) ∙ p.ticket);
-      outs = subst Q p.unsent (subst P (sym is_o) (outs-append s.unsent (ends uri s.waiting) O (failures uri s.waiting) kept.outs (failures-outs uri s.waiting)));
-    })
-    (omega arith) (omega arith) used reserved
+    record {
+      possible = (change-possible s uri label edits _ there ((λ i. version_if (kept.version_is i) (is_next i)) ∙ version-same s.next_version s.next_version s.next_ticket uri label x));
+      holds = record {
+        documents_are = is_d ∙ ((λ i. others uri (kept.documents_are i) ++ documents_of (is_next i)) ∙ p.documents);
+        waiting_are = is_w ∙ ((λ i. going_on uri (kept.waiting_are i) ++ jobs_of (is_next i)) ∙ p.waiting);
+        version_is = is_v ∙ ((λ i. kept.version_is i + count_of (is_next i)) ∙ p.version);
+        ticket_is = is_t ∙ ((λ i. kept.ticket_is i + count_of (is_next i)) ∙ p.ticket);
+        outs = subst Q p.unsent (subst P (sym is_o) (outs-append s.unsent (ends uri s.waiting) O (failures uri s.waiting) kept.outs (failures-outs uri s.waiting)));
+      };
+      versions = omega arith;
+      tickets = omega arith;
+    }
 
 close-possible : (s : State) (uri : List ℕ) → is_open uri s.documents ≡ true → IsPossible s (Closed uri)
 unfolding IsPossible
 close-possible s uri there = there
 
-pub closed : (D : List Document) (W : List Waiting) (v t : ℕ) (O : List Out) (J : List Event) (most room : ℕ) (uri : List ℕ)
-    (D' : List Document) (W' : List Waiting) (O' : List Out) (J' : List Event) (room' : ℕ)
-    → IsKept D W v t O J most room
-    → is_open uri (replay J).documents ≡ true
+pub closed : (s : State) (D : List Document) (W : List Waiting) (v t : ℕ) (O : List Out) (uri : List ℕ)
+    (D' : List Document) (W' : List Waiting) (O' : List Out)
+    → Holds s D W v t O
+    → is_open uri s.documents ≡ true
     → D' ≡ others uri D
     → W' ≡ going_on uri W
-    → O' ≡ O ++ failures uri (replay J).waiting
-    → J' ≡ J ++ Closed uri ∷ []
-    → length J + 1 + length O' ≤ most
-    → length J + 1 + length O' ≤ room'
-    → Goes J (Closed uri) D' W' v t O' J' most room'
+    → O' ≡ O ++ failures uri s.waiting
+    → Stepped s (Closed uri) v t D' W' v t O'
 unfolding step
-closed D W v t O J most room uri D' W' O' J' room' kept there is_d is_w is_o is_j used reserved =
-    let s = replay J in
+closed s D W v t O uri D' W' O' kept there is_d is_w is_o =
     let P : List Out → Type 0 = λ os. AreOutsFor (s.unsent ++ ends uri s.waiting) os in
-    goes D W v t O J most room (Closed uri) D' W' v t O' J' room'
-    kept
-    (close-possible s uri there)
-    is_j
-    (record {
-      documents_are = is_d ∙ (λ i. others uri (kept.documents_are i));
-      waiting_are = is_w ∙ (λ i. going_on uri (kept.waiting_are i));
-      version_is = kept.version_is;
-      ticket_is = kept.ticket_is;
-      outs = subst P (sym is_o) (outs-append s.unsent (ends uri s.waiting) O (failures uri s.waiting) kept.outs (failures-outs uri s.waiting));
-    })
-    (omega arith) (omega arith) used reserved
+    record {
+      possible = (close-possible s uri there);
+      holds = record {
+        documents_are = is_d ∙ (λ i. others uri (kept.documents_are i));
+        waiting_are = is_w ∙ (λ i. going_on uri (kept.waiting_are i));
+        version_is = kept.version_is;
+        ticket_is = kept.ticket_is;
+        outs = subst P (sym is_o) (outs-append s.unsent (ends uri s.waiting) O (failures uri s.waiting) kept.outs (failures-outs uri s.waiting));
+      };
+      versions = omega arith;
+      tickets = omega arith;
+    }
 
 -- ---- requests
 
@@ -167,37 +161,33 @@ asks s id (Some d) question links job h = record {
   unsent = refl;
 }
 
-pub requested : (D : List Document) (W : List Waiting) (v t : ℕ) (O : List Out) (J : List Event) (most room : ℕ) (id : Id) (uri : List ℕ) (question : Ask) (links : Bool) (job : Waiting)
-    (D' : List Document) (W' : List Waiting) (t' : ℕ) (J' : List Event) (room' : ℕ)
-    → IsKept D W v t O J most room
-    → option_map (asked (replay J).next_ticket id question links) (document_of uri (replay J).documents) ≡ Some job
-    → requests (replay J).waiting < 1024
-    → id_waits id (replay J).waiting ≡ false
+pub requested : (s : State) (D : List Document) (W : List Waiting) (v t : ℕ) (O : List Out) (id : Id) (uri : List ℕ) (question : Ask) (links : Bool) (job : Waiting)
+    (D' : List Document) (W' : List Waiting) (t' : ℕ)
+    → Holds s D W v t O
+    → option_map (asked s.next_ticket id question links) (document_of uri s.documents) ≡ Some job
+    → requests s.waiting < 1024
+    → id_waits id s.waiting ≡ false
     → D' ≡ D
     → W' ≡ W ++ job ∷ []
     → t' ≡ t + 1
-    → J' ≡ J ++ Asked id uri question links t ∷ []
-    → length J + 1 + length O ≤ most
-    → length J + 1 + length O ≤ room'
-    → Goes J (Asked id uri question links t) D' W' v t' O J' most room'
+    → Stepped s (Asked id uri question links t) v t D' W' v t' O
 unfolding step
-requested D W v t O J most room id uri question links job D' W' t' J' room' kept is_job few new is_d is_w is_t is_j used reserved =
-    let s = replay J in
+requested s D W v t O id uri question links job D' W' t' kept is_job few new is_d is_w is_t =
     let d = document_of uri s.documents in
     let p = asks s id d question links job is_job in
     let P : List Entry → Type 0 = λ es. AreOutsFor es O in
-    goes D W v t O J most room (Asked id uri question links t) D' W' v t' O J' room'
-    kept
-    (ask-possible s id uri question links t p.open_is few new kept.ticket_is)
-    is_j
-    (record {
-      documents_are = is_d ∙ (kept.documents_are ∙ p.documents);
-      waiting_are = is_w ∙ (ap (λ (ws : List Waiting). ws ++ job ∷ []) kept.waiting_are ∙ p.waiting);
-      version_is = kept.version_is ∙ p.version;
-      ticket_is = is_t ∙ (ap (λ n. n + 1) kept.ticket_is ∙ p.ticket);
-      outs = subst P p.unsent kept.outs;
-    })
-    (omega arith) (omega arith) used reserved
+    record {
+      possible = (ask-possible s id uri question links t p.open_is few new kept.ticket_is);
+      holds = record {
+        documents_are = is_d ∙ (kept.documents_are ∙ p.documents);
+        waiting_are = is_w ∙ (ap (λ (ws : List Waiting). ws ++ job ∷ []) kept.waiting_are ∙ p.waiting);
+        version_is = kept.version_is ∙ p.version;
+        ticket_is = is_t ∙ (ap (λ n. n + 1) kept.ticket_is ∙ p.ticket);
+        outs = subst P p.unsent kept.outs;
+      };
+      versions = omega arith;
+      tickets = omega arith;
+    }
 
 -- ---- jobs
 
@@ -205,59 +195,64 @@ took-possible : (s : State) (worker : ℕ) (w : Waiting) → find is_queued s.wa
 unfolding IsPossible
 took-possible s worker w h = ap is_some h
 
-pub taken : (D : List Document) (W : List Waiting) (v t : ℕ) (O : List Out) (J : List Event) (most room : ℕ) (worker : ℕ) (w : Waiting)
-    (W' : List Waiting) (J' : List Event) (room' : ℕ)
-    → IsKept D W v t O J most room
-    → find is_queued (replay J).waiting ≡ Some w
+pub taken : (s : State) (D : List Document) (W : List Waiting) (v t : ℕ) (O : List Out) (worker : ℕ) (w : Waiting)
+    (W' : List Waiting)
+    → Holds s D W v t O
+    → find is_queued s.waiting ≡ Some w
     → W' ≡ on_first is_queued (with_taken true) W
-    → J' ≡ J ++ Took worker ∷ []
-    → length J + 1 + length O ≤ most
-    → length J + 1 + length O ≤ room'
-    → Goes J (Took worker) D W' v t O J' most room'
+    → Stepped s (Took worker) v t D W' v t O
 unfolding step
-taken D W v t O J most room worker w W' J' room' kept there is_w is_j used reserved =
-    goes D W v t O J most room (Took worker) D W' v t O J' room'
-    kept
-    (took-possible (replay J) worker w there)
-    is_j
-    (record {
-      documents_are = kept.documents_are;
-      waiting_are = is_w ∙ ap (on_first is_queued (with_taken true)) kept.waiting_are;
-      version_is = kept.version_is;
-      ticket_is = kept.ticket_is;
-      outs = kept.outs;
-    })
-    (omega arith) (omega arith) used reserved
+taken s D W v t O worker w W' kept there is_w =
+    record {
+      possible = (took-possible s worker w there);
+      holds = record {
+        documents_are = kept.documents_are;
+        waiting_are = is_w ∙ ap (on_first is_queued (with_taken true)) kept.waiting_are;
+        version_is = kept.version_is;
+        ticket_is = kept.ticket_is;
+        outs = kept.outs;
+      };
+      versions = omega arith;
+      tickets = omega arith;
+    }
 
 returned-possible : (s : State) (ticket : ℕ) → is_some (find (is_held ticket) s.waiting) ≡ true → IsPossible s (Returned ticket)
 unfolding IsPossible
 returned-possible s ticket h = h
 
-pub returned : (D : List Document) (W : List Waiting) (v t : ℕ) (O : List Out) (J : List Event) (most room : ℕ) (ticket : ℕ)
-    (W' : List Waiting) (J' : List Event) (room' : ℕ)
-    → IsKept D W v t O J most room
-    → is_some (find (is_held ticket) (replay J).waiting) ≡ true
+pub returned : (s : State) (D : List Document) (W : List Waiting) (v t : ℕ) (O : List Out) (ticket : ℕ)
+    (W' : List Waiting)
+    → Holds s D W v t O
+    → is_some (find (is_held ticket) s.waiting) ≡ true
     → W' ≡ on_first (is_held ticket) (with_taken false) W
-    → J' ≡ J ++ Returned ticket ∷ []
-    → length J + 1 + length O ≤ most
-    → length J + 1 + length O ≤ room'
-    → Goes J (Returned ticket) D W' v t O J' most room'
+    → Stepped s (Returned ticket) v t D W' v t O
 unfolding step
-returned D W v t O J most room ticket W' J' room' kept there is_w is_j used reserved =
-    goes D W v t O J most room (Returned ticket) D W' v t O J' room'
-    kept
-    (returned-possible (replay J) ticket there)
-    is_j
-    (record {
-      documents_are = kept.documents_are;
-      waiting_are = is_w ∙ ap (on_first (is_held ticket) (with_taken false)) kept.waiting_are;
-      version_is = kept.version_is;
-      ticket_is = kept.ticket_is;
-      outs = kept.outs;
-    })
-    (omega arith) (omega arith) used reserved
+returned s D W v t O ticket W' kept there is_w =
+    record {
+      possible = (returned-possible s ticket there);
+      holds = record {
+        documents_are = kept.documents_are;
+        waiting_are = is_w ∙ ap (on_first (is_held ticket) (with_taken false)) kept.waiting_are;
+        version_is = kept.version_is;
+        ticket_is = kept.ticket_is;
+        outs = kept.outs;
+      };
+      versions = omega arith;
+      tickets = omega arith;
+    }
 
 -- ---- what a job leaves
+
+encoding-true : (a b : Encoding) → encoding_eq a b ≡ true → a ≡ b
+encoding-true Utf8 Utf8 h = refl
+encoding-true Utf8 Utf16 h = absurd (cc)
+encoding-true Utf8 Utf32 h = absurd (cc)
+encoding-true Utf16 Utf8 h = absurd (cc)
+encoding-true Utf16 Utf16 h = refl
+encoding-true Utf16 Utf32 h = absurd (cc)
+encoding-true Utf32 Utf8 h = absurd (cc)
+encoding-true Utf32 Utf16 h = absurd (cc)
+encoding-true Utf32 Utf32 h = refl
 
 position-true : (a b : Position) → position_eq a b ≡ true → a ≡ b
 position-true a b h =
@@ -343,14 +338,15 @@ ask-true ask.Diagnose (ask.Action t) h = absurd (cc)
 ask-true ask.Diagnose ask.Tokens h = absurd (cc)
 ask-true ask.Diagnose ask.Diagnose h = refl
 
-finished-outs : (w : Waiting) (done : Told) (a : Option Answer) → done.answer ≡ a → done.ticket ≡ w.ticket → done.text ≡ w.text → done.ask ≡ w.ask → IfSome a (λ x. IsAnswer done.text done.ask x)
+finished-outs : (w : Waiting) (done : Told) (a : Option Answer) → done.answer ≡ a → done.ticket ≡ w.ticket → done.text ≡ w.text → done.encoding ≡ w.encoding → done.ask ≡ w.ask → IfSome a (λ x. IsAnswer done.encoding done.text done.ask x)
     → AreOutsFor (left_by (is_none a) w) (cond (is_none a) (failed internal_error w) (out_of w w.request done ∷ []))
 unfolding AreOutsFor IsOutFor
-finished-outs w done None is ticket text question right = failed-outs w.ticket internal_error w.request
-finished-outs w done (Some x) is ticket text question right =
-    let P : List ℕ → Type 0 = λ y. IsAnswer y done.ask x in
-    let Q : Ask → Type 0 = λ y. IsAnswer w.text y x in
-    ((done, refl, record { ticket = ticket; text = text; ask = question; right = (x, is, subst Q question (subst P text right)) }), tt)
+finished-outs w done None is ticket text encoding question right = failed-outs w.ticket internal_error w.request
+finished-outs w done (Some x) is ticket text encoding question right =
+    let P : List ℕ → Type 0 = λ y. IsAnswer done.encoding y done.ask x in
+    let R : Encoding → Type 0 = λ y. IsAnswer y w.text done.ask x in
+    let Q : Ask → Type 0 = λ y. IsAnswer w.encoding w.text y x in
+    ((done, refl, record { ticket = ticket; text = text; encoding = encoding; ask = question; right = (x, is, subst Q question (subst R encoding (subst P text right))) }), tt)
 
 finish-possible : (s : State) (ticket : ℕ) (failed : Bool) (w : Waiting) → find (is_held ticket) s.waiting ≡ Some w → IsPossible s (Finished ticket failed)
 unfolding IsPossible
@@ -363,40 +359,38 @@ finished_length false w done = refl
 pub finished-length : (w : Waiting) (done : Told) → length (finished w done) ≡ length (left_by (is_none done.answer) w)
 finished-length w done = finished_length (is_none done.answer) w done
 
-pub finish : (D : List Document) (W : List Waiting) (v t : ℕ) (O : List Out) (J : List Event) (most room : ℕ) (done : Told) (w : Waiting)
-    (W' : List Waiting) (O' : List Out) (J' : List Event) (room' : ℕ)
-    → IsKept D W v t O J most room
-    → find (is_held done.ticket) (replay J).waiting ≡ Some w
+pub finish : (s : State) (D : List Document) (W : List Waiting) (v t : ℕ) (O : List Out) (done : Told) (w : Waiting)
+    (W' : List Waiting) (O' : List Out)
+    → Holds s D W v t O
+    → find (is_held done.ticket) s.waiting ≡ Some w
     → is_for (Some w) done ≡ true
-    → IfSome done.answer (λ x. IsAnswer done.text done.ask x)
+    → IfSome done.answer (λ x. IsAnswer done.encoding done.text done.ask x)
     → W' ≡ without_first (is_held done.ticket) W
     → O' ≡ O ++ finished w done
-    → J' ≡ J ++ Finished done.ticket (is_none done.answer) ∷ []
-    → length J + 1 + length O' ≤ most
-    → length J + 1 + length O' ≤ room'
-    → Goes J (Finished done.ticket (is_none done.answer)) D W' v t O' J' most room'
+    → Stepped s (Finished done.ticket (is_none done.answer)) v t D W' v t O'
 unfolding step
-finish D W v t O J most room done w W' O' J' room' kept there fits right is_w is_o is_j used reserved =
-    let s = replay J in
+finish s D W v t O done w W' O' kept there fits right is_w is_o =
     let held = found-passes (is_held done.ticket) s.waiting w there in
     let ticket : w.ticket ≡ done.ticket = eqb-true _ _ (and-first (w.ticket == done.ticket) w.taken held) in
-    let text : w.text ≡ done.text = (bytes_eq-Decides w.text done.text).0 (and-first (bytes_eq w.text done.text) (ask_eq w.ask done.ask) fits) in
-    let question : w.ask ≡ done.ask = ask-true w.ask done.ask (and-second (bytes_eq w.text done.text) (ask_eq w.ask done.ask) fits) in
+    let alike = and-second (encoding_eq w.encoding done.encoding) (bytes_eq w.text done.text && ask_eq w.ask done.ask) fits in
+    let encoding : w.encoding ≡ done.encoding = encoding-true w.encoding done.encoding (and-first (encoding_eq w.encoding done.encoding) (bytes_eq w.text done.text && ask_eq w.ask done.ask) fits) in
+    let text : w.text ≡ done.text = (bytes_eq-Decides w.text done.text).0 (and-first (bytes_eq w.text done.text) (ask_eq w.ask done.ask) alike) in
+    let question : w.ask ≡ done.ask = ask-true w.ask done.ask (and-second (bytes_eq w.text done.text) (ask_eq w.ask done.ask) alike) in
     let P : List Out → Type 0 = λ os. AreOutsFor (s.unsent ++ left_by (is_none done.answer) w) os in
     let Q : Option Waiting → Type 0 = λ found. AreOutsFor (s.unsent ++ left_at (is_none done.answer) found) O' in
-    goes D W v t O J most room (Finished done.ticket (is_none done.answer)) D W' v t O' J' room'
-    kept
-    (finish-possible s done.ticket (is_none done.answer) w there)
-    is_j
-    (record {
-      documents_are = kept.documents_are;
-      waiting_are = is_w ∙ ap (without_first (is_held done.ticket)) kept.waiting_are;
-      version_is = kept.version_is;
-      ticket_is = kept.ticket_is;
-      outs = subst Q (sym there) (subst P (sym is_o) (outs-append s.unsent (left_by (is_none done.answer) w) O (finished w done) kept.outs
-          (finished-outs w done done.answer refl (sym ticket) (sym text) (sym question) right)));
-    })
-    (omega arith) (omega arith) used reserved
+    record {
+      possible = (finish-possible s done.ticket (is_none done.answer) w there);
+      holds = record {
+        documents_are = kept.documents_are;
+        waiting_are = is_w ∙ ap (without_first (is_held done.ticket)) kept.waiting_are;
+        version_is = kept.version_is;
+        ticket_is = kept.ticket_is;
+        outs = subst Q (sym there) (subst P (sym is_o) (outs-append s.unsent (left_by (is_none done.answer) w) O (finished w done) kept.outs
+            (finished-outs w done done.answer refl (sym ticket) (sym text) (sym encoding) (sym question) right)));
+      };
+      versions = omega arith;
+      tickets = omega arith;
+    }
 
 cancel-possible : (s : State) (id : Id) (found : Bool) → found ≡ id_waits id s.waiting → IsPossible s (Cancelled id found)
 unfolding IsPossible
@@ -411,59 +405,50 @@ without-same : (p : Waiting → Bool) (ws : List Waiting) → find p ws ≡ None
 without-same p [] h = refl
 without-same p (w ∷ ws) h = without_by (p w) w (find p ws) ws (without_first p ws) (without-same p ws) h
 
-pub uncancelled : (D : List Document) (W : List Waiting) (v t : ℕ) (O : List Out) (J : List Event) (most room : ℕ) (id : Id)
-    (J' : List Event) (room' : ℕ)
-    → IsKept D W v t O J most room
-    → find (asks_with id) (replay J).waiting ≡ None
-    → J' ≡ J ++ Cancelled id false ∷ []
-    → length J + 1 + length O ≤ most
-    → length J + 1 + length O ≤ room'
-    → Goes J (Cancelled id false) D W v t O J' most room'
+pub uncancelled : (s : State) (D : List Document) (W : List Waiting) (v t : ℕ) (O : List Out) (id : Id)
+    → Holds s D W v t O
+    → find (asks_with id) s.waiting ≡ None
+    → Stepped s (Cancelled id false) v t D W v t O
 unfolding step
-uncancelled D W v t O J most room id J' room' kept there is_j used reserved =
-    let s = replay J in
+uncancelled s D W v t O id kept there =
     let Q : Option Waiting → Type 0 = λ found. AreOutsFor (s.unsent ++ told_at request_cancelled found) O in
     let P : List Entry → Type 0 = λ es. AreOutsFor es O in
-    goes D W v t O J most room (Cancelled id false) D W v t O J' room'
-    kept
-    (cancel-possible s id false (sym (ap is_some there)))
-    is_j
-    (record {
-      documents_are = kept.documents_are;
-      waiting_are = kept.waiting_are ∙ sym (without-same (asks_with id) s.waiting there);
-      version_is = kept.version_is;
-      ticket_is = kept.ticket_is;
-      outs = subst Q (sym there) (subst P (sym (append-nil s.unsent)) kept.outs);
-    })
-    (omega arith) (omega arith) used reserved
+    record {
+      possible = (cancel-possible s id false (sym (ap is_some there)));
+      holds = record {
+        documents_are = kept.documents_are;
+        waiting_are = kept.waiting_are ∙ sym (without-same (asks_with id) s.waiting there);
+        version_is = kept.version_is;
+        ticket_is = kept.ticket_is;
+        outs = subst Q (sym there) (subst P (sym (append-nil s.unsent)) kept.outs);
+      };
+      versions = omega arith;
+      tickets = omega arith;
+    }
 
-pub cancelled : (D : List Document) (W : List Waiting) (v t : ℕ) (O : List Out) (J : List Event) (most room : ℕ) (id : Id) (w : Waiting)
-    (W' : List Waiting) (O' : List Out) (J' : List Event) (room' : ℕ)
-    → IsKept D W v t O J most room
-    → find (asks_with id) (replay J).waiting ≡ Some w
+pub cancelled : (s : State) (D : List Document) (W : List Waiting) (v t : ℕ) (O : List Out) (id : Id) (w : Waiting)
+    (W' : List Waiting) (O' : List Out)
+    → Holds s D W v t O
+    → find (asks_with id) s.waiting ≡ Some w
     → W' ≡ without_first (asks_with id) W
     → O' ≡ O ++ failed request_cancelled w
-    → J' ≡ J ++ Cancelled id true ∷ []
-    → length J + 1 + length O' ≤ most
-    → length J + 1 + length O' ≤ room'
-    → Goes J (Cancelled id true) D W' v t O' J' most room'
+    → Stepped s (Cancelled id true) v t D W' v t O'
 unfolding step
-cancelled D W v t O J most room id w W' O' J' room' kept there is_w is_o is_j used reserved =
-    let s = replay J in
+cancelled s D W v t O id w W' O' kept there is_w is_o =
     let P : List Out → Type 0 = λ os. AreOutsFor (s.unsent ++ told_end request_cancelled w) os in
     let Q : Option Waiting → Type 0 = λ found. AreOutsFor (s.unsent ++ told_at request_cancelled found) O' in
-    goes D W v t O J most room (Cancelled id true) D W' v t O' J' room'
-    kept
-    (cancel-possible s id true (sym (ap is_some there)))
-    is_j
-    (record {
-      documents_are = kept.documents_are;
-      waiting_are = is_w ∙ ap (without_first (asks_with id)) kept.waiting_are;
-      version_is = kept.version_is;
-      ticket_is = kept.ticket_is;
-      outs = subst Q (sym there) (subst P (sym is_o) (outs-append s.unsent (told_end request_cancelled w) O (failed request_cancelled w) kept.outs (failed-outs w.ticket request_cancelled w.request)));
-    })
-    (omega arith) (omega arith) used reserved
+    record {
+      possible = (cancel-possible s id true (sym (ap is_some there)));
+      holds = record {
+        documents_are = kept.documents_are;
+        waiting_are = is_w ∙ ap (without_first (asks_with id)) kept.waiting_are;
+        version_is = kept.version_is;
+        ticket_is = kept.ticket_is;
+        outs = subst Q (sym there) (subst P (sym is_o) (outs-append s.unsent (told_end request_cancelled w) O (failed request_cancelled w) kept.outs (failed-outs w.ticket request_cancelled w.request)));
+      };
+      versions = omega arith;
+      tickets = omega arith;
+    }
 
 -- ---- bodies, and what is sent
 
@@ -475,62 +460,54 @@ one-out : (body : List ℕ) → AreOutsFor (Body body ∷ []) (out.Said body ∷
 unfolding AreOutsFor IsOutFor
 one-out body = (refl, tt)
 
-pub said : (D : List Document) (W : List Waiting) (v t : ℕ) (O : List Out) (J : List Event) (most room : ℕ) (body : List ℕ)
-    (O' : List Out) (J' : List Event) (room' : ℕ)
-    → IsKept D W v t O J most room
+pub said : (s : State) (D : List Document) (W : List Waiting) (v t : ℕ) (O : List Out) (body : List ℕ)
+    (O' : List Out)
+    → Holds s D W v t O
     → O' ≡ O ++ out.Said body ∷ []
-    → J' ≡ J ++ Said body ∷ []
-    → length J + 1 + length O' ≤ most
-    → length J + 1 + length O' ≤ room'
-    → Goes J (Said body) D W v t O' J' most room'
+    → Stepped s (Said body) v t D W v t O'
 unfolding step
-said D W v t O J most room body O' J' room' kept is_o is_j used reserved =
-    let s = replay J in
+said s D W v t O body O' kept is_o =
     let P : List Out → Type 0 = λ os. AreOutsFor (s.unsent ++ Body body ∷ []) os in
-    goes D W v t O J most room (Said body) D W v t O' J' room'
-    kept
-    (said-possible s body)
-    is_j
-    (record {
-      documents_are = kept.documents_are;
-      waiting_are = kept.waiting_are;
-      version_is = kept.version_is;
-      ticket_is = kept.ticket_is;
-      outs = subst P (sym is_o) (outs-append s.unsent (Body body ∷ []) O (out.Said body ∷ []) kept.outs (one-out body));
-    })
-    (omega arith) (omega arith) used reserved
+    record {
+      possible = (said-possible s body);
+      holds = record {
+        documents_are = kept.documents_are;
+        waiting_are = kept.waiting_are;
+        version_is = kept.version_is;
+        ticket_is = kept.ticket_is;
+        outs = subst P (sym is_o) (outs-append s.unsent (Body body ∷ []) O (out.Said body ∷ []) kept.outs (one-out body));
+      };
+      versions = omega arith;
+      tickets = omega arith;
+    }
 
-open-possible : (s : State) (uri : List ℕ) (label : ℤ) (text : List ℕ) (version : ℕ) → is_open uri s.documents ≡ false → length s.documents < 256 → is_too_large text ≡ false → version ≡ s.next_version → IsPossible s (Opened uri label text version)
+open-possible : (s : State) (uri : List ℕ) (label : ℤ) (text : List ℕ) (encoding : Encoding) (version : ℕ) → is_open uri s.documents ≡ false → length s.documents < 256 → is_too_large text ≡ false → version ≡ s.next_version → IsPossible s (Opened uri label text encoding version)
 unfolding IsPossible
-open-possible s uri label text version closed few fits is = (closed, few, fits, is)
+open-possible s uri label text encoding version closed few fits is = (closed, few, fits, is)
 
-pub opened : (D : List Document) (W : List Waiting) (v t : ℕ) (O : List Out) (J : List Event) (most room : ℕ) (uri : List ℕ) (label : ℤ) (text : List ℕ) (next : Next)
-    (D' : List Document) (W' : List Waiting) (v' t' : ℕ) (J' : List Event) (room' : ℕ)
-    → IsKept D W v t O J most room
-    → is_open uri (replay J).documents ≡ false
-    → length (replay J).documents < 256
+pub opened : (s : State) (D : List Document) (W : List Waiting) (v t : ℕ) (O : List Out) (uri : List ℕ) (label : ℤ) (text : List ℕ) (encoding : Encoding) (next : Next)
+    (D' : List Document) (W' : List Waiting) (v' t' : ℕ)
+    → Holds s D W v t O
+    → is_open uri s.documents ≡ false
+    → length s.documents < 256
     → is_too_large text ≡ false
-    → Some next ≡ next_of (replay J).next_version (replay J).next_ticket uri label (Some text)
+    → Some next ≡ next_of s.next_version s.next_ticket uri label (Some (measured encoding text))
     → D' ≡ D ++ documents_of (Some next)
     → W' ≡ W ++ jobs_of (Some next)
     → v' ≡ v + 1
     → t' ≡ t + 1
-    → J' ≡ J ++ Opened uri label text v ∷ []
-    → length J + 1 + length O ≤ most
-    → length J + 1 + length O ≤ room'
-    → Goes J (Opened uri label text v) D' W' v' t' O J' most room'
+    → Stepped s (Opened uri label text encoding v) v t D' W' v' t' O
 unfolding step
-opened D W v t O J most room uri label text next D' W' v' t' J' room' kept closed few fits is_next is_d is_w is_v is_t is_j used reserved =
-    let s = replay J in
-    goes D W v t O J most room (Opened uri label text v) D' W' v' t' O J' room'
-    kept
-    (open-possible s uri label text v closed few fits kept.version_is)
-    is_j
-    (record {
-      documents_are = is_d ∙ (λ i. kept.documents_are i ++ documents_of (is_next i));
-      waiting_are = is_w ∙ (λ i. kept.waiting_are i ++ jobs_of (is_next i));
-      version_is = is_v ∙ ap (λ n. n + 1) kept.version_is;
-      ticket_is = is_t ∙ ap (λ n. n + 1) kept.ticket_is;
-      outs = kept.outs;
-    })
-    (omega arith) (omega arith) used reserved
+opened s D W v t O uri label text encoding next D' W' v' t' kept closed few fits is_next is_d is_w is_v is_t =
+    record {
+      possible = (open-possible s uri label text encoding v closed few fits kept.version_is);
+      holds = record {
+        documents_are = is_d ∙ (λ i. kept.documents_are i ++ documents_of (is_next i));
+        waiting_are = is_w ∙ (λ i. kept.waiting_are i ++ jobs_of (is_next i));
+        version_is = is_v ∙ ap (λ n. n + 1) kept.version_is;
+        ticket_is = is_t ∙ ap (λ n. n + 1) kept.ticket_is;
+        outs = kept.outs;
+      };
+      versions = omega arith;
+      tickets = omega arith;
+    }

@@ -1,27 +1,27 @@
 -- One event more at the end of a journal.
-use Rattle.std.proofs.Common.{◌≡◌, ℕ, ◌+◌, ◌≤◌, Bool, true, false, cond, List, [], ◌∷◌, ◌++◌, length, refl, sym, ap, ◌∙◌, subst, arith, length-append}
-use Rattle.std.specs.Prelude.{ℤ, Option, Some, None}
-use Rattle.ls_desk.specs.declared.event.Event.{Event}
-use Rattle.ls_desk.specs.declared.event.Out.{Out}
-use Rattle.ls_desk.specs.declared.state.Document.{Document}
-use Rattle.ls_desk.specs.declared.state.Waiting.{Waiting}
-use Rattle.ls_desk.specs.declared.state.Request.{Request}
-use Rattle.ls_desk.specs.declared.state.Entry.{Entry}
-use Rattle.ls_desk.specs.Machine.{State, start, step, IsPossible, told_to, end_of, ends, is_ended, content_modified}
-use Rattle.ls_desk.specs.Journal.{replay_from, replay, IsLegalFrom, IsLegal}
-use Rattle.ls_desk.specs.Stands.{Seen, IsOutFor, AreOutsFor, Enters, failed_to, failed_by, failures}
+use Rattle.std.proofs.Common.{◌≡◌, ℕ, zero, suc, ◌+◌, ◌<◌, ◌≤◌, Bool, true, false, cond, List, [], ◌∷◌, ◌++◌, length, refl, sym, ap, ◌∙◌, subst, arith, length-append}
+use Rattle.std.proofs.lemmas.Bool.Decides.{nat_tests}
+use Rattle.std.specs.Prelude.{ℤ, Option, Some, None, map, nat_le}
+use Rattle.ls_answers.specs.Told.{Told}
+use Rattle.ls_machine.specs.declared.base.Base.{Base}
+use Rattle.ls_machine.specs.declared.base.Counts.{Counts}
+use Rattle.ls_machine.specs.declared.event.Event.{Event}
+use Rattle.ls_machine.specs.declared.event.Out.{Out}
+use Rattle.ls_machine.specs.declared.state.Document.{Document}
+use Rattle.ls_machine.specs.declared.state.Waiting.{Waiting}
+use Rattle.ls_machine.specs.declared.state.Request.{Request}
+use Rattle.ls_machine.specs.declared.state.State.{State}
+use Rattle.ls_machine.specs.declared.state.Entry.{Entry}
+use Rattle.ls_machine.specs.declared.state.Entry.TheVariants.{Body, Failure, Outcome}
+use Rattle.ls_machine.specs.Machine.{step, IsPossible, told_to, end_of, ends, is_ended, content_modified}
+use Rattle.ls_machine.specs.Counts.{count_one, counted, is_client, total}
+use Rattle.ls_machine.specs.Journal.{replay_from, IsLegalFrom, IsCutAt, IsPast}
+use Rattle.ls_machine.proofs.Replays.{counted-push, cut-none, cut-push, legal-none, legal-push, past-more, past-state, replay-none, replay-push, total-counted, total-one}
+use Rattle.ls_machine.proofs.Taken.{WereTaken, taken-all}
+use Rattle.ls_machine.specs.Outs.{entry_for}
+use Rattle.ls_desk.specs.Anew.{base_after, journal_after}
+use Rattle.ls_desk.specs.Stands.{Seen, Answers, IsOutFor, AreOutsFor, Enters, failed_to, failed_by, failures, fresh, fresh_for, out_of}
 use Rattle.ls_desk.specs.Kept.{IsKept}
-
-pub replay-push : (s : State) (es : List Event) (e : Event) → replay_from s (es ++ e ∷ []) ≡ step (replay_from s es) e
-unfolding replay_from
-replay-push s [] e = refl
-replay-push s (x ∷ es) e = replay-push (step s x) es e
-
-pub legal-push : (most n : ℕ) (s : State) (es : List Event) (e : Event) → IsLegalFrom most n s es → IsPossible (replay_from s es) e → n + length es + 1 + length (step (replay_from s es) e).unsent ≤ most → IsLegalFrom most n s (es ++ e ∷ [])
-unfolding IsLegalFrom replay_from
-legal-push most n s [] e legal possible fits = (possible, omega arith, tt)
-legal-push most n s (x ∷ es) e legal possible fits =
-    (legal.0, legal.1, legal-push most (n + 1) (step s x) es e legal.2 possible (omega arith))
 
 pub outs-length : (es : List Entry) (os : List Out) → AreOutsFor es os → length os ≡ length es
 unfolding AreOutsFor
@@ -68,75 +68,288 @@ pub record Holds (s : State) (documents : List Document) (waiting : List Waiting
   pub ticket_is : ticket ≡ s.next_ticket
   pub outs : AreOutsFor s.unsent outbox
 
--- an event comes to the journal, and the desk stands for the state after it
-pub record Goes (J : List Event) (e : Event) (D : List Document) (W : List Waiting) (v t : ℕ) (O : List Out) (J' : List Event) (most room : ℕ) : Type 0 where
-  pub possible : IsPossible (replay J) e
-  pub grown : J' ≡ J ++ e ∷ []
-  pub kept : IsKept D W v t O J' most room
+-- an event is possible, and then a desk holds what the state after it has
+pub record Stepped (s : State) (e : Event) (v t : ℕ) (D' : List Document) (W' : List Waiting) (v' t' : ℕ) (O' : List Out) : Type 0 where
+  pub possible : IsPossible s e
+  pub holds : Holds (step s e) D' W' v' t' O'
+  pub versions : v' ≤ v + 1
+  pub tickets : t' ≤ t + 1
 
-pub goes : (D : List Document) (W : List Waiting) (v t : ℕ) (O : List Out) (J : List Event) (most room : ℕ) (e : Event)
-    (D' : List Document) (W' : List Waiting) (v' t' : ℕ) (O' : List Out) (J' : List Event) (room' : ℕ)
-    → IsKept D W v t O J most room
-    → IsPossible (replay J) e
-    → J' ≡ J ++ e ∷ []
-    → Holds (step (replay J) e) D' W' v' t' O'
-    → v' ≤ v + 1
-    → t' ≤ t + 1
-    → length J + 1 + length O' ≤ most
+pub holds : (B : Base) (J : List Event) (C : Counts) (D : List Document) (W : List Waiting) (v t : ℕ) (O : List Out) (longest most room : ℕ)
+    → IsKept B J C D W v t O longest most room → Holds (replay_from B.state J) D W v t O
+holds B J C D W v t O longest most room kept = record {
+  documents_are = kept.documents_are;
+  waiting_are = kept.waiting_are;
+  version_is = kept.version_is;
+  ticket_is = kept.ticket_is;
+  outs = kept.outs;
+}
+
+abbrev pub seen : Base → List Event → List Out → ℕ → ℕ → Seen
+seen B J O longest most = record { base = B; journal = J; outbox = O; max_journal = longest; max_events = most }
+
+-- an event comes to the journal, which began anew before it or not, and the desk stands for the state after it
+pub record Goes (B : Base) (J : List Event) (C : Counts) (x : Option State) (e : Event) (B' : Base) (J' : List Event) (C' : Counts) (D' : List Document) (W' : List Waiting) (v' t' : ℕ) (O' : List Out) (longest most room' : ℕ) : Type 0 where
+  pub possible : IsPossible (replay_from B.state J) e
+  pub base : B' ≡ base_after x C B
+  pub journal : J' ≡ journal_after x J ++ e ∷ []
+  pub state : replay_from B'.state J' ≡ step (replay_from B.state J) e
+  pub counts : C' ≡ count_one C e
+  pub kept : IsKept B' J' C' D' W' v' t' O' longest most room'
+
+is-le : (a b : ℕ) → nat_le a b ≡ true → a ≤ b
+is-le a b h = grind (arith, nat_tests)
+
+is-gt : (a b : ℕ) → nat_le a b ≡ false → b < a
+is-gt a b h = grind (arith, nat_tests)
+
+push-some : (es : List Event) (e : Event) → es ++ e ∷ [] ≡ [] → ⊥
+push-some [] e h = cc
+push-some (x ∷ es) e h = cc
+
+-- the journal goes on
+on : (B : Base) (J : List Event) (C : Counts) (D : List Document) (W : List Waiting) (v t : ℕ) (O : List Out) (longest most room : ℕ) (e : Event)
+    (D' : List Document) (W' : List Waiting) (v' t' : ℕ) (O' : List Out) (room' : ℕ)
+    → IsKept B J C D W v t O longest most room
+    → (longest ≤ length J → is_client e ≡ false)
+    → Stepped (replay_from B.state J) e v t D' W' v' t' O'
+    → total C + 1 + length O' ≤ most
     → length J + 1 + length O' ≤ room'
-    → Goes J e D' W' v' t' O' J' most room'
-goes D W v t O J most room e D' W' v' t' O' J' room' kept possible grown holds versions tickets used reserved =
-    let now : replay J' ≡ step (replay J) e = ap replay grown ∙ replay-push start J e in
-    let len : length J' ≡ length J + 1 = ap length grown ∙ omega (arith, length-append J (e ∷ [])) in
-    let outs : length O' ≡ length (step (replay J) e).unsent = outs-length (step (replay J) e).unsent O' holds.outs in
-    let P : State → Type 0 = λ s. AreOutsFor s.unsent O' in
-    let Q : List Event → Type 0 = λ js. IsLegal most js in
+    → Goes B J C None e B (J ++ e ∷ []) (count_one C e) D' W' v' t' O' longest most room'
+on B J C D W v t O longest most room e D' W' v' t' O' room' kept late stepped used reserved =
+    let s = replay_from B.state J in
+    let now : replay_from B.state (J ++ e ∷ []) ≡ step s e = replay-push B.state J e in
+    let len : length (J ++ e ∷ []) ≡ length J + 1 = omega (arith, length-append J (e ∷ [])) in
+    let outs : length O' ≡ length (step s e).unsent = outs-length (step s e).unsent O' stepped.holds.outs in
+    let one = total-one C e in
+    let all : total C ≡ total B.counts + length J = ap total kept.counts_are ∙ total-counted B.counts J in
+    let P : State → Type 0 = λ x. AreOutsFor x.unsent O' in
     record {
-      possible = possible;
-      grown = grown;
+      possible = stepped.possible;
+      base = refl;
+      journal = refl;
+      state = now;
+      counts = refl;
       kept = record {
-        documents_are = holds.documents_are ∙ ap (λ s. s.documents) (sym now);
-        waiting_are = holds.waiting_are ∙ ap (λ s. s.waiting) (sym now);
-        version_is = holds.version_is ∙ ap (λ s. s.next_version) (sym now);
-        ticket_is = holds.ticket_is ∙ ap (λ s. s.next_ticket) (sym now);
-        outs = subst P (sym now) holds.outs;
-        legal = subst Q (sym grown) (legal-push most 0 start J e kept.legal possible (omega arith));
-        versions = let a = kept.versions in omega arith;
-        tickets = let a = kept.tickets in omega arith;
-        most_is = kept.most_is;
+        documents_are = stepped.holds.documents_are ∙ ap (λ x. x.documents) (sym now);
+        waiting_are = stepped.holds.waiting_are ∙ ap (λ x. x.waiting) (sym now);
+        version_is = stepped.holds.version_is ∙ ap (λ x. x.next_version) (sym now);
+        ticket_is = stepped.holds.ticket_is ∙ ap (λ x. x.next_ticket) (sym now);
+        outs = subst P (sym now) stepped.holds.outs;
+        past = kept.past;
+        legal = legal-push most (total B.counts) B.state J e kept.legal stepped.possible (omega arith);
+        cut = cut-push longest J e kept.cut late;
+        counts_are = ap (λ (c : Counts). count_one c e) kept.counts_are ∙ sym (counted-push B.counts J e);
+        versions = let a = kept.versions in let b = stepped.versions in omega arith;
+        tickets = let a = kept.tickets in let b = stepped.tickets in omega arith;
+        checkpoints = kept.checkpoints;
+        earlier = let a = kept.earlier in omega arith;
+        begun = λ h. absurd (push-some J e h);
+        least = kept.least;
+        most = kept.most;
         used = omega arith;
         reserved = omega arith;
       };
     }
 
-abbrev pub seen : List Event → List Out → ℕ → Seen
-seen J O most = record { journal = J; outbox = O; max_events = most }
+legal-one : (most n : ℕ) (s : State) (e : Event) → IsPossible s e → n + 1 + length (step s e).unsent ≤ most → IsLegalFrom most n s (e ∷ [])
+unfolding IsLegalFrom
+legal-one most n s e possible fits = (possible, fits, tt)
 
-pub enters : (J : List Event) (O : List Out) (e : Event) (D : List Document) (W : List Waiting) (v t : ℕ) (O' : List Out) (J' : List Event) (most room : ℕ)
-    → Goes J e D W v t O' J' most room → Enters (seen J O most) (seen J' O' most) e
-enters J O e D W v t O' J' most room g = record {
+cut-one : (longest : ℕ) (e : Event) → 0 < longest → IsCutAt longest (e ∷ [])
+unfolding IsCutAt
+cut-one zero e h = absurd (omega arith)
+cut-one (suc longest) e h = tt
+
+counted-one : (C : Counts) (e : Event) → counted C (e ∷ []) ≡ count_one C e
+unfolding counted
+counted-one C e = refl
+
+replay-one : (s : State) (e : Event) → replay_from s (e ∷ []) ≡ step s e
+unfolding replay_from
+replay-one s e = refl
+
+-- the journal begins anew
+anew : (B : Base) (J : List Event) (C : Counts) (D : List Document) (W : List Waiting) (v t : ℕ) (O : List Out) (longest most room : ℕ) (e : Event)
+    (D' : List Document) (W' : List Waiting) (v' t' : ℕ) (O' : List Out) (room' : ℕ)
+    → IsKept B J C D W v t O longest most room
+    → longest ≤ length J
+    → Stepped (replay_from B.state J) e v t D' W' v' t' O'
+    → total C + 1 + length O' ≤ most
+    → 1 + length O' ≤ room'
+    → Goes B J C (Some (replay_from B.state J)) e (record { state = replay_from B.state J; counts = C; checkpoints = B.checkpoints + 1 }) (e ∷ []) (count_one C e) D' W' v' t' O' longest most room'
+anew B J C D W v t O longest most room e D' W' v' t' O' room' kept long stepped used reserved =
+    let s = replay_from B.state J in
+    let now : replay_from s (e ∷ []) ≡ step s e = replay-one s e in
+    let outs : length O' ≡ length (step s e).unsent = outs-length (step s e).unsent O' stepped.holds.outs in
+    let one = total-one C e in
+    let all : total C ≡ total B.counts + length J = ap total kept.counts_are ∙ total-counted B.counts J in
+    let P : State → Type 0 = λ x. AreOutsFor x.unsent O' in
+    let Q : Counts → Type 0 = λ c. IsPast most (record { state = s; counts = c; checkpoints = B.checkpoints + 1 }) (kept.past.0 ++ J) in
+    record {
+      possible = stepped.possible;
+      base = refl;
+      journal = refl;
+      state = now;
+      counts = refl;
+      kept = record {
+        documents_are = stepped.holds.documents_are ∙ ap (λ x. x.documents) (sym now);
+        waiting_are = stepped.holds.waiting_are ∙ ap (λ x. x.waiting) (sym now);
+        version_is = stepped.holds.version_is ∙ ap (λ x. x.next_version) (sym now);
+        ticket_is = stepped.holds.ticket_is ∙ ap (λ x. x.next_ticket) (sym now);
+        outs = subst P (sym now) stepped.holds.outs;
+        past = (kept.past.0 ++ J, subst Q (sym kept.counts_are) (past-more most B kept.past.0 J (B.checkpoints + 1) kept.past.1 kept.legal));
+        legal = legal-one most (total C) s e stepped.possible (omega arith);
+        cut = cut-one longest e kept.least;
+        counts_are = sym (counted-one C e);
+        versions = let a = kept.versions in let b = stepped.versions in omega arith;
+        tickets = let a = kept.tickets in let b = stepped.tickets in omega arith;
+        checkpoints = let a = kept.checkpoints in let b = kept.least in omega arith;
+        earlier = omega arith;
+        begun = λ h. absurd (push-some [] e h);
+        least = kept.least;
+        most = kept.most;
+        used = omega arith;
+        reserved = omega arith;
+      };
+    }
+
+-- the fields as they are written
+written : (B : Base) (J : List Event) (C : Counts) (x : Option State) (e : Event) (B1 : Base) (J1 : List Event) (C1 : Counts) (B' : Base) (J' : List Event) (C' : Counts) (D' : List Document) (W' : List Waiting) (v' t' : ℕ) (O' : List Out) (longest most room' : ℕ)
+    → B' ≡ B1 → J' ≡ J1 → C' ≡ C1
+    → Goes B J C x e B1 J1 C1 D' W' v' t' O' longest most room'
+    → Goes B J C x e B' J' C' D' W' v' t' O' longest most room'
+written B J C x e B1 J1 C1 B' J' C' D' W' v' t' O' longest most room' is_b is_j is_c goes =
+    let P : Base → Type 0 = λ b. Goes B J C x e b J' C' D' W' v' t' O' longest most room' in
+    let Q : List Event → Type 0 = λ js. Goes B J C x e B1 js C' D' W' v' t' O' longest most room' in
+    let R : Counts → Type 0 = λ c. Goes B J C x e B1 J1 c D' W' v' t' O' longest most room' in
+    subst P (sym is_b) (subst Q (sym is_j) (subst R (sym is_c) goes))
+
+late-none : (b c : Bool) (n m : ℕ) (s : State) (q : Bool) → q ≡ b → nat_le n m ≡ c → None ≡ cond b (cond c (Some s) None) None → n ≤ m → q ≡ false
+late-none false c n m s q client long is h = client
+late-none true true n m s q client long is h = absurd (cc)
+late-none true false n m s q client long is h = let g = is-gt n m long in absurd (omega arith)
+
+same-state : (s z : State) → Some z ≡ Some s → z ≡ s
+same-state s z h = cc
+
+long-some : (b c : Bool) (n m : ℕ) (s z : State) → nat_le n m ≡ c → Some z ≡ cond b (cond c (Some s) None) None → (n ≤ m) × (z ≡ s)
+long-some false c n m s z long is = absurd (cc)
+long-some true false n m s z long is = absurd (cc)
+long-some true true n m s z long is = (is-le n m long, same-state s z is)
+
+pub goes : (B : Base) (J : List Event) (C : Counts) (D : List Document) (W : List Waiting) (v t : ℕ) (O : List Out) (longest most room : ℕ) (x : Option State) (e : Event)
+    (B' : Base) (J' : List Event) (C' : Counts) (D' : List Document) (W' : List Waiting) (v' t' : ℕ) (O' : List Out) (room' : ℕ)
+    → IsKept B J C D W v t O longest most room
+    → x ≡ fresh_for (seen B J O longest most) e
+    → Stepped (replay_from B.state J) e v t D' W' v' t' O'
+    → B' ≡ base_after x C B
+    → J' ≡ journal_after x J ++ e ∷ []
+    → C' ≡ count_one C e
+    → total C + 1 + length O' ≤ most
+    → length (journal_after x J) + 1 + length O' ≤ room'
+    → Goes B J C x e B' J' C' D' W' v' t' O' longest most room'
+goes B J C D W v t O longest most room None e B' J' C' D' W' v' t' O' room' kept is_x stepped is_b is_j is_c used reserved =
+    written B J C None e B (J ++ e ∷ []) (count_one C e) B' J' C' D' W' v' t' O' longest most room' is_b is_j is_c
+    (on B J C D W v t O longest most room e D' W' v' t' O' room' kept
+    (late-none (is_client e) (nat_le longest (length J)) longest (length J) (replay_from B.state J) (is_client e) refl refl is_x) stepped used reserved)
+goes B J C D W v t O longest most room (Some z) e B' J' C' D' W' v' t' O' room' kept is_x stepped is_b is_j is_c used reserved =
+    let s = replay_from B.state J in
+    let f = long-some (is_client e) (nat_le longest (length J)) longest (length J) s z refl is_x in
+    let P : State → Type 0 = λ y. Goes B J C (Some y) e B' J' C' D' W' v' t' O' longest most room' in
+    let base : State → Base = λ y. record { state = y; counts = C; checkpoints = B.checkpoints + 1 } in
+    subst P (sym f.1)
+    (written B J C (Some s) e (base s) (e ∷ []) (count_one C e) B' J' C' D' W' v' t' O' longest most room' (is_b ∙ ap base f.1) is_j is_c
+    (anew B J C D W v t O longest most room e D' W' v' t' O' room' kept f.0 stepped used reserved))
+
+pub enters : (B : Base) (J : List Event) (C : Counts) (D : List Document) (W : List Waiting) (v t : ℕ) (O : List Out) (longest most room : ℕ) (x : Option State) (e : Event)
+    (B' : Base) (J' : List Event) (C' : Counts) (D' : List Document) (W' : List Waiting) (v' t' : ℕ) (O' : List Out) (room' : ℕ)
+    → IsKept B J C D W v t O longest most room
+    → x ≡ fresh_for (seen B J O longest most) e
+    → Goes B J C x e B' J' C' D' W' v' t' O' longest most room'
+    → Enters (seen B J O longest most) (seen B' J' O' longest most) e
+enters B J C D W v t O longest most room x e B' J' C' D' W' v' t' O' room' kept is_x g = record {
   possible = g.possible;
-  journal = g.grown;
+  base = g.base ∙ (λ i. base_after (is_x i) (kept.counts_are i) B);
+  journal = g.journal ∙ ap (λ (y : Option State). journal_after y J ++ e ∷ []) is_x;
   most = refl;
-  sound = record { legal = g.kept.legal; outs = g.kept.outs };
+  most_journal = refl;
+  state = g.state;
+  counts = sym g.kept.counts_are ∙ (g.counts ∙ ap (λ (c : Counts). count_one c e) kept.counts_are);
+  sound = record { past = g.kept.past; legal = g.kept.legal; cut = g.kept.cut; outs = g.kept.outs };
 }
 
 -- nothing has changed, but there is room
-pub kept-room : (D : List Document) (W : List Waiting) (v t : ℕ) (O : List Out) (J : List Event) (most room : ℕ) (D' : List Document) (W' : List Waiting) (O' : List Out) (J' : List Event) (room' : ℕ)
-    → IsKept D W v t O J most room → D' ≡ D → W' ≡ W → O' ≡ O → J' ≡ J → room ≤ room' → IsKept D' W' v t O' J' most room'
-kept-room D W v t O J most room D' W' O' J' room' kept same_d same_w same_o same_j more =
-    let P : List Event → Type 0 = λ js. IsKept D' W' v t O' js most room' in
-    let Q : List Out → Type 0 = λ os. IsKept D' W' v t os J most room' in
+pub kept-room : (B : Base) (J : List Event) (C : Counts) (D : List Document) (W : List Waiting) (v t : ℕ) (O : List Out) (longest most room : ℕ)
+    (J' : List Event) (D' : List Document) (W' : List Waiting) (O' : List Out) (room' : ℕ)
+    → IsKept B J C D W v t O longest most room → D' ≡ D → W' ≡ W → O' ≡ O → J' ≡ J → room ≤ room' → IsKept B J' C D' W' v t O' longest most room'
+kept-room B J C D W v t O longest most room J' D' W' O' room' kept same_d same_w same_o same_j more =
+    let P : List Event → Type 0 = λ js. IsKept B js C D' W' v t O' longest most room' in
+    let Q : List Out → Type 0 = λ os. IsKept B J C D' W' v t os longest most room' in
     subst P (sym same_j) (subst Q (sym same_o) (record {
       documents_are = same_d ∙ kept.documents_are;
       waiting_are = same_w ∙ kept.waiting_are;
       version_is = kept.version_is;
       ticket_is = kept.ticket_is;
       outs = kept.outs;
+      past = kept.past;
       legal = kept.legal;
+      cut = kept.cut;
+      counts_are = kept.counts_are;
       versions = kept.versions;
       tickets = kept.tickets;
-      most_is = kept.most_is;
+      checkpoints = kept.checkpoints;
+      earlier = kept.earlier;
+      begun = kept.begun;
+      least = kept.least;
+      most = kept.most;
       used = kept.used;
       reserved = let r = kept.reserved in omega arith;
     }))
+
+-- ---- the present state, from what a desk holds
+
+entry-is : (e : Entry) (o : Out) → IsOutFor e o → WereTaken (e ∷ []) → entry_for o ≡ e
+unfolding IsOutFor WereTaken
+entry-is (Body body) o is taken = ap entry_for is
+entry-is (Failure ticket id code) o is taken = ap entry_for is
+entry-is (Outcome w) o is taken = ap entry_for is.1 ∙ by w w.request is.0 refl is.2 taken.0
+  where
+    by : (w : Waiting) (r : Option Request) (done : Told) → w.request ≡ r → Answers w done → w.taken ≡ true → entry_for (out_of w r done) ≡ Outcome w
+    by w None done r a taken = λ i. Outcome (record { ticket = a.ticket i; ask = a.ask i; uri = w.uri; version = w.version; label = w.label; text = a.text i; encoding = a.encoding i; request = sym r i; taken = sym taken i })
+    by w (Some q) done r a taken = λ i. Outcome (record { ticket = a.ticket i; ask = a.ask i; uri = w.uri; version = w.version; label = w.label; text = a.text i; encoding = a.encoding i; request = sym r i; taken = sym taken i })
+
+first-taken : (e : Entry) (es : List Entry) → WereTaken (e ∷ es) → WereTaken (e ∷ [])
+unfolding WereTaken
+first-taken (Body body) es h = tt
+first-taken (Failure ticket id code) es h = tt
+first-taken (Outcome w) es h = (h.0, tt)
+
+later-taken : (e : Entry) (es : List Entry) → WereTaken (e ∷ es) → WereTaken es
+unfolding WereTaken
+later-taken (Body body) es h = h
+later-taken (Failure ticket id code) es h = h
+later-taken (Outcome w) es h = h.1
+
+entries-are : (es : List Entry) (os : List Out) → AreOutsFor es os → WereTaken es → map entry_for os ≡ es
+unfolding AreOutsFor
+entries-are [] [] h taken = refl
+entries-are [] (o ∷ os) h taken = absurd h
+entries-are (e ∷ es) [] h taken = absurd h
+entries-are (e ∷ es) (o ∷ os) h taken = λ i. entry-is e o h.0 (first-taken e es taken) i ∷ entries-are es os h.1 (later-taken e es taken) i
+
+state-taken : (B : Base) (J : List Event) (past : List Event) (most : ℕ) → IsPast most B past → WereTaken (replay_from B.state J).unsent
+state-taken B J past most is = let P : State → Type 0 = λ s. WereTaken s.unsent in subst P (past-state most B past J is) (taken-all (past ++ J))
+
+pub state-is : (B : Base) (J : List Event) (C : Counts) (D : List Document) (W : List Waiting) (v t : ℕ) (O : List Out) (longest most room : ℕ)
+    → IsKept B J C D W v t O longest most room
+    → record { documents = D; waiting = W; unsent = map entry_for O; next_version = v; next_ticket = t } ≡ replay_from B.state J
+state-is B J C D W v t O longest most room kept =
+    let es = entries-are (replay_from B.state J).unsent O kept.outs (state-taken B J kept.past.0 most kept.past.1) in
+    λ i. record { documents = kept.documents_are i; waiting = kept.waiting_are i; unsent = es i; next_version = kept.version_is i; next_ticket = kept.ticket_is i }
+
+long-is : (n m k : ℕ) → n ≡ k → m ≤ n → nat_le m k ≡ true
+long-is n m k same h = grind (arith, nat_tests)
+
+pub fresh-is : (B : Base) (J : List Event) (O : List Out) (longest most n : ℕ) (z : State) → z ≡ replay_from B.state J → n ≡ length J → longest ≤ n → Some z ≡ fresh (seen B J O longest most)
+fresh-is B J O longest most n z is len long = ap Some is ∙ sym (λ i. cond (long-is n longest (length J) len long i) (Some (replay_from B.state J)) None)

@@ -1,6 +1,5 @@
-pub mod Places
 pub mod Grows
 pub mod Events
+pub mod Jobs
 pub mod Rules
-pub mod Ordered
 pub mod Sends

@@ -1,24 +1,29 @@
 -- The first reply leaves; a new desk.
-use Rattle.std.proofs.Common.{◌≡◌, ℕ, suc, zero, ◌+◌, ◌≤◌, List, [], ◌∷◌, ◌++◌, length, get_or, ltb, refl, sym, ap, ◌∙◌, subst, arith}
+use Rattle.std.proofs.Common.{◌≡◌, ℕ, suc, zero, ◌+◌, ◌<◌, ◌≤◌, List, [], ◌∷◌, ◌++◌, length, get_or, ltb, refl, sym, ap, ◌∙◌, subst, arith}
 use Rattle.std.specs.Prelude.{Option, Some, None, IfSome, is_some, slice_get}
 use Rattle.std.proofs.lemmas.Bool.{ltb-true}
 use Rattle.std.proofs.lemmas.Option.{same_Some, slice_get_read}
 use Rattle.ls_answers.specs.Told.{Told}
-use Rattle.ls_desk.specs.declared.event.Event.{Event}
-use Rattle.ls_desk.specs.declared.event.Event.TheVariants.{Sent}
-use Rattle.ls_desk.specs.declared.event.Out.{Out}
-use Rattle.ls_desk.specs.declared.state.Document.{Document}
-use Rattle.ls_desk.specs.declared.state.Waiting.{Waiting}
-use Rattle.ls_desk.specs.declared.state.Request.{Request}
-use Rattle.ls_desk.specs.declared.state.Entry.{Entry}
-use Rattle.ls_desk.specs.declared.state.Entry.TheVariants.{Body, Failure, Outcome}
-use Rattle.ls_desk.specs.Machine.{step, IsPossible, rest, first_ticket, ticket_of}
-use Rattle.ls_desk.specs.Journal.{replay_from, replay, IsLegalFrom, IsLegal}
-use Rattle.ls_desk.specs.Stands.{IsOutFor, AreOutsFor, Sends, StandsAt, Answers, out_of, ticket_of_out}
+use Rattle.ls_machine.specs.declared.event.Event.{Event}
+use Rattle.ls_machine.specs.declared.event.Event.TheVariants.{Sent}
+use Rattle.ls_machine.specs.declared.event.Out.{Out}
+use Rattle.ls_machine.specs.declared.state.Document.{Document}
+use Rattle.ls_machine.specs.declared.state.Waiting.{Waiting}
+use Rattle.ls_machine.specs.declared.state.Request.{Request}
+use Rattle.ls_machine.specs.declared.state.Entry.{Entry}
+use Rattle.ls_machine.specs.declared.state.Entry.TheVariants.{Body, Failure, Outcome}
+use Rattle.ls_machine.specs.Machine.{step, IsPossible, rest, first_ticket, ticket_of}
+use Rattle.ls_machine.specs.declared.base.Base.{Base}
+use Rattle.ls_machine.specs.declared.base.Counts.{Counts}
+use Rattle.ls_machine.specs.declared.state.State.{State}
+use Rattle.ls_machine.specs.Counts.{counted, first, no_events, total}
+use Rattle.ls_machine.specs.Journal.{replay_from, replay, IsLegalFrom, IsLegal, IsPast}
+use Rattle.ls_desk.specs.Stands.{Enters, IsOutFor, AreOutsFor, Seen, Sends, StandsAt, WasCurrentAt, Answers, out_of, ticket_of_out}
 use Rattle.ls_desk.specs.Kept.{IsKept}
-use Rattle.ls_desk.specs.Laws.{WasEntryCurrent, WereEntriesCurrent}
-use Rattle.ls_desk.proofs.Grows.{Goes, goes, enters, seen}
-use Rattle.ls_desk.proofs.Ordered.{ordered}
+use Rattle.ls_machine.specs.Laws.{WasEntryCurrent, WereEntriesCurrent}
+use Rattle.ls_desk.proofs.Grows.{Stepped, Holds, seen}
+use Rattle.ls_machine.proofs.Ordered.{ordered}
+use Rattle.ls_machine.proofs.Replays.{counted-none, cut-none, legal-none, past-first, past-legal, past-state, replay-none}
 
 pub ticket-same : (e : Entry) (o : Out) → IsOutFor e o → ticket_of e ≡ ticket_of_out o
 unfolding IsOutFor
@@ -43,54 +48,59 @@ unfolding AreOutsFor
 front [] o os h = absurd h
 front (e ∷ es) o os h = record { entry = e; others = es; is = refl; for = h.0; outs = h.1 }
 
-pub send-possible : (J : List Event) (o : Out) (os : List Out) → Front (replay J).unsent o os → IsPossible (replay J) (Sent (ticket_of_out o))
+send-possible : (s : State) (o : Out) (os : List Out) → Front s.unsent o os → IsPossible s (Sent (ticket_of_out o))
 unfolding IsPossible
-send-possible J o os f = ap first_ticket f.is ∙ ap Some (ticket-same f.entry o f.for)
+send-possible s o os f = ap first_ticket f.is ∙ ap Some (ticket-same f.entry o f.for)
 
-pub send-kept : (D : List Document) (W : List Waiting) (v t : ℕ) (O : List Out) (J : List Event) (most room : ℕ) (o : Out) (os : List Out) (J' : List Event) (room' : ℕ)
-    → IsKept D W v t O J most room
-    → O ≡ o ∷ os
-    → Front (replay J).unsent o os
-    → J' ≡ J ++ Sent (ticket_of_out o) ∷ []
-    → room' ≡ room
-    → Goes J (Sent (ticket_of_out o)) D W v t os J' most room'
+pub sent : (s : State) (D : List Document) (W : List Waiting) (v t : ℕ) (O : List Out) (o : Out) (os : List Out)
+    → Holds s D W v t O
+    → Front s.unsent o os
+    → Stepped s (Sent (ticket_of_out o)) v t D W v t os
 unfolding step
-send-kept D W v t O J most room o os J' room' kept is f grown same =
+sent s D W v t O o os kept f =
     let P : List Entry → Type 0 = λ es. AreOutsFor (rest es) os in
-    let len : length O ≡ length os + 1 = ap length is ∙ omega arith in
-    let used = kept.used in
-    let reserved = kept.reserved in
-    goes D W v t O J most room (Sent (ticket_of_out o)) D W v t os J' room'
-    kept
-    (send-possible J o os f)
-    grown
-    (record {
-      documents_are = kept.documents_are;
-      waiting_are = kept.waiting_are;
-      version_is = kept.version_is;
-      ticket_is = kept.ticket_is;
-      outs = subst P (sym f.is) f.outs;
-    })
-    (omega arith) (omega arith) (omega arith) (omega arith)
+    record {
+      possible = send-possible s o os f;
+      holds = record {
+        documents_are = kept.documents_are;
+        waiting_are = kept.waiting_are;
+        version_is = kept.version_is;
+        ticket_is = kept.ticket_is;
+        outs = subst P (sym f.is) f.outs;
+      };
+      versions = omega arith;
+      tickets = omega arith;
+    }
 
-pub kept-same : (D : List Document) (W : List Waiting) (v t : ℕ) (O os : List Out) (J : List Event) (most room : ℕ) → IsKept D W v t O J most room → O ≡ os → IsKept D W v t os J most room
-kept-same D W v t O os J most room kept same = let P : List Out → Type 0 = λ x. IsKept D W v t x J most room in subst P same kept
+pub kept-same : (B : Base) (J : List Event) (C : Counts) (D : List Document) (W : List Waiting) (v t : ℕ) (O os : List Out) (longest most room : ℕ)
+    → IsKept B J C D W v t O longest most room → O ≡ os → IsKept B J C D W v t os longest most room
+kept-same B J C D W v t O os longest most room kept same = let P : List Out → Type 0 = λ x. IsKept B J C D W v t x longest most room in subst P same kept
 
-pub front-of : (J : List Event) (O : List Out) (o : Out) (os : List Out) → AreOutsFor (replay J).unsent O → O ≡ o ∷ os → Front (replay J).unsent o os
-front-of J O o os outs is = let P : List Out → Type 0 = λ x. AreOutsFor (replay J).unsent x in front (replay J).unsent o os (subst P is outs)
+pub front-of : (es : List Entry) (O : List Out) (o : Out) (os : List Out) → AreOutsFor es O → O ≡ o ∷ os → Front es o os
+front-of es O o os outs is = let P : List Out → Type 0 = λ x. AreOutsFor es x in front es o os (subst P is outs)
 
 first-current : (js : List Event) (es : List Entry) (e : Entry) (fs : List Entry) → WereEntriesCurrent js es → es ≡ e ∷ fs → WasEntryCurrent js e
 unfolding WereEntriesCurrent
 first-current js es e fs h is = let P : List Entry → Type 0 = λ xs. WereEntriesCurrent js xs in (subst P is h).0
 
-pub sends : (J J' : List Event) (O os : List Out) (most : ℕ) (o : Out) (D : List Document) (W : List Waiting) (v t room : ℕ)
-    → IsLegal most J → Front (replay J).unsent o os → O ≡ o ∷ os → Goes J (Sent (ticket_of_out o)) D W v t os J' most room
-    → Sends (seen J O most) (seen J' os most) o
-sends J J' O os most o D W v t room legal f is went = record {
-  enters = enters J O (Sent (ticket_of_out o)) D W v t os J' most room went;
-  first = is;
+-- what was current in the events that led to a desk
+current-in : (B : Base) (J : List Event) (most : ℕ) (past : List Event) → IsPast most B past → IsLegalFrom most (total B.counts) B.state J → WereEntriesCurrent (past ++ J) (replay_from B.state J).unsent
+current-in B J most past is legal =
+    let P : State → Type 0 = λ s. WereEntriesCurrent (past ++ J) s.unsent in
+    subst P (past-state most B past J is) (ordered most (past ++ J) (past-legal most B past J is legal)).unsent
+
+pub sends : (B : Base) (J : List Event) (C : Counts) (D : List Document) (W : List Waiting) (v t : ℕ) (O : List Out) (longest most room : ℕ) (new : Seen) (o : Out) (os : List Out)
+    → IsKept B J C D W v t O longest most room
+    → Front (replay_from B.state J).unsent o os
+    → O ≡ o ∷ os
+    → new.outbox ≡ os
+    → Enters (seen B J O longest most) new (Sent (ticket_of_out o))
+    → Sends (seen B J O longest most) new o
+sends B J C D W v t O longest most room new o os kept f is same went = record {
+  enters = went;
+  first = is ∙ ap (λ (xs : List Out). o ∷ xs) (sym same);
   is_for = (f.entry, f.others, f.is, f.for);
-  was_current = first-current J (replay J).unsent f.entry f.others (ordered most J legal).unsent f.is;
+  was_current = (kept.past.0, kept.past.1, first-current (kept.past.0 ++ J) (replay_from B.state J).unsent f.entry f.others (current-in B J most kept.past.0 kept.past.1 kept.legal) f.is);
 }
 
 -- ---- the unsent entries by their numbers
@@ -109,30 +119,41 @@ entry-at js [] i e h is = absurd (cc)
 entry-at js (x ∷ es) zero e h is = let P : Entry → Type 0 = λ y. WasEntryCurrent js y in subst P (same_Some x e is) h.0
 entry-at js (x ∷ es) (suc i) e h is = entry-at js es i e h.1 is
 
-pub stands-at : {A : Type 0} (f : A → Out) (r : Option A) (most : ℕ) (J : List Event) (os : List Out) (i : ℕ) → IsLegal most J → AreOutsFor (replay J).unsent os
-    → is_some r ≡ ltb i (length os) → IfSome r (λ x. f x ≡ get_or os i (f x)) → IfSome r (λ x. StandsAt (seen J os most) i (f x))
-stands-at f None most J os i legal h some is = tt
-stands-at f (Some x) most J os i legal h some is =
-    let found = slice_get_read os (length os) i (f x) refl (ltb-true i (length os) (sym some)) is in
-    let t = at-entry (replay J).unsent os i (f x) h found in
-    (t.0, t.1, t.2, entry-at J (replay J).unsent i t.0 (ordered most J legal).unsent t.1)
+pub stands-at : {A : Type 0} (f : A → Out) (r : Option A) (B : Base) (J : List Event) (C : Counts) (D : List Document) (W : List Waiting) (v t : ℕ) (O : List Out) (longest most room : ℕ) (i : ℕ)
+    → IsKept B J C D W v t O longest most room
+    → is_some r ≡ ltb i (length O) → IfSome r (λ x. f x ≡ get_or O i (f x)) → IfSome r (λ x. StandsAt (seen B J O longest most) i (f x))
+stands-at f None B J C D W v t O longest most room i kept some is = tt
+stands-at f (Some x) B J C D W v t O longest most room i kept some is =
+    let found = slice_get_read O (length O) i (f x) refl (ltb-true i (length O) (sym some)) is in
+    let e = at-entry (replay_from B.state J).unsent O i (f x) kept.outs found in
+    (e.0, e.1, e.2, (kept.past.0, kept.past.1, entry-at (kept.past.0 ++ J) (replay_from B.state J).unsent i e.0 (current-in B J most kept.past.0 kept.past.1 kept.legal) e.1))
 
 -- a new desk
-pub kept-start : (D : List Document) (W : List Waiting) (O : List Out) (J : List Event) (most room : ℕ) → D ≡ [] → W ≡ [] → O ≡ [] → J ≡ [] → most ≤ 1000000 → IsKept D W 1 1 O J most room
-unfolding AreOutsFor IsLegalFrom replay_from
-kept-start D W O J most room d w o j small =
-    let P : List Event → Type 0 = λ js. IsKept D W 1 1 O js most room in
-    let Q : List Out → Type 0 = λ os. IsKept D W 1 1 os [] most room in
-    subst P (sym j) (subst Q (sym o) (record {
+pub kept-start : (B : Base) (J : List Event) (C : Counts) (D : List Document) (W : List Waiting) (O : List Out) (longest most room : ℕ)
+    → B ≡ first → J ≡ [] → C ≡ no_events → D ≡ [] → W ≡ [] → O ≡ [] → 0 < longest → 0 < most → most < 18446744073709551615 → IsKept B J C D W 1 1 O longest most room
+unfolding AreOutsFor replay_from
+kept-start B J C D W O longest most room b j c d w o least some few =
+    let P : Base → Type 0 = λ x. IsKept x J C D W 1 1 O longest most room in
+    let Q : List Event → Type 0 = λ x. IsKept first x C D W 1 1 O longest most room in
+    let R : Counts → Type 0 = λ x. IsKept first [] x D W 1 1 O longest most room in
+    let S : List Out → Type 0 = λ x. IsKept first [] no_events D W 1 1 x longest most room in
+    subst P (sym b) (subst Q (sym j) (subst R (sym c) (subst S (sym o) (record {
       documents_are = d;
       waiting_are = w;
       version_is = refl;
       ticket_is = refl;
       outs = tt;
-      legal = tt;
+      past = ([], past-first most);
+      legal = legal-none most _ _;
+      cut = cut-none longest;
+      counts_are = sym (counted-none no_events);
       versions = omega arith;
       tickets = omega arith;
-      most_is = small;
+      checkpoints = omega arith;
+      earlier = omega arith;
+      begun = λ h. refl;
+      least = least;
+      most = few;
       used = omega arith;
       reserved = omega arith;
-    }))
+    }))))

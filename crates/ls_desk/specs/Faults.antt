@@ -4,17 +4,18 @@ use Rattle.std.specs.Arc.{arc_value}
 use Rattle.ls_answers.specs.Told.{Told}
 use Rattle.ls_answers.specs.declared.job.Job.{Job}
 use Rattle.ls_rpc.specs.declared.message.Id.{Id}
-use Rattle.ls_desk.specs.Same.{ask_eq}
-use Rattle.ls_desk.specs.declared.state.Waiting.{Waiting}
-use Rattle.ls_desk.specs.declared.state.Request.{Request}
-use Rattle.ls_desk.specs.declared.event.Kept.{Kept}
-use Rattle.ls_desk.specs.declared.event.Kept.TheVariants as kept
-use Rattle.ls_desk.specs.declared.event.DeskFault.{DeskFault}
-use Rattle.ls_desk.specs.declared.event.DeskFault.TheVariants.{NotOpen, AlreadyOpen, TooManyDocuments, TooManyWaiting, IdInUse, TooLarge, UnknownTicket, OtherText, SessionFull, Memory}
-use Rattle.ls_desk.specs.Machine.{is_open, requests, id_waits, is_held, is_queued, left_at, told_at, ends, asks_with, request_cancelled}
-use Rattle.ls_desk.specs.declared.event.Event.{Event}
-use Rattle.ls_desk.specs.declared.event.Event.TheVariants.{Took}
-use Rattle.ls_desk.specs.Stands.{Seen, state_of, Enters}
+use Rattle.ls_machine.specs.Same.{is_for}
+use Rattle.ls_machine.specs.Counts.{total}
+use Rattle.ls_machine.specs.declared.state.Waiting.{Waiting}
+use Rattle.ls_machine.specs.declared.state.Request.{Request}
+use Rattle.ls_machine.specs.declared.event.Kept.{Kept}
+use Rattle.ls_machine.specs.declared.event.Kept.TheVariants as kept
+use Rattle.ls_machine.specs.declared.event.DeskFault.{DeskFault}
+use Rattle.ls_machine.specs.declared.event.DeskFault.TheVariants.{NotOpen, AlreadyOpen, TooManyDocuments, TooManyWaiting, IdInUse, TooLarge, UnknownTicket, OtherText, SessionFull, Memory}
+use Rattle.ls_machine.specs.Machine.{is_open, requests, id_waits, is_held, is_queued, left_at, told_at, ends, asks_with, request_cancelled}
+use Rattle.ls_machine.specs.declared.event.Event.{Event}
+use Rattle.ls_machine.specs.declared.event.Event.TheVariants.{Took}
+use Rattle.ls_desk.specs.Stands.{Seen, counts_of, state_of, Enters}
 
 -- the first cause that holds
 abbrev pub or_else : Bool → DeskFault → Option DeskFault → Option DeskFault
@@ -22,7 +23,7 @@ or_else b fault next = if b then Some fault else next
 
 -- there is no room for this many more
 abbrev pub is_full : Seen → ℕ → Bool
-is_full d need = nat_lt d.max_events (length d.journal + length (state_of d).unsent + need)
+is_full d need = nat_lt d.max_events (total (counts_of d) + length (state_of d).unsent + need)
 
 abbrev pub full_fault : Seen → ℕ → Option DeskFault
 full_fault d need = or_else (is_full d need) SessionFull None
@@ -61,10 +62,6 @@ take_fault d = or_else (is_some (find is_queued (state_of d).waiting) && is_full
 abbrev pub give_back_fault : Seen → ℕ → Option DeskFault
 give_back_fault d ticket = or_else (is_none (find (is_held ticket) (state_of d).waiting)) UnknownTicket (full_fault d 1)
 
-abbrev pub is_for : Option Waiting → Told → Bool
-is_for None done = false
-is_for (Some w) done = bytes_eq w.text done.text && ask_eq w.ask done.ask
-
 abbrev pub finish_fault : Seen → Told → Option DeskFault
 finish_fault d done =
     let w = find (is_held done.ticket) (state_of d).waiting in
@@ -98,6 +95,7 @@ pub record Accepts (first : Option DeskFault) (old new : Seen) (e : Event) : Typ
 pub record IsJobOf (w : Waiting) (job : Job) : Type 0 where
   pub ticket : job.ticket ≡ w.ticket
   pub text : arc_value job.snapshot ≡ w.text
+  pub encoding : job.encoding ≡ w.encoding
   pub ask : job.ask ≡ w.ask
 
 -- the first queued job is handed out, or none is queued and nothing changes

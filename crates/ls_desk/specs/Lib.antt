@@ -1,7 +1,5 @@
-pub mod Same
-pub mod Machine
-pub mod Journal
-pub mod Laws
+pub mod Anew
+pub mod Writes
 pub mod Stands
 pub mod Faults
 pub mod Kept

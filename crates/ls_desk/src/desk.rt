@@ -6,25 +6,27 @@ ghost use Rattle.std.specs.Prelude.{◌≢◌, is_some, slice_get, false, is_non
 ghost use Rattle.std.specs.Option.{option_map};
 ghost use Rattle.std.specs.Str.{chars};
 ghost use Rattle.ls_text.specs.Edits.{is_too_large};
-ghost use Rattle.ls_desk.specs.Machine.{is_open, document_of, edited_at, is_held, is_queued, left_at, asked, asks_with, requests, id_waits, told_at, request_cancelled, waits};
-ghost use Rattle.ls_desk.specs.Stands.{Sends, IsSound, StandsAt, failures, state_of};
-ghost use Rattle.ls_desk.specs.Faults.{Accepts, open_fault, open_shared_fault, Refuses, end_fault, is_full, finish_fault, request_fault, take_fault, give_back_fault, cancel_fault, full_fault, is_for, kept_of, IsJobOf, Takes};
+ghost use Rattle.ls_machine.specs.Machine.{is_open, document_of, edited_at, measured, is_held, is_queued, left_at, asked, asks_with, requests, id_waits, told_at, request_cancelled, waits};
+ghost use Rattle.ls_machine.specs.Counts.{first, no_events};
+ghost use Rattle.ls_machine.specs.Same.{is_for};
+ghost use Rattle.ls_desk.specs.Stands.{Sends, IsSound, StandsAt, counts_of, failures, fresh, state_of, used};
+ghost use Rattle.ls_desk.specs.Faults.{Accepts, open_fault, open_shared_fault, Refuses, end_fault, is_full, finish_fault, request_fault, take_fault, give_back_fault, cancel_fault, full_fault, kept_of, IsJobOf, Takes};
 ghost use Rattle.ls_desk.specs.Puts.{next_of};
 
-use crate::event::{DeskFault, Event, Kept, Out};
-use crate::find;
+use crate::history::History;
 use crate::outs::{
     Next, Opening, ask, asked, cancel, cancel_none, change, changed_text, close, failures, finish,
     give_back, has_failed, job_of, next_text, open, remove_at, say, shared_text, take, ticket_of,
 };
 use crate::room::{put_replies, room_for_event, room_for_reply, room_for_text};
-use crate::shared::SharedSnapshot;
-use crate::state::{Document, Waiting};
 use ls_answers::{Ask, Done, Job};
 use ls_lists::{List, Text};
+use ls_machine::{
+    Counts, DeskFault, Document, Event, Kept, Out, SharedSnapshot, State, Waiting, find, state_of,
+};
 use ls_rpc::Id;
-use ls_text::{Edit, MAX_BYTES};
-use std::alloc::Global;
+use ls_text::{Edit, Encoding, MAX_BYTES};
+use std::alloc::{AllocError, Global};
 use std::collections::VecDeque;
 use std::marker::Model;
 
@@ -36,7 +38,7 @@ const MOST_REQUESTS: usize = 1_024;
 
 /// The open documents, the waiting jobs, the unsent replies and the journal of a session.
 ///
-/// Contracts see its journal, its unsent replies and its limit. Its state is the replay of its journal.
+/// Contracts see its base, its journal, its unsent replies and its limits. Its state is the replay of its journal from the base.
 #[derive(Drop)]
 pub struct Desk {
     alloc: Global,
@@ -45,8 +47,9 @@ pub struct Desk {
     next_version: u64,
     next_ticket: u64,
     outbox: VecDeque<Out>,
-    journal: Vec<Event>,
-    max_events: usize,
+    history: History,
+    max_journal: usize,
+    max_events: u64,
 }
 
 impl Model for Desk {
@@ -56,16 +59,18 @@ impl Model for Desk {
 
     ghost Value = { Seen };
 
-    ghost view = { λ d. record { journal = d.journal.items; outbox = d.outbox.items; max_events = d.max_events } };
+    ghost view = { λ d. record { base = d.history.base; journal = d.history.events.items; outbox = d.outbox.items; max_journal = d.max_journal; max_events = d.max_events } };
 
-    ghost invariant = { λ d. IsKept d.documents.items d.waiting.items d.next_version d.next_ticket d.outbox.items d.journal.items d.max_events (vec_capacity d.journal) };
+    ghost invariant = { λ d. IsKept d.history.base d.history.events.items d.history.counts d.documents.items d.waiting.items d.next_version d.next_ticket d.outbox.items d.max_journal d.max_events (vec_capacity d.history.events) };
 }
 
 impl Desk {
-    /// A desk on which nothing has happened. Takes no memory.
-    pub fn new(alloc: Global, max_events: usize) -> Desk
-        requires { (0 < max_events) × (max_events ≤ 1000000) }
-        ensures { result ≡ record { journal = []; outbox = []; max_events = max_events } }
+    /// A desk on which nothing has happened. Its journal has at most `max_journal` events where a client's event comes to it, and the events of
+    /// the session and the unsent replies are at most `max_events` together. Takes no memory.
+    pub fn new(alloc: Global, max_journal: usize, max_events: u64) -> Desk
+        requires journal { (0 < max_journal) × (max_journal ≤ 1000000) }
+        requires events { (0 < max_events) × (max_events ≤ 18446744073709551614) }
+        ensures { result ≡ record { base = first; journal = []; outbox = []; max_journal = max_journal; max_events = max_events } }
     {
         Desk {
             alloc,
@@ -74,17 +79,48 @@ impl Desk {
             next_version: 1,
             next_ticket: 1,
             outbox: VecDeque::new(alloc),
-            journal: Vec::new(alloc),
+            history: History::new(alloc),
+            max_journal,
             max_events,
         }
     }
 
-    /// All that happened here. It is legal, and the outbox stands for the unsent entries of the state that it leads to.
+    /// What happened here since the base. It is legal, and the outbox stands for the unsent entries of the state that it leads to.
     pub fn journal(&self) -> &[Event]
         ensures value { result.now ≡ self.now.journal }
         ensures sound { IsSound self.now }
     {
-        self.journal.as_slice()
+        self.history.events.as_slice()
+    }
+
+    /// The state that the journal goes on from. All earlier events led to it.
+    pub fn base(&self) -> &State
+        ensures value { result.now ≡ self.now.base.state }
+        ensures sound { IsSound self.now }
+    {
+        &self.history.base.state
+    }
+
+    /// How often a state has become the base.
+    pub fn checkpoints(&self) -> u64
+        ensures { result ≡ self.now.base.checkpoints }
+    {
+        self.history.base.checkpoints
+    }
+
+    /// How many events of each kind there were over the session. There were none where the journal is empty.
+    pub fn counts(&self) -> Counts
+        ensures value { result ≡ counts_of self.now }
+        ensures none { self.now.journal ≡ [] → result ≡ no_events }
+    {
+        self.history.counts
+    }
+
+    /// How many events the journal may have where a client's event comes to it.
+    pub fn max_journal(&self) -> usize
+        ensures { result ≡ self.now.max_journal }
+    {
+        self.max_journal
     }
 
     /// How many replies wait to be sent.
@@ -97,9 +133,27 @@ impl Desk {
     // There is no room for an event and these replies.
     fn is_full(&self, replies: usize) -> bool
         ensures full { result ≡ is_full self.now (1 + replies) }
-        ensures room { result ≡ false → length self.now.journal + length self.now.outbox + (1 + replies) ≤ self.now.max_events }
+        ensures room { result ≡ false → used self.now + (1 + replies) ≤ self.now.max_events }
     {
-        self.max_events - (self.journal.len() + self.outbox.len()) <= replies
+        self.max_events - (self.history.counts.total() + self.outbox.len() as u64) <= replies as u64
+    }
+
+    // The state that becomes the base, where a client's event that comes now finds the journal as long as it may be.
+    fn fresh(&self) -> Result<Option<State>, AllocError>
+        ensures { IfOk result (λ state. state ≡ fresh self.now) }
+    {
+        if self.history.events.len() < self.max_journal {
+            return Ok(None);
+        }
+        let state = state_of(
+            self.alloc,
+            self.documents.as_slice(),
+            self.waiting.as_slice(),
+            &self.outbox,
+            self.next_version,
+            self.next_ticket,
+        )?;
+        Ok(Some(state))
     }
 
     // What the end of a document's text tells, or the refusal that comes first.
@@ -108,7 +162,7 @@ impl Desk {
         ensures replies { IfOk result (λ replies. replies.items ≡ failures uri.now (state_of self.now).waiting) }
         ensures none { OnOk result (end_fault self.now uri.now ≡ None) }
         ensures open { OnOk result (is_open uri.now (state_of self.now).documents ≡ true) }
-        ensures room { IfOk result (λ replies. length self.now.journal + length self.now.outbox + (1 + length replies.items) ≤ self.now.max_events) }
+        ensures room { IfOk result (λ replies. used self.now + (1 + length replies.items) ≤ self.now.max_events) }
         ensures err { IfErr result (λ fault. (fault ≡ DeskFault.Memory) ⊎ (end_fault self.now uri.now ≡ Some fault)) }
     {
         if find::document_of(self.documents.as_slice(), uri).is_none() {
@@ -151,10 +205,12 @@ impl Desk {
     {
         let replies = self.ends(&uri)?;
         let next = self.changed(&uri, label, edits.as_slice())?;
+        let state = self.fresh()?;
         put_replies(
             &mut self.documents,
             &mut self.waiting,
-            &mut self.journal,
+            &mut self.history.events,
+            &state,
             &mut self.outbox,
             replies,
         )?;
@@ -163,7 +219,8 @@ impl Desk {
             &mut self.waiting,
             &mut self.next_version,
             &mut self.next_ticket,
-            &mut self.journal,
+            &mut self.history,
+            state,
             uri,
             label,
             edits,
@@ -178,17 +235,20 @@ impl Desk {
         ensures err { IfErr result (λ fault. Refuses (end_fault self.old uri) self.old self.new fault) }
     {
         let replies = self.ends(&uri)?;
+        let state = self.fresh()?;
         put_replies(
             &mut self.documents,
             &mut self.waiting,
-            &mut self.journal,
+            &mut self.history.events,
+            &state,
             &mut self.outbox,
             replies,
         )?;
         close(
             &mut self.documents,
             &mut self.waiting,
-            &mut self.journal,
+            &mut self.history,
+            state,
             uri,
         );
         Ok(())
@@ -201,8 +261,7 @@ impl Desk {
         ensures at { IfOk result (λ at. position (is_held done.now.ticket) (state_of self.now).waiting ≡ Some at) }
         ensures within { IfOk result (λ at. at < length (state_of self.now).waiting) }
         ensures job { OnOk result (is_for (find (is_held done.now.ticket) (state_of self.now).waiting) done.now ≡ true) }
-        ensures room { OnOk result (length self.now.journal + length self.now.outbox
-            + (1 + length (left_at (is_none done.now.answer) (find (is_held done.now.ticket) (state_of self.now).waiting))) ≤ self.now.max_events) }
+        ensures room { OnOk result (used self.now + (1 + length (left_at (is_none done.now.answer) (find (is_held done.now.ticket) (state_of self.now).waiting))) ≤ self.now.max_events) }
         ensures err { IfErr result (λ fault. finish_fault self.now done.now ≡ Some fault) }
     {
         let Some((at, job)) = find::held(self.waiting.as_slice(), done.ticket()) else {
@@ -228,12 +287,12 @@ impl Desk {
             Ok(at) => at,
             Err(fault) => return Err((fault, done)),
         };
-        match room_for_reply(&mut self.journal, &mut self.outbox) {
+        match room_for_reply(&mut self.history.events, &None, &mut self.outbox) {
             Ok(()) => {}
             Err(_) => return Err((DeskFault::Memory, done)),
         }
         let job = remove_at(&mut self.waiting, at);
-        let kept = finish(&mut self.outbox, &mut self.journal, job, done, failed);
+        let kept = finish(&mut self.outbox, &mut self.history, job, done, failed);
         Ok(kept)
     }
 
@@ -242,7 +301,7 @@ impl Desk {
         ensures job { IfOk result (λ job. option_map (asked (state_of self.now).next_ticket id.now question.now links) (document_of uri.now (state_of self.now).documents) ≡ Some job) }
         ensures none { OnOk result (request_fault self.now id.now uri.now ≡ None) }
         ensures possible { OnOk result ((requests (state_of self.now).waiting < 1024) × (id_waits id.now (state_of self.now).waiting ≡ false)) }
-        ensures room { OnOk result (length self.now.journal + length self.now.outbox + 1 ≤ self.now.max_events) }
+        ensures room { OnOk result (used self.now + 1 ≤ self.now.max_events) }
         ensures err { IfErr result (λ fault. (fault ≡ DeskFault.Memory) ⊎ (request_fault self.now id.now uri.now ≡ Some fault)) }
     {
         let Some(document) = find::document_of(self.documents.as_slice(), uri) else {
@@ -273,16 +332,19 @@ impl Desk {
         ensures err { IfErr result (λ fault. Refuses (request_fault self.old id uri) self.old self.new fault) }
     {
         let job = self.asked(&id, &uri, &question, links)?;
+        let state = self.fresh()?;
         room_for_text(
             &mut self.documents,
             &mut self.waiting,
-            &mut self.journal,
+            &mut self.history.events,
+            &state,
             self.outbox.len(),
         )?;
         let ticket = ask(
             &mut self.waiting,
             &mut self.next_ticket,
-            &mut self.journal,
+            &mut self.history,
+            state,
             id,
             uri,
             question,
@@ -299,7 +361,7 @@ impl Desk {
         ensures at { IfOk result (λ next. IfSome next (λ n. position is_queued (state_of self.now).waiting ≡ Some n.0)) }
         ensures within { IfOk result (λ next. IfSome next (λ n. n.0 < length (state_of self.now).waiting)) }
         ensures job { IfOk result (λ next. IfSome next (λ n. IfSome (find is_queued (state_of self.now).waiting) (λ w. IsJobOf w n.1))) }
-        ensures room { IfOk result (λ next. IfSome next (λ _. length self.now.journal + length self.now.outbox + 1 ≤ self.now.max_events)) }
+        ensures room { IfOk result (λ next. IfSome next (λ _. used self.now + 1 ≤ self.now.max_events)) }
         ensures err { IfErr result (λ fault. (fault ≡ DeskFault.Memory) ⊎ (take_fault self.now ≡ Some fault)) }
     {
         let Some((at, job)) = find::queued(self.waiting.as_slice()) else {
@@ -319,8 +381,8 @@ impl Desk {
         let Some((at, job)) = self.next_job()? else {
             return Ok(None);
         };
-        room_for_event(&mut self.journal, self.outbox.len())?;
-        take(&mut self.waiting, &mut self.journal, at, worker);
+        room_for_event(&mut self.history.events, &None, self.outbox.len())?;
+        take(&mut self.waiting, &mut self.history, at, worker);
         Ok(Some(job))
     }
 
@@ -330,7 +392,7 @@ impl Desk {
         ensures none { OnOk result (give_back_fault self.now ticket ≡ None) }
         ensures within { IfOk result (λ at. at < length (state_of self.now).waiting) }
         ensures there { OnOk result (is_some (find (is_held ticket) (state_of self.now).waiting) ≡ true) }
-        ensures room { OnOk result (length self.now.journal + length self.now.outbox + 1 ≤ self.now.max_events) }
+        ensures room { OnOk result (used self.now + 1 ≤ self.now.max_events) }
         ensures err { IfErr result (λ fault. give_back_fault self.now ticket ≡ Some fault) }
     {
         let Some((at, _)) = find::held(self.waiting.as_slice(), ticket) else {
@@ -348,8 +410,8 @@ impl Desk {
         ensures err { IfErr result (λ fault. Refuses (give_back_fault self.old ticket) self.old self.new fault) }
     {
         let at = self.held(ticket)?;
-        room_for_event(&mut self.journal, self.outbox.len())?;
-        give_back(&mut self.waiting, &mut self.journal, at, ticket);
+        room_for_event(&mut self.history.events, &None, self.outbox.len())?;
+        give_back(&mut self.waiting, &mut self.history, at, ticket);
         Ok(())
     }
 
@@ -359,8 +421,7 @@ impl Desk {
         ensures free { OnOk result (cancel_fault self.now id.now ≡ None) }
         ensures at { IfOk result (λ at. IfSome at (λ i. position (asks_with id.now) (state_of self.now).waiting ≡ Some i)) }
         ensures within { IfOk result (λ at. IfSome at (λ i. i < length (state_of self.now).waiting)) }
-        ensures room { OnOk result (length self.now.journal + length self.now.outbox
-            + (1 + length (told_at request_cancelled (find (asks_with id.now) (state_of self.now).waiting))) ≤ self.now.max_events) }
+        ensures room { OnOk result (used self.now + (1 + length (told_at request_cancelled (find (asks_with id.now) (state_of self.now).waiting))) ≤ self.now.max_events) }
         ensures err { IfErr result (λ fault. cancel_fault self.now id.now ≡ Some fault) }
     {
         match find::asked(self.waiting.as_slice(), id) {
@@ -386,16 +447,17 @@ impl Desk {
     {
         let at = self.waiting_at(id)?;
         let id = id.copy()?;
+        let state = self.fresh()?;
         match at {
             Some(at) => {
-                room_for_reply(&mut self.journal, &mut self.outbox)?;
+                room_for_reply(&mut self.history.events, &state, &mut self.outbox)?;
                 let job = remove_at(&mut self.waiting, at);
-                cancel(&mut self.outbox, &mut self.journal, id, job);
+                cancel(&mut self.outbox, &mut self.history, state, id, job);
                 Ok(true)
             }
             None => {
-                room_for_event(&mut self.journal, self.outbox.len())?;
-                cancel_none(&mut self.journal, id);
+                room_for_event(&mut self.history.events, &state, self.outbox.len())?;
+                cancel_none(&mut self.history, state, id);
                 Ok(false)
             }
         }
@@ -405,7 +467,7 @@ impl Desk {
     fn copied(&self, body: &List<u8>) -> Result<List<u8>, DeskFault>
         ensures copy { IfOk result (λ copy. copy ≡ body.now) }
         ensures none { OnOk result (full_fault self.now 2 ≡ None) }
-        ensures room { OnOk result (length self.now.journal + length self.now.outbox + 2 ≤ self.now.max_events) }
+        ensures room { OnOk result (used self.now + 2 ≤ self.now.max_events) }
         ensures err { IfErr result (λ fault. (fault ≡ DeskFault.Memory) ⊎ (full_fault self.now 2 ≡ Some fault)) }
     {
         if self.is_full(1) {
@@ -420,8 +482,9 @@ impl Desk {
         ensures err { IfErr result (λ fault. Refuses (full_fault self.old 2) self.old self.new fault) }
     {
         let copy = self.copied(&body)?;
-        room_for_reply(&mut self.journal, &mut self.outbox)?;
-        say(&mut self.outbox, &mut self.journal, body, copy);
+        let state = self.fresh()?;
+        room_for_reply(&mut self.history.events, &state, &mut self.outbox)?;
+        say(&mut self.outbox, &mut self.history, state, body, copy);
         Ok(())
     }
 
@@ -479,14 +542,21 @@ impl Desk {
     }
 
     // What opening a document puts down, or the refusal that comes first.
-    fn opening(&self, uri: &Text, label: i64, text: SharedSnapshot) -> Result<Opening, DeskFault>
+    fn opening(
+        &self,
+        uri: &Text,
+        label: i64,
+        text: SharedSnapshot,
+        encoding: Encoding,
+    ) -> Result<Opening, DeskFault>
         requires { is_too_large text ≡ false }
         ensures text { IfOk result (λ opening. opening.text ≡ text) }
+        ensures encoding { IfOk result (λ opening. opening.encoding ≡ encoding) }
         ensures none { OnOk result (open_shared_fault self.now uri.now ≡ None) }
         ensures fits { IfOk result (λ opening. is_too_large opening.text ≡ false) }
-        ensures next { IfOk result (λ opening. Some opening.next ≡ next_of (state_of self.now).next_version (state_of self.now).next_ticket uri.now label (Some opening.text)) }
+        ensures next { IfOk result (λ opening. Some opening.next ≡ next_of (state_of self.now).next_version (state_of self.now).next_ticket uri.now label (Some (measured opening.encoding opening.text))) }
         ensures possible { OnOk result ((is_open uri.now (state_of self.now).documents ≡ false) × (length (state_of self.now).documents < 256)) }
-        ensures room { OnOk result (length self.now.journal + length self.now.outbox + 1 ≤ self.now.max_events) }
+        ensures room { OnOk result (used self.now + 1 ≤ self.now.max_events) }
         ensures err { IfErr result (λ fault. (fault ≡ DeskFault.Memory) ⊎ (open_shared_fault self.now uri.now ≡ Some fault)) }
     {
         if find::document_of(self.documents.as_slice(), uri).is_some() {
@@ -498,26 +568,41 @@ impl Desk {
         if self.is_full(0) {
             return Err(DeskFault::SessionFull);
         }
-        let next = next_text(uri, label, &text, self.next_version, self.next_ticket)?;
-        Ok(Opening { text, next })
+        let next = next_text(
+            uri,
+            label,
+            &text,
+            encoding,
+            self.next_version,
+            self.next_ticket,
+        )?;
+        Ok(Opening {
+            text,
+            encoding,
+            next,
+        })
     }
 
-    /// Opens a document whose text is made already. It isn't copied, so this takes no longer for a large text.
+    /// Opens a document whose text is made already. It isn't copied, so this takes no longer for a large text. The positions in its texts
+    /// count these units from now on.
     pub fn open_shared(
         &mut self,
         uri: Text,
         label: i64,
         text: SharedSnapshot,
+        encoding: Encoding,
     ) -> Result<u64, DeskFault>
         requires { is_too_large text ≡ false }
-        ensures ok { IfOk result (λ version. Accepts (open_shared_fault self.old uri) self.old self.new (Event.Opened uri label text version)) }
+        ensures ok { IfOk result (λ version. Accepts (open_shared_fault self.old uri) self.old self.new (Event.Opened uri label text encoding version)) }
         ensures err { IfErr result (λ fault. Refuses (open_shared_fault self.old uri) self.old self.new fault) }
     {
-        let opening = self.opening(&uri, label, text)?;
+        let opening = self.opening(&uri, label, text, encoding)?;
+        let state = self.fresh()?;
         room_for_text(
             &mut self.documents,
             &mut self.waiting,
-            &mut self.journal,
+            &mut self.history.events,
+            &state,
             self.outbox.len(),
         )?;
         let version = open(
@@ -525,7 +610,8 @@ impl Desk {
             &mut self.waiting,
             &mut self.next_version,
             &mut self.next_ticket,
-            &mut self.journal,
+            &mut self.history,
+            state,
             uri,
             label,
             opening,
@@ -533,13 +619,19 @@ impl Desk {
         Ok(version)
     }
 
-    /// Opens a document.
-    pub fn did_open(&mut self, uri: Text, label: i64, text: Text) -> Result<u64, DeskFault>
-        ensures ok { IfOk result (λ version. Accepts (open_fault self.old uri text) self.old self.new (Event.Opened uri label (chars text) version)) }
+    /// Opens a document, in whose texts positions count these units from now on.
+    pub fn did_open(
+        &mut self,
+        uri: Text,
+        label: i64,
+        text: Text,
+        encoding: Encoding,
+    ) -> Result<u64, DeskFault>
+        ensures ok { IfOk result (λ version. Accepts (open_fault self.old uri text) self.old self.new (Event.Opened uri label (chars text) encoding version)) }
         ensures err { IfErr result (λ fault. Refuses (open_fault self.old uri text) self.old self.new fault) }
     {
         let text = self.made(&uri, text)?;
-        self.open_shared(uri, label, text)
+        self.open_shared(uri, label, text, encoding)
     }
 
     /// The oldest reply, which leaves the outbox. It is what the first unsent entry stands for. Takes no memory.
@@ -549,7 +641,7 @@ impl Desk {
     {
         let out = self.outbox.pop_front()?;
         let ticket = ticket_of(&out);
-        self.journal.push_reserved(Event::Sent { ticket });
+        self.history.enter(None, Event::Sent { ticket });
         Some(out)
     }
 }

@@ -1,23 +1,23 @@
 //! What the calls put down.
-ghost use Rattle.std.specs.Prelude.{◌≡◌, ◌+◌, ◌<◌, ◌≤◌, ◌++◌, ◌∷◌, [], Bool, IfOk, OnOk, IfSome, length, filter, not, is_none, position, find, Some, true, false, vec_len, vec_capacity};
+ghost use Rattle.std.specs.Prelude.{◌≡◌, ◌+◌, ◌<◌, ◌^◌, None, ◌≤◌, ◌++◌, ◌∷◌, [], Bool, IfOk, OnOk, IfSome, length, filter, not, is_none, position, find, Some, true, false, vec_len, vec_capacity};
 ghost use Rattle.std.specs.VecDeque.{deque_len, deque_capacity};
 ghost use Rattle.std.specs.Str.{chars};
 ghost use Rattle.ls_text.specs.Edits.{is_too_large};
 ghost use Rattle.ls_answers.specs.Answers.{IsAnswer};
-ghost use Rattle.ls_desk.specs.declared.state.Waiting.{Waiting};
-ghost use Rattle.ls_desk.specs.Machine.{going_on, others, without_first, on_first, with_taken, document_of, edited_at, version_if, asked, request_cancelled};
+ghost use Rattle.ls_machine.specs.declared.state.Waiting.{Waiting};
+ghost use Rattle.ls_machine.specs.Machine.{going_on, others, without_first, on_first, with_taken, document_of, edited_at, measured, version_if, asked, request_cancelled};
 ghost use Rattle.ls_desk.specs.Stands.{failed, failed_by, failures, finished, ticket_of_out};
 ghost use Rattle.ls_desk.specs.Faults.{kept_for, IsJobOf};
+ghost use Rattle.ls_desk.specs.Writes.{HasRoom, Writes};
 ghost use Rattle.ls_desk.specs.Puts.{next_of, documents_of, jobs_of, count_of};
 
-use crate::event::{Event, Kept, Out};
-use crate::find::{document_of, is_ended};
-use crate::shared::SharedSnapshot;
-use crate::state::{Document, Request, Waiting};
+use crate::history::History;
 use ls_answers::{Ask, Done, Job};
 use ls_lists::{List, Text};
+use ls_machine::find::{document_of, is_ended};
+use ls_machine::{Document, Event, Kept, Out, Request, SharedSnapshot, State, Waiting};
 use ls_rpc::Id;
-use ls_text::{Edit, Snapshot, TextFault};
+use ls_text::{Edit, Encoding, Snapshot, TextFault};
 use std::alloc::{AllocError, Global};
 use std::collections::VecDeque;
 
@@ -91,16 +91,18 @@ pub fn next_text(
     uri: &Text,
     label: i64,
     text: &SharedSnapshot,
+    encoding: Encoding,
     version: u64,
     ticket: u64,
 ) -> Result<Next, AllocError>
-    ensures { IfOk result (λ next. Some next ≡ next_of version ticket uri.now label (Some text.now)) }
+    ensures { IfOk result (λ next. Some next ≡ next_of version ticket uri.now label (Some (measured encoding text.now))) }
 {
     let document = Document {
         uri: uri.copy()?,
         version,
         label,
         text: text.again()?,
+        encoding,
     };
     let waiting = Waiting {
         ticket,
@@ -109,6 +111,7 @@ pub fn next_text(
         version,
         label,
         text: text.again()?,
+        encoding,
         request: None,
         taken: false,
     };
@@ -130,10 +133,10 @@ pub fn changed_text(
     let Some(document) = document_of(documents, uri) else {
         return Ok(None);
     };
-    match document.text.get().apply(edits) {
+    match document.text.get().apply(edits, document.encoding) {
         Ok(snapshot) => {
             let text = SharedSnapshot::new(alloc, snapshot)?;
-            Ok(Some(next_text(uri, label, &text, version, ticket)?))
+            Ok(Some(next_text(uri, label, &text, document.encoding, version, ticket)?))
         }
         Err(TextFault::TooLarge) => Ok(None),
         Err(TextFault::Memory) => Err(AllocError),
@@ -160,8 +163,8 @@ fn put_text(
 )
     requires documents { vec_len documents.old < vec_capacity documents.old }
     requires waiting { vec_len waiting.old < vec_capacity waiting.old }
-    requires version { next_version.old < 2000000 }
-    requires ticket { next_ticket.old < 2000000 }
+    requires version { next_version.old + 1 < 2 ^ 64 }
+    requires ticket { next_ticket.old + 1 < 2 ^ 64 }
     ensures documents { documents.new.items ≡ documents.old.items ++ documents_of next }
     ensures waiting { waiting.new.items ≡ waiting.old.items ++ jobs_of next }
     ensures version { next_version.new ≡ next_version.old + count_of next }
@@ -187,7 +190,8 @@ pub fn change(
     waiting: &mut Vec<Waiting>,
     next_version: &mut u64,
     next_ticket: &mut u64,
-    journal: &mut Vec<Event>,
+    history: &mut History,
+    state: Option<State>,
     uri: Text,
     label: i64,
     edits: List<Edit>,
@@ -195,27 +199,29 @@ pub fn change(
 ) -> Option<u64>
     requires documents { vec_len documents.old < vec_capacity documents.old }
     requires waiting { vec_len waiting.old < vec_capacity waiting.old }
-    requires journal { vec_len journal.old < vec_capacity journal.old }
-    requires version { next_version.old < 2000000 }
-    requires ticket { next_ticket.old < 2000000 }
+    requires history { HasRoom state history.old }
+    requires version { next_version.old + 1 < 2 ^ 64 }
+    requires ticket { next_ticket.old + 1 < 2 ^ 64 }
     ensures documents { documents.new.items ≡ others uri documents.old.items ++ documents_of next }
     ensures waiting { waiting.new.items ≡ going_on uri waiting.old.items ++ jobs_of next }
     ensures version { next_version.new ≡ next_version.old + count_of next }
     ensures ticket { next_ticket.new ≡ next_ticket.old + count_of next }
-    ensures journal { journal.new.items ≡ journal.old.items ++ Event.Changed uri label edits (version_if next_version.old next) ∷ [] }
-    ensures capacity { vec_capacity journal.new ≡ vec_capacity journal.old }
+    ensures history { Writes state history.old history.new (Event.Changed uri label edits (version_if next_version.old next)) }
     ensures result { result ≡ version_if next_version.old next }
 {
     let version = version_of(&next, *next_version);
     end_jobs(waiting, &uri);
     close_document(documents, &uri);
     put_text(documents, waiting, next_version, next_ticket, next);
-    journal.push_reserved(Event::Changed {
-        uri,
-        label,
-        edits,
-        version,
-    });
+    history.enter(
+        state,
+        Event::Changed {
+            uri,
+            label,
+            edits,
+            version,
+        },
+    );
     version
 }
 
@@ -223,18 +229,18 @@ pub fn change(
 pub fn close(
     documents: &mut Vec<Document>,
     waiting: &mut Vec<Waiting>,
-    journal: &mut Vec<Event>,
+    history: &mut History,
+    state: Option<State>,
     uri: Text,
 )
-    requires { vec_len journal.old < vec_capacity journal.old }
+    requires history { HasRoom state history.old }
     ensures documents { documents.new.items ≡ others uri documents.old.items }
     ensures waiting { waiting.new.items ≡ going_on uri waiting.old.items }
-    ensures journal { journal.new.items ≡ journal.old.items ++ Event.Closed uri ∷ [] }
-    ensures capacity { vec_capacity journal.new ≡ vec_capacity journal.old }
+    ensures history { Writes state history.old history.new (Event.Closed uri) }
 {
     end_jobs(waiting, &uri);
     close_document(documents, &uri);
-    journal.push_reserved(Event::Closed { uri });
+    history.enter(state, Event::Closed { uri });
 }
 
 /// Takes away the job at a place.
@@ -267,6 +273,7 @@ pub fn put_failure(outbox: &mut VecDeque<Out>, job: Waiting, code: i32)
         version: _,
         label: _,
         text: _,
+        encoding: _,
         request,
         taken: _,
     } = job;
@@ -278,7 +285,7 @@ pub fn put_failure(outbox: &mut VecDeque<Out>, job: Waiting, code: i32)
 /// Whether memory was refused in a job.
 pub fn has_failed(done: &Done) -> bool
     ensures value { result ≡ is_none done.now.answer }
-    ensures right { IfSome done.now.answer (λ a. IsAnswer done.now.text done.now.ask a) }
+    ensures right { IfSome done.now.answer (λ a. IsAnswer done.now.encoding done.now.text done.now.ask a) }
 {
     done.answer().is_err()
 }
@@ -313,6 +320,7 @@ fn put_finished(outbox: &mut VecDeque<Out>, job: Waiting, done: Done, failed: bo
         version,
         label,
         text: _,
+        encoding: _,
         request,
         taken: _,
     } = job;
@@ -338,23 +346,22 @@ fn put_finished(outbox: &mut VecDeque<Out>, job: Waiting, done: Done, failed: bo
 /// A job has run: what it leaves is put down, and the event enters the journal.
 pub fn finish(
     outbox: &mut VecDeque<Out>,
-    journal: &mut Vec<Event>,
+    history: &mut History,
     job: Waiting,
     done: Done,
     failed: bool,
 ) -> Kept
     requires room { deque_len outbox.old < deque_capacity outbox.old }
-    requires journal { vec_len journal.old < vec_capacity journal.old }
+    requires history { HasRoom None history.old }
     requires failed { failed ≡ is_none done.answer }
     ensures outbox { outbox.new.items ≡ outbox.old.items ++ finished job done }
-    ensures journal { journal.new.items ≡ journal.old.items ++ Event.Finished done.ticket (is_none done.answer) ∷ [] }
-    ensures capacity { vec_capacity journal.new ≡ vec_capacity journal.old }
+    ensures history { Writes None history.old history.new (Event.Finished done.ticket (is_none done.answer)) }
     ensures kept { result ≡ kept_for (is_none done.answer) job.request }
 {
     let kept = kept_for(failed, &job);
     let ticket = done.ticket();
     put_finished(outbox, job, done, failed);
-    journal.push_reserved(Event::Finished { ticket, failed });
+    history.enter(None, Event::Finished { ticket, failed });
     kept
 }
 
@@ -375,6 +382,7 @@ pub fn asked(
         version: document.version,
         label: document.label,
         text: document.text.again()?,
+        encoding: document.encoding,
         request: Some(Request {
             id: id.copy()?,
             links,
@@ -387,7 +395,8 @@ pub fn asked(
 pub fn ask(
     waiting: &mut Vec<Waiting>,
     next_ticket: &mut u64,
-    journal: &mut Vec<Event>,
+    history: &mut History,
+    state: Option<State>,
     id: Id,
     uri: Text,
     ask: Ask,
@@ -395,24 +404,26 @@ pub fn ask(
     job: Waiting,
 ) -> u64
     requires waiting { vec_len waiting.old < vec_capacity waiting.old }
-    requires journal { vec_len journal.old < vec_capacity journal.old }
-    requires ticket { next_ticket.old < 2000000 }
+    requires history { HasRoom state history.old }
+    requires ticket { next_ticket.old + 1 < 2 ^ 64 }
     ensures waiting { waiting.new.items ≡ waiting.old.items ++ job ∷ [] }
     ensures ticket { next_ticket.new ≡ next_ticket.old + 1 }
-    ensures journal { journal.new.items ≡ journal.old.items ++ Event.Asked id uri ask links next_ticket.old ∷ [] }
-    ensures capacity { vec_capacity journal.new ≡ vec_capacity journal.old }
+    ensures history { Writes state history.old history.new (Event.Asked id uri ask links next_ticket.old) }
     ensures result { result ≡ next_ticket.old }
 {
     let ticket = *next_ticket;
     waiting.push_reserved(job);
     *next_ticket = ticket + 1;
-    journal.push_reserved(Event::Asked {
-        id,
-        uri,
-        ask,
-        links,
-        ticket,
-    });
+    history.enter(
+        state,
+        Event::Asked {
+            id,
+            uri,
+            ask,
+            links,
+            ticket,
+        },
+    );
     ticket
 }
 
@@ -423,67 +434,75 @@ pub fn job_of(job: &Waiting) -> Result<Job, AllocError>
     Ok(Job {
         ticket: job.ticket,
         snapshot: job.text.arc()?,
+        encoding: job.encoding,
         ask: job.ask.copy()?,
     })
 }
 
 /// A job is taken: the event enters the journal.
-pub fn take(waiting: &mut Vec<Waiting>, journal: &mut Vec<Event>, at: usize, worker: u32)
+pub fn take(waiting: &mut Vec<Waiting>, history: &mut History, at: usize, worker: u32)
     requires at { at < vec_len waiting.old }
-    requires journal { vec_len journal.old < vec_capacity journal.old }
+    requires history { HasRoom None history.old }
     ensures waiting { (p : Waiting → Bool) → position p waiting.old.items ≡ Some at
         → waiting.new.items ≡ on_first p (with_taken true) waiting.old.items }
-    ensures journal { journal.new.items ≡ journal.old.items ++ Event.Took worker ∷ [] }
-    ensures capacity { vec_capacity journal.new ≡ vec_capacity journal.old }
+    ensures history { Writes None history.old history.new (Event.Took worker) }
 {
     mark_at(waiting, at, true);
-    journal.push_reserved(Event::Took { worker });
+    history.enter(None, Event::Took { worker });
 }
 
 /// A job is given back: the event enters the journal.
-pub fn give_back(waiting: &mut Vec<Waiting>, journal: &mut Vec<Event>, at: usize, ticket: u64)
+pub fn give_back(waiting: &mut Vec<Waiting>, history: &mut History, at: usize, ticket: u64)
     requires at { at < vec_len waiting.old }
-    requires journal { vec_len journal.old < vec_capacity journal.old }
+    requires history { HasRoom None history.old }
     ensures waiting { (p : Waiting → Bool) → position p waiting.old.items ≡ Some at
         → waiting.new.items ≡ on_first p (with_taken false) waiting.old.items }
-    ensures journal { journal.new.items ≡ journal.old.items ++ Event.Returned ticket ∷ [] }
-    ensures capacity { vec_capacity journal.new ≡ vec_capacity journal.old }
+    ensures history { Writes None history.old history.new (Event.Returned ticket) }
 {
     mark_at(waiting, at, false);
-    journal.push_reserved(Event::Returned { ticket });
+    history.enter(None, Event::Returned { ticket });
 }
 
 /// A request is cancelled: its client is told so, and the event enters the journal.
-pub fn cancel(outbox: &mut VecDeque<Out>, journal: &mut Vec<Event>, id: Id, job: Waiting)
+pub fn cancel(
+    outbox: &mut VecDeque<Out>,
+    history: &mut History,
+    state: Option<State>,
+    id: Id,
+    job: Waiting,
+)
     requires room { deque_len outbox.old < deque_capacity outbox.old }
-    requires journal { vec_len journal.old < vec_capacity journal.old }
+    requires history { HasRoom state history.old }
     ensures outbox { outbox.new.items ≡ outbox.old.items ++ failed request_cancelled job }
-    ensures journal { journal.new.items ≡ journal.old.items ++ Event.Cancelled id true ∷ [] }
-    ensures capacity { vec_capacity journal.new ≡ vec_capacity journal.old }
+    ensures history { Writes state history.old history.new (Event.Cancelled id true) }
 {
     put_failure(outbox, job, REQUEST_CANCELLED);
-    journal.push_reserved(Event::Cancelled { id, found: true });
+    history.enter(state, Event::Cancelled { id, found: true });
 }
 
 /// Nothing waits that could be cancelled: the event enters the journal.
-pub fn cancel_none(journal: &mut Vec<Event>, id: Id)
-    requires { vec_len journal.old < vec_capacity journal.old }
-    ensures journal { journal.new.items ≡ journal.old.items ++ Event.Cancelled id false ∷ [] }
-    ensures capacity { vec_capacity journal.new ≡ vec_capacity journal.old }
+pub fn cancel_none(history: &mut History, state: Option<State>, id: Id)
+    requires history { HasRoom state history.old }
+    ensures history { Writes state history.old history.new (Event.Cancelled id false) }
 {
-    journal.push_reserved(Event::Cancelled { id, found: false });
+    history.enter(state, Event::Cancelled { id, found: false });
 }
 
 /// A body is said: the event enters the journal.
-pub fn say(outbox: &mut VecDeque<Out>, journal: &mut Vec<Event>, body: List<u8>, copy: List<u8>)
+pub fn say(
+    outbox: &mut VecDeque<Out>,
+    history: &mut History,
+    state: Option<State>,
+    body: List<u8>,
+    copy: List<u8>,
+)
     requires room { deque_len outbox.old < deque_capacity outbox.old }
-    requires journal { vec_len journal.old < vec_capacity journal.old }
+    requires history { HasRoom state history.old }
     ensures outbox { outbox.new.items ≡ outbox.old.items ++ Out.Said copy ∷ [] }
-    ensures journal { journal.new.items ≡ journal.old.items ++ Event.Said body ∷ [] }
-    ensures capacity { vec_capacity journal.new ≡ vec_capacity journal.old }
+    ensures history { Writes state history.old history.new (Event.Said body) }
 {
     outbox.push_back_reserved(Out::Said(copy));
-    journal.push_reserved(Event::Said { body });
+    history.enter(state, Event::Said { body });
 }
 
 /// The text of a document that is to be opened, which isn't too large, as the desk keeps it.
@@ -505,6 +524,7 @@ pub fn shared_text(alloc: Global, text: Text) -> Result<SharedSnapshot, AllocErr
 #[derive(Drop)]
 pub struct Opening {
     pub text: SharedSnapshot,
+    pub encoding: Encoding,
     pub next: Next,
 }
 
@@ -514,33 +534,41 @@ pub fn open(
     waiting: &mut Vec<Waiting>,
     next_version: &mut u64,
     next_ticket: &mut u64,
-    journal: &mut Vec<Event>,
+    history: &mut History,
+    state: Option<State>,
     uri: Text,
     label: i64,
     opening: Opening,
 ) -> u64
     requires documents { vec_len documents.old < vec_capacity documents.old }
     requires waiting { vec_len waiting.old < vec_capacity waiting.old }
-    requires journal { vec_len journal.old < vec_capacity journal.old }
-    requires version { next_version.old < 2000000 }
-    requires ticket { next_ticket.old < 2000000 }
+    requires history { HasRoom state history.old }
+    requires version { next_version.old + 1 < 2 ^ 64 }
+    requires ticket { next_ticket.old + 1 < 2 ^ 64 }
     ensures documents { documents.new.items ≡ documents.old.items ++ documents_of (Some opening.next) }
     ensures waiting { waiting.new.items ≡ waiting.old.items ++ jobs_of (Some opening.next) }
     ensures version { next_version.new ≡ next_version.old + 1 }
     ensures ticket { next_ticket.new ≡ next_ticket.old + 1 }
-    ensures journal { journal.new.items ≡ journal.old.items ++ Event.Opened uri label opening.text next_version.old ∷ [] }
-    ensures capacity { vec_capacity journal.new ≡ vec_capacity journal.old }
+    ensures history { Writes state history.old history.new (Event.Opened uri label opening.text opening.encoding next_version.old) }
     ensures result { result ≡ next_version.old }
 {
     let version = *next_version;
-    let Opening { text, next } = opening;
-    put_text(documents, waiting, next_version, next_ticket, Some(next));
-    journal.push_reserved(Event::Opened {
-        uri,
-        label,
+    let Opening {
         text,
-        version,
-    });
+        encoding,
+        next,
+    } = opening;
+    put_text(documents, waiting, next_version, next_ticket, Some(next));
+    history.enter(
+        state,
+        Event::Opened {
+            uri,
+            label,
+            text,
+            encoding,
+            version,
+        },
+    );
     version
 }
 

@@ -20,9 +20,9 @@ use Rattle.ls_answers.specs.declared.answer.Diagnostic.{Diagnostic}
 use Rattle.ls_answers.specs.declared.answer.RenameFault.{RenameFault}
 use Rattle.ls_answers.specs.declared.answer.Answer.{Answer}
 use Rattle.ls_answers.specs.declared.answer.Answer.TheVariants as answer
-use Rattle.ls_desk.specs.declared.event.Out.{Out}
-use Rattle.ls_desk.specs.declared.event.Out.TheVariants as out
-use Rattle.ls_desk.specs.declared.event.DeskFault.{DeskFault}
+use Rattle.ls_machine.specs.declared.event.Out.{Out}
+use Rattle.ls_machine.specs.declared.event.Out.TheVariants as out
+use Rattle.ls_machine.specs.declared.event.DeskFault.{DeskFault}
 
 -- of the kind 12, a function (LSP 3.17, "Document Symbols Request")
 abbrev pub symbol_json : Symbol → Data

@@ -1,6 +1,8 @@
 -- The result of `initialize`: what the server serves. Members stand in the order of their keys.
-use Rattle.std.specs.Prelude.{true, codes}
+use Rattle.std.specs.Prelude.{ℕ, List, true, codes}
 use Rattle.serde_json.specs.Data.{Data, Members, boolean, number, string, object, unsigned, member, no_members}
+use Rattle.ls_text.specs.declared.position.Encoding.{Encoding}
+use Rattle.ls_text.specs.declared.position.Encoding.TheVariants.{Utf8, Utf16, Utf32}
 use Rattle.ls_session.specs.Tokens.{legend_json}
 
 -- documents are opened and closed, and changes come as edits
@@ -25,20 +27,26 @@ served_json =
     (member (codes "referencesProvider") (boolean true)
     (member (codes "renameProvider") (boolean true) no_members)))))
 
--- what the server serves (LSP 3.17, "Initialize Request": ServerCapabilities)
-abbrev pub capabilities_json : Data
-capabilities_json =
+-- the name of an encoding (LSP 3.17, "PositionEncodingKind")
+abbrev pub encoding_name : Encoding → List ℕ
+encoding_name Utf8 = codes "utf-8"
+encoding_name Utf16 = codes "utf-16"
+encoding_name Utf32 = codes "utf-32"
+
+-- what the server serves, and what positions count (LSP 3.17, "Initialize Request": ServerCapabilities)
+abbrev pub capabilities_json : Encoding → Data
+capabilities_json encoding =
     object (member (codes "codeActionProvider") (boolean true)
     (member (codes "definitionProvider") (boolean true)
     (member (codes "documentSymbolProvider") (boolean true)
     (member (codes "hoverProvider") (boolean true)
-    (member (codes "positionEncoding") (string (codes "utf-16"))
+    (member (codes "positionEncoding") (string (encoding_name encoding))
     (member (codes "referencesProvider") (boolean true)
     (member (codes "renameProvider") (boolean true)
     (member (codes "semanticTokensProvider") semantic_tokens_json
     (member (codes "textDocumentSync") sync_json no_members)))))))))
 
-abbrev pub initialize_json : Data
-initialize_json =
-    object (member (codes "capabilities") capabilities_json
+abbrev pub initialize_json : Encoding → Data
+initialize_json encoding =
+    object (member (codes "capabilities") (capabilities_json encoding)
     (member (codes "serverInfo") (object (member (codes "name") (string (codes "abnf_ls")) no_members)) no_members))

@@ -1,15 +1,18 @@
 -- What is read of a message's parameters. `None` means that they can't be read.
-use Rattle.std.specs.Prelude.{ℕ, ℤ, pos, min, List, [], ◌∷◌, Bool, true, false, Option, Some, None, codes, option_map, option_and_then, unwrap_or}
+use Rattle.std.specs.Prelude.{ℕ, ℤ, pos, min, List, [], ◌∷◌, Bool, true, false, Option, Some, None, bytes_eq, codes, option_map, option_and_then, unwrap_or, if◌then◌else◌}
 use Rattle.serde_json.specs.Data.{Data, null, boolean, number, string, array, object, Items, no_items, item}
 use Rattle.serde_json.specs.Find.{get, as_str, as_bool, as_number, as_array, as_u64, as_i64}
 use Rattle.ls_rpc.specs.Message.{id_of}
+use Rattle.ls_text.specs.declared.position.Encoding.{Encoding}
+use Rattle.ls_text.specs.declared.position.Encoding.TheVariants.{Utf8, Utf16, Utf32}
 use Rattle.ls_text.specs.declared.position.Position.{Position}
 use Rattle.ls_text.specs.declared.position.Range.{Range}
 use Rattle.ls_text.specs.declared.edit.Edit.{Edit}
 use Rattle.ls_answers.specs.declared.ask.Ask.{Ask}
 use Rattle.ls_answers.specs.declared.ask.Ask.TheVariants as ask
-use Rattle.ls_workers.specs.declared.client.ClientEvent.{ClientEvent}
-use Rattle.ls_workers.specs.declared.client.ClientEvent.TheVariants as event
+use Rattle.ls_machine.specs.declared.client.ClientEvent.{ClientEvent}
+use Rattle.ls_machine.specs.declared.client.ClientEvent.TheVariants as event
+use Rattle.ls_session.specs.declared.session.Agreed.{Agreed}
 use Rattle.ls_session.specs.declared.kind.RequestKind.{RequestKind}
 use Rattle.ls_session.specs.declared.kind.RequestKind.TheVariants as request
 use Rattle.ls_session.specs.declared.kind.NoticeKind.{NoticeKind}
@@ -75,11 +78,11 @@ changes_of params = get (codes "contentChanges") params >>= as_array >>= edits_o
 
 -- ---- notices
 
-abbrev pub did_open_of : Data → Option ClientEvent
-did_open_of params = do
+abbrev pub did_open_of : Encoding → Data → Option ClientEvent
+did_open_of encoding params = do
   uri ← uri_of params
   text ← document_member (codes "text") params >>= as_str
-  Some (event.DidOpen uri (label_of params) text)
+  Some (event.DidOpen uri (label_of params) text encoding)
 
 -- where the uri can be read and the changes can't, the document is closed: its text isn't known any more
 abbrev pub did_change_of : Data → Option ClientEvent
@@ -94,14 +97,14 @@ did_close_of params = option_map event.DidClose (uri_of params)
 abbrev pub cancel_of : Data → Option ClientEvent
 cancel_of params = option_map event.Cancel (get (codes "id") params >>= id_of)
 
--- the event of a notice, if there is one
-abbrev pub event_of : NoticeKind → Data → Option ClientEvent
-event_of notice.Exit params = None
-event_of notice.DidOpen params = did_open_of params
-event_of notice.DidChange params = did_change_of params
-event_of notice.DidClose params = did_close_of params
-event_of notice.CancelRequest params = cancel_of params
-event_of notice.Unknown params = None
+-- the event of a notice, if there is one, where this encoding was agreed
+abbrev pub event_of : Encoding → NoticeKind → Data → Option ClientEvent
+event_of encoding notice.Exit params = None
+event_of encoding notice.DidOpen params = did_open_of encoding params
+event_of encoding notice.DidChange params = did_change_of params
+event_of encoding notice.DidClose params = did_close_of params
+event_of encoding notice.CancelRequest params = cancel_of params
+event_of encoding notice.Unknown params = None
 
 -- ---- requests
 
@@ -158,3 +161,37 @@ named_links params = get (codes "capabilities") params >>= get (codes "workspace
 -- whether the client takes edits of a workspace as `documentChanges`: it says true, and all else doesn't
 abbrev pub links_of : Data → Bool
 links_of params = unwrap_or (named_links params) false
+
+-- ---- what positions count (LSP 3.17, "PositionEncodingKind")
+
+-- the encoding of a name, if it is one of the three
+abbrev pub encoding_named : List ℕ → Option Encoding
+encoding_named name =
+    if bytes_eq name (codes "utf-8") then Some Utf8
+    else if bytes_eq name (codes "utf-16") then Some Utf16
+    else if bytes_eq name (codes "utf-32") then Some Utf32
+    else None
+
+-- what a client offers: a text that names one
+abbrev pub offer_of : Data → Option Encoding
+offer_of value = as_str value >>= encoding_named
+
+abbrev pub or_else : Option Encoding → Option Encoding → Option Encoding
+or_else None later = later
+or_else (Some encoding) later = Some encoding
+
+-- the first offer that names one
+abbrev pub first_offer : Items → Option Encoding
+first_offer no_items = None
+first_offer (item value values) = or_else (offer_of value) (first_offer values)
+
+abbrev pub named_encoding : Data → Option Encoding
+named_encoding params = get (codes "capabilities") params >>= get (codes "general") >>= get (codes "positionEncodings") >>= as_array >>= first_offer
+
+-- what is agreed: the first of the client's offers that is known, and UTF-16 where there is none
+abbrev pub encoding_of : Data → Encoding
+encoding_of params = unwrap_or (named_encoding params) Utf16
+
+-- what `initialize` settles
+abbrev pub agreed_of : Data → Agreed
+agreed_of params = record { links = links_of params; encoding = encoding_of params }

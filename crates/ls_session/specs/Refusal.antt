@@ -7,8 +7,8 @@ use Rattle.ls_rpc.specs.Message.{parse_error, invalid_request}
 use Rattle.ls_rpc.specs.Reply.{error_json}
 use Rattle.ls_answers.specs.declared.answer.RenameFault.{RenameFault}
 use Rattle.ls_answers.specs.declared.answer.RenameFault.TheVariants as rename
-use Rattle.ls_desk.specs.declared.event.DeskFault.{DeskFault}
-use Rattle.ls_desk.specs.declared.event.DeskFault.TheVariants as fault
+use Rattle.ls_machine.specs.declared.event.DeskFault.{DeskFault}
+use Rattle.ls_machine.specs.declared.event.DeskFault.TheVariants as fault
 use Rattle.ls_session.specs.declared.refusal.Refusal.{Refusal}
 use Rattle.ls_session.specs.declared.refusal.Refusal.TheVariants as refusal
 

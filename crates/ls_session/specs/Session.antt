@@ -7,11 +7,11 @@ use Rattle.ls_rpc.specs.Message.{Message, request, notice, response, bad}
 use Rattle.ls_rpc.specs.Reply.{result_json}
 use Rattle.ls_session.specs.Initialize.{initialize_json}
 use Rattle.ls_session.specs.Kind.{request_named, notice_named}
-use Rattle.ls_session.specs.Params.{cancel_of, event_of, question_of, links_of}
+use Rattle.ls_session.specs.Params.{cancel_of, event_of, question_of, agreed_of}
 use Rattle.ls_session.specs.Refusal.{error_body, refusal_of_code}
 use Rattle.ls_answers.specs.declared.ask.Ask.{Ask}
-use Rattle.ls_workers.specs.declared.client.ClientEvent.{ClientEvent}
-use Rattle.ls_workers.specs.declared.client.ClientEvent.TheVariants as event
+use Rattle.ls_machine.specs.declared.client.ClientEvent.{ClientEvent}
+use Rattle.ls_machine.specs.declared.client.ClientEvent.TheVariants as event
 use Rattle.ls_session.specs.declared.event.Turn.{Turn}
 use Rattle.ls_session.specs.declared.event.Turn.TheVariants.{Nothing, Event, Exit}
 use Rattle.ls_session.specs.declared.event.Status.TheVariants.{Clean, Unclean}
@@ -21,6 +21,7 @@ use Rattle.ls_session.specs.declared.kind.NoticeKind.{NoticeKind}
 use Rattle.ls_session.specs.declared.kind.NoticeKind.TheVariants as note
 use Rattle.ls_session.specs.declared.refusal.Refusal.{Refusal}
 use Rattle.ls_session.specs.declared.refusal.Refusal.TheVariants as refusal
+use Rattle.ls_session.specs.declared.session.Agreed.{Agreed}
 use Rattle.ls_session.specs.declared.session.Stage.{Stage}
 use Rattle.ls_session.specs.declared.session.Stage.TheVariants.{BeforeInitialize, Running, ShutDown, Ended}
 
@@ -41,18 +42,18 @@ asked id links None = refused (Some id) refusal.InvalidParams
 
 -- before initialize, only that is served
 abbrev pub first_turn : Id → RequestKind → Data → Turn × Stage
-first_turn id kind.Initialize params = (said (result_json id initialize_json), Running (links_of params))
+first_turn id kind.Initialize params = (said (result_json id (initialize_json (agreed_of params).encoding)), Running (agreed_of params))
 first_turn id k params = (refused (Some id) refusal.NotInitialized, BeforeInitialize)
 
-abbrev pub running_turn : Bool → Id → RequestKind → Data → Turn × Stage
-running_turn links id kind.Initialize params = (refused (Some id) refusal.InvalidRequest, Running links)
-running_turn links id kind.Shutdown params = (said (result_json id null), ShutDown)
-running_turn links id kind.Unknown params = (refused (Some id) refusal.MethodNotFound, Running links)
-running_turn links id k params = (asked id links (question_of k params), Running links)
+abbrev pub running_turn : Agreed → Id → RequestKind → Data → Turn × Stage
+running_turn agreed id kind.Initialize params = (refused (Some id) refusal.InvalidRequest, Running agreed)
+running_turn agreed id kind.Shutdown params = (said (result_json id null), ShutDown)
+running_turn agreed id kind.Unknown params = (refused (Some id) refusal.MethodNotFound, Running agreed)
+running_turn agreed id k params = (asked id agreed.links (question_of k params), Running agreed)
 
 abbrev pub request_turn : Stage → Id → RequestKind → Data → Turn × Stage
 request_turn BeforeInitialize id k params = first_turn id k params
-request_turn (Running links) id k params = running_turn links id k params
+request_turn (Running agreed) id k params = running_turn agreed id k params
 request_turn ShutDown id k params = (refused (Some id) refusal.InvalidRequest, ShutDown)
 request_turn Ended id k params = (Nothing, Ended)
 
@@ -71,14 +72,14 @@ late_event k params = None
 -- a notice other than exit is taken while the session runs; before initialize it is dropped (LSP 3.17, "Server lifecycle")
 abbrev pub stage_event : Stage → NoticeKind → Data → Option ClientEvent
 stage_event BeforeInitialize k params = None
-stage_event (Running links) k params = event_of k params
+stage_event (Running agreed) k params = event_of agreed.encoding k params
 stage_event ShutDown k params = late_event k params
 stage_event Ended k params = None
 
 -- exit is clean after shutdown alone
 abbrev pub exit_turn : Stage → Turn × Stage
 exit_turn BeforeInitialize = (Exit Unclean, Ended)
-exit_turn (Running links) = (Exit Unclean, Ended)
+exit_turn (Running agreed) = (Exit Unclean, Ended)
 exit_turn ShutDown = (Exit Clean, Ended)
 exit_turn Ended = (Nothing, Ended)
 
@@ -91,7 +92,7 @@ notice_turn stage k params = (event_or_nothing (stage_event stage k params), sta
 -- what is no message is answered in each stage before exit
 abbrev pub bad_turn : Stage → Option Id → ℤ → Turn
 bad_turn BeforeInitialize id code = refused id (refusal_of_code code)
-bad_turn (Running links) id code = refused id (refusal_of_code code)
+bad_turn (Running agreed) id code = refused id (refusal_of_code code)
 bad_turn ShutDown id code = refused id (refusal_of_code code)
 bad_turn Ended id code = Nothing
 

@@ -10,7 +10,7 @@ use crate::positions::write_range;
 use crate::refusal::Refusal;
 use crate::tokens::write_tokens;
 use ls_answers::{Answer, Diagnostic, HoverText, Symbol};
-use ls_desk::{DeskFault, Out};
+use ls_machine::{DeskFault, Out};
 use ls_rpc::{Id, open_notice, open_reply};
 use ls_text::Range;
 use serde::{Described, Serialize, Serializer};

@@ -1,7 +1,7 @@
 //! What a message of the client comes to.
 
 use ls_frame::FrameFault;
-use ls_workers::ClientEvent;
+use ls_machine::ClientEvent;
 
 /// How a session ended.
 #[derive(Clone, Copy, Debug, Drop, PartialEq, Eq)]

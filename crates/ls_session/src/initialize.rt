@@ -1,8 +1,9 @@
 ghost use Rattle.std.specs.Prelude.{◌≡◌, IfOk};
 ghost use Rattle.serde_json.specs.View.{view, members_view};
-ghost use Rattle.ls_session.specs.Initialize.{initialize_json, capabilities_json, semantic_tokens_json, served_json, sync_json};
+ghost use Rattle.ls_session.specs.Initialize.{encoding_name, initialize_json, capabilities_json, semantic_tokens_json, served_json, sync_json};
 
 use crate::tokens::legend_value;
+use ls_text::Encoding;
 use serde_json::{Map, Value, put};
 use std::alloc::{AllocError as Memory, Global};
 
@@ -10,11 +11,11 @@ use std::alloc::{AllocError as Memory, Global};
 /// Synchronization").
 const SYNC_INCREMENTAL: u32 = 2;
 
-/// The result of `initialize` (LSP 3.17, "Initialize Request").
-pub(crate) fn initialize_value(alloc: Global) -> Result<Value, Memory>
-    ensures { IfOk result (λ value. view value ≡ initialize_json) }
+/// The result of `initialize`, with the encoding that was agreed (LSP 3.17, "Initialize Request").
+pub(crate) fn initialize_value(alloc: Global, encoding: Encoding) -> Result<Value, Memory>
+    ensures { IfOk result (λ value. view value ≡ initialize_json encoding) }
 {
-    let capabilities = capabilities_value(alloc)?;
+    let capabilities = capabilities_value(alloc, encoding)?;
     let name = Value::try_from_str(alloc, "abnf_ls")?;
     let mut server = Map::new(alloc);
     put(&mut server, alloc, "name", name)?;
@@ -24,10 +25,21 @@ pub(crate) fn initialize_value(alloc: Global) -> Result<Value, Memory>
     Ok(Value::Object(members))
 }
 
-fn capabilities_value(alloc: Global) -> Result<Value, Memory>
-    ensures { IfOk result (λ value. view value ≡ capabilities_json) }
+/// The name of an encoding (LSP 3.17, "PositionEncodingKind").
+fn encoding_name(encoding: Encoding) -> &'static str
+    ensures { result.now ≡ encoding_name encoding }
 {
-    let encoding = Value::try_from_str(alloc, "utf-16")?;
+    match encoding {
+        Encoding::Utf8 => "utf-8",
+        Encoding::Utf16 => "utf-16",
+        Encoding::Utf32 => "utf-32",
+    }
+}
+
+fn capabilities_value(alloc: Global, encoding: Encoding) -> Result<Value, Memory>
+    ensures { IfOk result (λ value. view value ≡ capabilities_json encoding) }
+{
+    let encoding = Value::try_from_str(alloc, encoding_name(encoding))?;
     let tokens = semantic_tokens_value(alloc)?;
     let sync = sync_value(alloc)?;
     let mut members = served(alloc)?;

@@ -3,7 +3,7 @@ ghost use Rattle.std.specs.Prelude.{◌≡◌, Some, codes};
 ghost use Rattle.serde_json.specs.Written.{compact_text};
 ghost use Rattle.ls_rpc.specs.Reply.{error_json};
 ghost use Rattle.ls_rpc.specs.declared.message.Id.{Id};
-ghost use Rattle.ls_desk.specs.Machine.{content_modified, internal_error, request_cancelled};
+ghost use Rattle.ls_machine.specs.Machine.{content_modified, internal_error, request_cancelled};
 ghost use Rattle.ls_session.specs.Bodies.{failure_body};
 
 /// Each code that the desk keeps for a request is said as it is, with its text.

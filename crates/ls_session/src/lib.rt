@@ -1,7 +1,7 @@
 //! What each message of a client means in a session, and the JSON of all that the server says.
 //!
 //! A [`Session`] takes the bodies of a client's messages one after another. Each gives a [`Turn`]: nothing, an event
-//! for the desk, or the end of the session. What waits to be said is an [`ls_desk::Out`], and
+//! for the desk, or the end of the session. What waits to be said is an [`ls_machine::Out`], and
 //! [`body_of`] is its body. The methods and their JSON are those of LSP 3.17.
 #![tactic(auto)]
 
@@ -21,6 +21,6 @@ mod tokens;
 pub use bodies::{body_of, refusal_body};
 pub use event::{Status, Turn};
 pub use laws::failures_have_their_code;
-pub use ls_workers::ClientEvent;
+pub use ls_machine::ClientEvent;
 pub use refusal::Refusal;
-pub use session::{Session, Stage};
+pub use session::{Agreed, Session, Stage};

@@ -2,14 +2,15 @@
 ghost use Rattle.std.specs.Prelude.{◌≡◌, IfOk, option_map, unwrap_or};
 ghost use Rattle.serde_json.specs.View.{view, items_view};
 ghost use Rattle.serde_json.specs.Data.{null};
-ghost use Rattle.ls_session.specs.Params.{document_member, uri_of, label_of, count_of, position_of, range_of, range_or_none, edit_of, edits_of, changes_of, did_open_of, did_change_of, did_close_of, cancel_of, event_of, position_in, named_declarations, declarations_of, references_of, rename_of, action_of, ask_of, question_of, named_links, links_of};
+ghost use Rattle.ls_session.specs.Params.{document_member, uri_of, label_of, count_of, position_of, range_of, range_or_none, edit_of, edits_of, changes_of, did_open_of, did_change_of, did_close_of, cancel_of, event_of, position_in, named_declarations, declarations_of, references_of, rename_of, action_of, ask_of, question_of, named_links, links_of, encoding_named, offer_of, first_offer, named_encoding, encoding_of, agreed_of};
 
 use crate::kind::{NoticeKind, RequestKind};
+use crate::session::Agreed;
 use ls_answers::Ask;
 use ls_lists::{List, Text};
+use ls_machine::ClientEvent;
 use ls_rpc::read_id;
-use ls_text::{Edit, Position, Range};
-use ls_workers::ClientEvent;
+use ls_text::{Edit, Encoding, Position, Range};
 use serde_json::Value;
 use std::alloc::{AllocError as Memory, Global};
 
@@ -107,8 +108,12 @@ fn changes(alloc: Global, params: &Value) -> Result<Option<List<Edit>>, Memory>
     }
 }
 
-fn did_open(alloc: Global, params: &Value) -> Result<Option<ClientEvent>, Memory>
-    ensures { IfOk result (λ event. event ≡ did_open_of (view params.now)) }
+fn did_open(
+    alloc: Global,
+    encoding: Encoding,
+    params: &Value,
+) -> Result<Option<ClientEvent>, Memory>
+    ensures { IfOk result (λ event. event ≡ did_open_of encoding (view params.now)) }
 {
     let Some(uri) = uri(params) else {
         return Ok(None);
@@ -118,7 +123,7 @@ fn did_open(alloc: Global, params: &Value) -> Result<Option<ClientEvent>, Memory
     };
     let uri = Text::from_str(alloc, uri)?;
     let text = Text::from_str(alloc, text)?;
-    Ok(Some(ClientEvent::DidOpen(uri, label(params), text)))
+    Ok(Some(ClientEvent::DidOpen(uri, label(params), text, encoding)))
 }
 
 /// A change that can't be read closes its document, since its text isn't known any more.
@@ -157,13 +162,14 @@ pub(crate) fn cancel(alloc: Global, params: &Value) -> Result<Option<ClientEvent
 /// The event of a notice.
 pub(crate) fn event(
     alloc: Global,
+    encoding: Encoding,
     kind: NoticeKind,
     params: &Value,
 ) -> Result<Option<ClientEvent>, Memory>
-    ensures { IfOk result (λ event. event ≡ event_of kind (view params.now)) }
+    ensures { IfOk result (λ event. event ≡ event_of encoding kind (view params.now)) }
 {
     match kind {
-        NoticeKind::DidOpen => did_open(alloc, params),
+        NoticeKind::DidOpen => did_open(alloc, encoding, params),
         NoticeKind::DidChange => did_change(alloc, params),
         NoticeKind::DidClose => did_close(alloc, params),
         NoticeKind::CancelRequest => cancel(alloc, params),
@@ -249,7 +255,7 @@ pub(crate) fn question(
 }
 
 /// Whether the client takes edits of a workspace as `documentChanges`.
-pub(crate) fn links(params: &Value) -> bool
+fn links(params: &Value) -> bool
     ensures { result ≡ links_of (view params.now) }
 {
     named_links(params).unwrap_or(false)
@@ -264,4 +270,63 @@ fn named_links(params: &Value) -> Option<bool>
         .get("workspaceEdit")?
         .get("documentChanges")?
         .as_bool()
+}
+
+/// What `initialize` settles.
+pub(crate) fn agreed(params: &Value) -> Agreed
+    ensures { result ≡ agreed_of (view params.now) }
+{
+    Agreed {
+        links: links(params),
+        encoding: encoding(params),
+    }
+}
+
+/// The first of the client's offers that is known, and UTF-16 where there is none.
+fn encoding(params: &Value) -> Encoding
+    ensures { result ≡ encoding_of (view params.now) }
+{
+    named_encoding(params).unwrap_or(Encoding::Utf16)
+}
+
+fn named_encoding(params: &Value) -> Option<Encoding>
+    ensures { result ≡ named_encoding (view params.now) }
+{
+    let offers = params
+        .get("capabilities")?
+        .get("general")?
+        .get("positionEncodings")?
+        .as_array()?;
+    first_offer(offers)
+}
+
+fn first_offer(values: &Vec<Value>) -> Option<Encoding>
+    ensures { result ≡ first_offer (items_view values.now.items) }
+{
+    for value in values {
+        if let Some(encoding) = offer(value) {
+            return Some(encoding);
+        }
+    }
+    None
+}
+
+fn offer(value: &Value) -> Option<Encoding>
+    ensures { result ≡ offer_of (view value.now) }
+{
+    encoding_named(value.as_str()?)
+}
+
+fn encoding_named(name: &str) -> Option<Encoding>
+    ensures { result ≡ encoding_named name.now }
+{
+    if name == "utf-8" {
+        Some(Encoding::Utf8)
+    } else if name == "utf-16" {
+        Some(Encoding::Utf16)
+    } else if name == "utf-32" {
+        Some(Encoding::Utf32)
+    } else {
+        None
+    }
 }

@@ -3,7 +3,7 @@ ghost use Rattle.std.specs.Option.{option_copied};
 ghost use Rattle.ls_session.specs.Refusal.{code_of, text_of, error_body, refusal_of_code, refusal_of_failure, refusal_of_fault, refusal_of_rename};
 
 use ls_answers::RenameFault;
-use ls_desk::DeskFault;
+use ls_machine::DeskFault;
 use ls_rpc::{INVALID_REQUEST, Id, PARSE_ERROR, error_text};
 use std::alloc::{AllocError as Memory, Global};
 

@@ -14,20 +14,29 @@ use crate::params;
 use crate::refusal::Refusal;
 use ls_answers::Ask;
 use ls_lists::{List, Text};
+use ls_machine::ClientEvent;
 use ls_rpc::{Id, Message, read_message, result_text};
-use ls_workers::ClientEvent;
+use ls_text::Encoding;
 use serde_json::Value;
 use std::alloc::{AllocError as Memory, Global};
 use std::marker::Model;
+
+/// What `initialize` has settled.
+#[derive(Clone, Copy, Debug, PartialEq, Eq)]
+pub struct Agreed {
+    /// Whether the client takes edits of a workspace as `documentChanges`.
+    pub links: bool,
+    /// What positions count (LSP 3.17, "PositionEncodingKind").
+    pub encoding: Encoding,
+}
 
 /// Where a session stands (LSP 3.17, "Server lifecycle").
 #[derive(Clone, Copy, Debug, PartialEq, Eq)]
 pub enum Stage {
     /// `initialize` hasn't come.
     BeforeInitialize,
-    /// Between `initialize` and `shutdown`. The field says whether the client takes edits of a workspace as
-    /// `documentChanges`.
-    Running(bool),
+    /// Between `initialize` and `shutdown`.
+    Running(Agreed),
     /// Between `shutdown` and `exit`.
     ShutDown,
     /// After `exit`.
@@ -102,7 +111,7 @@ fn request_turn(
 {
     match stage {
         Stage::BeforeInitialize => first_turn(alloc, id, kind, params),
-        Stage::Running(links) => running_turn(alloc, links, id, kind, params),
+        Stage::Running(agreed) => running_turn(alloc, agreed, id, kind, params),
         Stage::ShutDown => Ok((refused(alloc, Some(&id), Refusal::InvalidRequest)?, stage)),
         Stage::Ended => Ok((Turn::Nothing, stage)),
     }
@@ -118,8 +127,9 @@ fn first_turn(
 {
     match kind {
         RequestKind::Initialize => {
-            let reply = replied(alloc, &id, initialize_value(alloc)?)?;
-            Ok((reply, Stage::Running(params::links(params))))
+            let agreed = params::agreed(params);
+            let reply = replied(alloc, &id, initialize_value(alloc, agreed.encoding)?)?;
+            Ok((reply, Stage::Running(agreed)))
         }
         _ => {
             let reply = refused(alloc, Some(&id), Refusal::NotInitialized)?;
@@ -130,14 +140,14 @@ fn first_turn(
 
 fn running_turn(
     alloc: Global,
-    links: bool,
+    agreed: Agreed,
     id: Id,
     kind: RequestKind,
     params: &Value,
 ) -> Result<(Turn, Stage), Memory>
-    ensures { IfOk result (λ turn. turn ≡ running_turn links id kind (view params.now)) }
+    ensures { IfOk result (λ turn. turn ≡ running_turn agreed id kind (view params.now)) }
 {
-    let stage = Stage::Running(links);
+    let stage = Stage::Running(agreed);
     match kind {
         RequestKind::Initialize => {
             Ok((refused(alloc, Some(&id), Refusal::InvalidRequest)?, stage))
@@ -146,7 +156,7 @@ fn running_turn(
         RequestKind::Unknown => Ok((refused(alloc, Some(&id), Refusal::MethodNotFound)?, stage)),
         _ => {
             let question = params::question(alloc, kind, params)?;
-            Ok((asked(alloc, id, links, question)?, stage))
+            Ok((asked(alloc, id, agreed.links, question)?, stage))
         }
     }
 }
@@ -196,7 +206,7 @@ fn stage_event(
     ensures { IfOk result (λ event. event ≡ stage_event stage kind (view params.now)) }
 {
     match stage {
-        Stage::Running(_) => params::event(alloc, kind, params),
+        Stage::Running(agreed) => params::event(alloc, agreed.encoding, kind, params),
         Stage::ShutDown => late_event(alloc, kind, params),
         Stage::BeforeInitialize | Stage::Ended => Ok(None),
     }

@@ -7,23 +7,25 @@ use Rattle.ls_text.specs.declared.edit.Edit.{Edit}
 use Rattle.ls_text.specs.declared.position.Position.{Position}
 use Rattle.ls_rpc.specs.declared.message.Id.{Id}
 use Rattle.ls_rpc.specs.Message.{Message, request, notice, response, bad, id_of}
+use Rattle.ls_text.specs.declared.position.Encoding.{Encoding}
 use Rattle.ls_answers.specs.declared.ask.Ask.{Ask}
 use Rattle.ls_answers.specs.declared.ask.Ask.TheVariants.{Hover, Definition, References, Rename, Action, Diagnose}
 use Rattle.ls_session.specs.Params.{◌>>=◌, ask_of, changes_of, declarations_of, document_member, event_of, label_of, position_in, question_of, range_of, uri_of}
 use Rattle.ls_session.specs.Session.{asked, bad_turn, event_or_nothing, exit_turn, first_turn, late_event, notice_turn, request_turn, running_turn, stage_event, turn_of}
-use Rattle.ls_workers.specs.declared.client.ClientEvent.{ClientEvent}
-use Rattle.ls_workers.specs.declared.client.ClientEvent.TheVariants as event
+use Rattle.ls_machine.specs.declared.client.ClientEvent.{ClientEvent}
+use Rattle.ls_machine.specs.declared.client.ClientEvent.TheVariants as event
 use Rattle.ls_session.specs.declared.event.Turn.{Turn}
 use Rattle.ls_session.specs.declared.event.Turn.TheVariants.{Event}
 use Rattle.ls_session.specs.declared.kind.RequestKind.{RequestKind}
 use Rattle.ls_session.specs.declared.kind.RequestKind.TheVariants as kind
 use Rattle.ls_session.specs.declared.kind.NoticeKind.{NoticeKind}
 use Rattle.ls_session.specs.declared.kind.NoticeKind.TheVariants as note
+use Rattle.ls_session.specs.declared.session.Agreed.{Agreed}
 use Rattle.ls_session.specs.declared.session.Stage.{Stage}
 use Rattle.ls_session.specs.declared.session.Stage.TheVariants.{BeforeInitialize, Running, ShutDown, Ended}
 use Rattle.ls_session.specs.Kind.{request_named, notice_named}
 use Rattle.ls_steps.specs.Leaves.{IsAllowedOn}
-use Rattle.ls_workers.specs.Client.{IsAllowed}
+use Rattle.ls_machine.specs.Client.{IsAllowed}
 
 -- ---- questions
 
@@ -78,15 +80,15 @@ first-allowed : (id : Id) (k : RequestKind) (params : Data) → IsAllowedOn (fir
 first-allowed id kind.Initialize params = tt
 first-allowed id k params = tt
 
-running-allowed : (links : Bool) (id : Id) (k : RequestKind) (params : Data) → IsAllowedOn (running_turn links id k params).0
-running-allowed links id kind.Initialize params = tt
-running-allowed links id kind.Shutdown params = tt
-running-allowed links id kind.Unknown params = tt
-running-allowed links id k params = asked-allowed id links (question_of k params) (question-allowed k params)
+running-allowed : (agreed : Agreed) (id : Id) (k : RequestKind) (params : Data) → IsAllowedOn (running_turn agreed id k params).0
+running-allowed agreed id kind.Initialize params = tt
+running-allowed agreed id kind.Shutdown params = tt
+running-allowed agreed id kind.Unknown params = tt
+running-allowed agreed id k params = asked-allowed id agreed.links (question_of k params) (question-allowed k params)
 
 request-allowed : (stage : Stage) (id : Id) (k : RequestKind) (params : Data) → IsAllowedOn (request_turn stage id k params).0
 request-allowed BeforeInitialize id k params = first-allowed id k params
-request-allowed (Running links) id k params = running-allowed links id k params
+request-allowed (Running agreed) id k params = running-allowed agreed id k params
 request-allowed ShutDown id k params = tt
 request-allowed Ended id k params = tt
 
@@ -100,10 +102,10 @@ event-map : {A : Type 0} (f : A → ClientEvent) (o : Option A) → ((x : A) →
 event-map f None h = tt
 event-map f (Some x) h = h x
 
-open-allowed : (uri : Option (List ℕ)) (label : ℤ) (text : Option (List ℕ)) → IsEvent (option_and_then (λ u. option_and_then (λ t. Some (event.DidOpen u label t)) text) uri)
-open-allowed None label text = tt
-open-allowed (Some u) label None = tt
-open-allowed (Some u) label (Some t) = tt
+open-allowed : (uri : Option (List ℕ)) (label : ℤ) (text : Option (List ℕ)) (encoding : Encoding) → IsEvent (option_and_then (λ u. option_and_then (λ t. Some (event.DidOpen u label t encoding)) text) uri)
+open-allowed None label text encoding = tt
+open-allowed (Some u) label None encoding = tt
+open-allowed (Some u) label (Some t) encoding = tt
 
 change-allowed : (uri : Option (List ℕ)) (label : ℤ) (edits : Option (List Edit))
     → IsEvent (option_and_then (λ u. Some (unwrap_or (option_map (event.DidChange u label) edits) (event.DidClose u))) uri)
@@ -111,13 +113,13 @@ change-allowed None label edits = tt
 change-allowed (Some u) label None = tt
 change-allowed (Some u) label (Some es) = tt
 
-event-allowed : (k : NoticeKind) (params : Data) → IsEvent (event_of k params)
-event-allowed note.Exit params = tt
-event-allowed note.DidOpen params = open-allowed (uri_of params) (label_of params) (document_member (codes "text") params >>= as_str)
-event-allowed note.DidChange params = change-allowed (uri_of params) (label_of params) (changes_of params)
-event-allowed note.DidClose params = event-map event.DidClose (uri_of params) (λ uri. tt)
-event-allowed note.CancelRequest params = event-map event.Cancel (get (codes "id") params >>= id_of) (λ id. tt)
-event-allowed note.Unknown params = tt
+event-allowed : (encoding : Encoding) (k : NoticeKind) (params : Data) → IsEvent (event_of encoding k params)
+event-allowed encoding note.Exit params = tt
+event-allowed encoding note.DidOpen params = open-allowed (uri_of params) (label_of params) (document_member (codes "text") params >>= as_str) encoding
+event-allowed encoding note.DidChange params = change-allowed (uri_of params) (label_of params) (changes_of params)
+event-allowed encoding note.DidClose params = event-map event.DidClose (uri_of params) (λ uri. tt)
+event-allowed encoding note.CancelRequest params = event-map event.Cancel (get (codes "id") params >>= id_of) (λ id. tt)
+event-allowed encoding note.Unknown params = tt
 
 late-allowed : (k : NoticeKind) (params : Data) → IsEvent (late_event k params)
 late-allowed note.CancelRequest params = event-map event.Cancel (get (codes "id") params >>= id_of) (λ id. tt)
@@ -125,7 +127,7 @@ late-allowed k params = tt
 
 stage-allowed : (stage : Stage) (k : NoticeKind) (params : Data) → IsEvent (stage_event stage k params)
 stage-allowed BeforeInitialize k params = tt
-stage-allowed (Running links) k params = event-allowed k params
+stage-allowed (Running agreed) k params = event-allowed agreed.encoding k params
 stage-allowed ShutDown k params = late-allowed k params
 stage-allowed Ended k params = tt
 
@@ -135,7 +137,7 @@ told-allowed (Some e) h = h
 
 exit-allowed : (stage : Stage) → IsAllowedOn (exit_turn stage).0
 exit-allowed BeforeInitialize = tt
-exit-allowed (Running links) = tt
+exit-allowed (Running agreed) = tt
 exit-allowed ShutDown = tt
 exit-allowed Ended = tt
 
@@ -147,7 +149,7 @@ notice-allowed stage k params = told-allowed (stage_event stage k params) (stage
 
 bad-allowed : (stage : Stage) (id : Option Id) (code : ℤ) → IsAllowedOn (bad_turn stage id code)
 bad-allowed BeforeInitialize id code = tt
-bad-allowed (Running links) id code = tt
+bad-allowed (Running agreed) id code = tt
 bad-allowed ShutDown id code = tt
 bad-allowed Ended id code = tt
 

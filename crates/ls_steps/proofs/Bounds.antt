@@ -1,14 +1,22 @@
--- A desk has no more events than its limit.
+-- A desk has had no more events than its limit.
 use Rattle.std.proofs.Common.{ℕ, ◌+◌, ◌≤◌, List, [], ◌∷◌, length, arith}
-use Rattle.ls_desk.specs.declared.event.Event.{Event}
-use Rattle.ls_desk.specs.Machine.{State, start, step}
-use Rattle.ls_desk.specs.Journal.{IsLegalFrom}
-use Rattle.ls_desk.specs.Stands.{IsSound, Seen}
+use Rattle.ls_machine.specs.declared.event.Event.{Event}
+use Rattle.ls_machine.specs.declared.state.State.{State}
+use Rattle.ls_machine.specs.Counts.{total}
+use Rattle.ls_machine.specs.Machine.{start, step}
+use Rattle.ls_machine.specs.Journal.{IsLegalFrom}
+use Rattle.ls_machine.proofs.Replays.{past-length, total-counted}
+use Rattle.ls_desk.specs.Stands.{IsSound, Seen, counts_of}
 
 legal-fits : (most n : ℕ) (s : State) (es : List Event) → n ≤ most → IsLegalFrom most n s es → n + length es ≤ most
 unfolding IsLegalFrom
 legal-fits most n s [] le l = omega (arith, le)
 legal-fits most n s (e ∷ es) le l = omega (arith, legal-fits most (n + 1) (step s e) es (omega (arith, l.1)) l.2)
 
-pub sound-fits : (d : Seen) → IsSound d → length d.journal ≤ d.max_events
-sound-fits d s = omega (arith, legal-fits d.max_events 0 start d.journal (omega arith) s.legal)
+pub sound-fits : (d : Seen) → IsSound d → total (counts_of d) ≤ d.max_events
+sound-fits d s =
+    let before = legal-fits d.max_events 0 start s.past.0 (omega arith) s.past.1.legal in
+    let few = past-length d.max_events d.base s.past.0 s.past.1 in
+    let all = legal-fits d.max_events (total d.base.counts) d.base.state d.journal (omega arith) s.legal in
+    let count = total-counted d.base.counts d.journal in
+    omega arith

@@ -2,12 +2,13 @@
 use Rattle.std.proofs.Common.{◌≡◌, ℕ, ℤ, List, Bool, Option, Some, subst, inl, inr}
 use Rattle.std.specs.Prelude.{◌≢◌, ◌⊎◌}
 use Rattle.ls_text.specs.declared.edit.Edit.{Edit}
+use Rattle.ls_text.specs.declared.position.Encoding.{Encoding}
 use Rattle.ls_rpc.specs.declared.message.Id.{Id}
 use Rattle.ls_answers.specs.declared.ask.Ask.{Ask}
-use Rattle.ls_desk.specs.declared.event.Event.TheVariants.{Opened, Changed, Asked, Cancelled}
-use Rattle.ls_desk.specs.declared.event.DeskFault.{DeskFault}
-use Rattle.ls_desk.specs.declared.event.DeskFault.TheVariants.{Memory}
-use Rattle.ls_desk.specs.Machine.{IsPossible, document_of, edited_at, id_waits, version_if}
+use Rattle.ls_machine.specs.declared.event.Event.TheVariants.{Opened, Changed, Asked, Cancelled}
+use Rattle.ls_machine.specs.declared.event.DeskFault.{DeskFault}
+use Rattle.ls_machine.specs.declared.event.DeskFault.TheVariants.{Memory}
+use Rattle.ls_machine.specs.Machine.{IsPossible, document_of, edited_at, id_waits, version_if}
 use Rattle.ls_desk.specs.Stands.{Seen, state_of}
 use Rattle.ls_desk.specs.Faults.{Accepts, Refuses}
 
@@ -23,12 +24,12 @@ first-cause first old new fault n r = first-of first fault n r.cause
 
 -- ---- entries: the answer kept with an event is the machine's
 
-pub opened-at : (first : Option DeskFault) (old new : Seen) (uri : List ℕ) (label : ℤ) (text : List ℕ) (version : ℕ)
-    → Accepts first old new (Opened uri label text version)
-    → Accepts first old new (Opened uri label text (state_of old).next_version)
+pub opened-at : (first : Option DeskFault) (old new : Seen) (uri : List ℕ) (label : ℤ) (text : List ℕ) (encoding : Encoding) (version : ℕ)
+    → Accepts first old new (Opened uri label text encoding version)
+    → Accepts first old new (Opened uri label text encoding (state_of old).next_version)
 unfolding IsPossible
-opened-at first old new uri label text version a =
-    let P : ℕ → Type 0 = λ v. Accepts first old new (Opened uri label text v) in subst P a.enters.possible.3 a
+opened-at first old new uri label text encoding version a =
+    let P : ℕ → Type 0 = λ v. Accepts first old new (Opened uri label text encoding v) in subst P a.enters.possible.3 a
 
 pub changed-at : (first : Option DeskFault) (old new : Seen) (uri : List ℕ) (label : ℤ) (edits : List Edit) (version : Option ℕ)
     → Accepts first old new (Changed uri label edits version)

@@ -11,11 +11,11 @@ use Rattle.ls_steps.specs.declared.steps.Step.{Step}
 use Rattle.ls_steps.specs.declared.steps.Step.TheVariants as step
 use Rattle.ls_rpc.specs.Message.{message_of}
 use Rattle.ls_answers.specs.declared.answer.Answer.{Answer}
-use Rattle.ls_desk.specs.declared.event.DeskFault.{DeskFault}
-use Rattle.ls_desk.specs.declared.state.Entry.{Entry}
-use Rattle.ls_desk.specs.declared.state.Waiting.{Waiting}
+use Rattle.ls_machine.specs.declared.event.DeskFault.{DeskFault}
+use Rattle.ls_machine.specs.declared.state.Entry.{Entry}
+use Rattle.ls_machine.specs.declared.state.Waiting.{Waiting}
 use Rattle.ls_desk.specs.Faults.{take_fault}
-use Rattle.ls_desk.specs.Machine.{is_queued}
+use Rattle.ls_machine.specs.Machine.{is_queued}
 use Rattle.ls_session.specs.Session.{turn_of}
 use Rattle.ls_session.specs.declared.event.Status.TheVariants.{BadFrame}
 use Rattle.ls_session.specs.declared.event.Turn.{Turn}

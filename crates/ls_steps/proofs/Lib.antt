@@ -1,5 +1,7 @@
 pub mod Asks
 pub mod Bounds
+pub mod Coming
+pub mod Entered
 pub mod Entries
 pub mod Going
 pub mod Inputs

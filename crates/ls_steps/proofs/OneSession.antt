@@ -4,17 +4,18 @@ use Rattle.std.specs.Prelude.{◌+◌, find, is_none, is_some, length, not, slic
 use Rattle.ls_answers.specs.Told.{Told}
 use Rattle.ls_answers.specs.declared.answer.Answer.{Answer}
 use Rattle.ls_answers.proofs.OneAnswer.{one_answer}
-use Rattle.ls_desk.specs.declared.event.Out.{Out}
-use Rattle.ls_desk.specs.declared.event.DeskFault.{DeskFault}
-use Rattle.ls_desk.specs.declared.event.DeskFault.TheVariants as fault
-use Rattle.ls_desk.specs.declared.state.Entry.{Entry}
-use Rattle.ls_desk.specs.declared.state.Entry.TheVariants.{Body, Failure, Outcome}
-use Rattle.ls_desk.specs.declared.state.Request.{Request}
-use Rattle.ls_desk.specs.declared.state.Waiting.{Waiting}
+use Rattle.ls_machine.specs.declared.event.Out.{Out}
+use Rattle.ls_machine.specs.declared.event.DeskFault.{DeskFault}
+use Rattle.ls_machine.specs.declared.event.DeskFault.TheVariants as fault
+use Rattle.ls_machine.specs.declared.state.Entry.{Entry}
+use Rattle.ls_machine.specs.declared.state.Entry.TheVariants.{Body, Failure, Outcome}
+use Rattle.ls_machine.specs.declared.state.Request.{Request}
+use Rattle.ls_machine.specs.declared.state.Waiting.{Waiting}
 use Rattle.ls_desk.specs.Stands.{IsOutFor, Seen, out_of, state_of}
-use Rattle.ls_desk.specs.Machine.{is_held, left_at}
+use Rattle.ls_machine.specs.Machine.{is_held, left_at}
 use Rattle.ls_answers.specs.Answers.{IsAnswer}
-use Rattle.ls_desk.specs.Faults.{finish_fault, full_fault, is_for, or_else}
+use Rattle.ls_machine.specs.Same.{is_for}
+use Rattle.ls_desk.specs.Faults.{finish_fault, full_fault, or_else}
 use Rattle.ls_frame.specs.Frames.{frame_of}
 use Rattle.ls_session.specs.Bodies.{body_of, reply_body, findings_body}
 use Rattle.ls_session.proofs.WithoutCert.{same_findings, same_reply}
@@ -96,9 +97,9 @@ told_body w (Some r) done a e = ap (option_map (reply_body r.id w.uri w.label r.
 pub body_told : (w : Waiting) (out : Out) (done : Told) (a : Answer) → out ≡ out_of w w.request done → done.answer ≡ Some a → body_of out ≡ Some (body_for w w.request a)
 body_told w out done a o e = ap body_of o ∙ told_body w w.request done a e
 
-one_told : (w : Waiting) (r : Option Request) (a b : Answer) → IsAnswer w.text w.ask a → IsAnswer w.text w.ask b → body_for w r a ≡ body_for w r b
-one_told w None a b p q = same_findings w.uri w.label a b (one_answer w.text w.ask a b p q)
-one_told w (Some r) a b p q = same_reply r.id w.uri w.label r.links a b (one_answer w.text w.ask a b p q)
+one_told : (w : Waiting) (r : Option Request) (a b : Answer) → IsAnswer w.encoding w.text w.ask a → IsAnswer w.encoding w.text w.ask b → body_for w r a ≡ body_for w r b
+one_told w None a b p q = same_findings w.uri w.label a b (one_answer w.encoding w.text w.ask a b p q)
+one_told w (Some r) a b p q = same_reply r.id w.uri w.label r.links a b (one_answer w.encoding w.text w.ask a b p q)
 
 one_body : (e : Entry) (o p : Out) (a b : List ℕ) → IsOutFor e o → IsOutFor e p → body_of o ≡ Some a → body_of p ≡ Some b → a ≡ b
 unfolding IsOutFor

@@ -4,16 +4,20 @@ use Rattle.std.specs.Prelude.{find, is_none, is_some, IfNone, IfSome, slice_get,
 use Rattle.std.specs.declared.alloc.Global.{Global}
 use Rattle.ls_answers.specs.Told.{Told}
 use Rattle.ls_answers.specs.declared.answer.Answer.{Answer}
-use Rattle.ls_desk.specs.declared.event.Event.TheVariants.{Finished, Sent, Took}
-use Rattle.ls_desk.specs.declared.event.DeskFault.{DeskFault}
-use Rattle.ls_desk.specs.declared.event.DeskFault.TheVariants as fault
-use Rattle.ls_desk.specs.declared.state.Entry.{Entry}
-use Rattle.ls_desk.specs.declared.state.Waiting.{Waiting}
-use Rattle.ls_desk.specs.Machine.{start, step, first_ticket, is_queued, ticket_of, rest}
+use Rattle.ls_machine.specs.declared.event.Event.TheVariants.{Finished, Sent, Took}
+use Rattle.ls_machine.specs.declared.event.DeskFault.{DeskFault}
+use Rattle.ls_machine.specs.declared.event.DeskFault.TheVariants as fault
+use Rattle.ls_machine.specs.declared.state.Entry.{Entry}
+use Rattle.ls_machine.specs.declared.state.Waiting.{Waiting}
+use Rattle.ls_machine.specs.Machine.{start, step, first_ticket, is_queued, ticket_of, rest}
 use Rattle.ls_desk.specs.Faults.{finish_fault, take_fault}
 use Rattle.ls_desk.specs.Stands.{Seen}
-use Rattle.ls_desk.proofs.Grows.{replay-push}
-use Rattle.ls_steps.specs.Runs.{Going, Held, IsSent, Steps, bytes_in, desk_of, finish_job, finished_by, is_filled, ran, runs, send, state_at, take_job, takes, took, unless_full}
+use Rattle.ls_machine.specs.declared.base.Counts.{Counts}
+use Rattle.ls_machine.specs.declared.event.Event.{Event}
+use Rattle.ls_machine.specs.Counts.{counted, total}
+use Rattle.ls_desk.specs.Stands.{counts_of}
+use Rattle.ls_machine.proofs.Replays.{counted-push, replay-push, total-one}
+use Rattle.ls_steps.specs.Runs.{Going, Held, IsSent, Steps, bytes_in, counts_at, desk_of, finish_job, finished_by, is_filled, ran, runs, send, state_at, take_job, takes, took, unless_full}
 use Rattle.ls_steps.specs.Plain.{AreFramesFor, RunsOne, Works, has_run_all, sent_all}
 
 -- ---- a job is taken
@@ -63,14 +67,17 @@ works-by g t false e p taken =
 pub works-end : (g t : Going) → Steps g take_job t [] → IsTaken false g t → (n : ℕ) × Works true n g t
 works-end g t p taken = works-by g t (has_run_all g) refl p taken
 
--- ---- the journal grows
+-- ---- events come
+
+one-counted : (c : Counts) (es : List Event) (e : Event) → total (counted c (es ++ e ∷ [])) ≡ total (counted c es) + 1
+one-counted c es e = ap total (counted-push c es e) ∙ total-one (counted c es) e
 
 pub record Grew (g t : Going) (by : ℕ) : Type 0 where
-  pub longer : by + length g.journal ≤ length t.journal
+  pub longer : by + total (counts_at g) ≤ total (counts_at t)
   pub most : t.max_events ≡ g.max_events
 
 took-grew : (g : Going) (w : Waiting) (o : Option DeskFault) → is_filled (took g w o).status ≡ false → Grew g (took g w o) 1
-took-grew g w None e = record { longer = omega (arith, length-append g.journal (Took 0 ∷ [])); most = refl }
+took-grew g w None e = record { longer = omega (arith, one-counted g.base.counts g.journal (Took 0)); most = refl }
 took-grew g w (Some f) e = absurd (cc)
 
 take-grew-by : (g t : Going) (b : Bool) (o : Option Waiting) → is_filled g.status ≡ b → b || is_none o ≡ false → is_filled t.status ≡ false → t ≡ unless_full g.status g (takes g o) → Grew g t 1
@@ -86,8 +93,8 @@ take-grew g t p taken =
     let parts = both (has_run_all g) (is_filled t.status) taken in
     take-grew-by g t (is_filled g.status) (find is_queued (state_at g).waiting) refl parts.0 parts.1 p.0
 
-finished-grew : (d : Seen) (done : Told) (o : Option DeskFault) → length d.journal ≤ length (finished_by d done o).journal
-finished-grew d done None = omega (arith, length-append d.journal (Finished done.ticket (is_none done.answer) ∷ []))
+finished-grew : (d : Seen) (done : Told) (o : Option DeskFault) → total (counts_of d) ≤ total (counted (finished_by d done o).base.counts (finished_by d done o).journal)
+finished-grew d done None = omega (arith, one-counted d.base.counts d.journal (Finished done.ticket (is_none done.answer)))
 finished-grew d done (Some fault.SessionFull) = omega arith
 finished-grew d done (Some fault.NotOpen) = omega arith
 finished-grew d done (Some fault.AlreadyOpen) = omega arith
@@ -113,9 +120,9 @@ unfolding Steps
 finish-grew t m p =
     subst (λ (x : Going). Grew t x 0) (sym p.1) (unless-grew t (runs t 0 p.0 (slice_get t.held 0)) (is_filled t.status) (runs-grew t p.0 (slice_get t.held 0)))
 
--- what is left of the journal's room
-pub room-shrinks : (g t m : Going) → Steps g take_job t [] → IsTaken true g t → length t.journal ≤ t.max_events → Steps t (finish_job 0) m []
-    → m.max_events - length m.journal < g.max_events - length g.journal
+-- what is left of the session's room
+pub room-shrinks : (g t m : Going) → Steps g take_job t [] → IsTaken true g t → total (counts_at t) ≤ t.max_events → Steps t (finish_job 0) m []
+    → m.max_events - total (counts_at m) < g.max_events - total (counts_at g)
 room-shrinks g t m p taken fits q =
     let first = take-grew g t p taken in
     let then_ = finish-grew t m q in
@@ -131,7 +138,7 @@ pub record OneSent (g m : Going) (frame : List ℕ) : Type 0 where
 left-is : (g m : Going) (e : Entry) (es : List Entry) → (state_at g).unsent ≡ e ∷ es → m ≡ record g { journal = g.journal ++ Sent (ticket_of e) ∷ [] } → (state_at m).unsent ≡ es
 unfolding step
 left-is g m e es u s =
-    ap (λ (x : Going). (state_at x).unsent) s ∙ (ap (λ x. x.unsent) (replay-push start g.journal (Sent (ticket_of e))) ∙ ap rest u)
+    ap (λ (x : Going). (state_at x).unsent) s ∙ (ap (λ x. x.unsent) (replay-push g.base.state g.journal (Sent (ticket_of e))) ∙ ap rest u)
 
 sent-by : (g m : Going) (es : List Entry) (frame : List ℕ) → (state_at g).unsent ≡ es → is_some (first_ticket es) ≡ true → IsSent g es m frame → OneSent g m frame
 unfolding AreFramesFor

@@ -1,12 +1,13 @@
 -- A session that is served plainly has nothing left to run or to send between its messages.
 use Rattle.std.proofs.Common.{◌≡◌, ℕ, zero, suc, Bool, true, false, List, [], ◌∷◌, ◌++◌, map, refl, sym, ap, subst, ◌∙◌, append_assoc}
 use Rattle.std.specs.Prelude.{find, is_none, is_some, slice_get, ◌||◌, if◌then◌else◌}
-use Rattle.ls_desk.specs.declared.event.Event.{Event}
-use Rattle.ls_desk.specs.declared.event.Event.TheVariants.{Sent}
-use Rattle.ls_desk.specs.declared.state.Entry.{Entry}
-use Rattle.ls_desk.specs.Machine.{State, start, step, is_queued, rest, ticket_of}
-use Rattle.ls_desk.specs.Journal.{replay, replay_from}
-use Rattle.ls_desk.proofs.Grows.{replay-push}
+use Rattle.ls_machine.specs.declared.event.Event.{Event}
+use Rattle.ls_machine.specs.declared.event.Event.TheVariants.{Sent}
+use Rattle.ls_machine.specs.declared.state.Entry.{Entry}
+use Rattle.ls_machine.specs.declared.state.State.{State}
+use Rattle.ls_machine.specs.Machine.{start, step, is_queued, rest, ticket_of}
+use Rattle.ls_machine.specs.Journal.{replay_from}
+use Rattle.ls_machine.proofs.Replays.{replay-push}
 use Rattle.ls_rpc.specs.Message.{message_of}
 use Rattle.ls_session.specs.Session.{turn_of}
 use Rattle.ls_steps.specs.Runs.{Going, Steps, begun, hear, heard, is_filled, runs, state_at, take_job, takes}
@@ -31,21 +32,21 @@ append_nil : {A : Type 0} (xs : List A) → xs ++ [] ≡ xs
 append_nil [] = refl
 append_nil (x ∷ xs) = ap (λ l. x ∷ l) (append_nil xs)
 
-one_gone : (journal : List Event) (e : Entry) (es : List Entry) → (replay journal).unsent ≡ e ∷ es → (replay (journal ++ Sent (ticket_of e) ∷ [])).unsent ≡ es
+one_gone : (s : State) (journal : List Event) (e : Entry) (es : List Entry) → (replay_from s journal).unsent ≡ e ∷ es → (replay_from s (journal ++ Sent (ticket_of e) ∷ [])).unsent ≡ es
 unfolding step
-one_gone journal e es u = ap (λ s. s.unsent) (replay-push start journal (Sent (ticket_of e))) ∙ ap rest u
+one_gone s journal e es u = ap (λ z. z.unsent) (replay-push s journal (Sent (ticket_of e))) ∙ ap rest u
 
-one_waits : (journal : List Event) (e : Entry) → (replay (journal ++ Sent (ticket_of e) ∷ [])).waiting ≡ (replay journal).waiting
+one_waits : (s : State) (journal : List Event) (e : Entry) → (replay_from s (journal ++ Sent (ticket_of e) ∷ [])).waiting ≡ (replay_from s journal).waiting
 unfolding step
-one_waits journal e = ap (λ s. s.waiting) (replay-push start journal (Sent (ticket_of e)))
+one_waits s journal e = ap (λ z. z.waiting) (replay-push s journal (Sent (ticket_of e)))
 
-all_sent : (es : List Entry) (journal : List Event) → (replay journal).unsent ≡ es → AreSent (replay journal) (replay (journal ++ sendings es))
-all_sent [] journal u = let same = ap replay (append_nil journal) in record { waiting = ap (λ s. s.waiting) same; unsent = ap (λ s. s.unsent) same ∙ u }
-all_sent (e ∷ es) journal u =
-    let later = all_sent es (journal ++ Sent (ticket_of e) ∷ []) (one_gone journal e es u) in
-    let same = ap replay (append_assoc journal (Sent (ticket_of e) ∷ []) (sendings es)) in
+all_sent : (es : List Entry) (z : State) (journal : List Event) → (replay_from z journal).unsent ≡ es → AreSent (replay_from z journal) (replay_from z (journal ++ sendings es))
+all_sent [] z journal u = let same = ap (replay_from z) (append_nil journal) in record { waiting = ap (λ s. s.waiting) same; unsent = ap (λ s. s.unsent) same ∙ u }
+all_sent (e ∷ es) z journal u =
+    let later = all_sent es z (journal ++ Sent (ticket_of e) ∷ []) (one_gone z journal e es u) in
+    let same = ap (replay_from z) (append_assoc journal (Sent (ticket_of e) ∷ []) (sendings es)) in
     record {
-      waiting = sym (ap (λ s. s.waiting) same) ∙ (later.waiting ∙ one_waits journal e);
+      waiting = sym (ap (λ s. s.waiting) same) ∙ (later.waiting ∙ one_waits z journal e);
       unsent = sym (ap (λ s. s.unsent) same) ∙ later.unsent;
     }
 
@@ -56,7 +57,7 @@ works-idle f (suc n) g h w = works-idle f n w.1.0 h w.1.2
 
 settled-after : (g : Going) → has_run_all g ≡ true → IsSettled (sent_all g (state_at g).unsent)
 settled-after g idle =
-    let all = all_sent (state_at g).unsent g.journal refl in
+    let all = all_sent (state_at g).unsent g.base.state g.journal refl in
     record { idle = ap (λ ws. is_filled g.status || is_none (find is_queued ws)) all.waiting ∙ idle; sent = all.unsent }
 
 pub settled-served : (f : Bool) (g h : Going) (body bytes : List ℕ) → Serves f g body h bytes → IsSettled h
@@ -130,7 +131,7 @@ weaker g h (body ∷ bodies) bytes s =
 -- ---- texts stay short, so a session can go on
 
 abbrev Fine : Going → Type 0
-Fine g = IsFine g.journal
+Fine g = IsFine g.base.state g.journal
 
 fine_taken : (g t : Going) → Steps g take_job t [] → Fine g → Fine t
 unfolding Steps
@@ -153,7 +154,7 @@ fine_heard g h body p fine = subst Fine (sym p.0) (fine_open g.status g (heard g
 
 fine_served : (f : Bool) (g h : Going) (body bytes : List ℕ) → Serves f g body h bytes → Fine g → Fine h
 fine_served f g h body bytes s fine =
-    subst Fine (sym s.h_is) (fine_sent (state_at s.worked).unsent s.worked.journal (fine_work f s.jobs s.heard s.worked s.works (fine_heard g s.heard body s.hears fine)))
+    subst Fine (sym s.h_is) (fine_sent (state_at s.worked).unsent s.worked.base.state s.worked.journal (fine_work f s.jobs s.heard s.worked s.works (fine_heard g s.heard body s.hears fine)))
 
 fine_said : (f : Bool) (g h : Going) (bodies : List (List ℕ)) (bytes : List ℕ) → Says f g bodies h bytes → Fine g → Fine h
 unfolding Says

@@ -1,24 +1,28 @@
 -- The texts at a desk stay short, whatever happens there, so that each question about them has an answer.
 use Rattle.std.proofs.Common.{◌≡◌, ℕ, zero, suc, ◌+◌, ◌-◌, ◌*◌, ◌^◌, ◌<◌, ◌≤◌, ⊎_elim, Bool, true, false, List, [], ◌∷◌, ◌++◌, length, Option, Some, None, refl, sym, ap, subst, ◌∙◌, append_assoc, arith}
 use Rattle.std.specs.Prelude.{ℤ, filter, find, nat_lt, map, if◌then◌else◌}
+use Rattle.std.specs.Option.{option_map}
 use Rattle.std.specs.Str.{chars, chars_after, continuation_len, lead_bits, encode_utf8_all}
 use Rattle.std.proofs.lemmas.Bool.{cases_lt, lt-ltb, false≢true}
 use Rattle.std.proofs.lemmas.Str.{length-le-encodes}
 use Rattle.ls_text.specs.Edits.{edited, edited_all, is_too_large}
-use Rattle.ls_text.specs.Lines.{utf16_len}
+use Rattle.ls_text.specs.Lines.{units}
+use Rattle.ls_text.specs.Positions.{Measured}
 use Rattle.ls_text.specs.declared.edit.Edit.{Edit}
+use Rattle.ls_text.specs.declared.position.Encoding.{Encoding}
 use Rattle.ls_rpc.specs.declared.message.Id.{Id}
 use Rattle.ls_answers.specs.declared.ask.Ask.{Ask}
-use Rattle.ls_desk.specs.declared.event.Event.{Event}
-use Rattle.ls_desk.specs.declared.event.Event.TheVariants.{Opened, Changed, Closed, Asked, Cancelled, Said, Took, Returned, Finished, Sent}
-use Rattle.ls_desk.specs.declared.state.Document.{Document}
-use Rattle.ls_desk.specs.declared.state.Request.{Request}
-use Rattle.ls_desk.specs.declared.state.Waiting.{Waiting}
-use Rattle.ls_desk.specs.declared.state.Entry.{Entry}
-use Rattle.ls_desk.specs.declared.state.Entry.TheVariants.{Body, Failure, Outcome}
-use Rattle.ls_desk.specs.Machine.{State, start, step, is_named, document_of, edited_at, asks_with, is_held, is_queued, on_first, without_first, with_taken, told_to, told_end, told_at, end_of, ends, is_ended, left_at, rest, put_text, close_text, ask_at, content_modified, request_cancelled, internal_error, ticket_of}
-use Rattle.ls_desk.specs.Journal.{replay}
-use Rattle.ls_desk.proofs.Grows.{replay-push}
+use Rattle.ls_machine.specs.declared.event.Event.{Event}
+use Rattle.ls_machine.specs.declared.event.Event.TheVariants.{Opened, Changed, Closed, Asked, Cancelled, Said, Took, Returned, Finished, Sent}
+use Rattle.ls_machine.specs.declared.state.Document.{Document}
+use Rattle.ls_machine.specs.declared.state.Request.{Request}
+use Rattle.ls_machine.specs.declared.state.Waiting.{Waiting}
+use Rattle.ls_machine.specs.declared.state.Entry.{Entry}
+use Rattle.ls_machine.specs.declared.state.Entry.TheVariants.{Body, Failure, Outcome}
+use Rattle.ls_machine.specs.declared.state.State.{State}
+use Rattle.ls_machine.specs.Machine.{start, step, is_named, document_of, edited_at, measured, asks_with, is_held, is_queued, on_first, without_first, with_taken, told_to, told_end, told_at, end_of, ends, is_ended, left_at, rest, put_text, close_text, ask_at, content_modified, request_cancelled, internal_error, ticket_of}
+use Rattle.ls_machine.specs.Journal.{replay_from}
+use Rattle.ls_machine.proofs.Replays.{replay-push}
 
 -- ---- lists of which each element has a property
 
@@ -97,7 +101,7 @@ pub record AreShort (s : State) : Type 0 where
 
 -- an event that opens a document has a short text
 abbrev pub IsShortEvent : Event → Type 0
-IsShortEvent (Opened uri label text version) = IsShort text
+IsShortEvent (Opened uri label text encoding version) = IsShort text
 IsShortEvent _ = Unit {0}
 
 after_short : (n c : ℕ) (bs : List ℕ) → length (chars_after n c bs) ≤ suc (length bs)
@@ -118,20 +122,28 @@ at_most m n e = ⊎_elim (λ less. absurd (false≢true (sym e ∙ lt-ltb m n le
 pub short_chars : (text : List ℕ) → nat_lt 4194304 (length text) ≡ false → IsShort (chars text)
 short_chars text e = omega (arith, at_most 4194304 (length text) e, chars_short text)
 
-short_edited : (t : List ℕ) (es : List Edit) → IsShort t → At IsShort (edited_all utf16_len t es)
+short_edited : (width : ℕ → ℕ) (t : List ℕ) (es : List Edit) → IsShort t → At IsShort (edited_all width t es)
 unfolding edited_all
-short_edited t [] small = small
-short_edited t (e ∷ es) small = by (is_too_large (edited utf16_len t e)) (λ s. short_edited (edited utf16_len t e) es s) refl
+short_edited width t [] small = small
+short_edited width t (e ∷ es) small = by (is_too_large (edited width t e)) (λ s. short_edited width (edited width t e) es s) refl
   where
-    by : (b : Bool) → (IsShort (edited utf16_len t e) → At IsShort (edited_all utf16_len (edited utf16_len t e) es)) → is_too_large (edited utf16_len t e) ≡ b → At IsShort (if is_too_large (edited utf16_len t e) then None else edited_all utf16_len (edited utf16_len t e) es)
+    by : (b : Bool) → (IsShort (edited width t e) → At IsShort (edited_all width (edited width t e) es)) → is_too_large (edited width t e) ≡ b → At IsShort (if is_too_large (edited width t e) then None else edited_all width (edited width t e) es)
     by true later large = rw large tt
     by false later large =
-        let few = at_most 4_194_304 (length (encode_utf8_all (edited utf16_len t e))) large in
-        rw large (later (omega (arith, few, length-le-encodes (edited utf16_len t e))))
+        let few = at_most 4_194_304 (length (encode_utf8_all (edited width t e))) large in
+        rw large (later (omega (arith, few, length-le-encodes (edited width t e))))
 
-short_edited_at : (o : Option Document) (edits : List Edit) → At HasShortText o → At IsShort (edited_at o edits)
+-- a text with what its positions count
+abbrev IsShortText : Measured → Type 0
+IsShortText m = IsShort m.text
+
+short_measured : (encoding : Encoding) (o : Option (List ℕ)) → At IsShort o → At IsShortText (option_map (measured encoding) o)
+short_measured encoding None h = tt
+short_measured encoding (Some t) h = h
+
+short_edited_at : (o : Option Document) (edits : List Edit) → At HasShortText o → At IsShortText (edited_at o edits)
 short_edited_at None edits h = tt
-short_edited_at (Some d) edits h = short_edited d.text edits h
+short_edited_at (Some d) edits h = short_measured d.encoding (edited_all (units d.encoding) d.text edits) (short_edited (units d.encoding) d.text edits h)
 
 -- ---- what is told
 
@@ -155,9 +167,9 @@ short_left failed (Some w) h = each_if IsShortEntry failed (told_end internal_er
 
 -- ---- events
 
-short_put : (s : State) (uri : List ℕ) (label : ℤ) (o : Option (List ℕ)) → AreShort s → At IsShort o → AreShort (put_text s uri label o)
+short_put : (s : State) (uri : List ℕ) (label : ℤ) (o : Option Measured) → AreShort s → At IsShortText o → AreShort (put_text s uri label o)
 short_put s uri label None h t = h
-short_put s uri label (Some text) h t = record {
+short_put s uri label (Some m) h t = record {
   documents = each_append HasShortText s.documents _ h.documents (t, tt);
   waiting = each_append IsShortJob s.waiting _ h.waiting (t, tt);
   unsent = h.unsent;
@@ -174,9 +186,9 @@ short_ask : (s : State) (id : Id) (o : Option Document) (ask : Ask) (links : Boo
 short_ask s id None ask links h d = h
 short_ask s id (Some d) ask links h t = record { documents = h.documents; waiting = each_append IsShortJob s.waiting _ h.waiting (t, tt); unsent = h.unsent }
 
-short_step : (s : State) (e : Event) → AreShort s → IsShortEvent e → AreShort (step s e)
+pub short_step : (s : State) (e : Event) → AreShort s → IsShortEvent e → AreShort (step s e)
 unfolding step
-short_step s (Opened uri label text version) h t = short_put s uri label (Some text) h t
+short_step s (Opened uri label text encoding version) h t = short_put s uri label (Some (measured encoding text)) h t
 short_step s (Changed uri label edits version) h t =
     short_put (close_text s uri) uri label (edited_at (document_of uri s.documents) edits) (short_close s uri h)
     (short_edited_at (document_of uri s.documents) edits (each_find HasShortText (is_named uri) s.documents h.documents))
@@ -207,18 +219,18 @@ short_step s (Finished ticket failed) h t = record {
 short_step s (Sent ticket) h t = record { documents = h.documents; waiting = h.waiting; unsent = each_rest IsShortEntry s.unsent h.unsent }
 
 -- the state that a journal leads to has short texts
-abbrev pub IsFine : List Event → Type 0
-IsFine journal = AreShort (replay journal)
+abbrev pub IsFine : State → List Event → Type 0
+IsFine s journal = AreShort (replay_from s journal)
 
-pub fine_pushed : (journal : List Event) (e : Event) → IsFine journal → IsShortEvent e → IsFine (journal ++ e ∷ [])
-fine_pushed journal e h t = subst AreShort (sym (replay-push start journal e)) (short_step (replay journal) e h t)
+pub fine_pushed : (s : State) (journal : List Event) (e : Event) → IsFine s journal → IsShortEvent e → IsFine s (journal ++ e ∷ [])
+fine_pushed s journal e h t = subst AreShort (sym (replay-push s journal e)) (short_step (replay_from s journal) e h t)
 
 append_nil : (es : List Event) → es ++ [] ≡ es
 append_nil [] = refl
 append_nil (e ∷ es) = ap (λ l. e ∷ l) (append_nil es)
 
-pub fine_sent : (es : List Entry) (journal : List Event) → IsFine journal → IsFine (journal ++ map (λ e. Sent (ticket_of e)) es)
-fine_sent [] journal h = subst IsFine (sym (append_nil journal)) h
-fine_sent (e ∷ es) journal h =
-    subst IsFine (append_assoc journal (Sent (ticket_of e) ∷ []) (map (λ e. Sent (ticket_of e)) es))
-    (fine_sent es (journal ++ Sent (ticket_of e) ∷ []) (fine_pushed journal (Sent (ticket_of e)) h tt))
+pub fine_sent : (es : List Entry) (s : State) (journal : List Event) → IsFine s journal → IsFine s (journal ++ map (λ e. Sent (ticket_of e)) es)
+fine_sent [] s journal h = subst (IsFine s) (sym (append_nil journal)) h
+fine_sent (e ∷ es) s journal h =
+    subst (IsFine s) (append_assoc journal (Sent (ticket_of e) ∷ []) (map (λ e. Sent (ticket_of e)) es))
+    (fine_sent es s (journal ++ Sent (ticket_of e) ∷ []) (fine_pushed s journal (Sent (ticket_of e)) h tt))

@@ -5,42 +5,44 @@ use Rattle.ls_answers.specs.Told.{Told}
 use Rattle.ls_answers.specs.declared.answer.Answer.{Answer}
 use Rattle.ls_answers.specs.declared.answer.Answer.TheVariants.{Hover}
 use Rattle.ls_answers.proofs.Exist.{some_answer}
-use Rattle.ls_desk.specs.declared.event.Event.{Event}
-use Rattle.ls_desk.specs.declared.event.Event.TheVariants.{Finished, Took, Said}
-use Rattle.ls_desk.specs.declared.event.Out.{Out}
-use Rattle.ls_desk.specs.declared.event.Out.TheVariants as out
-use Rattle.ls_desk.specs.declared.event.DeskFault.{DeskFault}
-use Rattle.ls_desk.specs.declared.event.DeskFault.TheVariants as fault
-use Rattle.ls_desk.specs.declared.state.Entry.{Entry}
-use Rattle.ls_desk.specs.declared.state.Entry.TheVariants.{Body, Failure, Outcome}
-use Rattle.ls_desk.specs.declared.state.Waiting.{Waiting}
-use Rattle.ls_desk.specs.Machine.{start, step, is_held, is_open, is_queued, on_first, with_taken, without_first}
-use Rattle.ls_desk.specs.Journal.{replay, replay_from}
+use Rattle.ls_machine.specs.declared.event.Event.{Event}
+use Rattle.ls_machine.specs.declared.event.Event.TheVariants.{Finished, Took, Said}
+use Rattle.ls_machine.specs.declared.event.Out.{Out}
+use Rattle.ls_machine.specs.declared.event.Out.TheVariants as out
+use Rattle.ls_machine.specs.declared.event.DeskFault.{DeskFault}
+use Rattle.ls_machine.specs.declared.event.DeskFault.TheVariants as fault
+use Rattle.ls_machine.specs.declared.state.Entry.{Entry}
+use Rattle.ls_machine.specs.declared.state.Entry.TheVariants.{Body, Failure, Outcome}
+use Rattle.ls_machine.specs.declared.state.Waiting.{Waiting}
+use Rattle.ls_machine.specs.Machine.{start, step, is_held, is_open, is_queued, on_first, with_taken, without_first}
+use Rattle.ls_machine.specs.declared.state.State.{State}
+use Rattle.ls_machine.specs.Journal.{replay_from}
 use Rattle.ls_desk.specs.Faults.{finish_fault, full_fault, or_else, take_fault}
 use Rattle.ls_desk.specs.Stands.{IsOutFor, Seen, out_of, state_of}
-use Rattle.ls_desk.proofs.Grows.{replay-push}
+use Rattle.ls_machine.proofs.Replays.{replay-push}
 use Rattle.ls_frame.specs.Frames.{frame_of}
 use Rattle.ls_rpc.specs.Message.{message_of}
 use Rattle.ls_rpc.specs.declared.message.Id.{Id}
 use Rattle.ls_session.specs.Bodies.{body_of, failure_body}
 use Rattle.ls_session.specs.Session.{turn_of}
-use Rattle.ls_workers.specs.declared.client.ClientEvent.{ClientEvent}
-use Rattle.ls_workers.specs.declared.client.ClientEvent.TheVariants.{DidOpen, DidChange, DidClose, Request, Cancel, Say}
+use Rattle.ls_machine.specs.declared.client.ClientEvent.{ClientEvent}
+use Rattle.ls_machine.specs.declared.client.ClientEvent.TheVariants.{DidOpen, DidChange, DidClose, Request, Cancel, Say}
 use Rattle.ls_session.specs.declared.event.Status.{Status}
 use Rattle.ls_session.specs.declared.event.Turn.{Turn}
 use Rattle.ls_session.specs.declared.event.Turn.TheVariants.{Nothing, Event as Happens, Exit}
 use Rattle.ls_session.specs.declared.session.Stage.{Stage}
-use Rattle.ls_workers.specs.Client.{asker_of}
-use Rattle.ls_steps.specs.Runs.{Going, Held, Left, Steps, begun, desk_of, entry_at, fault_at, finished_by, finishes, heard, is_filled, leaving, met, on_turn, ran, refused, runs, said_by, state_at, status_by, takes, tells, told_of, took, turned, unless_full, while_open}
+use Rattle.ls_machine.specs.Client.{asker_of}
+use Rattle.ls_steps.specs.Runs.{Going, Held, Left, Steps, begun, desk_of, entered, entry_at, fault_at, finished_by, finishes, heard, is_filled, leaving, met, on_turn, ran, refused, runs, said_by, state_at, status_by, takes, tells, told_of, took, turned, unless_full, while_open}
 use Rattle.ls_steps.specs.Plain.{RunsOne, Works, AreFramesFor, Serves, Says, has_run_all, sent_all}
 use Rattle.ls_steps.proofs.OneSession.{body_for, body_told}
-use Rattle.ls_steps.proofs.ShortTexts.{Each, IsFine, IsShortEntry, IsShortEvent, fine_pushed, fine_sent, short_chars}
+use Rattle.ls_steps.proofs.ShortTexts.{AreShort, Each, IsFine, IsShortEntry, IsShortEvent, fine_pushed, fine_sent, short_chars, short_step}
+use Rattle.ls_steps.proofs.Entered.{entered-state}
 
 abbrev pub Fine : Going → Type 0
-Fine g = IsFine g.journal
+Fine g = IsFine g.base.state g.journal
 
 abbrev FineLeft : Left → Type 0
-FineLeft left = IsFine left.journal
+FineLeft left = IsFine left.base.state left.journal
 
 -- ---- a client's event
 
@@ -49,7 +51,7 @@ or_none true f next e = absurd (cc)
 or_none false f next e = (refl, e)
 
 short_entry : (d : Seen) (event : ClientEvent) → fault_at d event ≡ None → IsShortEvent (entry_at (state_of d) event)
-short_entry d (DidOpen uri label text) e =
+short_entry d (DidOpen uri label text encoding) e =
     let shut = or_none (is_open uri (state_of d).documents) fault.AlreadyOpen _ e in
     let many = or_none (nat_le 256 (length (state_of d).documents)) fault.TooManyDocuments _ shut.1 in
     short_chars text (or_none (nat_lt 4194304 (length text)) fault.TooLarge _ many.1).0
@@ -59,15 +61,18 @@ short_entry d (Request id uri ask links) e = tt
 short_entry d (Cancel id) e = tt
 short_entry d (Say body) e = tt
 
-fine_said : (d : Seen) (body : List ℕ) (o : Option DeskFault) → IsFine d.journal → FineLeft (said_by d body o)
-fine_said d body None h = fine_pushed d.journal (Said body) h tt
+fine_entered : (d : Seen) (e : Event) → IsFine d.base.state d.journal → IsShortEvent e → FineLeft (entered d e)
+fine_entered d e h t = subst AreShort (sym (entered-state d e)) (short_step (state_of d) e h t)
+
+fine_said : (d : Seen) (body : List ℕ) (o : Option DeskFault) → IsFine d.base.state d.journal → FineLeft (said_by d body o)
+fine_said d body None h = fine_entered d (Said body) h tt
 fine_said d body (Some fault) h = h
 
-fine_told : (d : Seen) (o : Option (List ℕ)) → IsFine d.journal → FineLeft (tells d o)
+fine_told : (d : Seen) (o : Option (List ℕ)) → IsFine d.base.state d.journal → FineLeft (tells d o)
 fine_told d None h = h
 fine_told d (Some body) h = fine_said d body (full_fault d 2) h
 
-fine_refused : (d : Seen) (id : Option Id) (f : DeskFault) → IsFine d.journal → FineLeft (refused d id f)
+fine_refused : (d : Seen) (id : Option Id) (f : DeskFault) → IsFine d.base.state d.journal → FineLeft (refused d id f)
 fine_refused d id fault.SessionFull h = h
 fine_refused d id fault.NotOpen h = fine_told d (told_of id fault.NotOpen) h
 fine_refused d id fault.AlreadyOpen h = fine_told d (told_of id fault.AlreadyOpen) h
@@ -79,8 +84,8 @@ fine_refused d id fault.UnknownTicket h = fine_told d (told_of id fault.UnknownT
 fine_refused d id fault.OtherText h = fine_told d (told_of id fault.OtherText) h
 fine_refused d id fault.Memory h = fine_told d (told_of id fault.Memory) h
 
-fine_met : (d : Seen) (event : ClientEvent) (o : Option DeskFault) → fault_at d event ≡ o → IsFine d.journal → FineLeft (met d event o)
-fine_met d event None e h = fine_pushed d.journal (entry_at (state_of d) event) h (short_entry d event e)
+fine_met : (d : Seen) (event : ClientEvent) (o : Option DeskFault) → fault_at d event ≡ o → IsFine d.base.state d.journal → FineLeft (met d event o)
+fine_met d event None e h = fine_entered d (entry_at (state_of d) event) h (short_entry d event e)
 fine_met d event (Some f) e h = fine_refused d (asker_of event) f h
 
 fine_turn : (g : Going) (t : Turn) → Fine g → Fine (on_turn g t)
@@ -105,15 +110,15 @@ fine_unless o g k p q = by (is_filled o)
     by false = q
 
 fine_took : (g : Going) (w : Waiting) (o : Option DeskFault) → Fine g → Fine (took g w o)
-fine_took g w None h = fine_pushed g.journal (Took 0) h tt
+fine_took g w None h = fine_pushed g.base.state g.journal (Took 0) h tt
 fine_took g w (Some f) h = h
 
 pub fine_takes : (g : Going) (o : Option Waiting) → Fine g → Fine (takes g o)
 fine_takes g None h = h
 fine_takes g (Some w) h = fine_took g w (take_fault (desk_of g)) h
 
-fine_finished : (d : Seen) (done : Told) (o : Option DeskFault) → IsFine d.journal → FineLeft (finished_by d done o)
-fine_finished d done None h = fine_pushed d.journal (Finished done.ticket (is_none done.answer)) h tt
+fine_finished : (d : Seen) (done : Told) (o : Option DeskFault) → IsFine d.base.state d.journal → FineLeft (finished_by d done o)
+fine_finished d done None h = fine_pushed d.base.state d.journal (Finished done.ticket (is_none done.answer)) h tt
 fine_finished d done (Some fault.SessionFull) h = h
 fine_finished d done (Some fault.NotOpen) h = h
 fine_finished d done (Some fault.AlreadyOpen) h = h
@@ -166,23 +171,23 @@ no_more test (w ∷ ws) = by (test w) (is_queued w) refl refl (no_more test ws)
     by false true e f le = rw (e, f) (omega (arith, le))
     by false false e f le = rw (e, f) le
 
-queued_took : (journal : List Event) (w : Waiting) → find is_queued (replay journal).waiting ≡ Some w
-    → suc (queued (replay (journal ++ Took 0 ∷ [])).waiting) ≡ queued (replay journal).waiting
+queued_took : (s : State) (journal : List Event) (w : Waiting) → find is_queued (replay_from s journal).waiting ≡ Some w
+    → suc (queued (replay_from s (journal ++ Took 0 ∷ [])).waiting) ≡ queued (replay_from s journal).waiting
 unfolding step
-queued_took journal w e = ap (λ s. suc (queued s.waiting)) (replay-push start journal (Took 0)) ∙ one_fewer (replay journal).waiting w e
+queued_took s journal w e = ap (λ z. suc (queued z.waiting)) (replay-push s journal (Took 0)) ∙ one_fewer (replay_from s journal).waiting w e
 
-queued_finished : (journal : List Event) (ticket : ℕ) (failed : Bool) → queued (replay (journal ++ Finished ticket failed ∷ [])).waiting ≤ queued (replay journal).waiting
+queued_finished : (s : State) (journal : List Event) (ticket : ℕ) (failed : Bool) → queued (replay_from s (journal ++ Finished ticket failed ∷ [])).waiting ≤ queued (replay_from s journal).waiting
 unfolding step
-queued_finished journal ticket failed =
-    subst (λ s. queued s.waiting ≤ queued (replay journal).waiting) (sym (replay-push start journal (Finished ticket failed))) (no_more (is_held ticket) (replay journal).waiting)
+queued_finished s journal ticket failed =
+    subst (λ z. queued z.waiting ≤ queued (replay_from s journal).waiting) (sym (replay-push s journal (Finished ticket failed))) (no_more (is_held ticket) (replay_from s journal).waiting)
 
 -- ---- a job is taken and run
 
 abbrev IsLess : Seen → Left → Type 0
-IsLess d left = (left.full ≡ true) ⊎ (queued (replay left.journal).waiting ≤ queued (replay d.journal).waiting)
+IsLess d left = (left.full ≡ true) ⊎ (queued (replay_from left.base.state left.journal).waiting ≤ queued (state_of d).waiting)
 
 less_finished : (d : Seen) (done : Told) (o : Option DeskFault) → IsLess d (finished_by d done o)
-less_finished d done None = inr (queued_finished d.journal done.ticket (is_none done.answer))
+less_finished d done None = inr (queued_finished d.base.state d.journal done.ticket (is_none done.answer))
 less_finished d done (Some fault.SessionFull) = inl refl
 less_finished d done (Some fault.NotOpen) = inr (omega arith)
 less_finished d done (Some fault.AlreadyOpen) = inr (omega arith)
@@ -213,7 +218,7 @@ progress : (g : Going) (w : Waiting) (answer : Option Answer) (o : Option DeskFa
 progress g w answer (Some f) free found = inl refl
 progress g w answer None free found =
     let t = took g w None in
-    subst (λ b. Progress g (if b then t else runs t 0 answer (slice_get t.held 0))) (sym free) (run_on g t answer (slice_get t.held 0) (queued_took g.journal w found))
+    subst (λ b. Progress g (if b then t else runs t 0 answer (slice_get t.held 0))) (sym free) (run_on g t answer (slice_get t.held 0) (queued_took g.base.state g.journal w found))
 
 record Job (g : Going) : Type 0 where
   left : Going
@@ -291,12 +296,12 @@ unfolding IsOutFor body_of
 some_out (Body body) h = record { leaves = out.Said body; body = body; is_for = refl; body_is = refl }
 some_out (Failure ticket id code) h = record { leaves = out.Failed ticket id code; body = failure_body id code; is_for = refl; body_is = refl }
 some_out (Outcome w) h =
-    let a = some_answer w.text w.ask h in
-    let done : Told = record { ticket = w.ticket; text = w.text; ask = w.ask; answer = Some a.0 } in
+    let a = some_answer w.encoding w.text w.ask h in
+    let done : Told = record { ticket = w.ticket; text = w.text; encoding = w.encoding; ask = w.ask; answer = Some a.0 } in
     record {
       leaves = out_of w w.request done;
       body = body_for w w.request a.0;
-      is_for = (done, refl, record { ticket = refl; text = refl; ask = refl; right = (a.0, refl, a.1) });
+      is_for = (done, refl, record { ticket = refl; text = refl; encoding = refl; ask = refl; right = (a.0, refl, a.1) });
       body_is = body_told w (out_of w w.request done) done a.0 refl refl;
     }
 
@@ -334,7 +339,7 @@ some_message g body fine =
         frames = frames.1;
         h_is = refl;
       };
-      fine = fine_sent (state_at work.left).unsent work.left.journal work.fine;
+      fine = fine_sent (state_at work.left).unsent work.left.base.state work.left.journal work.fine;
     }
 
 pub said : (g : Going) (bodies : List (List ℕ)) → Fine g → (h : Going) × (bytes : List ℕ) × Says false g bodies h bytes

@@ -8,20 +8,22 @@ use Rattle.ls_frame.specs.Frames.{frame_of}
 use Rattle.ls_rpc.specs.Message.{message_of}
 use Rattle.ls_answers.specs.Told.{Told}
 use Rattle.ls_answers.specs.declared.job.Job.{Job}
-use Rattle.ls_desk.specs.declared.event.Event.TheVariants.{Sent}
-use Rattle.ls_desk.specs.declared.event.Out.{Out}
-use Rattle.ls_desk.specs.declared.event.DeskFault.{DeskFault}
-use Rattle.ls_desk.specs.declared.event.DeskFault.TheVariants as fault
-use Rattle.ls_desk.specs.declared.state.Entry.{Entry}
-use Rattle.ls_desk.specs.declared.state.Waiting.{Waiting}
-use Rattle.ls_desk.specs.Journal.{IsLegalFrom, replay_from}
-use Rattle.ls_desk.specs.Machine.{IsPossible, first_ticket, is_queued, ticket_of}
+use Rattle.ls_machine.specs.declared.event.Event.TheVariants.{Sent}
+use Rattle.ls_machine.specs.declared.event.Out.{Out}
+use Rattle.ls_machine.specs.declared.event.DeskFault.{DeskFault}
+use Rattle.ls_machine.specs.declared.event.DeskFault.TheVariants as fault
+use Rattle.ls_machine.specs.declared.state.Entry.{Entry}
+use Rattle.ls_machine.specs.declared.state.Waiting.{Waiting}
+use Rattle.ls_machine.specs.Counts.{first}
+use Rattle.ls_machine.specs.Journal.{IsCutAt, IsLegalFrom, replay_from}
+use Rattle.ls_machine.proofs.Replays.{past-first}
+use Rattle.ls_machine.specs.Machine.{IsPossible, first_ticket, is_queued, ticket_of}
 use Rattle.ls_desk.specs.Stands.{AreOutsFor, IsSound, Seen, Sends, state_of, ticket_of_out}
 use Rattle.ls_desk.specs.Faults.{IsJobOf, Refuses, Takes, is_full, or_else, take_fault}
 use Rattle.ls_session.specs.Bodies.{body_of}
 use Rattle.ls_session.specs.Session.{turn_of}
-use Rattle.ls_workers.specs.declared.client.ClientEvent.{ClientEvent}
-use Rattle.ls_workers.specs.declared.client.ClientEvent.TheVariants as event
+use Rattle.ls_machine.specs.declared.client.ClientEvent.{ClientEvent}
+use Rattle.ls_machine.specs.declared.client.ClientEvent.TheVariants as event
 use Rattle.ls_session.specs.declared.event.Status.{Status}
 use Rattle.ls_session.specs.declared.event.Status.TheVariants.{Full}
 use Rattle.ls_session.specs.declared.event.Turn.{Turn}
@@ -33,9 +35,9 @@ use Rattle.ls_steps.proofs.Entries.{first-cause}
 
 -- ---- desks
 
-pub sound-start : (most : ℕ) → IsSound (record { journal = []; outbox = []; max_events = most })
-unfolding IsLegalFrom replay_from AreOutsFor
-sound-start most = record { legal = tt; outs = tt }
+pub sound-start : (longest most : ℕ) → IsSound (record { base = first; journal = []; outbox = []; max_journal = longest; max_events = most })
+unfolding IsLegalFrom IsCutAt replay_from AreOutsFor
+sound-start longest most = record { past = ([], past-first most); legal = tt; cut = tt; outs = tt }
 
 outs-none : (es : List Entry) → AreOutsFor es [] → es ≡ []
 unfolding AreOutsFor
@@ -47,7 +49,7 @@ nothing-unsent d s e = outs-none _ (let P : List Out → Type 0 = λ os. AreOuts
 
 -- a session over this desk
 abbrev pub over : Stage → Seen → List Held → Option Status → Going
-over stage d held status = record { stage = stage; journal = d.journal; max_events = d.max_events; held = held; status = status }
+over stage d held status = record { stage = stage; base = d.base; journal = d.journal; max_journal = d.max_journal; max_events = d.max_events; held = held; status = status }
 
 -- ---- hear
 
@@ -63,8 +65,8 @@ heard-turn g h body turn e t s = (
 )
 
 -- what the desk does doesn't depend on what is said
-meets-alike : (d : Seen) (e : ClientEvent) → meets (record { journal = d.journal; outbox = []; max_events = d.max_events }) e ≡ meets d e
-meets-alike d (event.DidOpen uri label text) = refl
+meets-alike : (d : Seen) (e : ClientEvent) → meets (record { base = d.base; journal = d.journal; outbox = []; max_journal = d.max_journal; max_events = d.max_events }) e ≡ meets d e
+meets-alike d (event.DidOpen uri label text encoding) = refl
 meets-alike d (event.DidChange uri label edits) = refl
 meets-alike d (event.DidClose uri) = refl
 meets-alike d (event.Request id uri ask links) = refl
@@ -78,7 +80,9 @@ heard-event stage later d new held status body e full none turn left =
     heard-turn (over stage d held status) (over later new held (status_by status full)) body (Happens e, later) none turn
     (λ i. record {
       stage = later;
+      base = (left.base ∙ sym (ap (λ l. l.base) (meets-alike d e))) i;
       journal = (left.journal ∙ sym (ap (λ l. l.journal) (meets-alike d e))) i;
+      max_journal = left.most_journal i;
       max_events = left.most i;
       held = held;
       status = (ap (status_by status) (left.full_is ∙ sym (ap (λ l. l.full) (meets-alike d e)))) i;
@@ -104,7 +108,7 @@ takes-none stage d new held status e t =
     (ap (λ (s : Seen). over stage s held status) t.1 ∙ sym (ap (takes (over stage d held status)) t.0))
 
 job-held : (w : Waiting) (job : Job) → IsJobOf w job → held_as job ≡ held_of w
-job-held w job j = λ i. record { ticket = j.ticket i; text = j.text i; ask = j.ask i }
+job-held w job j = λ i. record { ticket = j.ticket i; text = j.text i; encoding = j.encoding i; ask = j.ask i }
 
 pub takes-one : (stage : Stage) (d new : Seen) (held : List Held) (status : Option Status) (job : Job) → is_filled status ≡ false
     → Takes 0 d new (Some job) → Steps (over stage d held status) take_job (over stage new (held ++ held_as job ∷ []) status) []
@@ -112,7 +116,7 @@ takes-one stage d new held status job e t =
     let g = over stage d held status in
     let a = t.3 in
     let one : over stage new (held ++ held_as job ∷ []) status ≡ took g t.0 None
-    = λ i. record { stage = stage; journal = a.enters.journal i; max_events = a.enters.most i; held = held ++ job-held t.0 job t.2 i ∷ []; status = status } in
+    = λ i. record { stage = stage; base = a.enters.base i; journal = a.enters.journal i; max_journal = a.enters.most_journal i; max_events = a.enters.most i; held = held ++ job-held t.0 job t.2 i ∷ []; status = status } in
     takes-then g (over stage new (held ++ held_as job ∷ []) status) e
     (one ∙ (sym (ap (took g t.0) a.none) ∙ sym (ap (takes g) t.1)))
 
@@ -152,7 +156,7 @@ finished stage d new held status at job done full e found r left =
     let g = over stage d held status in
     let h = over stage new (remove held at) (status_by status full) in
     let one : h ≡ leaving (record g { held = remove held at }) (finishes d done)
-    = λ i. record { stage = stage; journal = left.journal i; max_events = left.most i; held = remove held at; status = status_by status (left.full_is i) } in
+    = λ i. record { stage = stage; base = left.base i; journal = left.journal i; max_journal = left.most_journal i; max_events = left.most i; held = remove held at; status = status_by status (left.full_is i) } in
     let P : Told → Type 0 = λ t. h ≡ leaving (record g { held = remove held at }) (finishes d t) in
     let Q : Option Held → Type 0 = λ o. h ≡ runs g at done.answer o in
     let R : Bool → Type 0 = λ b. h ≡ (if b then g else runs g at done.answer (slice_get held at)) in
@@ -174,14 +178,14 @@ finished-job stage d new jobs left status at job done full e within is gone r l 
 -- the job at a place of those held has run, and the session is full by it or not
 pub finished-as : (g : Going) (stage : Stage) (d new : Seen) (jobs left : List Job) (status : Option Status) (at : ℕ) (job : Job) (done : Told) (said full filled : Bool)
     → over stage d (map held_as jobs) status ≡ g → filled ≡ is_filled g.status → filled ≡ false → at < length jobs → job ≡ get_or jobs at job → left ≡ remove jobs at
-    → done.ticket ≡ job.ticket → done.text ≡ arc_value job.snapshot → done.ask ≡ job.ask → said ≡ full → Leaves (finishes d done) said d new
+    → done.ticket ≡ job.ticket → done.text ≡ arc_value job.snapshot → done.encoding ≡ job.encoding → done.ask ≡ job.ask → said ≡ full → Leaves (finishes d done) said d new
     → Steps g (finish_job at) (over stage new (map held_as left) (status_by status full)) []
-finished-as g stage d new jobs left status at job done said full filled view f e within is gone ticket text ask s l =
+finished-as g stage d new jobs left status at job done said full filled view f e within is gone ticket text encoding ask s l =
     let P : Going → Type 0 = λ x. Steps x (finish_job at) (over stage new (map held_as left) (status_by status full)) [] in
     let Q : Bool → Type 0 = λ b. Leaves (finishes d done) b d new in
     subst P view
     (finished-job stage d new jobs left status at job done full (ap (λ (x : Going). is_filled x.status) view ∙ (sym f ∙ e)) within is gone
-    (λ i. record { ticket = ticket i; text = text i; ask = ask i; answer = done.answer }) (subst Q s l))
+    (λ i. record { ticket = ticket i; text = text i; encoding = encoding i; ask = ask i; answer = done.answer }) (subst Q s l))
 
 -- ---- send
 
@@ -208,5 +212,5 @@ sends-one stage d new held status out body frame s b f =
     let j : new.journal ≡ d.journal ++ Sent (ticket_of e) ∷ [] = s.enters.journal ∙ ap (λ n. d.journal ++ Sent n ∷ []) (sym t) in
     let P : List Entry → Type 0 = λ es. IsSent g es (over stage new held status) frame in
     let same : over stage new held status ≡ record g { journal = d.journal ++ Sent (ticket_of e) ∷ [] }
-    = λ i. record { stage = stage; journal = j i; max_events = s.enters.most i; held = held; status = status } in
+    = λ i. record { stage = stage; base = s.enters.base i; journal = j i; max_journal = s.enters.most_journal i; max_events = s.enters.most i; held = held; status = status } in
     subst P (sym s.is_for.2) (same, s.was_current, (out, body, s.is_for.3, sym b, f))

@@ -2,10 +2,10 @@
 -- sent, before the next message is read.
 use Rattle.std.specs.Prelude.{◌≡◌, ℕ, zero, suc, List, [], ◌∷◌, ◌++◌, map, find, is_none, is_some, slice_get, ◌||◌, Bool, true, false, Option, Some}
 use Rattle.ls_answers.specs.declared.answer.Answer.{Answer}
-use Rattle.ls_desk.specs.declared.event.Out.{Out}
-use Rattle.ls_desk.specs.declared.event.Event.TheVariants.{Sent}
-use Rattle.ls_desk.specs.declared.state.Entry.{Entry}
-use Rattle.ls_desk.specs.Machine.{is_queued, ticket_of}
+use Rattle.ls_machine.specs.declared.event.Out.{Out}
+use Rattle.ls_machine.specs.declared.event.Event.TheVariants.{Sent}
+use Rattle.ls_machine.specs.declared.state.Entry.{Entry}
+use Rattle.ls_machine.specs.Machine.{is_queued, ticket_of}
 use Rattle.ls_desk.specs.Stands.{IsOutFor}
 use Rattle.ls_frame.specs.Frames.{frame_of}
 use Rattle.ls_session.specs.Bodies.{body_of}

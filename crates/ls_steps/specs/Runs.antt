@@ -9,27 +9,32 @@ use Rattle.ls_frame.specs.declared.fault.FrameFault.{FrameFault}
 use Rattle.ls_frame.specs.declared.fault.FrameFault.TheVariants.{Truncated}
 use Rattle.ls_rpc.specs.Message.{message_of}
 use Rattle.ls_rpc.specs.declared.message.Id.{Id}
+use Rattle.ls_text.specs.declared.position.Encoding.{Encoding}
 use Rattle.ls_answers.specs.Told.{Told}
 use Rattle.ls_answers.specs.declared.ask.Ask.{Ask}
 use Rattle.ls_answers.specs.declared.answer.Answer.{Answer}
 use Rattle.ls_answers.specs.declared.job.Job.{Job}
-use Rattle.ls_desk.specs.declared.event.Event.{Event}
-use Rattle.ls_desk.specs.declared.event.Event.TheVariants.{Opened, Changed, Closed, Asked, Cancelled, Said, Took, Finished, Sent}
-use Rattle.ls_desk.specs.declared.event.Out.{Out}
-use Rattle.ls_desk.specs.declared.event.DeskFault.{DeskFault}
-use Rattle.ls_desk.specs.declared.event.DeskFault.TheVariants.{SessionFull}
-use Rattle.ls_desk.specs.declared.state.Waiting.{Waiting}
-use Rattle.ls_desk.specs.declared.state.Entry.{Entry}
-use Rattle.ls_desk.specs.Machine.{State, document_of, edited_at, version_if, id_waits, is_queued, ticket_of}
-use Rattle.ls_desk.specs.Journal.{replay}
-use Rattle.ls_desk.specs.Laws.{WasEntryCurrent}
-use Rattle.ls_desk.specs.Stands.{Seen, IsOutFor, state_of}
+use Rattle.ls_machine.specs.declared.event.Event.{Event}
+use Rattle.ls_machine.specs.declared.event.Event.TheVariants.{Opened, Changed, Closed, Asked, Cancelled, Said, Took, Finished, Sent}
+use Rattle.ls_machine.specs.declared.event.Out.{Out}
+use Rattle.ls_machine.specs.declared.event.DeskFault.{DeskFault}
+use Rattle.ls_machine.specs.declared.event.DeskFault.TheVariants.{SessionFull}
+use Rattle.ls_machine.specs.declared.state.Waiting.{Waiting}
+use Rattle.ls_machine.specs.declared.state.Entry.{Entry}
+use Rattle.ls_machine.specs.declared.state.State.{State}
+use Rattle.ls_machine.specs.Machine.{document_of, edited_at, version_if, id_waits, is_queued, ticket_of}
+use Rattle.ls_machine.specs.declared.base.Base.{Base}
+use Rattle.ls_machine.specs.declared.base.Counts.{Counts}
+use Rattle.ls_machine.specs.Counts.{counted, first}
+use Rattle.ls_machine.specs.Journal.{replay_from}
+use Rattle.ls_desk.specs.Anew.{base_after, journal_after}
+use Rattle.ls_desk.specs.Stands.{Seen, IsOutFor, WasCurrentAt, counts_of, fresh_for, state_of}
 use Rattle.ls_desk.specs.Faults.{open_fault, end_fault, request_fault, cancel_fault, full_fault, take_fault, finish_fault}
 use Rattle.ls_session.specs.Bodies.{body_of, refusal_of}
 use Rattle.ls_session.specs.Session.{turn_of}
-use Rattle.ls_workers.specs.declared.client.ClientEvent.{ClientEvent}
-use Rattle.ls_workers.specs.declared.client.ClientEvent.TheVariants.{DidOpen, DidChange, DidClose, Request, Cancel, Say}
-use Rattle.ls_workers.specs.Client.{asker_of}
+use Rattle.ls_machine.specs.declared.client.ClientEvent.{ClientEvent}
+use Rattle.ls_machine.specs.declared.client.ClientEvent.TheVariants.{DidOpen, DidChange, DidClose, Request, Cancel, Say}
+use Rattle.ls_machine.specs.Client.{asker_of}
 use Rattle.ls_session.specs.declared.event.Turn.{Turn}
 use Rattle.ls_session.specs.declared.event.Turn.TheVariants.{Nothing, Event as Happens, Exit}
 use Rattle.ls_session.specs.declared.event.Status.{Status}
@@ -45,18 +50,21 @@ use Rattle.ls_steps.specs.declared.steps.Step.TheVariants as step
 pub record Held : Type 0 where
   pub ticket : ℕ
   pub text : List ℕ
+  pub encoding : Encoding
   pub ask : Ask
 
 abbrev pub held_of : Waiting → Held
-held_of w = record { ticket = w.ticket; text = w.text; ask = w.ask }
+held_of w = record { ticket = w.ticket; text = w.text; encoding = w.encoding; ask = w.ask }
 
 abbrev pub held_as : Job → Held
-held_as job = record { ticket = job.ticket; text = arc_value job.snapshot; ask = job.ask }
+held_as job = record { ticket = job.ticket; text = arc_value job.snapshot; encoding = job.encoding; ask = job.ask }
 
 pub record Going : Type 0 where
   pub stage : Stage
-  -- the desk's journal, and the most events that it takes
+  -- the desk's base and journal, and its limits
+  pub base : Base
   pub journal : List Event
+  pub max_journal : ℕ
   pub max_events : ℕ
   -- the worker's jobs, in the order in which they were taken
   pub held : List Held
@@ -64,35 +72,41 @@ pub record Going : Type 0 where
 
 -- nothing has come
 abbrev pub begun : Going
-begun = record { stage = BeforeInitialize; journal = []; max_events = 1000000; held = []; status = None }
+begun = record { stage = BeforeInitialize; base = first; journal = []; max_journal = 1000000; max_events = 18446744073709551614; held = []; status = None }
 
 -- the desk, as far as its refusals go: they don't depend on what is said of the entries
 abbrev pub desk_of : Going → Seen
-desk_of g = record { journal = g.journal; outbox = []; max_events = g.max_events }
+desk_of g = record { base = g.base; journal = g.journal; outbox = []; max_journal = g.max_journal; max_events = g.max_events }
 
 abbrev pub state_at : Going → State
-state_at g = replay g.journal
+state_at g = replay_from g.base.state g.journal
 
--- ---- what a step leaves at the desk: its journal, and whether the session is full
+-- how many events of each kind there were
+abbrev pub counts_at : Going → Counts
+counts_at g = counted g.base.counts g.journal
+
+-- ---- what a step leaves at the desk: its base and journal, and whether the session is full
 
 pub record Left : Type 0 where
+  pub base : Base
   pub journal : List Event
   pub full : Bool
 
+-- a client's event that finds the journal as long as it may be makes a checkpoint
 abbrev pub entered : Seen → Event → Left
-entered d e = record { journal = d.journal ++ e ∷ []; full = false }
+entered d e = record { base = base_after (fresh_for d e) (counts_of d) d.base; journal = journal_after (fresh_for d e) d.journal ++ e ∷ []; full = false }
 
 abbrev pub unchanged : Seen → Left
-unchanged d = record { journal = d.journal; full = false }
+unchanged d = record { base = d.base; journal = d.journal; full = false }
 
 abbrev pub filled : Seen → Left
-filled d = record { journal = d.journal; full = true }
+filled d = record { base = d.base; journal = d.journal; full = true }
 
 -- ---- a client's event
 
 -- why the desk refuses it, if it does
 abbrev pub fault_at : Seen → ClientEvent → Option DeskFault
-fault_at d (DidOpen uri label text) = open_fault d uri text
+fault_at d (DidOpen uri label text encoding) = open_fault d uri text
 fault_at d (DidChange uri label edits) = end_fault d uri
 fault_at d (DidClose uri) = end_fault d uri
 fault_at d (Request id uri ask links) = request_fault d id uri
@@ -101,7 +115,7 @@ fault_at d (Say body) = full_fault d 2
 
 -- what is entered, where the desk doesn't refuse it
 abbrev pub entry_at : State → ClientEvent → Event
-entry_at s (DidOpen uri label text) = Opened uri label (chars text) s.next_version
+entry_at s (DidOpen uri label text encoding) = Opened uri label (chars text) encoding s.next_version
 entry_at s (DidChange uri label edits) = Changed uri label edits (version_if s.next_version (edited_at (document_of uri s.documents) edits))
 entry_at s (DidClose uri) = Closed uri
 entry_at s (Request id uri ask links) = Asked id uri ask links s.next_ticket
@@ -136,7 +150,7 @@ meets d event = met d event (fault_at d event)
 
 -- its answer, or none where memory was refused in it
 abbrev pub ran : Held → Option Answer → Told
-ran job answer = record { ticket = job.ticket; text = job.text; ask = job.ask; answer = answer }
+ran job answer = record { ticket = job.ticket; text = job.text; encoding = job.encoding; ask = job.ask; answer = answer }
 
 -- one whose ticket waits no longer is dropped
 abbrev pub finished_by : Seen → Told → Option DeskFault → Left
@@ -161,7 +175,7 @@ abbrev pub status_by : Option Status → Bool → Option Status
 status_by status full = if full then Some Full else status
 
 abbrev pub leaving : Going → Left → Going
-leaving g left = record g { journal = left.journal; status = status_by g.status left.full }
+leaving g left = record g { base = left.base; journal = left.journal; status = status_by g.status left.full }
 
 abbrev pub on_turn : Going → Turn → Going
 on_turn g Nothing = g
@@ -191,7 +205,7 @@ runs g k answer (Some job) = leaving (record g { held = remove g.held k }) (fini
 abbrev pub IsSent : Going → List Entry → Going → List ℕ → Type 0
 IsSent g [] h bytes = (h ≡ g) × (bytes ≡ [])
 IsSent g (e ∷ es) h bytes = (h ≡ record g { journal = g.journal ++ Sent (ticket_of e) ∷ [] })
-    × WasEntryCurrent g.journal e
+    × WasCurrentAt (desk_of g) e
     × ((out : Out) × (body : List ℕ) × IsOutFor e out × (body_of out ≡ Some body) × (bytes ≡ frame_of body))
 
 -- what reads does nothing once a status stands

@@ -4,22 +4,28 @@ ghost use Rattle.ls_desk.specs.Stands.{IsSound, state_of};
 ghost use Rattle.ls_desk.specs.Faults.{Accepts, Refuses, cancel_fault, end_fault, open_fault, request_fault};
 ghost use Rattle.ls_steps.specs.Runs.{entry_at, fault_at, finishes, meets, refused};
 ghost use Rattle.ls_steps.specs.Leaves.{Leaves};
-ghost use Rattle.ls_workers.specs.Client.{IsAllowed};
+ghost use Rattle.ls_machine.specs.Client.{IsAllowed};
 
 use ls_answers::{Ask, Done};
 use ls_desk::{Desk, DeskFault};
 use ls_lists::{List, Text};
 use ls_rpc::Id;
 use ls_session::{ClientEvent, refusal_body};
-use ls_text::Edit;
+use ls_text::{Edit, Encoding};
 use std::alloc::{AllocError as Memory, Global};
 
 /// Takes an open of a document to the desk.
-fn open(desk: &mut Desk, uri: Text, label: i64, text: Text) -> Result<(), DeskFault>
-    ensures ok { OnOk result (Accepts (open_fault desk.old uri text) desk.old desk.new (entry_at (state_of desk.old) (ClientEvent.DidOpen uri label text))) }
+fn open(
+    desk: &mut Desk,
+    uri: Text,
+    label: i64,
+    text: Text,
+    encoding: Encoding,
+) -> Result<(), DeskFault>
+    ensures ok { OnOk result (Accepts (open_fault desk.old uri text) desk.old desk.new (entry_at (state_of desk.old) (ClientEvent.DidOpen uri label text encoding))) }
     ensures err { IfErr result (λ fault. Refuses (open_fault desk.old uri text) desk.old desk.new fault) }
 {
-    desk.did_open(uri, label, text)?;
+    desk.did_open(uri, label, text, encoding)?;
     Ok(())
 }
 
@@ -58,7 +64,9 @@ fn enter(desk: &mut Desk, event: ClientEvent) -> Result<(), DeskFault>
     ensures err { IfErr result (λ fault. Refuses (fault_at desk.old event) desk.old desk.new fault) }
 {
     match event {
-        ClientEvent::DidOpen(uri, label, text) => open(desk, uri, label, text),
+        ClientEvent::DidOpen(uri, label, text, encoding) => {
+            open(desk, uri, label, text, encoding)
+        }
         ClientEvent::DidChange(uri, label, edits) => change(desk, uri, label, edits),
         ClientEvent::DidClose(uri) => desk.did_close(uri),
         ClientEvent::Request(id, uri, question, links) => ask(desk, id, uri, question, links),

@@ -1,11 +1,12 @@
 //! A client's session, over a desk.
-ghost use Rattle.std.specs.Prelude.{◌≡◌, ◌≤◌, ◌&&◌, ℕ, List, [], length, not, is_some, true, IfOk, IfNone, IfSome, OnOk, Some};
-ghost use Rattle.ls_desk.specs.Machine.{first_ticket};
+ghost use Rattle.std.specs.Prelude.{◌≡◌, ◌<◌, ◌≤◌, ◌&&◌, ℕ, List, [], length, not, is_some, true, IfOk, IfNone, IfSome, OnOk, Some};
+ghost use Rattle.ls_machine.specs.Machine.{first_ticket};
+ghost use Rattle.ls_machine.specs.Counts.{total};
 ghost use Rattle.ls_steps.specs.Plain.{has_run_all};
 ghost use Rattle.ls_desk.specs.Stands.{IsSound};
 ghost use Rattle.ls_frame.specs.Frames.{frame_of};
 ghost use Rattle.ls_session.specs.Bodies.{body_of};
-ghost use Rattle.ls_steps.specs.Runs.{Steps, begun, break_off, bytes_in, finish_job, hear, is_filled, send, state_at, take_job};
+ghost use Rattle.ls_steps.specs.Runs.{Steps, begun, break_off, bytes_in, counts_at, finish_job, hear, is_filled, send, state_at, take_job};
 
 use crate::at_desk::{finish, meet};
 use ls_answers::{Job, run};
@@ -15,8 +16,11 @@ use ls_session::{Session, Status, Turn, body_of};
 use std::alloc::{AllocError as Memory, Global};
 use std::marker::Model;
 
-/// The most events that the desk's journal takes.
-const MOST_EVENTS: usize = 1_000_000;
+/// The most events that the desk's journal may have where a client's event comes to it.
+const MOST_JOURNAL: usize = 1_000_000;
+
+/// The most events and unsent replies of a session, together.
+const MOST_EVENTS: u64 = 18_446_744_073_709_551_614;
 
 /// The number of the worker.
 const WORKER: u32 = 0;
@@ -58,7 +62,7 @@ impl Model for Conversation {
 
     ghost Value = { Going };
 
-    ghost view = { λ c. record { stage = c.session; journal = c.desk.journal; max_events = c.desk.max_events; held = map held_as c.held.items; status = c.status } };
+    ghost view = { λ c. record { stage = c.session; base = c.desk.base; journal = c.desk.journal; max_journal = c.desk.max_journal; max_events = c.desk.max_events; held = map held_as c.held.items; status = c.status } };
 
     ghost invariant = { λ c. IsSound c.desk };
 }
@@ -68,10 +72,18 @@ impl Conversation {
     pub fn new(alloc: Global) -> Conversation
         ensures { result ≡ begun }
     {
+        Conversation::with_journal(alloc, MOST_JOURNAL)
+    }
+
+    /// The same, by a journal that begins anew with the client's next event once it has so many.
+    pub fn with_journal(alloc: Global, max_journal: usize) -> Conversation
+        requires { (0 < max_journal) × (max_journal ≤ 1000000) }
+        ensures { result ≡ record begun { max_journal = max_journal } }
+    {
         Conversation {
             alloc,
             session: Session::new(alloc),
-            desk: Desk::new(alloc, MOST_EVENTS),
+            desk: Desk::new(alloc, max_journal, MOST_EVENTS),
             held: Vec::new(alloc),
             status: None,
         }
@@ -126,7 +138,7 @@ impl Conversation {
     pub fn take(&mut self) -> Result<bool, Memory>
         ensures steps { OnOk result (Steps self.old take_job self.new []) }
         ensures taken { IfOk result (λ taken. taken ≡ not (has_run_all self.old) && not (is_filled self.new.status)) }
-        ensures fits { OnOk result (length self.new.journal ≤ self.new.max_events) }
+        ensures fits { OnOk result (total (counts_at self.new) ≤ self.new.max_events) }
     {
         if self.is_full() {
             return Ok(false);
@@ -175,8 +187,9 @@ impl Conversation {
 
     /// The desk, as the session leaves it.
     pub fn into_desk(self) -> Desk
+        ensures base { result.base ≡ self.base }
         ensures journal { result.journal ≡ self.journal }
-        ensures most { result.max_events ≡ self.max_events }
+        ensures most { (result.max_journal ≡ self.max_journal) × (result.max_events ≡ self.max_events) }
         ensures sound { IsSound result }
     {
         self.desk

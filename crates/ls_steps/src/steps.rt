@@ -72,8 +72,8 @@ impl Frames {
 ///
 /// `Memory` says that an allocation was refused.
 pub fn run_steps(alloc: Global, input: &[u8], steps: &[Step]) -> Result<Run, Memory>
-    ensures run { IfOk result (λ run. (h : Going) × IsRun input.now steps.now h run.bytes.items × (run.desk.journal ≡ h.journal) × (run.status ≡ h.status)) }
-    ensures sound { IfOk result (λ run. IsSound run.desk × (run.desk.max_events ≡ 1000000)) }
+    ensures run { IfOk result (λ run. (h : Going) × IsRun input.now steps.now h run.bytes.items × (run.desk.base ≡ h.base) × (run.desk.journal ≡ h.journal) × (run.status ≡ h.status)) }
+    ensures sound { IfOk result (λ run. IsSound run.desk × (run.desk.max_events ≡ 18446744073709551614)) }
 {
     let frames = Frames::of(alloc, input)?;
     let mut talk = Conversation::new(alloc);

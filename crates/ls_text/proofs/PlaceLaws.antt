@@ -14,6 +14,7 @@ use Rattle.ls_text.specs.declared.position.Position.{Position}
 use Rattle.ls_text.specs.Cut.{Row}
 use Rattle.ls_text.proofs.OffsetLaws.{at_line, is_apart, start_le, fitting_le, offset_of-line}
 use Rattle.ls_text.proofs.PositionLaws.{same_position}
+use Rattle.ls_text.proofs.UnitLaws.{units-utf8}
 
 pub lowered_at : (t : List ℕ) (o : ℕ) → o ≤ length t → splits_crlf t o ≡ false → lowered t o ≡ o
 unfolding lowered
@@ -68,3 +69,10 @@ position_at_boundary width l bs u b at =
     let length_is : b ≡ length (encodes (chars (take b bs))) = sym (length-take-le b bs at.0) ∙ ap length (sym (encodes-chars (take b bs) front)) in
     let count : fitting len_utf8 (chars bs) b ≡ length (chars (take b bs)) = (λ i. fitting len_utf8 (seam i) (length_is i)) ∙ fitting-seam (chars (take b bs)) (chars (drop b bs)) in
     same_position _ _ _ _ refl (ap (sum_by width) ((λ i. take (count i) (seam i)) ∙ take-append_seam (chars (take b bs)) (chars (drop b bs))))
+
+-- and in UTF-8 those bytes
+pub bytes_at_boundary : (bs : List ℕ) → IsUtf8 bs → (b : ℕ) → IsCharBoundary bs b → b ≡ sum_by len_utf8 (take (fitting len_utf8 (chars bs) b) (chars bs))
+bytes_at_boundary bs u b at =
+    let front = IsUtf8-take bs b u at in
+    let all : length (encodes (chars (take b bs))) ≡ b = ap length (encodes-chars (take b bs) front) ∙ length-take-le b bs at.0 in
+    sym all ∙ sym (units-utf8 (chars (take b bs))) ∙ sym (ap (λ (p : Position). p.character) (position_at_boundary len_utf8 0 bs u b at))

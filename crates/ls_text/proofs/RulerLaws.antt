@@ -8,7 +8,7 @@ use Rattle.std.proofs.lemmas.List.{append-nil, append_assoc, length-take-le}
 use Rattle.std.proofs.lemmas.List.Sums.{sum_by-append}
 use Rattle.std.proofs.lemmas.Bool.Decides.{nat_tests}
 use Rattle.std.proofs.lemmas.Str.{IsCharBoundary-at_seam, chars-encodes, encodes-append, encodes-chars, length-encode, scalars-chars}
-use Rattle.ls_text.specs.Lines.{fitting, utf16_len}
+use Rattle.ls_text.specs.Lines.{fitting}
 use Rattle.ls_text.specs.Counts.{IsCountedIn}
 use Rattle.ls_text.specs.declared.ruler.Counted.{Counted}
 use Rattle.ls_text.proofs.OffsetLaws.{fitting_le}
@@ -70,7 +70,7 @@ fitting-behind (x ∷ xs) ys b le =
     one_more a l f e = omega (arith, e)
 
 -- ---- counting on: what stood behind the front has a front of its own
-module _ (line : List ℕ) (c : Counted) (is : IsCountedIn line c) (b : ℕ) (le : c.bytes ≤ b) (n : ℕ) (n_is : n ≡ fitting len_utf8 (chars c.rest.now) (b - c.bytes)) where
+module _ (width : ℕ → ℕ) (line : List ℕ) (c : Counted) (is : IsCountedIn width line c) (b : ℕ) (le : c.bytes ≤ b) (n : ℕ) (n_is : n ≡ fitting len_utf8 (chars c.rest.now) (b - c.bytes)) where
   abbrev pub more : List ℕ
   more = take n (chars c.rest.now)
 
@@ -89,8 +89,8 @@ module _ (line : List ℕ) (c : Counted) (is : IsCountedIn line c) (b : ℕ) (le
   pub small_sum : (length (encodes is.front) + length (encodes more)) + length (encodes rest) ≤ 4_194_304
   small_sum = omega (arith, is.small, ap (λ t. length (encodes t)) line_is, ap length (encodes-append (is.front ++ more) rest), length-append (encodes (is.front ++ more)) (encodes rest), bytes_sum)
 
-  units_sum : sum_by utf16_len (is.front ++ more) ≡ sum_by utf16_len is.front + sum_by utf16_len more
-  units_sum = sum_by-append utf16_len is.front more
+  units_sum : sum_by width (is.front ++ more) ≡ sum_by width is.front + sum_by width more
+  units_sum = sum_by-append width is.front more
 
   front_length : length (is.front ++ more) ≡ fitting len_utf8 line b
   front_length =
@@ -102,8 +102,8 @@ module _ (line : List ℕ) (c : Counted) (is : IsCountedIn line c) (b : ℕ) (le
   taken_is = (λ i. take (sym front_length i) (line_is i)) ∙ take-append_seam (is.front ++ more) rest
 
   -- so far it has been counted then
-  module _ (d : Counted) (rest_is : chars d.rest.now ≡ rest) (bytes_is : d.bytes ≡ c.bytes + length (encodes more)) (units_is : d.units ≡ c.units + sum_by utf16_len more) (utf8 : IsUtf8 d.rest.now) where
-    pub counted_on : IsCountedIn line d
+  module _ (d : Counted) (rest_is : chars d.rest.now ≡ rest) (bytes_is : d.bytes ≡ c.bytes + length (encodes more)) (units_is : d.units ≡ c.units + sum_by width more) (utf8 : IsUtf8 d.rest.now) where
+    pub counted_on : IsCountedIn width line d
     counted_on = record {
       front = is.front ++ more;
       parts = line_is ∙ ap (λ t. (is.front ++ more) ++ t) (sym rest_is);
@@ -113,5 +113,5 @@ module _ (line : List ℕ) (c : Counted) (is : IsCountedIn line c) (b : ℕ) (le
       small = is.small;
     }
 
-    pub units_on : d.units ≡ sum_by utf16_len (take (fitting len_utf8 line b) line)
-    units_on = omega (arith, units_is, is.units, units_sum, ap (sum_by utf16_len) taken_is)
+    pub units_on : d.units ≡ sum_by width (take (fitting len_utf8 line b) line)
+    units_on = omega (arith, units_is, is.units, units_sum, ap (sum_by width) taken_is)

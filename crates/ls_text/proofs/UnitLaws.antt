@@ -1,5 +1,5 @@
 -- Laws of the units and bytes of the characters at the front of a text.
-use Rattle.std.proofs.Common.{zero, suc, min, ◌≡◌, ℕ, ◌+◌, ◌-◌, ◌<◌, ◌≤◌, cond, leb, List, [], ◌∷◌, ◌++◌, length, take, drop, get_or, sym, ap, ◌∙◌, arith, length-append, take-append-drop}
+use Rattle.std.proofs.Common.{zero, suc, min, ◌≡◌, ℕ, ◌+◌, ◌-◌, ◌<◌, ◌≤◌, cond, leb, List, [], ◌∷◌, ◌++◌, length, take, drop, get_or, refl, sym, ap, ◌∙◌, arith, length-append, take-append-drop}
 use Rattle.std.specs.Prelude.{sum_by}
 use Rattle.std.specs.Char.{len_utf8}
 use Rattle.std.specs.Str.{chars, IsUtf8, encode_utf8_all as encodes}
@@ -7,10 +7,9 @@ use Rattle.std.proofs.lemmas.Str.{encodes-append, encodes-chars, length-encode, 
 use Rattle.std.proofs.lemmas.List.{append-nil, take_more, at_drop_more, at_drop_all}
 use Rattle.std.proofs.lemmas.List.Sums.{sum_by-cons, sum_by-append}
 use Rattle.std.proofs.lemmas.Bool.Decides.{nat_tests}
-use Rattle.ls_text.specs.Lines.{fitting, utf16_len}
-use Rattle.ls_text.specs.Cut.{width_of}
-use Rattle.ls_text.specs.declared.units.Units.{Units}
-use Rattle.ls_text.specs.declared.units.Units.TheVariants.{Utf8, Utf16}
+use Rattle.ls_text.specs.Lines.{fitting, units, utf16_len}
+use Rattle.ls_text.specs.declared.position.Encoding.{Encoding}
+use Rattle.ls_text.specs.declared.position.Encoding.TheVariants.{Utf8, Utf16, Utf32}
 
 -- ---- one character more
 pub taken : (cs : List ℕ) (n c : ℕ) → (n < length cs) × (c ≡ get_or cs n c) → take (n + 1) cs ≡ take n cs ++ c ∷ []
@@ -36,14 +35,24 @@ units_more w cs n c here =
 pub utf16_le : (c : ℕ) → utf16_len c ≤ len_utf8 c
 utf16_le c = grind (arith, nat_tests)
 
-pub width_le : (u : Units) (c : ℕ) → width_of u c ≤ len_utf8 c
+pub width_le : (u : Encoding) (c : ℕ) → units u c ≤ len_utf8 c
 width_le Utf8 c = omega arith
 width_le Utf16 c = utf16_le c
+width_le Utf32 c = (len_utf8_bounds c).0
 
-pub units_le : (u : Units) (cs : List ℕ) → sum_by (width_of u) cs ≤ length (encodes cs)
+pub units_le : (u : Encoding) (cs : List ℕ) → sum_by (units u) cs ≤ length (encodes cs)
 units_le u [] = omega arith
 units_le u (c ∷ cs) =
-    omega (arith, sum_by-cons (width_of u) c cs, units_le u cs, width_le u c, ap length (encodes-append (c ∷ []) cs), length-append (encodes (c ∷ [])) (encodes cs), ap length (append-nil (encodes (c ∷ []))), one_char c)
+    omega (arith, sum_by-cons (units u) c cs, units_le u cs, width_le u c, ap length (encodes-append (c ∷ []) cs), length-append (encodes (c ∷ [])) (encodes cs), ap length (append-nil (encodes (c ∷ []))), one_char c)
+  where
+    one_char : (c : ℕ) → length (encodes (c ∷ [])) ≡ len_utf8 c
+    one_char c = ap length (append-nil _) ∙ length-encode c
+
+-- the units of UTF-8 are its bytes
+pub units-utf8 : (cs : List ℕ) → sum_by len_utf8 cs ≡ length (encodes cs)
+units-utf8 [] = refl
+units-utf8 (c ∷ cs) =
+    omega (arith, sum_by-cons len_utf8 c cs, units-utf8 cs, ap length (encodes-append (c ∷ []) cs), length-append (encodes (c ∷ [])) (encodes cs), ap length (append-nil (encodes (c ∷ []))), one_char c)
   where
     one_char : (c : ℕ) → length (encodes (c ∷ [])) ≡ len_utf8 c
     one_char c = ap length (append-nil _) ∙ length-encode c
@@ -86,30 +95,31 @@ one_byte c cs e =
     let rest = length-le-encodes cs in
     (omega arith, omega arith)
 
-one_unit : (u : Units) (c : ℕ) → len_utf8 c ≡ 1 → width_of u c ≡ 1
+one_unit : (u : Encoding) (c : ℕ) → len_utf8 c ≡ 1 → units u c ≡ 1
 one_unit Utf8 c e = e
 one_unit Utf16 c e =
     let le = utf16_le c in
     let some : 0 < utf16_len c = grind (arith, nat_tests) in
     omega arith
+one_unit Utf32 c e = refl
 
 fit_more : (x k f n : ℕ) → x ≡ 1 → f ≡ min (k - x) n → cond (leb x k) (suc f) 0 ≡ min k (suc n)
 fit_more x k f n e h = grind (arith, nat_tests)
 
-pub fitting-ascii : (u : Units) (cs : List ℕ) (k : ℕ) → length (encodes cs) ≡ length cs → fitting (width_of u) cs k ≡ min k (length cs)
+pub fitting-ascii : (u : Encoding) (cs : List ℕ) (k : ℕ) → length (encodes cs) ≡ length cs → fitting (units u) cs k ≡ min k (length cs)
 unfolding fitting
 fitting-ascii u [] k e = omega arith
 fitting-ascii u (c ∷ cs) k e =
     let parts = one_byte c cs e in
-    fit_more (width_of u c) k (fitting (width_of u) cs (k - width_of u c)) (length cs) (one_unit u c parts.0) (fitting-ascii u cs (k - width_of u c) parts.1)
+    fit_more (units u c) k (fitting (units u) cs (k - units u c)) (length cs) (one_unit u c parts.0) (fitting-ascii u cs (k - units u c) parts.1)
 
-pub units-ascii : (u : Units) (cs : List ℕ) (k : ℕ) → length (encodes cs) ≡ length cs → sum_by (width_of u) (take k cs) ≡ min k (length cs)
+pub units-ascii : (u : Encoding) (cs : List ℕ) (k : ℕ) → length (encodes cs) ≡ length cs → sum_by (units u) (take k cs) ≡ min k (length cs)
 units-ascii u [] zero e = omega arith
 units-ascii u [] (suc k) e = omega arith
 units-ascii u (c ∷ cs) zero e = omega arith
 units-ascii u (c ∷ cs) (suc k) e =
     let parts = one_byte c cs e in
-    omega (arith, sum_by-cons (width_of u) c (take k cs), one_unit u c parts.0, units-ascii u cs k parts.1)
+    omega (arith, sum_by-cons (units u) c (take k cs), one_unit u c parts.0, units-ascii u cs k parts.1)
 
 pub bytes-ascii : (cs : List ℕ) (k : ℕ) → length (encodes cs) ≡ length cs → length (encodes (take k cs)) ≡ min k (length cs)
 bytes-ascii [] zero e = omega arith

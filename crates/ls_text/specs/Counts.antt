@@ -2,20 +2,20 @@
 use Rattle.std.specs.Prelude.{◌≡◌, ◌≤◌, ℕ, List, ◌++◌, Some, length, sum_by}
 use Rattle.std.specs.List.{slice_get}
 use Rattle.std.specs.Str.{chars, encode_utf8_all, IsUtf8}
-use Rattle.ls_text.specs.Lines.{lines, utf16_len}
+use Rattle.ls_text.specs.Lines.{lines}
 use Rattle.ls_text.specs.declared.ruler.Counted.{Counted}
 
--- What has been counted stands at the front of the line, and the rest behind it.
-pub record IsCountedIn (line : List ℕ) (counted : Counted) : Type 0 where
+-- What has been counted, in units of this width, stands at the front of the line, and the rest behind it.
+pub record IsCountedIn (width : ℕ → ℕ) (line : List ℕ) (counted : Counted) : Type 0 where
   pub front : List ℕ
   pub parts : line ≡ front ++ chars counted.rest.now
   pub bytes : counted.bytes ≡ length (encode_utf8_all front)
-  pub units : counted.units ≡ sum_by utf16_len front
+  pub units : counted.units ≡ sum_by width front
   pub utf8 : IsUtf8 counted.rest.now
   pub small : length (encode_utf8_all line) ≤ 4_194_304
 
 -- So far a line of the text has been counted.
-pub record IsCountedAt (text : List ℕ) (at : ℕ) (counted : Counted) : Type 0 where
+pub record IsCountedAt (width : ℕ → ℕ) (text : List ℕ) (at : ℕ) (counted : Counted) : Type 0 where
   pub line : List ℕ
   pub here : slice_get (lines text) at ≡ Some line
-  pub so_far : IsCountedIn line counted
+  pub so_far : IsCountedIn width line counted

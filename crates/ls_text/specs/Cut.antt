@@ -1,13 +1,10 @@
 -- A text cut into lines, as a snapshot holds it. No public contract cites this.
 use Rattle.std.specs.Prelude.{zero, suc, ◌+◌, ◌<◌, ◌≤◌, length, slice_index, ◌≡◌, ℕ, Bool, true, false, not, ◌⊎◌, List, [], ◌∷◌, ◌++◌, ◌==◌, if◌then◌else◌}
 use Rattle.std.specs.List.{list_any}
-use Rattle.std.specs.Char.{len_utf8}
 use Rattle.std.specs.Str.{chars, IsUtf8, encode_utf8_all}
-use Rattle.ls_text.specs.Lines.{is_break, starts_with_lf, utf16_len}
+use Rattle.ls_text.specs.Lines.{is_break, starts_with_lf}
 use Rattle.ls_text.specs.declared.line_end.LineEnd.{LineEnd}
 use Rattle.ls_text.specs.declared.line_end.LineEnd.TheVariants.{Eof, Lf, Cr, CrLf}
-use Rattle.ls_text.specs.declared.units.Units.{Units}
-use Rattle.ls_text.specs.declared.units.Units.TheVariants.{Utf8, Utf16}
 
 abbrev pub end_text : LineEnd → List ℕ
 end_text Eof = []
@@ -116,8 +113,3 @@ abbrev pub end_at : List Row → ℕ → LineEnd
 end_at [] m = Eof
 end_at (l ∷ ls) zero = l.end
 end_at (l ∷ ls) (suc m) = end_at ls m
-
--- the width of a character in these units
-abbrev pub width_of : Units → ℕ → ℕ
-width_of Utf8 = len_utf8
-width_of Utf16 = utf16_len

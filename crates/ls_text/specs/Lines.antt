@@ -1,6 +1,10 @@
 -- Lines and offsets of a text, which is a list of characters: Unicode scalar values (LSP 3.17, "Text Documents" and "Position").
--- What counts the units of a line takes the width of a character as a parameter, since LSP lets client and server agree on it.
+-- What counts the units of a line takes the width of a character as a parameter: `units` says it for each encoding on which client and server
+-- may agree.
 use Rattle.std.specs.Prelude.{ℕ, zero, suc, ◌+◌, ◌-◌, min, Bool, false, not, ◌&&◌, ◌||◌, ◌==◌, nat_le, nat_lt, if◌then◌else◌, Option, Some, None, unwrap_or, List, [], ◌∷◌, length, take, drop, sum_by, slice_index}
+use Rattle.std.specs.Char.{len_utf8}
+use Rattle.ls_text.specs.declared.position.Encoding.{Encoding}
+use Rattle.ls_text.specs.declared.position.Encoding.TheVariants.{Utf8, Utf16, Utf32}
 
 -- LF or CR
 abbrev pub is_break : ℕ → Bool
@@ -52,6 +56,12 @@ line_at t o = line_ends (take o t)
 -- the UTF-16 units of a character
 abbrev pub utf16_len : ℕ → ℕ
 utf16_len c = if nat_lt c 0x1_0000 then 1 else 2
+
+-- the units of a character (LSP 3.17, "PositionEncodingKind"): its bytes of UTF-8, its UTF-16 units, or the character itself
+abbrev pub units : Encoding → ℕ → ℕ
+units Utf8 = len_utf8
+units Utf16 = utf16_len
+units Utf32 = λ c. 1
 
 -- the units of the characters of that line before the offset o
 abbrev pub units_at : (ℕ → ℕ) → List ℕ → ℕ → ℕ

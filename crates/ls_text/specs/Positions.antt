@@ -2,6 +2,7 @@
 use Rattle.std.specs.Prelude.{ℕ, List, sum_by, take}
 use Rattle.std.specs.Char.{len_utf8}
 use Rattle.ls_text.specs.Lines.{line_at, units_at, offset_of, lowered, fitting}
+use Rattle.ls_text.specs.declared.position.Encoding.{Encoding}
 use Rattle.ls_text.specs.declared.position.Position.{Position}
 use Rattle.ls_text.specs.declared.position.Range.{Range}
 use Rattle.ls_text.specs.declared.position.Place.{Place}
@@ -34,3 +35,8 @@ place_end t p = offset_of len_utf8 t p.line p.end
 -- the positions of a place's two ends
 abbrev pub place_range : (ℕ → ℕ) → List ℕ → Place → Range
 place_range width t p = record { start = position_of width t (place_start t p); end = position_of width t (place_end t p) }
+
+-- a text, and what the positions in it count
+pub record Measured : Type 0 where
+  pub text : List ℕ
+  pub encoding : Encoding

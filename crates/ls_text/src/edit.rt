@@ -1,7 +1,7 @@
 ghost use Rattle.std.specs.Prelude.{◌≡◌, ◌-◌, ◌<◌, ◌≤◌, ◌++◌, length, take, drop, OnOk, IfOk, IfErr};
 ghost use Rattle.std.specs.Str.{chars, encode_utf8_all};
 ghost use Rattle.std.specs.String.{string_bytes};
-ghost use Rattle.ls_text.specs.Lines.{utf16_len, offset_of};
+ghost use Rattle.ls_text.specs.Lines.{offset_of, units};
 ghost use Rattle.ls_text.specs.Cut.{end_text, line_text, end_at, text_of, IsCut, IsKept};
 ghost use Rattle.ls_text.specs.Spots.{IsSpot, front_of, back_of};
 
@@ -12,9 +12,9 @@ use crate::line::Line;
 use crate::line_end::LineEnd;
 use crate::lines::Lines;
 use crate::part::Part;
-use crate::position::{Position, Range};
+use crate::position::{Encoding, Position, Range};
 use crate::snapshot::MAX_BYTES;
-use crate::units::{Units, fitting};
+use crate::units::fitting;
 use ls_lists::Text;
 use std::alloc::{AllocError, Global};
 
@@ -50,10 +50,10 @@ pub struct Spot {
 }
 
 // Where a position stands in these lines.
-pub fn spot_of(lines: &Lines, at: Position) -> Spot
+pub fn spot_of(lines: &Lines, at: Position, encoding: Encoding) -> Spot
     requires { IsKept lines.now }
     ensures spot { IsSpot lines.now result }
-    ensures position { result.offset ≡ offset_of utf16_len (text_of lines.now) at.line at.character }
+    ensures position { result.offset ≡ offset_of (units encoding) (text_of lines.now) at.line at.character }
 {
     let number = at.line as usize;
     if number < lines.len() {
@@ -61,7 +61,7 @@ pub fn spot_of(lines: &Lines, at: Position) -> Spot
         let fit = fitting(
             line.text(),
             line.char_count(),
-            Units::Utf16,
+            encoding,
             at.character as usize,
         );
         Spot {

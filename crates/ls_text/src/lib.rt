@@ -5,7 +5,8 @@
 //! The definitions are those of the Language Server Protocol 3.17, "Text Documents" and "Position":
 //!
 //! - A line end is CRLF, else LF or CR, and nothing else. A text has one line more than it has line ends.
-//! - A [`Position`] is a line from 0, and the UTF-16 units of that line before it.
+//! - A [`Position`] is a line from 0, and the units of that line before it: bytes of UTF-8, UTF-16 units or characters, by the
+//!   [`Encoding`] on which client and server agreed.
 //! - A [`Place`] is a line from 0, and bytes of UTF-8 from the start of that line, without its line end.
 //! - An offset is a number of characters (Unicode scalar values) from the start of the text.
 #![tactic(auto)]
@@ -25,6 +26,6 @@ mod units;
 
 pub use edit::Edit;
 pub use fault::TextFault;
-pub use position::{Place, Position, Range};
+pub use position::{Encoding, Place, Position, Range};
 pub use ruler::Ruler;
 pub use snapshot::{MAX_BYTES, Snapshot};

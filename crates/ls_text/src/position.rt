@@ -1,12 +1,23 @@
-/// A position in a text (LSP 3.17, "Position").
+/// What the positions in a text count within their line (LSP 3.17, "PositionEncodingKind").
+#[derive(Clone, Copy, Debug, PartialEq, Eq)]
+pub enum Encoding {
+    /// Bytes of UTF-8.
+    Utf8,
+    /// UTF-16 units: two for a character above U+FFFF, else one.
+    Utf16,
+    /// Characters.
+    Utf32,
+}
+
+/// A position in a text (LSP 3.17, "Position"). What it counts is told beside it, by an [`Encoding`].
 ///
 /// It stands between two characters. A character past the line's end means the line's end, before its line end.
-/// A line past the last means the text's end. A character inside a surrogate pair means the start of that pair.
+/// A line past the last means the text's end. A character inside a character's units means the start of that character.
 #[derive(Clone, Copy, Debug, PartialEq, Eq)]
 pub struct Position {
     /// The line, from 0.
     pub line: u32,
-    /// The UTF-16 units of the line before the position.
+    /// The units of the line before the position.
     pub character: u32,
 }
 

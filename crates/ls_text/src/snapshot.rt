@@ -4,18 +4,18 @@ ghost use Rattle.std.specs.Str.{chars, encode_utf8_all, IsUtf8};
 ghost use Rattle.std.specs.String.{string_bytes, string_len};
 ghost use Rattle.std.specs.Option.{option_map};
 ghost use Rattle.std.specs.List.{slice_get};
-ghost use Rattle.ls_text.specs.Lines.{line_ends, lines, utf16_len, offset_of};
+ghost use Rattle.ls_text.specs.Lines.{line_ends, lines, offset_of, units};
 ghost use Rattle.ls_text.specs.Marks.{AreMarksOf};
 ghost use Rattle.ls_text.specs.Positions.{position_of, position_in, place_at, place_range};
 ghost use Rattle.ls_text.specs.Edits.{position_offset, replaced, edited, edited_all, is_too_large};
-ghost use Rattle.ls_text.specs.Cut.{AreLines, IsCut, text_of, width_of};
+ghost use Rattle.ls_text.specs.Cut.{AreLines, IsCut, text_of};
 
 use crate::edit::{Edit, push_text, spliced, spot_of, whole};
 use crate::fault::TextFault;
 use crate::line::Line;
 use crate::lines::Lines;
-use crate::position::{Place, Position, Range};
-use crate::units::{Units, fitting, units_before};
+use crate::position::{Encoding, Place, Position, Range};
+use crate::units::{fitting, units_before, units_in};
 use abnf_token::TokenMark;
 use std::alloc::{AllocError, Global};
 use std::marker::Model;
@@ -140,38 +140,31 @@ impl Snapshot {
         }
     }
 
-    /// The offset of a position, in characters: the greatest in its line with at most that many UTF-16 units before it
-    /// in the line. Past the last line it is the text's end.
-    pub fn offset_of(&self, at: Position) -> usize
-        ensures { result ≡ offset_of utf16_len self.now at.line at.character }
+    /// The offset of a position, in characters: the greatest in its line with at most that many units before it in the line. Past the
+    /// last line it is the text's end.
+    pub fn offset_of(&self, at: Position, encoding: Encoding) -> usize
+        ensures { result ≡ offset_of (units encoding) self.now at.line at.character }
     {
         let line = at.line as usize;
-        let units = at.character as usize;
+        let limit = at.character as usize;
         if line < self.lines.len() {
             let (held, start) = self.lines.line(line);
-            start + fitting(held.text(), held.char_count(), Units::Utf16, units).count
+            start + fitting(held.text(), held.char_count(), encoding, limit).count
         } else {
             self.lines.char_count()
         }
     }
 
-    // The position of an offset, whose character counts these units.
-    fn position_by(&self, units: Units, offset: usize) -> Position
-        ensures { result ≡ position_of (width_of units) self.now offset }
+    /// The position of an offset, which counts characters. Past the text's end it is that of the end, and between CR and LF
+    /// that before the CR.
+    pub fn position_of(&self, offset: usize, encoding: Encoding) -> Position
+        ensures { result ≡ position_of (units encoding) self.now offset }
     {
         let (line, held, start) = self.lines.line_before(offset);
         Position {
             line: line as u32,
-            character: units_before(held.text(), held.char_count(), units, offset - start),
+            character: units_before(held.text(), held.char_count(), encoding, offset - start),
         }
-    }
-
-    /// The position of an offset, which counts characters. Past the text's end it is that of the end, and between CR and LF
-    /// that before the CR.
-    pub fn position_of(&self, offset: usize) -> Position
-        ensures { result ≡ position_of utf16_len self.now offset }
-    {
-        self.position_by(Units::Utf16, offset)
     }
 
     /// The empty place at an offset, which counts characters. Past the text's end it is that at the end, and between CR and
@@ -179,7 +172,7 @@ impl Snapshot {
     pub fn place_at(&self, offset: usize) -> Place
         ensures { result ≡ place_at self.now offset }
     {
-        let at = self.position_by(Units::Utf8, offset);
+        let at = self.position_of(offset, Encoding::Utf8);
         Place {
             line: at.line as usize,
             start: at.character as usize,
@@ -188,31 +181,33 @@ impl Snapshot {
     }
 
     // The position of so many bytes in a line.
-    pub fn position_in(&self, line: usize, bytes: usize) -> Position
-        ensures position { result ≡ position_of utf16_len self.now (offset_of len_utf8 self.now line bytes) }
+    pub fn position_in(&self, line: usize, bytes: usize, encoding: Encoding) -> Position
+        ensures position { result ≡ position_of (units encoding) self.now (offset_of len_utf8 self.now line bytes) }
         ensures in_line { IfSome (slice_get (lines self.now) line)
-            (λ text. result ≡ position_in utf16_len line text bytes) }
+            (λ text. result ≡ position_in (units encoding) line text bytes) }
     {
         if line < self.lines.len() {
             let (held, _) = self.lines.line(line);
             let (text, char_count) = (held.text(), held.char_count());
-            let before = fitting(text, char_count, Units::Utf8, bytes).count;
             Position {
                 line: line as u32,
-                character: units_before(text, char_count, Units::Utf16, before),
+                character: units_in(text, char_count, encoding, bytes),
             }
         } else {
-            self.position_of(self.lines.char_count())
+            self.position_of(self.lines.char_count(), encoding)
         }
     }
 
-    // A line that isn't ASCII, so that its units have to be counted.
-    pub fn wide_line(&self, at: usize) -> Option<&str>
+    // A line whose units have to be counted: it isn't ASCII, and bytes aren't units.
+    pub fn wide_line(&self, at: usize, encoding: Encoding) -> Option<&str>
         ensures line { IfSome result (λ line. slice_get (lines self.now) at ≡ Some (chars line.now)) }
         ensures small { IfSome result (λ line. length line.now ≤ MAX_BYTES) }
         ensures fits { IfSome result (λ _. at < 4_294_967_296) }
-        ensures position { IfSome result (λ line. (bytes : ℕ) → position_in utf16_len at (chars line.now) bytes ≡ position_of utf16_len self.now (offset_of len_utf8 self.now at bytes)) }
+        ensures position { IfSome result (λ line. (width : ℕ → ℕ) (bytes : ℕ) → position_in width at (chars line.now) bytes ≡ position_of width self.now (offset_of len_utf8 self.now at bytes)) }
     {
+        if let Encoding::Utf8 = encoding {
+            return None;
+        }
         if at >= self.lines.len() {
             return None;
         }
@@ -226,18 +221,18 @@ impl Snapshot {
     /// The positions of a place's two ends.
     ///
     /// An end past the line's end is taken for the line's end, and one inside a character for that character's start.
-    pub fn range_of(&self, place: &Place) -> Range
-        ensures range { result ≡ place_range utf16_len self.now place.now }
+    pub fn range_of(&self, place: &Place, encoding: Encoding) -> Range
+        ensures range { result ≡ place_range (units encoding) self.now place.now }
 
-        // In a line of the text, these are the UTF-16 units before the place's two ends in that line.
+        // In a line of the text, these are the units before the place's two ends in that line.
         ensures start { IfSome (slice_get (lines self.now) place.now.line)
-            (λ text. result.start ≡ position_in utf16_len place.now.line text place.now.start) }
+            (λ text. result.start ≡ position_in (units encoding) place.now.line text place.now.start) }
         ensures end { IfSome (slice_get (lines self.now) place.now.line)
-            (λ text. result.end ≡ position_in utf16_len place.now.line text place.now.end) }
+            (λ text. result.end ≡ position_in (units encoding) place.now.line text place.now.end) }
     {
         Range {
-            start: self.position_in(place.line, place.start),
-            end: self.position_in(place.line, place.end),
+            start: self.position_in(place.line, place.start, encoding),
+            end: self.position_in(place.line, place.end, encoding),
         }
     }
 
@@ -258,21 +253,21 @@ impl Snapshot {
     }
 
     // The lines with a range replaced.
-    fn replaced(&self, range: Range, new: &str) -> Result<Lines, TextFault>
+    fn replaced(&self, range: Range, encoding: Encoding, new: &str) -> Result<Lines, TextFault>
         ensures ok { IfOk result (λ lines. IsCut
             (replaced self.now
-            (position_offset utf16_len self.now range.start)
-            (position_offset utf16_len self.now range.end)
+            (position_offset (units encoding) self.now range.start)
+            (position_offset (units encoding) self.now range.end)
             (chars new.now))
             lines) }
         ensures too_large { let text = replaced self.now
-            (position_offset utf16_len self.now range.start)
-            (position_offset utf16_len self.now range.end)
+            (position_offset (units encoding) self.now range.start)
+            (position_offset (units encoding) self.now range.end)
             (chars new.now) in
             IfErr result (λ e. e ≡ TextFault.TooLarge → MAX_BYTES < length (encode_utf8_all text)) }
     {
-        let start = spot_of(&self.lines, range.start);
-        let end = spot_of(&self.lines, range.end);
+        let start = spot_of(&self.lines, range.start, encoding);
+        let end = spot_of(&self.lines, range.end, encoding);
         if start.offset <= end.offset {
             spliced(self.alloc, &self.lines, start, end, new)
         } else {
@@ -281,14 +276,14 @@ impl Snapshot {
     }
 
     // The text after one edit.
-    fn edited(&self, edit: &Edit) -> Result<Snapshot, TextFault>
-        ensures ok { IfOk result (λ s. (s ≡ edited utf16_len self.now edit.now) × (is_too_large s ≡ false)) }
+    fn edited(&self, edit: &Edit, encoding: Encoding) -> Result<Snapshot, TextFault>
+        ensures ok { IfOk result (λ s. (s ≡ edited (units encoding) self.now edit.now) × (is_too_large s ≡ false)) }
         ensures too_large { IfErr result
-            (λ e. e ≡ TextFault.TooLarge → is_too_large (edited utf16_len self.now edit.now) ≡ true) }
+            (λ e. e ≡ TextFault.TooLarge → is_too_large (edited (units encoding) self.now edit.now) ≡ true) }
     {
         let lines = match edit.range {
             None => whole(self.alloc, edit.text.as_str())?,
-            Some(range) => self.replaced(range, edit.text.as_str())?,
+            Some(range) => self.replaced(range, encoding, edit.text.as_str())?,
         };
         Ok(kept(self.alloc, lines))
     }
@@ -304,14 +299,14 @@ impl Snapshot {
     }
 
     // The text after these edits, each on the text that the ones before it left.
-    fn edited_all(self, edits: &[Edit]) -> Result<Snapshot, TextFault>
-        ensures ok { IfOk result (λ s. edited_all utf16_len self edits.now ≡ Some s) }
+    fn edited_all(self, edits: &[Edit], encoding: Encoding) -> Result<Snapshot, TextFault>
+        ensures ok { IfOk result (λ s. edited_all (units encoding) self edits.now ≡ Some s) }
         ensures too_large { IfErr result
-            (λ e. e ≡ TextFault.TooLarge → edited_all utf16_len self edits.now ≡ None) }
+            (λ e. e ≡ TextFault.TooLarge → edited_all (units encoding) self edits.now ≡ None) }
     {
         let mut text = self;
         for edit in edits {
-            text = text.edited(edit)?;
+            text = text.edited(edit, encoding)?;
         }
         Ok(text)
     }
@@ -324,14 +319,14 @@ impl Snapshot {
     ///
     /// `TooLarge` exactly where the text after one of the edits has more than [`MAX_BYTES`] bytes, also where a later edit would
     /// shrink it, and `Memory` where an allocation is refused.
-    pub fn apply(&self, edits: &[Edit]) -> Result<Snapshot, TextFault>
-        ensures ok { IfOk result (λ s. edited_all utf16_len self.now edits.now ≡ Some s) }
+    pub fn apply(&self, edits: &[Edit], encoding: Encoding) -> Result<Snapshot, TextFault>
+        ensures ok { IfOk result (λ s. edited_all (units encoding) self.now edits.now ≡ Some s) }
         ensures too_large { IfErr result
-            (λ e. e ≡ TextFault.TooLarge → edited_all utf16_len self.now edits.now ≡ None) }
+            (λ e. e ≡ TextFault.TooLarge → edited_all (units encoding) self.now edits.now ≡ None) }
     {
         match edits {
             [] => Ok(self.share()?),
-            [first, rest @ ..] => self.edited(first)?.edited_all(rest),
+            [first, rest @ ..] => self.edited(first, encoding)?.edited_all(rest, encoding),
         }
     }
 }

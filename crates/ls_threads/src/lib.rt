@@ -15,4 +15,4 @@ mod writing;
 
 pub use ending::{Early, Heard, Worked, Wrote, result_of};
 pub use ls_workers::Gate;
-pub use serve::{Served, serve_threads};
+pub use serve::{Served, serve_threads, serve_with_journal};

@@ -1,7 +1,7 @@
 //! What the reader does.
 ghost use Rattle.std.specs.Prelude.{◌≡◌, false, true};
 ghost use Rattle.ls_threads.specs.Ends.{has_cause};
-ghost use Rattle.ls_workers.specs.Client.{IsAllowed};
+ghost use Rattle.ls_machine.specs.Client.{IsAllowed};
 
 use crate::ending::{Early, Heard};
 use ls_desk::DeskFault;

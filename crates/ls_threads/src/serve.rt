@@ -19,8 +19,11 @@ use std::sync::atomic::AtomicU64;
 use std::thread;
 use std::thread::Threads;
 
-/// The most events that the desk's journal takes.
-const MOST_EVENTS: usize = 1_000_000;
+/// The most events that the desk's journal may have where a client's event comes to it.
+const MOST_JOURNAL: usize = 1_000_000;
+
+/// The most events and unsent replies of a session, together.
+const MOST_EVENTS: u64 = 18_446_744_073_709_551_614;
 
 /// The mark of the board. A run has one.
 const MARK: u64 = 1;
@@ -234,17 +237,27 @@ fn serve<
     I: Source + Drop,
     W: Sink + Send + Drop,
     G: Gate + Sync,
->(rt: &R, alloc: Global, blanks: Blanks, workers: u32, source: I, sink: W, gate: &G) -> Served<I, W>
+>(
+    rt: &R,
+    alloc: Global,
+    blanks: Blanks,
+    workers: u32,
+    max_journal: usize,
+    source: I,
+    sink: W,
+    gate: &G,
+) -> Served<I, W>
     requires names { (blanks.client.name ≡ C.client) × (blanks.took.name ≡ C.took) × (blanks.returned.name ≡ C.returned) × (blanks.finished.name ≡ C.finished) × (blanks.sent.name ≡ C.sent) }
     requires parts { (blanks.client.parts ≡ 1) × (blanks.took.parts ≡ C.parts) × (blanks.returned.parts ≡ C.parts) × (blanks.finished.parts ≡ C.parts) × (blanks.sent.parts ≡ 1) }
     requires workers { (workers ≡ C.workers) × (workers ≡ C.parts) × (0 < workers) × (workers ≤ 8) }
+    requires journal { (0 < max_journal) × (max_journal ≤ 1000000) }
     requires none { I.reads source ≡ 0 }
     requires source { I.failed source ≡ false }
     requires sink { W.failed sink ≡ false }
     ensures read { HasReadCause (λ source. I.failed source || (I.reads source + 1 == 1099511627776)) result.source result.answer }
     ensures write { HasWriteCause (λ sink. W.failed sink) result.sink result.answer }
 {
-    let desk = Desk::new(alloc, MOST_EVENTS);
+    let desk = Desk::new(alloc, max_journal, MOST_EVENTS);
     let Ok((board, client, writer, seats)) = Board::<C>::new(alloc, blanks, MARK, desk, workers)
     else {
         return handed_back(Err(ServeFault::Memory), source, sink);
@@ -288,5 +301,40 @@ pub fn serve_threads<
     ensures read { HasReadCause (λ source. I.failed source || (I.reads source + 1 == 1099511627776)) result.source result.answer }
     ensures write { HasWriteCause (λ sink. W.failed sink) result.sink result.answer }
 {
-    serve::<Brand, R, I, W, G>(rt, alloc, Blanks::new(workers), workers, source, sink, gate)
+    serve_with_journal(rt, alloc, source, sink, workers, gate, MOST_JOURNAL)
+}
+
+/// Serves as [`serve_threads`] does, by a journal that begins anew with the client's next event once it has so many.
+pub fn serve_with_journal<
+    R: Threads + Wait + Sync,
+    I: Source + Drop,
+    W: Sink + Send + Drop,
+    G: Gate + Sync,
+>(
+    rt: &R,
+    alloc: Global,
+    source: I,
+    sink: W,
+    workers: u32,
+    gate: &G,
+    max_journal: usize,
+) -> Served<I, W>
+    requires workers { (0 < workers) × (workers ≤ 8) }
+    requires journal { (0 < max_journal) × (max_journal ≤ 1000000) }
+    requires none { I.reads source ≡ 0 }
+    requires source { I.failed source ≡ false }
+    requires sink { W.failed sink ≡ false }
+    ensures read { HasReadCause (λ source. I.failed source || (I.reads source + 1 == 1099511627776)) result.source result.answer }
+    ensures write { HasWriteCause (λ sink. W.failed sink) result.sink result.answer }
+{
+    serve::<Brand, R, I, W, G>(
+        rt,
+        alloc,
+        Blanks::new(workers),
+        workers,
+        max_journal,
+        source,
+        sink,
+        gate,
+    )
 }

@@ -1,8 +1,8 @@
 -- How a board ends, and when a seat has nothing to wait for.
 use Rattle.std.specs.Prelude.{length, nat_lt, ◌==◌, ◌||◌, Bool, true, false, Option, Some, None, is_some, find, if◌then◌else◌}
-use Rattle.ls_desk.specs.Machine.{is_queued}
+use Rattle.ls_machine.specs.Machine.{is_queued}
 use Rattle.ls_desk.specs.Stands.{Seen, Sends, state_of}
-use Rattle.ls_desk.specs.declared.event.Out.{Out}
+use Rattle.ls_machine.specs.declared.event.Out.{Out}
 use Rattle.ls_workers.specs.declared.behind.Stop.{Stop}
 use Rattle.ls_workers.specs.declared.behind.Stop.TheVariants.{Drain, Now}
 

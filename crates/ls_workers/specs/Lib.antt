@@ -1,4 +1,3 @@
 pub mod Count
-pub mod Client
 pub mod Ends
 pub mod Seats

@@ -1,8 +1,12 @@
 -- The seats that a board is closed with.
-use Rattle.std.specs.Prelude.{◌≡◌, ◌<◌, ◌==◌, ℕ, List, length, true, count_by}
+use Rattle.std.specs.Prelude.{◌≡◌, ◌<◌, ◌==◌, ◌⊎◌, ◌↔◌, ℕ, List, [], length, Bool, true, IsTrue, count_by, if◌then◌else◌}
 use Rattle.std.specs.List.{list_all}
-use Rattle.ls_desk.specs.declared.event.Event.{Event}
-use Rattle.ls_workers.specs.Client.{client_events, sent_tickets}
+use Rattle.ls_machine.specs.declared.event.Event.{Event}
+use Rattle.ls_desk.specs.Anew.{base_after, journal_after}
+use Rattle.ls_desk.specs.Stands.{Seen, counts_of, fresh, is_long}
+use Rattle.ls_machine.specs.Client.{Notes, client_events, sent_tickets}
+use Rattle.ls_machine.specs.declared.client.ClientEvent.{ClientEvent}
+use Rattle.ls_machine.specs.declared.client.ClientAnswer.{ClientAnswer}
 use Rattle.ls_workers.specs.declared.behind.SeatFault.{SeatFault}
 use Rattle.ls_workers.specs.declared.behind.SeatFault.TheVariants.{SeatMissing, Strayed}
 
@@ -17,7 +21,36 @@ pub record AreAll {X : Type 0} (mark_of : X → ℕ) (number_of : X → ℕ) (ma
 abbrev pub Agrees : List Event → List Event → List ℕ → Type 0
 Agrees journal list tickets = (client_events journal ≡ list) × (sent_tickets journal ≡ tickets)
 
--- Why a board isn't closed: the seats aren't all its own, or they are, with these counts, and were told what its journal hasn't.
-abbrev pub HasCause : Type 0 → (List Event → Type 0) → List Event → List ℕ → SeatFault → Type 0
-HasCause AreOwn HasCounts list tickets SeatMissing = AreOwn → ⊥
-HasCause AreOwn HasCounts list tickets (Strayed desk) = AreOwn × HasCounts desk.journal × (Agrees desk.journal list tickets → ⊥)
+-- the tickets since the last checkpoint: none where the seat was given no reply since
+abbrev pub tickets_since : ℕ → ℕ → List ℕ → List ℕ
+tickets_since checkpoints seen tickets = if seen == checkpoints then tickets else []
+
+-- the list is compared where the journal is as long as it may be, and isn't the journal's
+abbrev pub Strays : Seen → List Event → Type 0
+Strays desk list = (is_long desk ≡ true) × (client_events desk.journal ≡ list → ⊥)
+
+-- what a client's seat was told: the events since the last checkpoint with their answers, the number of checkpoints, and whether its list wasn't
+-- the journal's at one of them
+pub record ToldClient : Type 0 where
+  pub list : List Event
+  pub checkpoints : ℕ
+  pub strayed : Bool
+
+-- An event with its answer comes to the journal and to the seat's list. Where the event makes a checkpoint, list and journal begin anew with
+-- it, and the seat keeps whether they differed.
+pub record Heard (e : ClientEvent) (answer : ClientAnswer) (before after : Seen) (old new : ToldClient) : Type 0 where
+  pub journal : Notes e answer (journal_after (fresh before) before.journal) after.journal
+  pub base : after.base ≡ base_after (fresh before) (counts_of before) before.base
+  pub list : Notes e answer (if is_long before then [] else old.list) new.list
+  pub checkpoints : new.checkpoints ≡ (if is_long before then after.base.checkpoints else old.checkpoints)
+  pub strayed : IsTrue new.strayed ↔ (IsTrue old.strayed ⊎ Strays before old.list)
+
+-- the same: there are the desk before and the desk after
+abbrev pub IsHeard : ClientEvent → ClientAnswer → ToldClient → ToldClient → Type 0
+IsHeard e answer old new = (before after : Seen) × Heard e answer before after old new
+
+-- Why a board isn't closed: the seats aren't all its own; or they are, with these counts, and a list wasn't the journal's, at a checkpoint or now.
+abbrev pub HasCause : Type 0 → (Seen → Type 0) → ToldClient → ℕ → List ℕ → SeatFault → Type 0
+HasCause AreOwn HasCounts client seen tickets SeatMissing = AreOwn → ⊥
+HasCause AreOwn HasCounts client seen tickets (Strayed desk) =
+    AreOwn × HasCounts desk × (IsTrue client.strayed ⊎ (Agrees desk.journal client.list (tickets_since desk.base.checkpoints seen tickets) → ⊥))

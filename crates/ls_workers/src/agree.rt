@@ -1,11 +1,11 @@
 //! Whether what the seats were told is what a journal has.
 ghost use Rattle.std.specs.Prelude.{◌≡◌, ◌↔◌, IsTrue};
 ghost use Rattle.std.specs.Option.{option_map};
-ghost use Rattle.ls_workers.specs.Client.{client_event, client_events, sent_ticket, sent_tickets};
-ghost use Rattle.ls_workers.specs.Seats.{Agrees};
+ghost use Rattle.ls_machine.specs.Client.{client_event, client_events, sent_ticket, sent_tickets};
+ghost use Rattle.ls_workers.specs.Seats.{Agrees, tickets_since};
 
 use crate::same::same_event;
-use ls_desk::Event;
+use ls_desk::{Desk, Event};
 
 // The event where it is a client's.
 fn client_event(event: &Event) -> Option<&Event>
@@ -33,8 +33,8 @@ fn sent_ticket(event: &Event) -> Option<u64>
     }
 }
 
-// Whether these are the client's events of a journal.
-fn same_events(journal: &[Event], list: &[Event]) -> bool
+/// Whether these are the client's events of a journal.
+pub fn same_events(journal: &[Event], list: &[Event]) -> bool
     ensures { IsTrue result ↔ (client_events journal.now ≡ list.now) }
 {
     let mut count = 0;
@@ -76,4 +76,15 @@ pub fn agrees(journal: &[Event], list: &[Event], tickets: &[u64]) -> bool
     ensures { IsTrue result ↔ Agrees journal.now list.now tickets.now }
 {
     same_events(journal, list) && same_tickets(journal, tickets)
+}
+
+/// The tickets since the last checkpoint of a desk, by how many the seat had seen that was given them.
+pub fn tickets_since<'t>(desk: &Desk, seen: u64, tickets: &'t [u64]) -> &'t [u64]
+    ensures { result.now ≡ tickets_since desk.now.base.checkpoints seen tickets.now }
+{
+    if seen == desk.checkpoints() {
+        tickets
+    } else {
+        &tickets[..0]
+    }
 }

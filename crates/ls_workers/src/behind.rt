@@ -1,18 +1,19 @@
 //! What lies behind the lock.
 ghost use Rattle.std.specs.Prelude.{◌≡◌, ◌+◌, ◌++◌, ◌∷◌, ◌<◌, ◌⊎◌, [], IfOk, IfErr, OnOk, OnErr, IfNone, IfSome, OnSome, None, find, vec_len, vec_capacity, true, false};
-ghost use Rattle.ls_desk.specs.Machine.{is_queued, waits};
+ghost use Rattle.ls_machine.specs.Machine.{is_queued, waits};
 ghost use Rattle.ls_desk.specs.Stands.{Sends, state_of, ticket_of_out};
 ghost use Rattle.ls_workers.specs.Count.{Counts};
-ghost use Rattle.ls_workers.specs.Client.{HasSmallText, IsAllowed, Notes, note_of, is_too_long};
+ghost use Rattle.ls_machine.specs.Client.{HasSmallText, IsAllowed, note_of, is_too_long};
+ghost use Rattle.ls_workers.specs.Seats.{Heard, tickets_since};
 ghost use Rattle.ls_workers.specs.Ends.{is_over, ended_by, has_job, has_news};
 
-use crate::calls::{enter, finish, give_back, journal_len, next_out, take};
-use crate::client::{ClientAnswer, ClientEvent};
+use crate::calls::{enter, finish, give_back, is_long, next_out, strays, take};
 use crate::ledgers::{Ledgers, OfClient, OfFinished, OfReturned, OfSent, OfTook};
 use crate::notes::filled;
 use crate::seats::{ClientSeat, WorkerSeat, WriterSeat};
 use ls_answers::{Done, Job};
 use ls_desk::{Desk, DeskFault, Event, Kept, Out, ticket_of};
+use ls_machine::{ClientAnswer, ClientEvent};
 use std::sync::ledger::{Book, Share};
 
 /// How a board ends.
@@ -29,11 +30,11 @@ pub enum Stop {
 pub enum SeatFault {
     /// A seat's mark isn't the board's, or the workers' numbers aren't all there, each once. The desk is gone.
     SeatMissing,
-    /// What the seats were told isn't what the journal of this desk, the board's, has.
+    /// What the seats were told isn't what the journal of this desk, the board's, has, or had at a checkpoint.
     Strayed(Desk),
 }
 
-/// The desk, a book for each kind of event, which has the number of that kind in the desk's journal, and how the board ends.
+/// The desk, a book for each kind of event, which has the number of that kind over the session, and how the board ends.
 #[derive(Drop)]
 pub struct Behind<C: Ledgers> {
     pub desk: Desk,
@@ -43,7 +44,7 @@ pub struct Behind<C: Ledgers> {
     pub finished: Book<OfFinished<C>>,
     pub sent: Book<OfSent<C>>,
     pub stop: Option<Stop>,
-    pub ghost counts: { Counts asked.total took.total returned.total finished.total sent.total desk.journal },
+    pub ghost counts: { Counts asked.total took.total returned.total finished.total sent.total desk },
 }
 
 impl<C: Ledgers> Behind<C> {
@@ -93,7 +94,8 @@ impl<C: Ledgers> Behind<C> {
         self.desk.wanted(ticket)
     }
 
-    /// Enters a client's event. The seat has room for one entry more, and the note is the event's.
+    /// Enters a client's event. The seat has room for one entry more, and the note is the event's. Where the event makes a checkpoint, the seat's
+    /// list is compared with the journal before that, and begins anew.
     pub fn client(
         &mut self,
         seat: &mut ClientSeat<C>,
@@ -105,17 +107,26 @@ impl<C: Ledgers> Behind<C> {
         requires none { IfNone note (is_too_long event ≡ true) }
         requires room { vec_len seat.old.list < vec_capacity seat.old.list }
         ensures ok { OnOk result (seat.new.asked.share.amount ≡ seat.old.asked.share.amount + 1) }
-        ensures list { IfOk result (λ answer. Notes event answer seat.old.list.items seat.new.list.items) }
-        ensures journal { IfOk result (λ answer. Notes event answer self.old.desk.journal self.new.desk.journal) }
-        ensures err { OnErr result ((seat.new.asked.share.amount ≡ seat.old.asked.share.amount) × (seat.new.list.items ≡ seat.old.list.items)) }
+        ensures heard { IfOk result (λ answer. Heard event answer self.old.desk self.new.desk
+            (record { list = seat.old.list.items; checkpoints = seat.old.checkpoints; strayed = seat.old.strayed })
+            (record { list = seat.new.list.items; checkpoints = seat.new.checkpoints; strayed = seat.new.strayed })) }
+        ensures err { OnErr result ((seat.new.asked.share.amount ≡ seat.old.asked.share.amount) × (seat.new.list.items ≡ seat.old.list.items)
+            × (seat.new.checkpoints ≡ seat.old.checkpoints) × (seat.new.strayed ≡ seat.old.strayed)) }
         ensures same { OnErr result ((self.new.desk ≡ self.old.desk) × (self.new.asked.total ≡ self.old.asked.total)) }
         ensures mark { seat.new.mark ≡ seat.old.mark }
     {
         let Behind { desk, asked, .. } = self;
+        let long = is_long(desk);
+        let strays = strays(desk, &seat.list);
         let answer = enter(desk, event, note.as_ref())?;
-        let _length = journal_len(desk);
+        let _counts = desk.counts();
         let Some(note) = note else { unreachable!() };
         seat.asked.one_more(asked);
+        if long {
+            seat.list.clear();
+            seat.checkpoints = desk.checkpoints();
+            seat.strayed = seat.strayed || strays;
+        }
         seat.list.push_reserved(filled(note, answer));
         Ok(answer)
     }
@@ -138,7 +149,7 @@ impl<C: Ledgers> Behind<C> {
         let Behind { desk, took, .. } = self;
         let job = take(desk, seat.number)?;
         if job.is_some() {
-            let _length = journal_len(desk);
+            let _counts = desk.counts();
             seat.took.one_more(took);
         }
         Ok(job)
@@ -155,7 +166,7 @@ impl<C: Ledgers> Behind<C> {
     {
         let Behind { desk, returned, .. } = self;
         give_back(desk, ticket)?;
-        let _length = journal_len(desk);
+        let _counts = desk.counts();
         seat.returned.one_more(returned);
         Ok(())
     }
@@ -174,7 +185,7 @@ impl<C: Ledgers> Behind<C> {
     {
         let Behind { desk, finished, .. } = self;
         let kept = finish(desk, done)?;
-        let _length = journal_len(desk);
+        let _counts = desk.counts();
         seat.finished.one_more(finished);
         Ok(kept)
     }
@@ -183,9 +194,11 @@ impl<C: Ledgers> Behind<C> {
     /// more.
     pub fn next_out(&mut self, seat: &mut WriterSeat<C>) -> Option<Out>
         requires { vec_len seat.old.tickets < vec_capacity seat.old.tickets }
-        ensures some { IfSome result (λ out. (seat.new.sent.share.amount ≡ seat.old.sent.share.amount + 1) × (seat.new.tickets.items ≡ seat.old.tickets.items ++ ticket_of_out out ∷ [])) }
+        ensures some { OnSome result (seat.new.sent.share.amount ≡ seat.old.sent.share.amount + 1) }
+        ensures tickets { IfSome result (λ out. seat.new.tickets.items ≡ tickets_since self.old.desk.base.checkpoints seat.old.checkpoints seat.old.tickets.items ++ ticket_of_out out ∷ []) }
+        ensures seen { OnSome result (seat.new.checkpoints ≡ self.new.desk.base.checkpoints) }
         ensures leaves { IfSome result (λ out. Sends self.old.desk self.new.desk out) }
-        ensures none { IfNone result ((seat.new.sent.share.amount ≡ seat.old.sent.share.amount) × (seat.new.tickets.items ≡ seat.old.tickets.items)) }
+        ensures none { IfNone result ((seat.new.sent.share.amount ≡ seat.old.sent.share.amount) × (seat.new.tickets.items ≡ seat.old.tickets.items) × (seat.new.checkpoints ≡ seat.old.checkpoints)) }
         ensures nothing { IfNone result ((self.new.desk ≡ self.old.desk) × (self.new.sent.total ≡ self.old.sent.total) × ((is_over self.old.stop ≡ true) ⊎ (self.old.desk.outbox ≡ []))) }
         ensures mark { seat.new.mark ≡ seat.old.mark }
     {
@@ -194,13 +207,18 @@ impl<C: Ledgers> Behind<C> {
         }
         let Behind { desk, sent, .. } = self;
         let out = next_out(desk)?;
-        let _length = journal_len(desk);
+        let _counts = desk.counts();
         seat.sent.one_more(sent);
+        let checkpoints = desk.checkpoints();
+        if seat.checkpoints != checkpoints {
+            seat.tickets.clear();
+            seat.checkpoints = checkpoints;
+        }
         seat.tickets.push_reserved(ticket_of(&out));
         Some(out)
     }
 
-    /// The desk, whose journal has as many events of each kind as the gathered shares.
+    /// The desk, where there were as many events of each kind as the gathered shares.
     pub fn audited(
         mut self,
         asked: &mut Share<OfClient<C>>,
@@ -211,7 +229,7 @@ impl<C: Ledgers> Behind<C> {
     ) -> Desk
         requires one { (asked.old.parts ≡ 1) × (sent.old.parts ≡ 1) }
         requires all { (took.old.parts ≡ C.parts) × (returned.old.parts ≡ C.parts) × (finished.old.parts ≡ C.parts) }
-        ensures { Counts asked.old.amount took.old.amount returned.old.amount finished.old.amount sent.old.amount result.journal }
+        ensures { Counts asked.old.amount took.old.amount returned.old.amount finished.old.amount sent.old.amount result }
     {
         self.asked.audit(asked);
         self.took.audit(took);

@@ -1,27 +1,28 @@
 //! The board, and the calls of its seats.
-ghost use Rattle.std.specs.Prelude.{◌≡◌, ◌+◌, ◌<◌, ◌≤◌, ◌++◌, ◌∷◌, [], IfOk, IfErr, OnOk, OnErr, IfNone, IfSome, OnSome, vec_len, sum_by};
+ghost use Rattle.std.specs.Prelude.{◌≡◌, ◌+◌, ◌<◌, ◌≤◌, ◌++◌, ◌∷◌, [], IfOk, IfErr, OnOk, OnErr, IfNone, IfSome, OnSome, vec_len, sum_by, false};
 ghost use Rattle.ls_desk.specs.Stands.{ticket_of_out};
 ghost use Rattle.ls_workers.specs.Count.{Counts};
 ghost use Rattle.ls_workers.specs.Ends.{Leaves};
-ghost use Rattle.ls_workers.specs.Seats.{Agrees, AreAll, HasCause};
-ghost use Rattle.ls_workers.specs.Client.{IsAllowed, Notes};
+ghost use Rattle.ls_workers.specs.Seats.{Agrees, AreAll, HasCause, IsHeard, tickets_since};
+ghost use Rattle.ls_machine.specs.Client.{IsAllowed};
 
-use crate::agree::agrees;
+use crate::agree::{agrees, tickets_since};
 use crate::behind::{Behind, SeatFault, Stop};
-use crate::client::{ClientAnswer, ClientEvent};
+use crate::calls::count_none;
 use crate::crew::{are_all, gathered, seats_of};
 use crate::ledgers::{Blanks, Crew, OfClient, OfFinished, OfReturned, OfSent, OfTook};
 use crate::notes::note_of;
 use crate::seats::{ClientSeat, WorkerSeat, WriterSeat};
 use ls_answers::{Done, Job};
 use ls_desk::{Desk, DeskFault, Kept, Out};
+use ls_machine::{ClientAnswer, ClientEvent};
 use std::alloc::{AllocError as Memory, Global};
 use std::sync::{Condvar, Mutex, Wait};
 
 /// A desk that several threads use, each through its seat, under one lock.
 ///
 /// Whenever the lock is free, the desk is what its legal journal leads to, as each desk is, and the book of each kind of event has the number
-/// of that kind in the journal.
+/// of that kind over the session.
 #[derive(Drop)]
 pub struct Board<C: Crew> {
     /// Which board it is. Whoever makes boards gives each a mark of its own.
@@ -49,8 +50,8 @@ impl<C: Crew> Board<C> {
         requires parts { (blanks.client.parts ≡ 1) × (blanks.took.parts ≡ C.parts) × (blanks.returned.parts ≡ C.parts) × (blanks.finished.parts ≡ C.parts) × (blanks.sent.parts ≡ 1) }
         requires workers { (workers ≡ C.workers) × (workers ≡ C.parts) × (0 < workers) × (workers ≤ 8) }
         requires empty { desk.journal ≡ [] }
-        ensures client { IfOk result (λ made. (made.1.mark ≡ mark) × (made.1.asked.share.amount ≡ 0) × (made.1.list.items ≡ [])) }
-        ensures writer { IfOk result (λ made. (made.2.mark ≡ mark) × (made.2.sent.share.amount ≡ 0) × (made.2.tickets.items ≡ [])) }
+        ensures client { IfOk result (λ made. (made.1.mark ≡ mark) × (made.1.asked.share.amount ≡ 0) × (made.1.list.items ≡ []) × (made.1.checkpoints ≡ 0) × (made.1.strayed ≡ false)) }
+        ensures writer { IfOk result (λ made. (made.2.mark ≡ mark) × (made.2.sent.share.amount ≡ 0) × (made.2.tickets.items ≡ []) × (made.2.checkpoints ≡ 0)) }
         ensures workers { IfOk result (λ made. AreAll (λ seat. seat.mark) (λ seat. seat.number) mark workers made.3.items) }
         ensures none { IfOk result (λ made. (sum_by (λ seat. seat.took.share.amount) made.3.items ≡ 0) × (sum_by (λ seat. seat.returned.share.amount) made.3.items ≡ 0)
             × (sum_by (λ seat. seat.finished.share.amount) made.3.items ≡ 0)) }
@@ -69,6 +70,7 @@ impl<C: Crew> Board<C> {
         let (finished_book, finished) = finished.open::<OfFinished<C>>();
         let (sent_book, sent) = sent.open::<OfSent<C>>();
         let seats = seats_of(alloc, mark, workers, took, returned, finished)?;
+        count_none(&desk);
         let behind = Behind {
             desk,
             asked: asked_book,
@@ -89,7 +91,8 @@ impl<C: Crew> Board<C> {
         Ok((board, client, writer, seats))
     }
 
-    /// Enters a client's event, and notes it with its answer in the seat. What it needs memory for in the seat it makes before it takes the
+    /// Enters a client's event, and notes it with its answer in the seat. Where the event makes a checkpoint, the seat's list begins anew with
+    /// it, and the seat remembers whether its list wasn't the journal's. What it needs memory for in the seat it makes before it takes the
     /// lock, and the text of a document that is opened: the desk shares that text with the note.
     ///
     /// It waits for the lock alone. The faults are those of the desk's call; after one the seat is as it was.
@@ -101,8 +104,11 @@ impl<C: Crew> Board<C> {
     ) -> Result<ClientAnswer, DeskFault>
         requires { IsAllowed event }
         ensures ok { OnOk result (seat.new.asked.share.amount ≡ seat.old.asked.share.amount + 1) }
-        ensures list { IfOk result (λ answer. Notes event answer seat.old.list.items seat.new.list.items) }
-        ensures err { OnErr result ((seat.new.asked.share.amount ≡ seat.old.asked.share.amount) × (seat.new.list.items ≡ seat.old.list.items)) }
+        ensures heard { IfOk result (λ answer. IsHeard event answer
+            (record { list = seat.old.list.items; checkpoints = seat.old.checkpoints; strayed = seat.old.strayed })
+            (record { list = seat.new.list.items; checkpoints = seat.new.checkpoints; strayed = seat.new.strayed })) }
+        ensures err { OnErr result ((seat.new.asked.share.amount ≡ seat.old.asked.share.amount) × (seat.new.list.items ≡ seat.old.list.items)
+            × (seat.new.checkpoints ≡ seat.old.checkpoints) × (seat.new.strayed ≡ seat.old.strayed)) }
         ensures mark { seat.new.mark ≡ seat.old.mark }
     {
         let note = note_of(*seat.list.allocator(), &event)?;
@@ -168,15 +174,17 @@ impl<C: Crew> Board<C> {
         result
     }
 
-    /// Waits for a reply, the oldest, which leaves, and notes its ticket in the seat. `None` once the board has ended by `Now`, or has ended
+    /// Waits for a reply, the oldest, which leaves, and notes its ticket in the seat, whose list begins anew with it where there was a
+    /// checkpoint since. `None` once the board has ended by `Now`, or has ended
     /// by `Drain`, nothing is unsent and no job waits.
     ///
     /// `Memory` says that an allocation was refused; after it the seat is as it was, and no reply has left.
     pub fn next_out(&self, rt: &impl Wait, seat: &mut WriterSeat<C>) -> Result<Option<Out>, Memory>
-        ensures some { IfOk result (λ next. IfSome next (λ out. (seat.new.sent.share.amount ≡ seat.old.sent.share.amount + 1) × (seat.new.tickets.items ≡ seat.old.tickets.items ++ ticket_of_out out ∷ []))) }
+        ensures some { IfOk result (λ next. OnSome next (seat.new.sent.share.amount ≡ seat.old.sent.share.amount + 1)) }
+        ensures tickets { IfOk result (λ next. IfSome next (λ out. seat.new.tickets.items ≡ tickets_since seat.new.checkpoints seat.old.checkpoints seat.old.tickets.items ++ ticket_of_out out ∷ [])) }
         ensures leaves { IfOk result (λ next. IfSome next Leaves) }
-        ensures none { IfOk result (λ next. IfNone next ((seat.new.sent.share.amount ≡ seat.old.sent.share.amount) × (seat.new.tickets.items ≡ seat.old.tickets.items))) }
-        ensures err { OnErr result ((seat.new.sent.share.amount ≡ seat.old.sent.share.amount) × (seat.new.tickets.items ≡ seat.old.tickets.items)) }
+        ensures none { IfOk result (λ next. IfNone next ((seat.new.sent.share.amount ≡ seat.old.sent.share.amount) × (seat.new.tickets.items ≡ seat.old.tickets.items) × (seat.new.checkpoints ≡ seat.old.checkpoints))) }
+        ensures err { OnErr result ((seat.new.sent.share.amount ≡ seat.old.sent.share.amount) × (seat.new.tickets.items ≡ seat.old.tickets.items) × (seat.new.checkpoints ≡ seat.old.checkpoints)) }
         ensures mark { seat.new.mark ≡ seat.old.mark }
     {
         seat.tickets.reserve(1)?;
@@ -202,11 +210,11 @@ impl<C: Crew> Board<C> {
         self.changed.notify_all();
     }
 
-    /// Takes all seats back, and gives the desk. Its journal has as many events of each kind as the seats counted, the client's events with
-    /// the answers that its seat was given, and the tickets that the writer's seat was given.
+    /// Takes all seats back, and gives the desk. There were as many events of each kind as the seats counted, and its journal has the client's
+    /// events since the last checkpoint with the answers that its seat was given, and the tickets that the writer's seat was given since.
     ///
     /// `SeatMissing`: a seat isn't of this board, or not all workers' are here. `Strayed`: the seats are all here, and the journal isn't what
-    /// they were told. It waits for nothing, and takes no memory.
+    /// they were told, now or at a checkpoint. It waits for nothing, and takes no memory.
     pub fn close(
         self,
         client: ClientSeat<C>,
@@ -218,14 +226,15 @@ impl<C: Crew> Board<C> {
             × AreAll (λ seat. seat.mark) (λ seat. seat.number) self.mark self.workers workers.items) }
         ensures counts { IfOk result (λ desk. Counts client.asked.share.amount (sum_by (λ seat. seat.took.share.amount) workers.items)
             (sum_by (λ seat. seat.returned.share.amount) workers.items) (sum_by (λ seat. seat.finished.share.amount) workers.items)
-            writer.sent.share.amount desk.journal) }
-        ensures agrees { IfOk result (λ desk. Agrees desk.journal client.list.items writer.tickets.items) }
+            writer.sent.share.amount desk) }
+        ensures agrees { IfOk result (λ desk. Agrees desk.journal client.list.items (tickets_since desk.base.checkpoints writer.checkpoints writer.tickets.items)) }
+        ensures strayed { OnOk result (client.strayed ≡ false) }
         ensures err { IfErr result (λ fault. HasCause ((client.mark ≡ self.mark) × (writer.mark ≡ self.mark)
             × AreAll (λ seat. seat.mark) (λ seat. seat.number) self.mark self.workers workers.items)
-            (λ journal. Counts client.asked.share.amount (sum_by (λ seat. seat.took.share.amount) workers.items)
+            (λ desk. Counts client.asked.share.amount (sum_by (λ seat. seat.took.share.amount) workers.items)
             (sum_by (λ seat. seat.returned.share.amount) workers.items) (sum_by (λ seat. seat.finished.share.amount) workers.items)
-            writer.sent.share.amount journal)
-            client.list.items writer.tickets.items fault) }
+            writer.sent.share.amount desk)
+            (record { list = client.list.items; checkpoints = client.checkpoints; strayed = client.strayed }) writer.checkpoints writer.tickets.items fault) }
     {
         let own = client.mark == self.mark && writer.mark == self.mark;
         if !own || !are_all(&workers, self.mark, self.workers) {
@@ -235,11 +244,14 @@ impl<C: Crew> Board<C> {
             mark: _,
             asked,
             list,
+            checkpoints: _,
+            strayed,
         } = client;
         let WriterSeat {
             mark: _,
             sent,
             tickets,
+            checkpoints,
         } = writer;
         let mut asked = asked.share;
         let mut sent = sent.share;
@@ -253,7 +265,8 @@ impl<C: Crew> Board<C> {
             &mut finished,
             &mut sent,
         );
-        if !agrees(desk.journal(), &list, &tickets) {
+        let since = tickets_since(&desk, checkpoints, &tickets);
+        if strayed || !agrees(desk.journal(), &list, since) {
             return Err(SeatFault::Strayed(desk));
         }
         Ok(desk)

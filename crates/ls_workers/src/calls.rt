@@ -1,23 +1,43 @@
 //! The desk's calls, by what they enter into its journal.
 //!
-//! What lies behind the lock counts the entries of a journal, and needs no more of a desk than this.
-ghost use Rattle.std.specs.Prelude.{◌≡◌, ◌++◌, ◌∷◌, [], IfOk, IfErr, IfNone, IfSome, OnOk, OnErr, OnSome, length, find, Some, None, false};
+//! What lies behind the lock counts the events of a session, and needs no more of a desk than this.
+ghost use Rattle.std.specs.Prelude.{◌≡◌, ◌↔◌, ◌++◌, ◌∷◌, [], IfOk, IfErr, IfNone, IfSome, OnOk, OnErr, OnSome, IsTrue, find, Some, None, false};
 ghost use Rattle.std.specs.Str.{chars};
 ghost use Rattle.ls_workers.specs.Count.{Adds};
-ghost use Rattle.ls_workers.specs.Client.{HasSmallText, Notes, IsAllowed, entry_of, filled, note_of, is_too_long};
-ghost use Rattle.ls_desk.specs.Machine.{is_queued};
-ghost use Rattle.ls_desk.specs.Stands.{Sends, state_of};
+ghost use Rattle.ls_machine.specs.Client.{HasSmallText, Notes, IsAllowed, entry_of, filled, note_of, is_too_long};
+ghost use Rattle.ls_machine.specs.Machine.{is_queued};
+ghost use Rattle.ls_machine.specs.Counts.{no_events};
+ghost use Rattle.ls_desk.specs.Anew.{base_after, journal_after};
+ghost use Rattle.ls_desk.specs.Stands.{Sends, counts_of, fresh, is_long, state_of};
+ghost use Rattle.ls_workers.specs.Seats.{Strays};
 
-use crate::client::{ClientAnswer, ClientEvent};
+use crate::agree::same_events;
 use ls_answers::{Done, Job};
 use ls_desk::{Desk, DeskFault, Event, Kept, Out};
 use ls_lists::Text;
+use ls_machine::{ClientAnswer, ClientEvent};
+use ls_text::Encoding;
 
-/// How many events the journal has.
-pub fn journal_len(desk: &Desk) -> usize
-    ensures { result ≡ length desk.now.journal }
+/// Says of an empty journal that nothing has happened at its desk.
+pub fn count_none(desk: &Desk)
+    requires { desk.now.journal ≡ [] }
+    ensures { counts_of desk.now ≡ no_events }
 {
-    desk.journal().len()
+    let _counts = desk.counts();
+}
+
+/// Whether the journal is as long as it may be.
+pub fn is_long(desk: &Desk) -> bool
+    ensures { result ≡ is_long desk.now }
+{
+    desk.journal().len() >= desk.max_journal()
+}
+
+/// Whether the journal is as long as it may be, and its client's events aren't these.
+pub fn strays(desk: &Desk, list: &[Event]) -> bool
+    ensures { IsTrue result ↔ Strays desk.now list.now }
+{
+    is_long(desk) && !same_events(desk.journal(), list)
 }
 
 /// Opens a document, by the text of its note: that one is made already. A text that is too large has no note.
@@ -26,16 +46,19 @@ fn open(
     uri: Text,
     label: i64,
     text: Text,
+    encoding: Encoding,
     note: Option<&Event>,
 ) -> Result<u64, DeskFault>
-    requires some { IfSome note (λ noted. (noted.now ≡ note_of (ClientEvent.DidOpen uri label text)) × (is_too_long (ClientEvent.DidOpen uri label text) ≡ false) × HasSmallText noted.now) }
-    ensures ok { IfOk result (λ version. desk.new.journal ≡ desk.old.journal ++ Event.Opened uri label (chars text) version ∷ []) }
-    ensures fits { OnOk result (is_too_long (ClientEvent.DidOpen uri label text) ≡ false) }
+    requires some { IfSome note (λ noted. (noted.now ≡ note_of (ClientEvent.DidOpen uri label text encoding)) × (is_too_long (ClientEvent.DidOpen uri label text encoding) ≡ false) × HasSmallText noted.now) }
+    ensures ok { IfOk result (λ version. desk.new.journal ≡ journal_after (fresh desk.old) desk.old.journal ++ Event.Opened uri label (chars text) encoding version ∷ []) }
+    ensures base { OnOk result (desk.new.base ≡ base_after (fresh desk.old) (counts_of desk.old) desk.old.base) }
+    ensures counts { OnOk result (Adds 1 0 0 0 0 desk.old desk.new) }
+    ensures fits { OnOk result (is_too_long (ClientEvent.DidOpen uri label text encoding) ≡ false) }
     ensures err { OnErr result (desk.new ≡ desk.old) }
 {
     match note {
-        Some(Event::Opened { text, .. }) => desk.open_shared(uri, label, text.again()?),
-        _ => desk.did_open(uri, label, text),
+        Some(Event::Opened { text, .. }) => desk.open_shared(uri, label, text.again()?, encoding),
+        _ => desk.did_open(uri, label, text, encoding),
     }
 }
 
@@ -47,16 +70,20 @@ pub fn enter(
 ) -> Result<ClientAnswer, DeskFault>
     requires allowed { IsAllowed event }
     requires some { IfSome note (λ noted. (noted.now ≡ note_of event) × (is_too_long event ≡ false) × HasSmallText noted.now) }
-    ensures ok { IfOk result (λ answer. Notes event answer desk.old.journal desk.new.journal) }
+    ensures ok { IfOk result (λ answer. Notes event answer (journal_after (fresh desk.old) desk.old.journal) desk.new.journal) }
+    ensures base { OnOk result (desk.new.base ≡ base_after (fresh desk.old) (counts_of desk.old) desk.old.base) }
+    ensures counts { OnOk result (Adds 1 0 0 0 0 desk.old desk.new) }
     ensures told { IfOk result (λ answer. entry_of event answer ≡ Some (filled (note_of event) answer)) }
     ensures fits { OnOk result (is_too_long event ≡ false) }
     ensures err { OnErr result (desk.new ≡ desk.old) }
 {
     match event {
-        ClientEvent::DidOpen(uri, label, text) => match open(desk, uri, label, text, note) {
-            Ok(version) => Ok(ClientAnswer::Version(version)),
-            Err(fault) => Err(fault),
-        },
+        ClientEvent::DidOpen(uri, label, text, encoding) => {
+            match open(desk, uri, label, text, encoding, note) {
+                Ok(version) => Ok(ClientAnswer::Version(version)),
+                Err(fault) => Err(fault),
+            }
+        }
         ClientEvent::DidChange(uri, label, edits) => match desk.did_change(uri, label, edits) {
             Ok(Some(version)) => Ok(ClientAnswer::Version(version)),
             Ok(None) => Ok(ClientAnswer::Closed),
@@ -84,6 +111,7 @@ pub fn enter(
 /// Takes the first queued job.
 pub fn take(desk: &mut Desk, worker: u32) -> Result<Option<Job>, DeskFault>
     ensures some { IfOk result (λ job. OnSome job (desk.new.journal ≡ desk.old.journal ++ Event.Took worker ∷ [])) }
+    ensures counts { IfOk result (λ job. OnSome job (Adds 0 1 0 0 0 desk.old desk.new)) }
     ensures none { IfOk result (λ job. IfNone job ((desk.new ≡ desk.old) × (find is_queued (state_of desk.old).waiting ≡ None))) }
     ensures err { OnErr result (desk.new ≡ desk.old) }
 {
@@ -93,6 +121,7 @@ pub fn take(desk: &mut Desk, worker: u32) -> Result<Option<Job>, DeskFault>
 /// Gives a job back that wasn't run.
 pub fn give_back(desk: &mut Desk, ticket: u64) -> Result<(), DeskFault>
     ensures ok { OnOk result (desk.new.journal ≡ desk.old.journal ++ Event.Returned ticket ∷ []) }
+    ensures counts { OnOk result (Adds 0 0 1 0 0 desk.old desk.new) }
     ensures err { OnErr result (desk.new ≡ desk.old) }
 {
     desk.give_back(ticket)
@@ -100,7 +129,7 @@ pub fn give_back(desk: &mut Desk, ticket: u64) -> Result<(), DeskFault>
 
 /// Brings a job back that has run.
 pub fn finish(desk: &mut Desk, done: Done) -> Result<Kept, (DeskFault, Done)>
-    ensures ok { OnOk result (Adds 0 0 0 1 0 desk.old.journal desk.new.journal) }
+    ensures ok { OnOk result (Adds 0 0 0 1 0 desk.old desk.new) }
     ensures same { OnErr result (desk.new ≡ desk.old) }
     ensures done { IfErr result (λ refused. refused.1 ≡ done) }
 {
@@ -110,6 +139,8 @@ pub fn finish(desk: &mut Desk, done: Done) -> Result<Kept, (DeskFault, Done)>
 /// The oldest reply, which leaves.
 pub fn next_out(desk: &mut Desk) -> Option<Out>
     ensures some { IfSome result (λ out. Sends desk.old desk.new out) }
+    ensures counts { OnSome result (Adds 0 0 0 0 1 desk.old desk.new) }
+    ensures base { OnSome result (desk.new.base ≡ desk.old.base) }
     ensures none { IfNone result ((desk.new ≡ desk.old) × (desk.old.outbox ≡ [])) }
 {
     desk.next_out()

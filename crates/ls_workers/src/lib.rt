@@ -5,12 +5,12 @@
 //! copied, so nobody else writes its kinds of event.
 //!
 //! - Each kind of event (the client's events, `Took`, `Returned`, `Finished`, `Sent`) has a ledger. Its book lies behind the lock and always
-//!   has the number of events of that kind in the desk's journal. Its shares are in the seats, and a share rises by one with each call
+//!   has the number of events of that kind at the desk, over the session. Its shares are in the seats, and a share rises by one with each call
 //!   through its seat that wrote such an event, and with no other.
-//! - The client's seat also lists each event that it entered, with the answer that it got, and the writer's seat the ticket of each reply
-//!   that it was given.
-//! - [`Board::close`] takes all seats back and tests their lists against the journal. It gives the desk only where both agree, and then the
-//!   journal has as many events of each kind as the seats counted.
+//! - The client's seat also lists each event that it entered since the last checkpoint, with the answer that it got, and the writer's seat the
+//!   ticket of each reply that it was given since. At a checkpoint the client's list is compared with the journal, and begins anew.
+//! - [`Board::close`] takes all seats back and tests their lists against the journal. It gives the desk only where both agree, as the client's
+//!   did at each checkpoint, and then there were as many events of each kind as the seats counted.
 //!
 //! Nothing is computed under the lock: [`work`] passes its gate and runs its job while the lock is free, and the text of a document that is
 //! opened is made before the lock is taken, as all that a call needs memory for in its seat. A thread that waits for a job or a reply sleeps until something has changed.
@@ -20,7 +20,6 @@ mod agree;
 mod behind;
 mod board;
 mod calls;
-mod client;
 mod crew;
 mod ledgers;
 mod notes;
@@ -30,7 +29,7 @@ mod worker;
 
 pub use behind::{SeatFault, Stop};
 pub use board::Board;
-pub use client::{ClientAnswer, ClientEvent};
 pub use ledgers::{Blanks, Crew, Ledgers, OfClient, OfFinished, OfReturned, OfSent, OfTook};
+pub use ls_machine::{ClientAnswer, ClientEvent};
 pub use seats::{ClientSeat, Count, WorkerSeat, WriterSeat};
 pub use worker::{Gate, work};

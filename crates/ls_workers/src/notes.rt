@@ -1,9 +1,9 @@
 //! The entry of a client's event, made before its answer is known.
 ghost use Rattle.std.specs.Prelude.{◌≡◌, IfOk, IfNone, IfSome, true, false};
-ghost use Rattle.ls_workers.specs.Client.{HasSmallText, filled, note_of, is_too_long};
+ghost use Rattle.ls_machine.specs.Client.{HasSmallText, filled, note_of, is_too_long};
 
-use crate::client::{ClientAnswer, ClientEvent, copy_of};
 use ls_desk::{Event, shared_text};
+use ls_machine::{ClientAnswer, ClientEvent, copy_of};
 use ls_text::MAX_BYTES;
 use std::alloc::{AllocError, Global};
 
@@ -14,7 +14,7 @@ pub fn note_of(alloc: Global, event: &ClientEvent) -> Result<Option<Event>, Allo
     ensures fits { IfOk result (λ noted. IfSome noted (λ note. (is_too_long event.now ≡ false) × HasSmallText note)) }
 {
     match event {
-        ClientEvent::DidOpen(uri, label, text) => {
+        ClientEvent::DidOpen(uri, label, text, encoding) => {
             if text.len() > MAX_BYTES {
                 return Ok(None);
             }
@@ -23,6 +23,7 @@ pub fn note_of(alloc: Global, event: &ClientEvent) -> Result<Option<Event>, Allo
                 uri: uri.copy()?,
                 label: *label,
                 text,
+                encoding: *encoding,
                 version: 0,
             }))
         }
@@ -61,6 +62,7 @@ pub fn filled(note: Event, answer: ClientAnswer) -> Event
                 uri,
                 label,
                 text,
+                encoding,
                 ..
             },
             ClientAnswer::Version(version),
@@ -69,6 +71,7 @@ pub fn filled(note: Event, answer: ClientAnswer) -> Event
                 uri,
                 label,
                 text,
+                encoding,
                 version,
             }
         }

@@ -5,12 +5,23 @@ use ls_answers::Ask;
 use ls_desk::Event;
 use ls_lists::Text;
 use ls_rpc::Id;
-use ls_text::{Edit, Position, Range};
+use ls_text::{Edit, Encoding, Position, Range};
 
 fn same_text(a: &Text, b: &Text) -> bool
     ensures { IsTrue result ↔ (a.now ≡ b.now) }
 {
     a.as_str() == b.as_str()
+}
+
+fn same_encoding(a: Encoding, b: Encoding) -> bool
+    ensures { IsTrue result ↔ (a ≡ b) }
+{
+    match (a, b) {
+        (Encoding::Utf8, Encoding::Utf8) => true,
+        (Encoding::Utf16, Encoding::Utf16) => true,
+        (Encoding::Utf32, Encoding::Utf32) => true,
+        _ => false,
+    }
 }
 
 fn same_position(a: &Position, b: &Position) -> bool
@@ -91,17 +102,20 @@ pub fn same_event(a: &Event, b: &Event) -> bool
                 uri,
                 label,
                 text,
+                encoding,
                 version,
             },
             Event::Opened {
                 uri: uri_b,
                 label: label_b,
                 text: text_b,
+                encoding: encoding_b,
                 version: version_b,
             },
         ) => {
             same_text(uri, uri_b)
                 && *label == *label_b
+                && same_encoding(*encoding, *encoding_b)
                 && text.get().same_text(text_b.get())
                 && *version == *version_b
         }

@@ -1,5 +1,5 @@
 //! Seats: what the client's reader, the workers and the writer hold.
-ghost use Rattle.std.specs.Prelude.{◌≡◌, ◌+◌, ◌<◌, ◌^◌, []};
+ghost use Rattle.std.specs.Prelude.{◌≡◌, ◌+◌, ◌<◌, ◌^◌, [], false};
 
 use crate::ledgers::{Ledgers, OfClient, OfFinished, OfReturned, OfSent, OfTook};
 use ls_desk::Event;
@@ -52,8 +52,12 @@ pub struct ClientSeat<C: Ledgers> {
     pub mark: u64,
     /// How many events it has entered.
     pub asked: Count<OfClient<C>>,
-    /// The events that it has entered, each with the answer that it got, as they stand in the journal.
+    /// The events that it has entered since the last checkpoint, each with the answer that it got, as they stand in the journal.
     pub list: Vec<Event>,
+    /// How many checkpoints its events have made.
+    pub checkpoints: u64,
+    /// Whether its list wasn't the journal's at one of them.
+    pub strayed: bool,
     pub ghost whole: { asked.share.parts ≡ 1 },
 }
 
@@ -61,12 +65,14 @@ impl<C: Ledgers> ClientSeat<C> {
     /// A seat that has entered nothing.
     pub fn new(alloc: Global, mark: u64, share: Share<OfClient<C>>) -> ClientSeat<C>
         requires { (share.parts ≡ 1) × (share.amount ≡ 0) }
-        ensures { (result.mark ≡ mark) × (result.asked.share.amount ≡ 0) × (result.list.items ≡ []) }
+        ensures { (result.mark ≡ mark) × (result.asked.share.amount ≡ 0) × (result.list.items ≡ []) × (result.checkpoints ≡ 0) × (result.strayed ≡ false) }
     {
         ClientSeat {
             mark,
             asked: Count::new(share),
             list: Vec::new(alloc),
+            checkpoints: 0,
+            strayed: false,
         }
     }
 }
@@ -78,8 +84,10 @@ pub struct WriterSeat<C: Ledgers> {
     pub mark: u64,
     /// How many replies it was given.
     pub sent: Count<OfSent<C>>,
-    /// The tickets of the replies that it was given, 0 for a body.
+    /// The tickets of the replies that it was given since the last checkpoint that it has seen, 0 for a body.
     pub tickets: Vec<u64>,
+    /// How many checkpoints there had been when it was given the last reply.
+    pub checkpoints: u64,
     pub ghost whole: { sent.share.parts ≡ 1 },
 }
 
@@ -87,12 +95,13 @@ impl<C: Ledgers> WriterSeat<C> {
     /// A seat that was given nothing.
     pub fn new(alloc: Global, mark: u64, share: Share<OfSent<C>>) -> WriterSeat<C>
         requires { (share.parts ≡ 1) × (share.amount ≡ 0) }
-        ensures { (result.mark ≡ mark) × (result.sent.share.amount ≡ 0) × (result.tickets.items ≡ []) }
+        ensures { (result.mark ≡ mark) × (result.sent.share.amount ≡ 0) × (result.tickets.items ≡ []) × (result.checkpoints ≡ 0) }
     {
         WriterSeat {
             mark,
             sent: Count::new(share),
             tickets: Vec::new(alloc),
+            checkpoints: 0,
         }
     }
 }

@@ -33,8 +33,8 @@ pub(crate) fn frame(alloc: Global, body: &[u8]) -> Result<Vec<u8>, AllocError> {
     Ok(frame)
 }
 
-// The contents of all frames, and none where one isn't whole.
-fn bodies(alloc: Global, bytes: &[u8]) -> Vec<Vec<u8>> {
+/// The contents of all frames, and none where one isn't whole.
+pub(crate) fn bodies(alloc: Global, bytes: &[u8]) -> Vec<Vec<u8>> {
     let mut framer = Framer::new(alloc);
     let mut bodies = Vec::new(alloc);
     if framer.feed(bytes, &mut bodies).is_err() || framer.end().is_err() {

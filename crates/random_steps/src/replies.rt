@@ -1,10 +1,11 @@
 //! Each reply of a run against what had to be said.
+ghost use Rattle.std.specs.Prelude.{◌<◌, ◌≤◌};
 
-use super::frames::{frame, frames, input};
+use super::frames::{bodies, frame, frames, input};
 use super::messages::{Question, Said, Version, is_for_edits};
 use super::schedule::steps;
 use super::{client, plain};
-use ls_steps::{Run, Step, run_steps};
+use ls_steps::{Conversation, Run, Step, run_steps};
 use std::alloc::{AllocError, Global};
 use std::test::Fail;
 
@@ -60,6 +61,70 @@ fn written(alloc: Global, input: &[u8], steps: &[Step]) -> Result<Vec<u8>, Alloc
     let Run { bytes, desk, .. } = run_steps(alloc, input, steps)?;
     drop(desk);
     Ok(bytes)
+}
+
+// Makes a step, where so many of the bodies have been heard.
+fn act(
+    talk: &mut Conversation,
+    bodies: &[Vec<u8>],
+    read: &mut usize,
+    step: Step,
+    bytes: &mut Vec<u8>,
+) -> Result<(), AllocError> {
+    match step {
+        Step::Message => {
+            if let Some(body) = bodies.get(*read) {
+                talk.hear(body.as_slice())?;
+                *read = read.saturating_add(1);
+            }
+        }
+        Step::Take => {
+            talk.take()?;
+        }
+        Step::Finish(at) => talk.finish(at)?,
+        Step::Send => {
+            if let Some(frame) = talk.send()? {
+                bytes.extend_from_slice(&frame)?;
+            }
+        }
+    }
+    Ok(())
+}
+
+// What a session writes by these steps.
+fn acted(
+    talk: &mut Conversation,
+    alloc: Global,
+    bodies: &[Vec<u8>],
+    steps: &[Step],
+) -> Result<Vec<u8>, AllocError> {
+    let mut bytes = Vec::new(alloc);
+    let mut read = 0;
+    for step in steps {
+        act(talk, bodies, &mut read, *step, &mut bytes)?;
+    }
+    Ok(bytes)
+}
+
+// How many events the journal of a session may have before it begins anew: 1 to 4.
+fn longest(seed: u64) -> usize
+    ensures { (0 < result) × (result ≤ 1000000) }
+{
+    (seed % 4) as usize + 1
+}
+
+// What a run writes by these steps, by a journal that begins anew once it has so many events.
+fn written_anew(
+    alloc: Global,
+    input: &[u8],
+    steps: &[Step],
+    seed: u64,
+) -> Result<Vec<u8>, AllocError> {
+    let bodies = bodies(alloc, input);
+    let mut talk = Conversation::with_journal(alloc, longest(seed));
+    let bytes = acted(&mut talk, alloc, &bodies, steps);
+    drop(talk);
+    bytes
 }
 
 // How many of the frames are this one.
@@ -169,11 +234,15 @@ fn all_told(alloc: Global, frames: &[Vec<u8>], said: &[Said]) -> Result<Option<T
     Ok(Some(all))
 }
 
-// The frames that a run writes by random steps, over all that the client says.
+// The frames that a run writes by random steps, over all that the client says. There is none where it writes others by a short journal.
 fn run(alloc: Global, said: &[Said], seed: u64) -> Result<Vec<Vec<u8>>, AllocError> {
     let input = input(alloc, said)?;
     let steps = steps(alloc, seed, MESSAGES + 1)?;
     let bytes = written(alloc, &input, &steps)?;
+    let anew = written_anew(alloc, &input, &steps, seed)?;
+    if anew.as_slice() != bytes.as_slice() {
+        return Ok(Vec::new(alloc));
+    }
     frames(alloc, &bytes)
 }
 

@@ -5,7 +5,7 @@ use ls_answers::Ask;
 use ls_desk::{Desk, DeskFault, Kept, Out};
 use ls_lists::{List, Text};
 use ls_rpc::Id;
-use ls_text::{Edit, Position};
+use ls_text::{Edit, Encoding, Position};
 use std::alloc::{AllocError, Global};
 
 /// A call, with the text of the document or the id of the request.
@@ -51,7 +51,12 @@ fn uri(alloc: Global) -> Result<Text, AllocError> {
 }
 
 fn open(desk: &mut Desk, alloc: Global, text: &str) -> Result<u64, DeskFault> {
-    desk.did_open(uri(alloc)?, 1, Text::from_str(alloc, text)?)
+    desk.did_open(
+        uri(alloc)?,
+        1,
+        Text::from_str(alloc, text)?,
+        Encoding::Utf16,
+    )
 }
 
 // One edit that replaces the whole text.

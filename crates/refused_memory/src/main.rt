@@ -16,9 +16,9 @@ use std::alloc::Global;
 use std::io;
 use worker::Worker;
 
-/// How much has happened at a desk, and how much waits to be sent.
-fn seen(desk: &Desk) -> (usize, usize) {
-    (desk.journal().len(), desk.unsent())
+/// How often the journal of a desk has begun anew, how much has happened since, and how much waits to be sent.
+fn seen(desk: &Desk) -> (u64, usize, usize) {
+    (desk.checkpoints(), desk.journal().len(), desk.unsent())
 }
 
 /// What a call answers, made once more where memory is refused. None where it has left a trace then, or is refused memory twice.
@@ -50,12 +50,15 @@ fn played(rt: &HostRuntime, desk: &mut Desk, worker: &mut Worker) -> io::Result<
         let answer = answered(desk, worker, rt.alloc(), call);
         told(rt, call, answer)?;
     }
-    let (events, unsent) = seen(desk);
-    println!(rt; "{events} events, {unsent} unsent")
+    let (checkpoints, events, unsent) = seen(desk);
+    println!(rt; "{events} events after {checkpoints} checkpoints, {unsent} unsent")
 }
 
+/// A short journal, so that some calls make a checkpoint.
+const MOST_JOURNAL: usize = 4;
+
 fn main(rt: HostRuntime) -> io::Result<()> {
-    let mut desk = Desk::new(rt.alloc(), 1_000_000);
+    let mut desk = Desk::new(rt.alloc(), MOST_JOURNAL, 1_000_000);
     let mut worker = Worker::new(rt.alloc());
     let played = played(&rt, &mut desk, &mut worker);
     drop(worker);

@@ -14,6 +14,7 @@ fn copied(job: &Job) -> Result<Job, AllocError> {
     Ok(Job {
         ticket: job.ticket,
         snapshot: job.snapshot.clone()?,
+        encoding: job.encoding,
         ask: job.ask.copy()?,
     })
 }

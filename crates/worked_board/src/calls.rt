@@ -1,13 +1,13 @@
 //! What the client, the workers and the writer do, with plain arguments. All are about one document.
-ghost use Rattle.std.specs.Prelude.{IfOk};
-ghost use Rattle.ls_workers.specs.Client.{IsAllowed};
+ghost use Rattle.std.specs.Prelude.{◌≡◌, ◌<◌, ◌≤◌, [], IfOk};
+ghost use Rattle.ls_machine.specs.Client.{IsAllowed};
 
 use abnf_least::Shortest;
 use ls_answers::{Answer, Ask, Done, run};
-use ls_desk::{DeskFault, Event, Kept, Out, ticket_of};
+use ls_desk::{Counts, Desk, DeskFault, Event, Kept, Out, ticket_of};
 use ls_lists::Text;
 use ls_rpc::Id;
-use ls_text::Position;
+use ls_text::{Encoding, Position};
 use ls_workers::{Board, ClientAnswer, ClientEvent, ClientSeat, Crew, WorkerSeat, WriterSeat};
 use std::alloc::{AllocError, Global};
 use std::sync::Wait;
@@ -29,8 +29,40 @@ pub(crate) fn opening(alloc: Global) -> Result<ClientEvent, AllocError>
     ensures { IfOk result (λ event. IsAllowed event) }
 {
     let text = Text::from_str(alloc, "a = \"x\"")?;
-    let event = ClientEvent::DidOpen(uri(alloc)?, 1, text);
+    let event = ClientEvent::DidOpen(uri(alloc)?, 1, text, Encoding::Utf16);
     event.copy()
+}
+
+// How many events a journal may have before it begins anew: 1 to 4, and then as many as it may have at all.
+fn longest(number: usize) -> usize
+    ensures { (0 < result) × (result ≤ 1000000) }
+{
+    if number < 4 { number + 1 } else { 1_000_000 }
+}
+
+/// How many desks there are on which each worked session goes the same way.
+pub(crate) const DESKS: usize = 5;
+
+/// The last of these desks, whose journal doesn't begin anew.
+pub(crate) const LAST: usize = 4;
+
+/// One of these desks, on which nothing has happened. They differ in how long their journals may be.
+pub(crate) fn nth_desk(alloc: Global, number: usize) -> Desk
+    ensures { result.journal ≡ [] }
+{
+    Desk::new(alloc, longest(number), 1_000_000)
+}
+
+/// How many events of each kind there were: of the client, taken, returned, finished and sent.
+pub(crate) fn counts(desk: &Desk) -> (u64, u64, u64, u64, u64) {
+    let Counts {
+        client,
+        took,
+        returned,
+        finished,
+        sent,
+    } = desk.counts();
+    (client, took, returned, finished, sent)
 }
 
 /// A hover on that rule: a copy of that event.
@@ -126,36 +158,6 @@ pub(crate) fn answers_hover(out: &Out, ticket: u64, number: i64) -> bool {
         } => { *id == number && *version == 1 && done.ticket() == ticket && shows_x(done) }
         _ => false,
     }
-}
-
-// The letter of an entry: that of its name, small.
-fn letter(event: &Event) -> u8 {
-    match event {
-        Event::Opened { .. } => b'o',
-        Event::Changed { .. } => b'c',
-        Event::Closed { .. } => b'l',
-        Event::Asked { .. } => b'a',
-        Event::Cancelled { .. } => b'n',
-        Event::Said { .. } => b'i',
-        Event::Took { .. } => b't',
-        Event::Returned { .. } => b'r',
-        Event::Finished { .. } => b'f',
-        Event::Sent { .. } => b's',
-    }
-}
-
-/// Whether a journal has these kinds of entries, each by its letter, in whatever order they came.
-pub(crate) fn has_kinds(
-    alloc: Global,
-    journal: &[Event],
-    sorted: &[u8],
-) -> Result<bool, AllocError> {
-    let mut letters = Vec::new(alloc);
-    for event in journal {
-        letters.push(letter(event))?;
-    }
-    letters.sort()?;
-    Ok(letters.as_slice() == sorted)
 }
 
 // The number that an entry tells the client or the writer: a version, a ticket, or the ticket of what left.

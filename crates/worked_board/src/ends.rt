@@ -1,8 +1,9 @@
-//! How a board ends, and that lists which aren't those of the journal are found out. It has one worker, and one document is opened.
+//! How a board ends, and that lists which aren't those of the journal are found out, also those of a journal that has begun anew since. It has
+//! one worker, and one document is opened.
 ghost use Rattle.std.specs.Prelude.{◌≡◌, ◌<◌};
 
-use super::calls::{has_kinds, hover, next_ticket, opening, run_one};
-use ls_desk::{Desk, DeskFault};
+use super::calls::{DESKS, counts, hover, next_ticket, nth_desk, opening, run_one};
+use ls_desk::DeskFault;
 use ls_workers::{
     Blanks, Board, ClientAnswer, ClientSeat, Crew, SeatFault, Stop, WorkerSeat, WriterSeat,
 };
@@ -22,6 +23,10 @@ enum Session {
     Forgotten,
     // It ends once all is done, and the writer forgets what it was given.
     Unsent,
+    // The client forgets what it entered before it enters more, which may begin the journal anew. It ends once all is done.
+    Altered,
+    // The findings are sent, and then the client enters more. It ends at once.
+    Unheard,
 }
 
 // The document is opened, and can't be opened again. The seat has the first call alone.
@@ -62,6 +67,29 @@ fn drains<C: Crew, R: Wait>(
     Ok(ran && no_job && unknown && sent)
 }
 
+// The client forgets what it entered, where the session says so.
+fn forgets<C: Crew>(client: &mut ClientSeat<C>, session: Session) {
+    if matches!(session, Session::Altered) {
+        drop(client.list.pop());
+    }
+}
+
+// The findings are sent, and a hover is asked, which may begin the journal anew. Nothing is sent behind it.
+fn asks_late<C: Crew, R: Wait>(
+    rt: &R,
+    alloc: Global,
+    board: &Board<C>,
+    client: &mut ClientSeat<C>,
+    worker: &mut WorkerSeat<C>,
+    writer: &mut WriterSeat<C>,
+) -> Result<bool, DeskFault> {
+    let findings = run_one(rt, alloc, board, worker)?;
+    let sent = next_ticket(rt, board, writer)?;
+    let asked = board.client(rt, client, hover(alloc, 1)?)?;
+    board.stop(rt, Stop::Now);
+    Ok(findings == 1 && sent == Some(1) && asked == ClientAnswer::Ticket(2))
+}
+
 // After `Now` nothing is given, though a job is queued, and `Drain` doesn't undo it.
 fn stops<C: Crew, R: Wait>(
     rt: &R,
@@ -78,32 +106,32 @@ fn stops<C: Crew, R: Wait>(
 
 // Closes the board, and says whether it answers as it must.
 fn closes<C: Crew>(
-    alloc: Global,
     board: Board<C>,
     mut client: ClientSeat<C>,
     mut writer: WriterSeat<C>,
     workers: Vec<WorkerSeat<C>>,
     session: Session,
-) -> Result<bool, AllocError>
+) -> bool
     requires { (C.workers ≡ C.parts) × (0 < C.parts) }
 {
     match session {
-        Session::Drained | Session::Stopped => {}
         Session::Forgotten => drop(client.list.pop()),
         Session::Unsent => drop(writer.tickets.pop()),
+        Session::Drained | Session::Stopped | Session::Altered | Session::Unheard => {}
     }
     let (desk, strayed) = match board.close(client, writer, workers) {
         Ok(desk) => (desk, false),
         Err(SeatFault::Strayed(desk)) => (desk, true),
-        Err(SeatFault::SeatMissing) => return Ok(false),
+        Err(SeatFault::SeatMissing) => return false,
     };
-    let drained = has_kinds(alloc, desk.journal(), b"affosstt");
-    let stopped = has_kinds(alloc, desk.journal(), b"o");
+    let counts = counts(&desk);
     drop(desk);
-    match (session, strayed) {
-        (Session::Drained, false) | (Session::Unsent, true) => drained,
-        (Session::Stopped, false) | (Session::Forgotten, true) => stopped,
-        _ => Ok(false),
+    match session {
+        Session::Drained => !strayed && counts == (2, 2, 0, 2, 2),
+        Session::Unsent | Session::Altered => strayed && counts == (2, 2, 0, 2, 2),
+        Session::Stopped => !strayed && counts == (1, 0, 0, 0, 0),
+        Session::Forgotten => strayed && counts == (1, 0, 0, 0, 0),
+        Session::Unheard => !strayed && counts == (2, 1, 0, 1, 1),
     }
 }
 
@@ -111,29 +139,39 @@ fn one_worker<C: Crew, R: Wait>(
     rt: &R,
     alloc: Global,
     blanks: Blanks,
+    number: usize,
     session: Session,
 ) -> Result<bool, AllocError>
     requires names { (blanks.client.name ≡ C.client) × (blanks.took.name ≡ C.took) × (blanks.returned.name ≡ C.returned) × (blanks.finished.name ≡ C.finished) × (blanks.sent.name ≡ C.sent) }
     requires parts { (blanks.client.parts ≡ 1) × (blanks.took.parts ≡ C.parts) × (blanks.returned.parts ≡ C.parts) × (blanks.finished.parts ≡ C.parts) × (blanks.sent.parts ≡ 1) }
     requires workers { (C.workers ≡ 1) × (C.parts ≡ 1) }
 {
-    let desk = Desk::new(alloc, 1_000_000);
+    let desk = nth_desk(alloc, number);
     let (board, mut client, mut writer, mut workers) = Board::<C>::new(alloc, blanks, 1, desk, 1)?;
     let opened = opens(rt, alloc, &board, &mut client) == Ok(true);
+    forgets(&mut client, session);
     let worker = &mut workers[0];
     let ended = match session {
-        Session::Drained | Session::Unsent => {
+        Session::Drained | Session::Unsent | Session::Altered => {
             drains(rt, alloc, &board, &mut client, worker, &mut writer) == Ok(true)
         }
         Session::Stopped | Session::Forgotten => stops(rt, &board, worker, &mut writer),
+        Session::Unheard => {
+            asks_late(rt, alloc, &board, &mut client, worker, &mut writer) == Ok(true)
+        }
     };
-    let closed = closes(alloc, board, client, writer, workers, session)?;
+    let closed = closes(board, client, writer, workers, session);
     Ok(opened && ended && closed)
 }
 
-// The same, with ledgers that are picked here.
+// The same on each desk, with ledgers that are picked here.
 fn holds<R: Wait>(rt: &R, alloc: Global, session: Session) -> Result<bool, AllocError> {
-    one_worker::<Brand, R>(rt, alloc, Blanks::new(1), session)
+    for number in 0..DESKS {
+        if !one_worker::<Brand, R>(rt, alloc, Blanks::new(1), number, session)? {
+            return Ok(false);
+        }
+    }
+    Ok(true)
 }
 
 #[test]
@@ -157,5 +195,17 @@ fn an_event_is_forgotten(rt: HostRuntime) -> Result<(), Fail> {
 #[test]
 fn a_ticket_is_forgotten(rt: HostRuntime) -> Result<(), Fail> {
     assert!(rt; holds(&rt, rt.alloc(), Session::Unsent)?);
+    Ok(())
+}
+
+#[test]
+fn an_event_is_forgotten_before_another(rt: HostRuntime) -> Result<(), Fail> {
+    assert!(rt; holds(&rt, rt.alloc(), Session::Altered)?);
+    Ok(())
+}
+
+#[test]
+fn nothing_is_sent_behind_the_last_event(rt: HostRuntime) -> Result<(), Fail> {
+    assert!(rt; holds(&rt, rt.alloc(), Session::Unheard)?);
     Ok(())
 }

@@ -1,8 +1,8 @@
 //! Two hovers, the first of which is held back until the second has been answered by the other worker.
 ghost use Rattle.std.specs.Prelude.{◌≡◌, ◌<◌};
 
-use super::calls::{answers_hover, begin, has_kinds, has_told, return_one};
-use ls_desk::{Desk, DeskFault, Event};
+use super::calls::{DESKS, LAST, answers_hover, begin, counts, has_told, nth_desk, return_one};
+use ls_desk::{Desk, DeskFault};
 use ls_workers::{
     Blanks, Board, ClientSeat, Crew, Gate, SeatFault, Stop, WorkerSeat, WriterSeat, work,
 };
@@ -131,10 +131,11 @@ enum Seats {
     OtherMark,
 }
 
-// Whether the journal is that of the session, by what the client and the writer were told and by how many events of each kind it has.
-fn is_whole(alloc: Global, journal: &[Event]) -> Result<bool, AllocError> {
-    let kinds = has_kinds(alloc, journal, b"aaffforssstttt")?;
-    Ok(kinds && has_told(alloc, journal, &[1, 2, 3], &[1, 3, 2])?)
+// Whether the desk is that of the session: by how many events of each kind there were, and, where its journal has them all, by what the client
+// and the writer were told.
+fn is_whole(alloc: Global, desk: &Desk, number: usize) -> Result<bool, AllocError> {
+    let told = number < LAST || has_told(alloc, desk.journal(), &[1, 2, 3], &[1, 3, 2])?;
+    Ok(told && counts(desk) == (3, 4, 1, 3, 3))
 }
 
 // Closes the board with these seats, and says whether it answers as it must.
@@ -143,6 +144,7 @@ fn closes<C: Crew>(
     board: Board<C>,
     client: ClientSeat<C>,
     worked: Worked<C>,
+    number: usize,
     seats: Seats,
 ) -> Result<bool, AllocError>
     requires { (C.workers ≡ C.parts) × (0 < C.parts) }
@@ -159,7 +161,7 @@ fn closes<C: Crew>(
     }
     match board.close(client, writer, workers) {
         Ok(desk) => {
-            let whole = is_whole(alloc, desk.journal());
+            let whole = is_whole(alloc, &desk, number);
             drop(desk);
             Ok(matches!(seats, Seats::All) && overtaken && whole?)
         }
@@ -173,13 +175,14 @@ fn two_hovers<C: Crew + Send + Sync, R: Threads + Wait + Sync>(
     rt: &R,
     alloc: Global,
     blanks: Blanks,
+    number: usize,
     seats: Seats,
 ) -> Result<bool, AllocError>
     requires names { (blanks.client.name ≡ C.client) × (blanks.took.name ≡ C.took) × (blanks.returned.name ≡ C.returned) × (blanks.finished.name ≡ C.finished) × (blanks.sent.name ≡ C.sent) }
     requires parts { (blanks.client.parts ≡ 1) × (blanks.took.parts ≡ C.parts) × (blanks.returned.parts ≡ C.parts) × (blanks.finished.parts ≡ C.parts) × (blanks.sent.parts ≡ 1) }
     requires workers { (C.workers ≡ 2) × (C.parts ≡ 2) }
 {
-    let desk = Desk::new(alloc, 1_000_000);
+    let desk = nth_desk(alloc, number);
     let (board, mut client, mut writer, mut workers) = Board::<C>::new(alloc, blanks, 7, desk, 2)?;
     let begun = begin(rt, alloc, &board, &mut client, &mut writer, &mut workers[0]);
     let returned = match begun {
@@ -191,18 +194,23 @@ fn two_hovers<C: Crew + Send + Sync, R: Threads + Wait + Sync>(
         board.stop(rt, Stop::Now);
     }
     match run_gated(rt, alloc, &board, writer, workers) {
-        Some(worked) => closes(alloc, board, client, worked, seats),
+        Some(worked) => closes(alloc, board, client, worked, number, seats),
         None => Ok(false),
     }
 }
 
-// The same, with ledgers that are picked here.
+// The same on each desk, with ledgers that are picked here.
 fn holds<R: Threads + Wait + Sync>(
     rt: &R,
     alloc: Global,
     seats: Seats,
 ) -> Result<bool, AllocError> {
-    two_hovers::<Brand, R>(rt, alloc, Blanks::new(2), seats)
+    for number in 0..DESKS {
+        if !two_hovers::<Brand, R>(rt, alloc, Blanks::new(2), number, seats)? {
+            return Ok(false);
+        }
+    }
+    Ok(true)
 }
 
 #[test]

@@ -1,6 +1,6 @@
 //! Requests that are cancelled, and jobs that are given back.
 
-use super::steps::{finish, leaves, opened, sends_failure, symbols, take};
+use super::steps::{DESKS, finish, leaves, nth_desk, opened, sends_failure, symbols, take};
 use ls_desk::{Desk, DeskFault, Out};
 use ls_lists::List;
 use ls_rpc::Id;
@@ -25,11 +25,13 @@ fn is_over(desk: &mut Desk, alloc: Global) -> Result<bool, DeskFault> {
 
 #[test]
 fn a_cancel_is_told_once(rt: HostRuntime) -> Result<(), Fail> {
-    let mut desk = Desk::new(rt.alloc(), 1_000_000);
-    let told = cancels(&mut desk, rt.alloc());
-    let over = is_over(&mut desk, rt.alloc());
-    drop(desk);
-    assert!(rt; told? && over?);
+    for number in 0..DESKS {
+        let mut desk = nth_desk(rt.alloc(), number);
+        let told = cancels(&mut desk, rt.alloc());
+        let over = is_over(&mut desk, rt.alloc());
+        drop(desk);
+        assert!(rt; told? && over?);
+    }
     Ok(())
 }
 
@@ -52,10 +54,12 @@ fn comes_again(desk: &mut Desk, alloc: Global) -> Result<bool, DeskFault> {
 
 #[test]
 fn a_job_comes_back(rt: HostRuntime) -> Result<(), Fail> {
-    let mut desk = Desk::new(rt.alloc(), 1_000_000);
-    let again = comes_again(&mut desk, rt.alloc());
-    drop(desk);
-    assert!(rt; again?);
+    for number in 0..DESKS {
+        let mut desk = nth_desk(rt.alloc(), number);
+        let again = comes_again(&mut desk, rt.alloc());
+        drop(desk);
+        assert!(rt; again?);
+    }
     Ok(())
 }
 
@@ -67,7 +71,7 @@ fn says(desk: &mut Desk, alloc: Global) -> Result<bool, DeskFault> {
 
 #[test]
 fn a_body_is_said(rt: HostRuntime) -> Result<(), Fail> {
-    let mut desk = Desk::new(rt.alloc(), 2);
+    let mut desk = Desk::new(rt.alloc(), 1_000_000, 2);
     let said = says(&mut desk, rt.alloc());
     drop(desk);
     assert!(rt; said?);

@@ -3,14 +3,14 @@
 use super::steps::{START, change, open, opened, symbols};
 use ls_desk::{Desk, DeskFault, shared_text};
 use ls_lists::{List, Text};
-use ls_text::{Edit, MAX_BYTES, Range};
+use ls_text::{Edit, Encoding, MAX_BYTES, Range};
 use std::alloc::{AllocError, Global};
 use std::test::Fail;
 
 // Opens a document whose name is a number.
 fn open_one(desk: &mut Desk, alloc: Global, number: u32) -> Result<u64, DeskFault> {
     let uri = Text::new(format!(in alloc; "file:///{number}")?);
-    desk.did_open(uri, 1, Text::from_str(alloc, "")?)
+    desk.did_open(uri, 1, Text::from_str(alloc, "")?, Encoding::Utf16)
 }
 
 // Opens so many documents, each with a name of its own.
@@ -24,7 +24,7 @@ fn open_many(desk: &mut Desk, alloc: Global, count: u32) -> Result<u64, DeskFaul
 
 #[test]
 fn of_documents(rt: HostRuntime) -> Result<(), Fail> {
-    let mut desk = Desk::new(rt.alloc(), 1_000_000);
+    let mut desk = Desk::new(rt.alloc(), 1_000_000, 1_000_000);
     let version = open_many(&mut desk, rt.alloc(), 256);
     let more = open(&mut desk, rt.alloc(), "");
     drop(desk);
@@ -36,12 +36,12 @@ fn of_documents(rt: HostRuntime) -> Result<(), Fail> {
 // Opens a document whose text is made already.
 fn open_made(desk: &mut Desk, alloc: Global, uri: &str) -> Result<u64, DeskFault> {
     let text = shared_text(alloc, Text::from_str(alloc, "")?)?;
-    desk.open_shared(Text::from_str(alloc, uri)?, 1, text)
+    desk.open_shared(Text::from_str(alloc, uri)?, 1, text, Encoding::Utf16)
 }
 
 #[test]
 fn of_documents_whose_text_is_made(rt: HostRuntime) -> Result<(), Fail> {
-    let mut desk = Desk::new(rt.alloc(), 1_000_000);
+    let mut desk = Desk::new(rt.alloc(), 1_000_000, 1_000_000);
     let first = open_made(&mut desk, rt.alloc(), "file:///g");
     let again = open_made(&mut desk, rt.alloc(), "file:///g");
     let others = open_many(&mut desk, rt.alloc(), 255);
@@ -65,7 +65,7 @@ fn ask_many(desk: &mut Desk, alloc: Global, count: i64) -> Result<bool, DeskFaul
 
 #[test]
 fn of_requests(rt: HostRuntime) -> Result<(), Fail> {
-    let mut desk = Desk::new(rt.alloc(), 1_000_000);
+    let mut desk = Desk::new(rt.alloc(), 1_000_000, 1_000_000);
     let asked = ask_many(&mut desk, rt.alloc(), 1_023);
     let last = symbols(&mut desk, rt.alloc(), 1_023);
     let more = symbols(&mut desk, rt.alloc(), 1_024);
@@ -104,7 +104,7 @@ fn insert(desk: &mut Desk, alloc: Global) -> Result<Option<u64>, DeskFault> {
 
 #[test]
 fn of_a_text(rt: HostRuntime) -> Result<(), Fail> {
-    let mut desk = Desk::new(rt.alloc(), 1_000_000);
+    let mut desk = Desk::new(rt.alloc(), 1_000_000, 1_000_000);
     let large = open_letters(&mut desk, rt.alloc(), MAX_BYTES + 1);
     let fits = open_letters(&mut desk, rt.alloc(), MAX_BYTES);
     let grown = insert(&mut desk, rt.alloc());

@@ -1,14 +1,22 @@
 //! Runs that are refused come back.
 
-use super::steps::{START, change, close, comes_back, open, opened, symbols, take};
+use super::steps::{
+    DESKS, START, change, close, comes_back, nth_desk, open, opened, symbols, take,
+};
 use ls_answers::{Ask, Done, Job, run};
 use ls_desk::{Desk, DeskFault, Kept, SharedSnapshot};
-use ls_text::{Snapshot, TextFault};
+use ls_text::{Encoding, Snapshot, TextFault};
 use std::alloc::Global;
 use std::test::Fail;
 
-// A run with a ticket, of a text and a question of its own.
-fn done(alloc: Global, ticket: u64, text: &str, ask: Ask) -> Result<Done, DeskFault> {
+// A run with a ticket, of a text, an encoding and a question of its own.
+fn done_in(
+    alloc: Global,
+    ticket: u64,
+    text: &str,
+    encoding: Encoding,
+    ask: Ask,
+) -> Result<Done, DeskFault> {
     let text = String::from_str(alloc, text)?;
     let snapshot = match Snapshot::of_text(alloc, text) {
         Ok(snapshot) => SharedSnapshot::new(alloc, snapshot)?.arc()?,
@@ -20,9 +28,14 @@ fn done(alloc: Global, ticket: u64, text: &str, ask: Ask) -> Result<Done, DeskFa
         Job {
             ticket,
             snapshot,
+            encoding,
             ask,
         },
     ))
+}
+
+fn done(alloc: Global, ticket: u64, text: &str, ask: Ask) -> Result<Done, DeskFault> {
+    done_in(alloc, ticket, text, Encoding::Utf16, ask)
 }
 
 // Whether a run of the first ticket after the findings is refused for this.
@@ -37,6 +50,12 @@ fn is_refused(
     Ok(comes_back(desk, other, want))
 }
 
+// Whether a run of the first ticket after the findings is refused by its encoding alone.
+fn is_refused_in(desk: &mut Desk, alloc: Global, encoding: Encoding) -> Result<bool, DeskFault> {
+    let other = done_in(alloc, 2, "a = \"x\"", encoding, Ask::Symbols)?;
+    Ok(comes_back(desk, other, DeskFault::OtherText))
+}
+
 // An outline is asked for and taken.
 fn outlined(desk: &mut Desk, alloc: Global) -> Result<bool, DeskFault> {
     let begun = opened(desk, alloc)? && symbols(desk, alloc, 2)? == 2;
@@ -45,15 +64,20 @@ fn outlined(desk: &mut Desk, alloc: Global) -> Result<bool, DeskFault> {
 }
 
 #[test]
-fn of_another_text_or_question(rt: HostRuntime) -> Result<(), Fail> {
+fn of_another_text_encoding_or_question(rt: HostRuntime) -> Result<(), Fail> {
     let alloc = rt.alloc();
     let fault = DeskFault::OtherText;
-    let mut desk = Desk::new(alloc, 1_000_000);
-    let begun = outlined(&mut desk, alloc);
-    let text = is_refused(&mut desk, alloc, "a = \"y\"", Ask::Symbols, fault);
-    let question = is_refused(&mut desk, alloc, "a = \"x\"", Ask::Hover(START), fault);
-    drop(desk);
-    assert!(rt; begun? && text? && question?);
+    for number in 0..DESKS {
+        let mut desk = nth_desk(alloc, number);
+        let begun = outlined(&mut desk, alloc);
+        let text = is_refused(&mut desk, alloc, "a = \"y\"", Ask::Symbols, fault);
+        let question = is_refused(&mut desk, alloc, "a = \"x\"", Ask::Hover(START), fault);
+        let bytes = is_refused_in(&mut desk, alloc, Encoding::Utf8);
+        let characters = is_refused_in(&mut desk, alloc, Encoding::Utf32);
+        drop(desk);
+        assert!(rt; begun? && text? && question?);
+        assert!(rt; bytes? && characters?);
+    }
     Ok(())
 }
 
@@ -68,10 +92,12 @@ fn refuses_tickets(desk: &mut Desk, alloc: Global) -> Result<bool, DeskFault> {
 
 #[test]
 fn of_another_ticket(rt: HostRuntime) -> Result<(), Fail> {
-    let mut desk = Desk::new(rt.alloc(), 1_000_000);
-    let refused = refuses_tickets(&mut desk, rt.alloc());
-    drop(desk);
-    assert!(rt; refused?);
+    for number in 0..DESKS {
+        let mut desk = nth_desk(rt.alloc(), number);
+        let refused = refuses_tickets(&mut desk, rt.alloc());
+        drop(desk);
+        assert!(rt; refused?);
+    }
     Ok(())
 }
 
@@ -92,10 +118,12 @@ fn takes_one_run(desk: &mut Desk, alloc: Global) -> Result<bool, DeskFault> {
 
 #[test]
 fn of_a_second_run(rt: HostRuntime) -> Result<(), Fail> {
-    let mut desk = Desk::new(rt.alloc(), 1_000_000);
-    let one = takes_one_run(&mut desk, rt.alloc());
-    drop(desk);
-    assert!(rt; one?);
+    for number in 0..DESKS {
+        let mut desk = nth_desk(rt.alloc(), number);
+        let one = takes_one_run(&mut desk, rt.alloc());
+        drop(desk);
+        assert!(rt; one?);
+    }
     Ok(())
 }
 
@@ -110,7 +138,7 @@ fn is_full(desk: &mut Desk, alloc: Global) -> Result<bool, DeskFault> {
 
 #[test]
 fn of_a_full_session(rt: HostRuntime) -> Result<(), Fail> {
-    let mut desk = Desk::new(rt.alloc(), 3);
+    let mut desk = Desk::new(rt.alloc(), 1, 3);
     let full = is_full(&mut desk, rt.alloc());
     let changed = change(&mut desk, rt.alloc(), "");
     drop(desk);
@@ -131,9 +159,11 @@ fn opens_and_closes(desk: &mut Desk, alloc: Global) -> Result<bool, DeskFault> {
 
 #[test]
 fn of_what_is_not_open(rt: HostRuntime) -> Result<(), Fail> {
-    let mut desk = Desk::new(rt.alloc(), 1_000_000);
-    let opens = opens_and_closes(&mut desk, rt.alloc());
-    drop(desk);
-    assert!(rt; opens?);
+    for number in 0..DESKS {
+        let mut desk = nth_desk(rt.alloc(), number);
+        let opens = opens_and_closes(&mut desk, rt.alloc());
+        drop(desk);
+        assert!(rt; opens?);
+    }
     Ok(())
 }

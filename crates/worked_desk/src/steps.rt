@@ -1,10 +1,11 @@
 //! The calls of a desk, with plain arguments. All are about one document.
+ghost use Rattle.std.specs.Prelude.{◌<◌, ◌≤◌};
 
 use ls_answers::{Ask, Done, Job, run};
 use ls_desk::{Desk, DeskFault, Kept, Out};
 use ls_lists::{List, Text};
 use ls_rpc::Id;
-use ls_text::{Edit, Position};
+use ls_text::{Edit, Encoding, Position};
 use std::alloc::{AllocError, Global};
 
 const URI: &str = "file:///g";
@@ -15,12 +16,32 @@ pub(crate) const START: Position = Position {
     character: 0,
 };
 
+// How many events a journal may have before it begins anew: 1 to 4, and then as many as it may have at all.
+fn longest(number: usize) -> usize
+    ensures { (0 < result) × (result ≤ 1000000) }
+{
+    if number < 4 { number + 1 } else { 1_000_000 }
+}
+
+/// How many desks there are on which each worked session goes the same way.
+pub(crate) const DESKS: usize = 5;
+
+/// One of these desks, on which nothing has happened. They differ in how long their journals may be.
+pub(crate) fn nth_desk(alloc: Global, number: usize) -> Desk {
+    Desk::new(alloc, longest(number), 1_000_000)
+}
+
 fn uri(alloc: Global) -> Result<Text, AllocError> {
     Text::from_str(alloc, URI)
 }
 
 pub(crate) fn open(desk: &mut Desk, alloc: Global, text: &str) -> Result<u64, DeskFault> {
-    desk.did_open(uri(alloc)?, 1, Text::from_str(alloc, text)?)
+    desk.did_open(
+        uri(alloc)?,
+        1,
+        Text::from_str(alloc, text)?,
+        Encoding::Utf16,
+    )
 }
 
 pub(crate) fn close(desk: &mut Desk, alloc: Global) -> Result<(), DeskFault> {

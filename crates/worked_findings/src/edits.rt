@@ -2,7 +2,7 @@
 
 use super::check::{has_findings, snapshot};
 use ls_lists::Text;
-use ls_text::{Edit, Position, Range, Snapshot, TextFault};
+use ls_text::{Edit, Encoding, Position, Range, Snapshot, TextFault};
 use std::alloc::{AllocError, Global};
 use std::test::Fail;
 
@@ -28,7 +28,7 @@ fn edit(alloc: Global, range: Range, new: &str) -> Result<Edit, AllocError> {
 
 fn edited(text: &Snapshot, edit: Edit) -> Result<Snapshot, TextFault> {
     let edits = [edit];
-    text.apply(edits.as_slice())
+    text.apply(edits.as_slice(), Encoding::Utf16)
 }
 
 /// A text that is open and changes.

@@ -3,7 +3,7 @@
 use super::check::{Check, holds, snapshot};
 use example_grammars::{RFC_3339, RFC_3986, RFC_5234, RFC_8259};
 use ls_answers::{Answer, Ask, Job, run};
-use ls_text::{Position, Range, Snapshot, TextFault};
+use ls_text::{Encoding, Position, Range, Snapshot, TextFault};
 use std::alloc::{AllocError, Global};
 use std::sync::Arc;
 
@@ -46,6 +46,7 @@ fn asked(alloc: Global, text: &str, at: Position) -> Result<Job, TextFault> {
     Ok(Job {
         ticket: 1,
         snapshot: shared(alloc, snapshot(alloc, text)?)?,
+        encoding: Encoding::Utf16,
         ask: Ask::Definition(at),
     })
 }

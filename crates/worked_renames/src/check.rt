@@ -3,7 +3,7 @@
 use super::shown::shows;
 use ls_answers::{Answer, Ask, Done, Job, RenameFault, run};
 use ls_lists::{List, Text};
-use ls_text::{Edit, Position, Range, Snapshot};
+use ls_text::{Edit, Encoding, Position, Range, Snapshot};
 use std::alloc::{AllocError, Global};
 use std::sync::Arc;
 use std::test::Fail;
@@ -18,23 +18,31 @@ fn ask(alloc: Global, line: u32, character: u32, new: &str) -> Result<Ask, Alloc
     Ok(Ask::Rename(Position { line, character }, new))
 }
 
-fn done(alloc: Global, text: Snapshot, ask: Ask) -> Result<Done, AllocError> {
+fn done(alloc: Global, text: Snapshot, encoding: Encoding, ask: Ask) -> Result<Done, AllocError> {
     let snapshot = Arc::new(alloc, text)?;
     Ok(run(
         alloc,
         Job {
             ticket: 1,
             snapshot,
+            encoding,
             ask,
         },
     ))
 }
 
 /// A rename of the name at a position of a text.
-fn renamed(alloc: Global, text: &str, line: u32, character: u32, new: &str) -> Result<Done, Fail> {
+fn renamed(
+    alloc: Global,
+    encoding: Encoding,
+    text: &str,
+    line: u32,
+    character: u32,
+    new: &str,
+) -> Result<Done, Fail> {
     let ask = ask(alloc, line, character, new)?;
     let text = snapshot(alloc, text)?;
-    Ok(done(alloc, text, ask)?)
+    Ok(done(alloc, text, encoding, ask)?)
 }
 
 fn edit(range: Range, new: &Text) -> Result<Edit, AllocError> {
@@ -52,9 +60,15 @@ fn edits(alloc: Global, ranges: &[Range], new: &Text) -> Result<List<Edit>, Allo
     Ok(edits)
 }
 
-fn edited(alloc: Global, text: &Snapshot, ranges: &[Range], new: &Text) -> Result<Snapshot, Fail> {
+fn edited(
+    alloc: Global,
+    encoding: Encoding,
+    text: &Snapshot,
+    ranges: &[Range],
+    new: &Text,
+) -> Result<Snapshot, Fail> {
     let edits = edits(alloc, ranges, new)?;
-    Ok(text.apply(edits.as_slice())?)
+    Ok(text.apply(edits.as_slice(), encoding)?)
 }
 
 fn is_text(text: &Snapshot, want: &str) -> Result<bool, AllocError> {
@@ -65,13 +79,14 @@ fn is_text(text: &Snapshot, want: &str) -> Result<bool, AllocError> {
 /// Whether the edits give this text, and its rules have these examples.
 fn give(
     alloc: Global,
+    encoding: Encoding,
     text: &Snapshot,
     ranges: &[Range],
     new: &Text,
     after: &str,
     examples: &str,
 ) -> Result<bool, Fail> {
-    let text = edited(alloc, text, ranges, new)?;
+    let text = edited(alloc, encoding, text, ranges, new)?;
     Ok(is_text(&text, after)? && shows(alloc, &text, examples)?)
 }
 
@@ -82,6 +97,7 @@ fn keeps_examples(alloc: Global, done: &Done, after: &str, examples: &str) -> Re
             shows(alloc, done.snapshot(), examples)?
                 && give(
                     alloc,
+                    done.encoding(),
                     done.snapshot(),
                     ranges.as_slice(),
                     new,
@@ -104,7 +120,30 @@ pub(crate) fn keeps(
     after: &str,
     examples: &str,
 ) -> Result<bool, Fail> {
-    let done = renamed(alloc, text, line, character, new)?;
+    keeps_in(
+        alloc,
+        Encoding::Utf16,
+        text,
+        line,
+        character,
+        new,
+        after,
+        examples,
+    )
+}
+
+/// The same, where positions count this.
+pub(crate) fn keeps_in(
+    alloc: Global,
+    encoding: Encoding,
+    text: &str,
+    line: u32,
+    character: u32,
+    new: &str,
+    after: &str,
+    examples: &str,
+) -> Result<bool, Fail> {
+    let done = renamed(alloc, encoding, text, line, character, new)?;
     keeps_examples(alloc, &done, after, examples)
 }
 
@@ -124,6 +163,6 @@ pub(crate) fn refuses(
     new: &str,
     want: RenameFault,
 ) -> Result<bool, Fail> {
-    let done = renamed(alloc, text, line, character, new)?;
+    let done = renamed(alloc, Encoding::Utf16, text, line, character, new)?;
     Ok(is_refused(&done, want)?)
 }

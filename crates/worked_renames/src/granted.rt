@@ -1,6 +1,7 @@
 //! Renames that are granted: a text, a position in it, the new name, the text after it, and the examples of its rules.
 
-use super::check::keeps;
+use super::check::{keeps, keeps_in};
+use ls_text::Encoding;
 use std::alloc::Global;
 use std::test::Fail;
 
@@ -199,6 +200,28 @@ fn over_lines(rt: HostRuntime) -> Result<(), Fail> {
             "not known; x; "
         )?
     );
+    Ok(())
+}
+
+// Of a name behind characters of two, three and four bytes, with one of four behind it in another line.
+fn behind_wide_characters(alloc: Global, encoding: Encoding, character: u32) -> Result<bool, Fail> {
+    keeps_in(
+        alloc,
+        encoding,
+        "a = <\u{E9}\u{20AC}\u{1F600}> b\nb = \"x\" ; \u{1F600}\nc = <\u{1F600}> B",
+        0,
+        character,
+        "bee",
+        "a = <\u{E9}\u{20AC}\u{1F600}> bee\nbee = \"x\" ; \u{1F600}\nc = <\u{1F600}> bee",
+        "not known; x; not known; ",
+    )
+}
+
+#[test]
+fn in_each_encoding(rt: HostRuntime) -> Result<(), Fail> {
+    assert!(rt; behind_wide_characters(rt.alloc(), Encoding::Utf8, 16)?);
+    assert!(rt; behind_wide_characters(rt.alloc(), Encoding::Utf16, 11)?);
+    assert!(rt; behind_wide_characters(rt.alloc(), Encoding::Utf32, 10)?);
     Ok(())
 }
 

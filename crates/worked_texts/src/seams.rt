@@ -3,7 +3,7 @@
 ghost use Rattle.std.specs.Prelude.{◌<◌, ◌≤◌, length};
 
 use super::texts::{Span, applied, range_of};
-use ls_text::{Position, Range, Snapshot, TextFault};
+use ls_text::{Encoding, Position, Range, Snapshot, TextFault};
 use std::alloc::{AllocError, Global};
 use std::process::Abort;
 
@@ -143,7 +143,9 @@ pub fn first_other_line(one: &Snapshot, other: &Snapshot) -> Option<usize> {
             character: 0,
         };
         let same_text = one.line(line) == other.line(line);
-        if !same_text || one.offset_of(start) != other.offset_of(start) {
+        if !same_text
+            || one.offset_of(start, Encoding::Utf16) != other.offset_of(start, Encoding::Utf16)
+        {
             return Some(line);
         }
     }

@@ -1,6 +1,6 @@
 use super::seams::{Dice, first_other_line};
 use ls_lists::Text;
-use ls_text::{Edit, Place, Position, Range, Ruler, Snapshot, TextFault};
+use ls_text::{Edit, Encoding, Place, Position, Range, Ruler, Snapshot, TextFault};
 use std::alloc::{AllocError, Global};
 
 pub fn snapshot(alloc: Global, text: &str) -> Result<Snapshot, TextFault> {
@@ -61,6 +61,7 @@ fn gives_lines(rt: HostRuntime) -> Result<(), TextFault> {
 fn has_range(
     text: &Snapshot,
     ruler: &mut Ruler<'_>,
+    encoding: Encoding,
     bytes: (usize, usize),
     characters: (u32, u32),
 ) -> bool {
@@ -73,11 +74,22 @@ fn has_range(
         start: position((1, characters.0)),
         end: position((1, characters.1)),
     };
-    text.range_of(&place) == range && ruler.range_of(&place) == range
+    text.range_of(&place, encoding) == range && ruler.range_of(&place) == range
 }
 
-/// The bytes of `;`, U+1F600 and `z` are 1, 4 and 1; their UTF-16 units are 1, 2 and 1.
-const RANGES: &[((usize, usize), (u32, u32))] = &[
+/// Bytes of a place, and the units before its two ends.
+type Ends = ((usize, usize), (u32, u32));
+
+/// The bytes of `;`, U+1F600 and `z` are 1, 4 and 1.
+const RANGES_IN_BYTES: &[Ends] = &[
+    ((0, 1), (0, 1)),
+    ((1, 5), (1, 5)),
+    ((5, 6), (5, 6)),
+    ((3, 9), (1, 6)),
+];
+
+/// Their UTF-16 units are 1, 2 and 1.
+const RANGES: &[Ends] = &[
     ((0, 1), (0, 1)),
     ((1, 5), (1, 3)),
     ((5, 6), (3, 4)),
@@ -85,10 +97,18 @@ const RANGES: &[((usize, usize), (u32, u32))] = &[
     ((6, 6), (4, 4)),
 ];
 
-fn has_ranges(text: &Snapshot) -> bool {
-    let mut ruler = Ruler::new(text);
-    for (bytes, characters) in RANGES {
-        if !has_range(text, &mut ruler, *bytes, *characters) {
+/// They are a character each.
+const RANGES_IN_CHARACTERS: &[Ends] = &[
+    ((0, 1), (0, 1)),
+    ((1, 5), (1, 2)),
+    ((5, 6), (2, 3)),
+    ((3, 9), (1, 3)),
+];
+
+fn has_ranges(text: &Snapshot, encoding: Encoding, ranges: &[Ends]) -> bool {
+    let mut ruler = Ruler::new(text, encoding);
+    for (bytes, characters) in ranges {
+        if !has_range(text, &mut ruler, encoding, *bytes, *characters) {
             return false;
         }
     }
@@ -97,12 +117,18 @@ fn has_ranges(text: &Snapshot) -> bool {
 
 #[test]
 fn finds_ranges(rt: HostRuntime) -> Result<(), TextFault> {
-    assert!(rt; has_ranges(&snapshot(rt.alloc(), "\n;\u{1F600}z\n")?));
+    let text = snapshot(rt.alloc(), "\n;\u{1F600}z\n")?;
+    assert!(rt; has_ranges(&text, Encoding::Utf8, RANGES_IN_BYTES));
+    assert!(rt; has_ranges(&text, Encoding::Utf16, RANGES));
+    assert!(rt; has_ranges(&text, Encoding::Utf32, RANGES_IN_CHARACTERS));
     Ok(())
 }
 
-/// Positions, and the characters of the text before each.
-const OFFSETS: &[((u32, u32), usize)] = &[
+/// A position, and the characters of the text before it.
+type Behind = ((u32, u32), usize);
+
+/// Positions in UTF-16 units. The characters of line 1 have 1, 2 and 1.
+const OFFSETS: &[Behind] = &[
     ((0, 0), 0),
     ((0, 1), 1),
     ((0, 999), 1),
@@ -113,6 +139,28 @@ const OFFSETS: &[((u32, u32), usize)] = &[
     ((1, 4), 6),
     ((1, 5), 6),
     ((2, 0), 7),
+    ((99, 0), 7),
+];
+
+/// They have 1, 4 and 1 bytes.
+const OFFSETS_OF_BYTES: &[Behind] = &[
+    ((0, 999), 1),
+    ((1, 1), 4),
+    ((1, 2), 4),
+    ((1, 4), 4),
+    ((1, 5), 5),
+    ((1, 6), 6),
+    ((1, 7), 6),
+    ((99, 0), 7),
+];
+
+/// They are a character each.
+const OFFSETS_OF_CHARACTERS: &[Behind] = &[
+    ((0, 999), 1),
+    ((1, 1), 4),
+    ((1, 2), 5),
+    ((1, 3), 6),
+    ((1, 4), 6),
     ((99, 0), 7),
 ];
 
@@ -128,18 +176,34 @@ const POSITIONS: &[(usize, (u32, u32))] = &[
     (8, (2, 0)),
 ];
 
-fn has_offsets(text: &Snapshot) -> bool {
-    for (at, offset) in OFFSETS {
-        if text.offset_of(position(*at)) != *offset {
+const POSITIONS_IN_BYTES: &[(usize, (u32, u32))] = &[
+    (2, (0, 1)),
+    (4, (1, 1)),
+    (5, (1, 5)),
+    (6, (1, 6)),
+    (8, (2, 0)),
+];
+
+const POSITIONS_IN_CHARACTERS: &[(usize, (u32, u32))] = &[
+    (2, (0, 1)),
+    (4, (1, 1)),
+    (5, (1, 2)),
+    (6, (1, 3)),
+    (8, (2, 0)),
+];
+
+fn has_offsets(text: &Snapshot, encoding: Encoding, rows: &[Behind]) -> bool {
+    for (at, offset) in rows {
+        if text.offset_of(position(*at), encoding) != *offset {
             return false;
         }
     }
     true
 }
 
-fn has_positions(text: &Snapshot) -> bool {
-    for (offset, at) in POSITIONS {
-        if text.position_of(*offset) != position(*at) {
+fn has_positions(text: &Snapshot, encoding: Encoding, rows: &[(usize, (u32, u32))]) -> bool {
+    for (offset, at) in rows {
+        if text.position_of(*offset, encoding) != position(*at) {
             return false;
         }
     }
@@ -149,7 +213,12 @@ fn has_positions(text: &Snapshot) -> bool {
 #[test]
 fn finds_offsets_and_positions(rt: HostRuntime) -> Result<(), TextFault> {
     let text = snapshot(rt.alloc(), "a\r\n;\u{1F600}z\n")?;
-    assert!(rt; has_offsets(&text) && has_positions(&text));
+    assert!(rt; has_offsets(&text, Encoding::Utf8, OFFSETS_OF_BYTES));
+    assert!(rt; has_offsets(&text, Encoding::Utf16, OFFSETS));
+    assert!(rt; has_offsets(&text, Encoding::Utf32, OFFSETS_OF_CHARACTERS));
+    assert!(rt; has_positions(&text, Encoding::Utf8, POSITIONS_IN_BYTES));
+    assert!(rt; has_positions(&text, Encoding::Utf16, POSITIONS));
+    assert!(rt; has_positions(&text, Encoding::Utf32, POSITIONS_IN_CHARACTERS));
     Ok(())
 }
 
@@ -265,7 +334,7 @@ pub fn applied(
     rows: &[(Option<Span>, &str)],
 ) -> Result<Snapshot, TextFault> {
     let edits = edits_of(alloc, rows)?;
-    text.apply(edits.as_slice())
+    text.apply(edits.as_slice(), Encoding::Utf16)
 }
 
 /// What one edit makes of a text.
@@ -314,6 +383,32 @@ fn applies_edits(rt: HostRuntime) -> Result<(), TextFault> {
     for row in EDITS {
         assert!(rt; becomes(rt.alloc(), row)?, "{}", row.3);
     }
+    Ok(())
+}
+
+/// Whether `a`, put into a text behind so many units, gives this text.
+fn puts(
+    alloc: Global,
+    encoding: Encoding,
+    character: u32,
+    wanted: &str,
+) -> Result<bool, TextFault> {
+    let text = snapshot(alloc, ";\u{1F600}z")?;
+    let at = (0, character);
+    let edits = edits_of(alloc, &[(Some((at, at)), "a")])?;
+    let changed = text.apply(edits.as_slice(), encoding)?;
+    is_cut(alloc, &changed, wanted, 1)
+}
+
+#[test]
+fn applies_edits_in_each_encoding(rt: HostRuntime) -> Result<(), TextFault> {
+    let alloc = rt.alloc();
+    assert!(rt; puts(alloc, Encoding::Utf8, 4, ";a\u{1F600}z")?);
+    assert!(rt; puts(alloc, Encoding::Utf8, 5, ";\u{1F600}az")?);
+    assert!(rt; puts(alloc, Encoding::Utf16, 2, ";a\u{1F600}z")?);
+    assert!(rt; puts(alloc, Encoding::Utf16, 3, ";\u{1F600}az")?);
+    assert!(rt; puts(alloc, Encoding::Utf32, 1, ";a\u{1F600}z")?);
+    assert!(rt; puts(alloc, Encoding::Utf32, 2, ";\u{1F600}az")?);
     Ok(())
 }
 
@@ -374,6 +469,14 @@ fn random_position(dice: &mut Dice) -> (u32, u32) {
     (dice.below(6), dice.below(5))
 }
 
+fn random_encoding(dice: &mut Dice) -> Encoding {
+    match dice.below(3) {
+        0 => Encoding::Utf8,
+        1 => Encoding::Utf16,
+        _ => Encoding::Utf32,
+    }
+}
+
 /// Adds the characters of a text from a number up to another.
 fn push_part(to: &mut String, text: &str, from: usize, end: usize) -> Result<(), AllocError> {
     for (at, c) in text.chars().enumerate() {
@@ -384,26 +487,28 @@ fn push_part(to: &mut String, text: &str, from: usize, end: usize) -> Result<(),
     Ok(())
 }
 
-/// A text, by a plain cut, and edits that have made it of another.
+/// A text, by a plain cut, and edits that have made it of another, by positions that count this.
 #[derive(Drop)]
 struct Plain {
     text: String,
     edits: Vec<Edit>,
+    encoding: Encoding,
 }
 
 impl Plain {
-    fn new(alloc: Global, text: &str) -> Result<Plain, AllocError> {
+    fn new(alloc: Global, text: &str, encoding: Encoding) -> Result<Plain, AllocError> {
         Ok(Plain {
             text: String::from_str(alloc, text)?,
             edits: Vec::new(alloc),
+            encoding,
         })
     }
 
     /// Where a range starts and ends in the text, in characters.
     fn offsets(&self, alloc: Global, span: Span) -> Result<(usize, usize), TextFault> {
         let text = snapshot(alloc, self.text.as_str())?;
-        let from = text.offset_of(position(span.0));
-        let to = text.offset_of(position(span.1));
+        let from = text.offset_of(position(span.0), self.encoding);
+        let to = text.offset_of(position(span.1), self.encoding);
         Ok((from.min(to), from.max(to)))
     }
 
@@ -441,7 +546,7 @@ impl Plain {
 
     /// Whether the edits make this text of the one before them, with the same lines.
     fn agrees(&self, alloc: Global, before: &str) -> Result<bool, TextFault> {
-        let changed = snapshot(alloc, before)?.apply(self.edits.as_slice())?;
+        let changed = snapshot(alloc, before)?.apply(self.edits.as_slice(), self.encoding)?;
         let whole = snapshot(alloc, self.text.as_str())?;
         if first_other_line(&changed, &whole).is_some() {
             return Ok(false);
@@ -453,7 +558,8 @@ impl Plain {
 /// Whether random edits of a random text give the text, and the lines, of a plain cut of the whole result.
 fn is_plain(alloc: Global, dice: &mut Dice) -> Result<bool, TextFault> {
     let before = random_text(alloc, dice)?;
-    let mut plain = Plain::new(alloc, before.as_str())?;
+    let encoding = random_encoding(dice);
+    let mut plain = Plain::new(alloc, before.as_str(), encoding)?;
     plain.edit_some(alloc, dice)?;
     plain.agrees(alloc, before.as_str())
 }

@@ -2,7 +2,7 @@
 
 use super::bodies::{EXIT, INITIALIZE, OPEN, SHUTDOWN, push, replies};
 use super::devices::{Bytes, Noting};
-use super::sessions::{Open, serves};
+use super::sessions::{Open, serves, serves_anew};
 use ls_server::{Status, serve_plain};
 use ls_threads::Gate;
 use std::alloc::Global;
@@ -91,6 +91,19 @@ fn each_request_has_one_reply_whoever_dawdles(rt: HostRuntime) -> Result<(), Fai
             turns: Mutex::new(0),
         };
         let left = serves(&rt, alloc, input(alloc)?, 4, (0, 0), &gate)?;
+        assert!(rt; left.answer == Ok(Status::Clean));
+        assert!(rt; replies(alloc, &left.bytes)? == wanted);
+    }
+    Ok(())
+}
+
+// The journal begins anew with each event of the client, or nearly so, and the audit finds nothing at any of these times.
+#[test]
+fn each_request_has_one_reply_by_short_journals(rt: HostRuntime) -> Result<(), Fail> {
+    let alloc = rt.alloc();
+    let wanted = replies(alloc, &written_plainly(alloc)?)?;
+    for max_journal in [1, 2, 3, 50] {
+        let left = serves_anew(&rt, alloc, input(alloc)?, max_journal)?;
         assert!(rt; left.answer == Ok(Status::Clean));
         assert!(rt; replies(alloc, &left.bytes)? == wanted);
     }

@@ -7,7 +7,7 @@ use super::bodies::{
 };
 use super::devices::{Bytes, Noting};
 use ls_server::{ServeFault, Status};
-use ls_threads::{Gate, Served, serve_threads};
+use ls_threads::{Gate, Served, serve_threads, serve_with_journal};
 use std::alloc::Global;
 use std::sync::atomic::AtomicU64;
 use std::sync::{Arc, Wait};
@@ -27,6 +27,30 @@ impl Gate for Open {
 pub struct Left {
     pub answer: Result<Status, ServeFault>,
     pub bytes: Vec<u8>,
+}
+
+/// Serves the input with two workers, by a journal that begins anew once it has so many events.
+pub fn serves_anew<R: Threads + Wait + Sync>(
+    rt: &R,
+    alloc: Global,
+    input: Vec<u8>,
+    max_journal: usize,
+) -> Result<Left, Fail>
+    requires { (0 < max_journal) × (max_journal ≤ 1000000) }
+{
+    let seen = Arc::new(alloc, AtomicU64::new(0))?;
+    let source = Bytes::new(input, 0);
+    let sink = Noting::new(alloc, b"none of these bytes", seen, 0)?;
+    let Served {
+        answer,
+        source: _,
+        sink,
+    } = serve_with_journal(rt, alloc, source, sink, 2, &Open, max_journal);
+    let bytes = match sink {
+        Some(sink) => sink.into_bytes(),
+        None => Vec::new(alloc),
+    };
+    Ok(Left { answer, bytes })
 }
 
 /// Serves the input with this many workers. The numbers are those of the read that fails and of the write or flush that does, 0 for none.

@@ -4,6 +4,6 @@ use Rattle.ls_answers.proofs.diagnostics.told.Given as goal
 
 abbrev pub invariant-loop-finding : goal.invariant-loop-finding
 invariant-loop-finding l = record {
-  text : l.ruler ≡ l.snapshot;
-  told : l.diagnostics ≡ map (diagnostic_of l.snapshot) (take l.finding-index l.found);
+  text : l.ruler ≡ record { text = l.snapshot; encoding = l.fn.encoding };
+  told : l.diagnostics ≡ map (diagnostic_of l.fn.encoding l.snapshot) (take l.finding-index l.found);
 }

@@ -9,5 +9,5 @@ use Rattle.ls_answers.proofs.job.run.Goals as goal
 pub returns-clause-keeps : goal.returns-clause-keeps
 returns-clause-keeps c =
     let scalars : All IsScalar (arc_value c.args.job.snapshot) = search rules in
-    let right : IfOk c.answer_of-answer.result (λ answer. IsAnswer (arc_value c.args.job.snapshot) c.args.job.ask answer) = search rules in
-    result_keeps (arc_value c.args.job.snapshot) c.args.job.ask c.answer_of-answer.result scalars right
+    let right : IfOk c.answer_of-answer.result (λ answer. IsAnswer c.args.job.encoding (arc_value c.args.job.snapshot) c.args.job.ask answer) = search rules in
+    result_keeps c.args.job.encoding (arc_value c.args.job.snapshot) c.args.job.ask c.answer_of-answer.result scalars right

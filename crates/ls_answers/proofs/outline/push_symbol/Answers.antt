@@ -11,5 +11,5 @@ returns c =
     let head = sym c.head.ensures ∙ c.in-Some-len2-up.is-0 in
     c.in_ok-push.ensures.items
     ∙ (ap (λ l. symbols ++ l)
-    (symbol_is c.args.snapshot.now c.as_slice.result.now c.in-Some-len2-up.head c.first-item.result c.last-item.result c.first-item.result c.last-item.result _ (ap head_of c.as_slice.ensures ∙ head) c.first-item.is c.last-item.is (search rules))
-    ∙ ap (λ (items : List Item). symbols ++ as_list (symbol_of c.args.snapshot.now items)) c.as_slice.ensures)
+    (symbol_is c.args.encoding c.args.snapshot.now c.as_slice.result.now c.in-Some-len2-up.head c.first-item.result c.last-item.result c.first-item.result c.last-item.result _ (ap head_of c.as_slice.ensures ∙ head) c.first-item.is c.last-item.is (search rules))
+    ∙ ap (λ (items : List Item). symbols ++ as_list (symbol_of c.args.encoding c.args.snapshot.now items)) c.as_slice.ensures)

@@ -6,5 +6,5 @@ use Rattle.ls_answers.proofs.outline.symbols.Goals as goal
 pub loop-block-preserved : goal.loop-block-preserved
 loop-block-preserved c =
     c.in_ok-push_symbol.ensures
-    ∙ (ap (λ l. l ++ symbols_in c.args.snapshot.now c.block-item.result) c.loop-block.invariant
-    ∙ sym (outline-next c.args.snapshot.now c.deref-block-items.result.now c.loop-block.block-index c.block-item.result c.loop-block-test.true c.block-item.is))
+    ∙ (ap (λ l. l ++ symbols_in c.args.encoding c.args.snapshot.now c.block-item.result) c.loop-block.invariant
+    ∙ sym (outline-next c.args.encoding c.args.snapshot.now c.deref-block-items.result.now c.loop-block.block-index c.block-item.result c.loop-block-test.true c.block-item.is))

@@ -1,11 +1,11 @@
 use Rattle.std.proofs.Common.{map, option_map, ap, ◌∙◌}
-use Rattle.ls_text.specs.Lines.{utf16_len, offset_of}
+use Rattle.ls_text.specs.Lines.{offset_of, units}
 use Rattle.abnf_names.specs.Places.{named_at, place_and_name}
 use Rattle.ls_answers.proofs.Definitions.{ranges_known}
 use Rattle.ls_answers.proofs.places.ranges_among.Goals as goal
 
 pub returns : goal.returns
 returns c =
-    ranges_known c.args.wanted c.args.at c.source-snapshot.result.now c.args.places.now.0 (map named_at c.spots.result.now) c.args.places.now.1 c.offset_of.result (option_map place_and_name c.name_at-found.result) c.ranges_alike.result
+    ranges_known c.args.encoding c.args.wanted c.args.at c.source-snapshot.result.now c.args.places.now.0 (map named_at c.spots.result.now) c.args.places.now.1 c.offset_of.result (option_map place_and_name c.name_at-found.result) c.ranges_alike.result
     c.source-snapshot.ensures.right c.source-snapshot.ensures.text c.spots.ensures
-    (c.offset_of.ensures ∙ ap (λ t. offset_of utf16_len t c.args.at.line c.args.at.character) c.source-snapshot.ensures.text) c.name_at-found.ensures c.ranges_alike.ensures
+    (c.offset_of.ensures ∙ ap (λ t. offset_of (units c.args.encoding) t c.args.at.line c.args.at.character) c.source-snapshot.ensures.text) c.name_at-found.ensures c.ranges_alike.ensures

@@ -5,7 +5,7 @@ use Rattle.ls_answers.proofs.semantic_tokens.told.Given as goal
 
 abbrev pub invariant-loop-line : goal.invariant-loop-line
 invariant-loop-line l = record {
-  walked : HasWalked l.grammar l.line l.tokens (map named_at (drop l.passed l.spots));
-  text : l.ruler ≡ l.grammar.text;
+  walked : HasWalked l.fn.encoding l.grammar l.line l.tokens (map named_at (drop l.passed l.spots));
+  text : l.ruler ≡ record { text = l.grammar.text; encoding = l.fn.encoding };
   within : l.passed ≤ length l.spots;
 }

@@ -45,7 +45,7 @@ pub returns-clause-run : goal.returns-clause-run
 returns-clause-run c =
     let f = c.in_ok-frames.ensures in
     let P : Option FrameFault → Type 0 = λ o. Runs begun (acts_of (contents_of c.in_ok-frames.frames.bodies.items) o c.args.steps.now) c.loop-step.talk c.loop-step.bytes.items in
-    (c.loop-step.talk, record { contents = contents_of c.in_ok-frames.frames.bodies.items; rest = f.0; stream = f.1; runs = subst P f.2 (run c) }, c.into_desk.ensures.journal, c.status-status.ensures)
+    (c.loop-step.talk, record { contents = contents_of c.in_ok-frames.frames.bodies.items; rest = f.0; stream = f.1; runs = subst P f.2 (run c) }, c.into_desk.ensures.base, c.into_desk.ensures.journal, c.status-status.ensures)
 
 pub returns-clause-sound : goal.returns-clause-sound
-returns-clause-sound c = (c.into_desk.ensures.sound, c.into_desk.ensures.most ∙ run-most begun c.loop-step.talk _ _ (run c))
+returns-clause-sound c = (c.into_desk.ensures.sound, c.into_desk.ensures.most.1 ∙ run-most begun c.loop-step.talk _ _ (run c))

@@ -6,7 +6,7 @@ use Rattle.ls_text.proofs.units.fitting.Goals as goal
 pub returns-then-text-char_count-clause-count : goal.returns-then-text-char_count-clause-count
 returns-then-text-char_count-clause-count c =
     let ascii = text-ascii c.args.text.now c.args.char_count c.utf8.text c.requires c.if-text-char_count.true in
-    omega (arith, fitting-ascii c.args.units (chars c.args.text.now) c.args.limit ascii, c.min-count.ensures, c.requires)
+    omega (arith, fitting-ascii c.args.encoding (chars c.args.text.now) c.args.limit ascii, c.min-count.ensures, c.requires)
 
 pub returns-then-text-char_count-clause-bytes : goal.returns-then-text-char_count-clause-bytes
 returns-then-text-char_count-clause-bytes c =

@@ -1,4 +1,4 @@
-use Rattle.ls_workers.specs.Client.{client_event}
+use Rattle.ls_machine.specs.Client.{client_event}
 use Rattle.ls_workers.proofs.Beside.{rest-done}
 use Rattle.ls_workers.proofs.agree.same_events.Goals as goal
 

@@ -1,5 +1,5 @@
 use Rattle.std.proofs.Common.{◌≤◌, length}
-use Rattle.ls_workers.specs.Client.{client_event}
+use Rattle.ls_machine.specs.Client.{client_event}
 use Rattle.ls_workers.proofs.Beside.{Rest}
 use Rattle.ls_workers.proofs.agree.same_events.Given as goal
 

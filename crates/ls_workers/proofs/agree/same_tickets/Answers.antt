@@ -1,4 +1,4 @@
-use Rattle.ls_workers.specs.Client.{sent_ticket}
+use Rattle.ls_machine.specs.Client.{sent_ticket}
 use Rattle.ls_workers.proofs.Beside.{rest-done}
 use Rattle.ls_workers.proofs.agree.same_tickets.Goals as goal
 

@@ -1,5 +1,5 @@
 use Rattle.std.proofs.Common.{◌≤◌, length}
-use Rattle.ls_workers.specs.Client.{sent_ticket}
+use Rattle.ls_machine.specs.Client.{sent_ticket}
 use Rattle.ls_workers.proofs.Beside.{Rest}
 use Rattle.ls_workers.proofs.agree.same_tickets.Given as goal
 

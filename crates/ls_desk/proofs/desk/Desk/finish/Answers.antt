@@ -1,15 +1,19 @@
 use Rattle.std.proofs.Common.{◌≡◌, ◌+◌, ◌≤◌, ◌++◌, ◌∷◌, [], Bool, true, false, List, ℕ, length, sym, ap, ◌∙◌, subst, refl, arith, length-append}
 use Rattle.std.specs.Prelude.{ℤ, vec_capacity, Some, None, position, find, is_none, Option}
-use Rattle.ls_desk.specs.declared.event.Event.{Event}
-use Rattle.ls_desk.specs.declared.event.Event.TheVariants.{Finished}
-use Rattle.ls_desk.specs.declared.event.Out.{Out}
-use Rattle.ls_desk.specs.declared.state.Request.{Request}
-use Rattle.ls_desk.specs.declared.state.Waiting.{Waiting}
-use Rattle.ls_desk.specs.Machine.{is_held, left_at, told_to, internal_error}
-use Rattle.ls_desk.specs.Journal.{replay}
-use Rattle.ls_desk.specs.Stands.{Seen, Enters, state_of, finished}
-use Rattle.ls_desk.specs.Faults.{is_for, kept_at}
-use Rattle.ls_desk.proofs.Grows.{Goes, enters, kept-room, seen}
+use Rattle.ls_machine.specs.declared.event.Event.{Event}
+use Rattle.ls_machine.specs.declared.state.State.{State}
+use Rattle.ls_machine.specs.Counts.{total}
+use Rattle.ls_machine.specs.Journal.{replay_from}
+use Rattle.ls_desk.specs.Anew.{journal_after}
+use Rattle.ls_machine.specs.declared.event.Event.TheVariants.{Finished}
+use Rattle.ls_machine.specs.declared.event.Out.{Out}
+use Rattle.ls_machine.specs.declared.state.Request.{Request}
+use Rattle.ls_machine.specs.declared.state.Waiting.{Waiting}
+use Rattle.ls_machine.specs.Machine.{is_held, left_at, told_to, internal_error}
+use Rattle.ls_desk.specs.Stands.{Seen, Enters, state_of, finished, used}
+use Rattle.ls_machine.specs.Same.{is_for}
+use Rattle.ls_desk.specs.Faults.{kept_at}
+use Rattle.ls_desk.proofs.Grows.{Goes, enters, goes, holds, kept-room, seen}
 use Rattle.ls_desk.proofs.Events.{finish, finished-length}
 use Rattle.ls_desk.proofs.desk.Desk.finish.Goals as goal
 use Rattle.ls_desk.proofs.desk.Desk.finish.Goals.{After-finish-kept}
@@ -17,7 +21,10 @@ use Rattle.ls_desk.proofs.desk.Desk.finish.Goals.{After-finish-kept}
 pub invariant_of-self : goal.invariant_of-self
 invariant_of-self c =
     let e = c.room_for_reply.ensures in
-    kept-room _ _ _ _ _ _ _ _ _ _ _ _ _ c.self.invariant refl refl e.outbox e.journal e.more
+    kept-room _ _ _ _ _ _ _ _ _ _ _ _ _ _ _ _ c.self.invariant refl refl e.outbox e.journal e.more
+
+abbrev now : After-finish-kept → State
+now c = replay_from c.self.inside.history.base.state c.self.inside.history.events.items
 
 -- the job stands there
 at_place : (c : After-finish-kept) → position (is_held c.args.done.ticket) c.self.inside.waiting.items ≡ Some c.in-Ok.at
@@ -25,7 +32,7 @@ at_place c =
     let P : Seen → Type 0 = λ d. position (is_held c.args.done.ticket) (state_of d).waiting ≡ Some c.in-Ok.at in
     ap (λ (ws : List Waiting). position (is_held c.args.done.ticket) ws) c.self.invariant.waiting_are ∙ subst P (sym c.self.view_is) c.in-Ok.ensures.at
 
-found : (c : After-finish-kept) → find (is_held c.args.done.ticket) (replay c.self.inside.journal.items).waiting ≡ Some c.remove_at-job.result
+found : (c : After-finish-kept) → find (is_held c.args.done.ticket) (now c).waiting ≡ Some c.remove_at-job.result
 found c =
     let e = c.remove_at-job.ensures (is_held c.args.done.ticket) (at_place c) in
     ap (λ (ws : List Waiting). find (is_held c.args.done.ticket) ws) (sym c.self.invariant.waiting_are) ∙ e.0
@@ -44,11 +51,12 @@ longer c =
     ap length (grown_by c) ∙ (length-append c.self.inside.outbox.items (finished c.remove_at-job.result c.args.done)
     ∙ ap (λ n. length c.self.inside.outbox.items + n) (finished-length c.remove_at-job.result c.args.done))
 
-fits : (c : After-finish-kept) → length c.self.inside.journal.items + 1 + length c.finish-kept.new.outbox.items ≤ c.self.inside.max_events
+fits : (c : After-finish-kept) → total c.self.inside.history.counts + 1 + length c.finish-kept.new.outbox.items ≤ c.self.inside.max_events
 fits c =
-    let Q : Option Waiting → Type 0 = λ w. length c.args.self.now.journal + length c.args.self.now.outbox + (1 + length (left_at (is_none c.args.done.answer) w)) ≤ c.args.self.now.max_events in
-    let P : Seen → Type 0 = λ d. length d.journal + length d.outbox + (1 + length (left_at (is_none c.args.done.answer) (Some c.remove_at-job.result))) ≤ d.max_events in
+    let Q : Option Waiting → Type 0 = λ w. used c.args.self.now + (1 + length (left_at (is_none c.args.done.answer) w)) ≤ c.args.self.now.max_events in
+    let P : Seen → Type 0 = λ d. used d + (1 + length (left_at (is_none c.args.done.answer) (Some c.remove_at-job.result))) ≤ d.max_events in
     let r = subst P (sym c.self.view_is) (subst Q (found_now c) c.in-Ok.ensures.room) in
+    let k = ap total c.self.invariant.counts_are in
     let l = longer c in omega arith
 
 told_at_most : (ticket : ℕ) (code : ℤ) (r : Option Request) → length (told_to ticket code r) ≤ 1
@@ -59,21 +67,25 @@ one_at_most : (b : Bool) (w : Waiting) → length (left_at b (Some w)) ≤ 1
 one_at_most true w = told_at_most w.ticket internal_error w.request
 one_at_most false w = omega arith
 
-roomy : (c : After-finish-kept) → length c.self.inside.journal.items + 1 + length c.finish-kept.new.outbox.items ≤ vec_capacity c.finish-kept.new.journal
+roomy : (c : After-finish-kept) → length c.self.inside.history.events.items + 1 + length c.finish-kept.new.outbox.items ≤ vec_capacity c.finish-kept.new.history.events
 roomy c =
     let r = c.in-Ok-room_for_reply.ensures.room in
     let j = ap length c.room_for_reply.ensures.journal in
-    let k = c.finish-kept.ensures.capacity in
+    let k = c.finish-kept.ensures.history.capacity in
     let o = one_at_most (is_none c.args.done.answer) c.remove_at-job.result in
     let l = longer c in omega arith
 
-went : (c : After-finish-kept) → Goes c.self.inside.journal.items (Finished c.args.done.ticket (is_none c.args.done.answer)) c.self.inside.documents.items c.remove_at-job.new.waiting.items c.self.inside.next_version c.self.inside.next_ticket c.finish-kept.new.outbox.items c.finish-kept.new.journal.items c.self.inside.max_events (vec_capacity c.finish-kept.new.journal)
+went : (c : After-finish-kept) → Goes c.self.inside.history.base c.self.inside.history.events.items c.self.inside.history.counts None (Finished c.args.done.ticket (is_none c.args.done.answer)) c.finish-kept.new.history.base c.finish-kept.new.history.events.items c.finish-kept.new.history.counts
+    c.self.inside.documents.items c.remove_at-job.new.waiting.items c.self.inside.next_version c.self.inside.next_ticket c.finish-kept.new.outbox.items c.self.inside.max_journal c.self.inside.max_events (vec_capacity c.finish-kept.new.history.events)
 went c =
-    finish _ _ _ _ _ _ _ _ c.args.done c.remove_at-job.result _ _ _ _ c.self.invariant (found c) (for_it c)
+    goes _ _ _ _ _ _ _ _ _ _ _ None (Finished c.args.done.ticket (is_none c.args.done.answer)) _ _ _ _ _ _ _ _ _ c.self.invariant refl
+    (finish _ _ _ _ _ _ c.args.done c.remove_at-job.result _ _ (holds _ _ _ _ _ _ _ _ _ _ _ c.self.invariant) (found c) (for_it c)
     c.has_failed-failed.ensures.right
     ((c.remove_at-job.ensures (is_held c.args.done.ticket) (at_place c)).1)
-    (grown_by c)
-    (c.finish-kept.ensures.journal ∙ ap (λ (es : List Event). es ++ Finished c.args.done.ticket (is_none c.args.done.answer) ∷ []) c.room_for_reply.ensures.journal)
+    (grown_by c))
+    c.finish-kept.ensures.history.base
+    (c.finish-kept.ensures.history.events ∙ ap (λ (es : List Event). es ++ Finished c.args.done.ticket (is_none c.args.done.answer) ∷ []) c.room_for_reply.ensures.journal)
+    c.finish-kept.ensures.history.counts
     (fits c)
     (roomy c)
 
@@ -82,7 +94,7 @@ invariant_of-self-2 c = (went c).kept
 
 pub returns-clause-ok : goal.returns-clause-ok
 returns-clause-ok c =
-    let P : Seen → Type 0 = λ d. Enters d (seen c.finish-kept.new.journal.items c.finish-kept.new.outbox.items c.self.inside.max_events) (Finished c.args.done.ticket (is_none c.args.done.answer)) in (
-      record { none = c.in-Ok.ensures.none; enters = subst P c.self.view_is (enters _ c.self.inside.outbox.items _ _ _ _ _ _ _ _ _ (went c)) },
+    let P : Seen → Type 0 = λ d. Enters d (seen c.finish-kept.new.history.base c.finish-kept.new.history.events.items c.finish-kept.new.outbox.items c.self.inside.max_journal c.self.inside.max_events) (Finished c.args.done.ticket (is_none c.args.done.answer)) in (
+      record { none = c.in-Ok.ensures.none; enters = subst P c.self.view_is (enters _ _ _ _ _ _ _ _ _ _ _ None _ _ _ _ _ _ _ _ _ _ c.self.invariant refl (went c)) },
       c.finish-kept.ensures.kept ∙ sym (ap (kept_at (is_none c.args.done.answer)) (found_now c)),
     )

@@ -1,30 +1,52 @@
-use Rattle.std.proofs.Common.{◌≡◌, ◌++◌, ◌∷◌, [], ◌∙◌, subst}
-use Rattle.ls_desk.specs.declared.event.Event.TheVariants.{Sent}
+use Rattle.std.proofs.Common.{◌≡◌, ◌+◌, ◌≤◌, ◌++◌, ◌∷◌, [], List, length, refl, ap, ◌∙◌, subst, arith}
+use Rattle.std.specs.Prelude.{vec_capacity, None}
+use Rattle.ls_machine.specs.declared.event.Event.{Event}
+use Rattle.ls_machine.specs.declared.event.Event.TheVariants.{Sent}
+use Rattle.ls_machine.specs.declared.event.Out.{Out}
+use Rattle.ls_machine.specs.Counts.{total}
+use Rattle.ls_machine.specs.Journal.{replay_from}
 use Rattle.ls_desk.specs.Stands.{Seen, Sends, ticket_of_out}
-use Rattle.ls_desk.specs.Journal.{replay}
-use Rattle.std.specs.Prelude.{vec_capacity}
-use Rattle.ls_desk.proofs.Grows.{Goes, seen}
-use Rattle.ls_desk.proofs.Sends.{kept-same, front-of, Front, send-kept, sends}
+use Rattle.ls_desk.proofs.Grows.{Goes, enters, goes, holds, seen}
+use Rattle.ls_desk.proofs.Sends.{kept-same, front-of, Front, sent, sends}
 use Rattle.ls_desk.proofs.desk.Desk.next_out.Goals as goal
-use Rattle.ls_desk.proofs.desk.Desk.next_out.Goals.{After-push_reserved}
+use Rattle.ls_desk.proofs.desk.Desk.next_out.Goals.{After-enter}
 
 pub invariant_of-self : goal.invariant_of-self
-invariant_of-self c = kept-same _ _ _ _ _ _ _ _ _ c.self.invariant c.in_err-out.ensures.items
+invariant_of-self c = kept-same _ _ _ _ _ _ _ _ _ _ _ _ c.self.invariant c.in_err-out.ensures.items
 
-first : (c : After-push_reserved) → Front (replay c.self.inside.journal.items).unsent c.in_ok-out.out c.pop_front.new.self.items
-first c = front-of c.self.inside.journal.items c.self.inside.outbox.items c.in_ok-out.out c.pop_front.new.self.items c.self.invariant.outs c.in_ok-out.ensures.items
+first : (c : After-enter) → Front (replay_from c.self.inside.history.base.state c.self.inside.history.events.items).unsent c.in_ok-out.out c.pop_front.new.self.items
+first c = front-of _ c.self.inside.outbox.items c.in_ok-out.out c.pop_front.new.self.items c.self.invariant.outs c.in_ok-out.ensures.items
 
-grown : (c : After-push_reserved) → c.push_reserved.new.self.items ≡ c.self.inside.journal.items ++ Sent (ticket_of_out c.in_ok-out.out) ∷ []
-grown c = c.push_reserved.ensures.items ∙ (λ i. c.self.inside.journal.items ++ Sent (c.ticket_of-ticket.ensures i) ∷ [])
+shorter : (c : After-enter) → length c.self.inside.outbox.items ≡ length c.pop_front.new.self.items + 1
+shorter c = ap length c.in_ok-out.ensures.items ∙ omega arith
 
-went : (c : After-push_reserved) → Goes c.self.inside.journal.items (Sent (ticket_of_out c.in_ok-out.out)) c.self.inside.documents.items c.self.inside.waiting.items c.self.inside.next_version c.self.inside.next_ticket c.pop_front.new.self.items c.push_reserved.new.self.items c.self.inside.max_events (vec_capacity c.push_reserved.new.self)
-went c = send-kept _ _ _ _ _ _ _ _ c.in_ok-out.out _ _ _ c.self.invariant c.in_ok-out.ensures.items (first c) (grown c) c.push_reserved.ensures.capacity
+fits : (c : After-enter) → total c.self.inside.history.counts + 1 + length c.pop_front.new.self.items ≤ c.self.inside.max_events
+fits c = let u = c.self.invariant.used in let l = shorter c in omega arith
+
+roomy : (c : After-enter) → length c.self.inside.history.events.items + 1 + length c.pop_front.new.self.items ≤ vec_capacity c.enter.new.self.events
+roomy c =
+    let r = c.self.invariant.reserved in
+    let k = c.enter.ensures.capacity in
+    let l = shorter c in omega arith
+
+went : (c : After-enter) → Goes c.self.inside.history.base c.self.inside.history.events.items c.self.inside.history.counts None (Sent (ticket_of_out c.in_ok-out.out)) c.enter.new.self.base c.enter.new.self.events.items c.enter.new.self.counts
+    c.self.inside.documents.items c.self.inside.waiting.items c.self.inside.next_version c.self.inside.next_ticket c.pop_front.new.self.items c.self.inside.max_journal c.self.inside.max_events (vec_capacity c.enter.new.self.events)
+went c =
+    goes _ _ _ _ _ _ _ _ _ _ _ None (Sent (ticket_of_out c.in_ok-out.out)) _ _ _ _ _ _ _ _ _ c.self.invariant refl
+    (sent _ _ _ _ _ _ c.in_ok-out.out c.pop_front.new.self.items (holds _ _ _ _ _ _ _ _ _ _ _ c.self.invariant) (first c))
+    c.enter.ensures.base
+    (c.enter.ensures.events ∙ (λ i. c.self.inside.history.events.items ++ Sent (c.ticket_of-ticket.ensures i) ∷ []))
+    c.enter.ensures.counts
+    (fits c)
+    (roomy c)
 
 pub invariant_of-self-2 : goal.invariant_of-self-2
 invariant_of-self-2 c = (went c).kept
 
 pub returns-clause-some : goal.returns-clause-some
 returns-clause-some c =
-    let P : Seen → Type 0 = λ d. Sends d (seen c.push_reserved.new.self.items c.pop_front.new.self.items c.self.inside.max_events) c.in_ok-out.out in
+    let new = seen c.enter.new.self.base c.enter.new.self.events.items c.pop_front.new.self.items c.self.inside.max_journal c.self.inside.max_events in
+    let P : Seen → Type 0 = λ d. Sends d new c.in_ok-out.out in
     subst P c.self.view_is
-    (sends c.self.inside.journal.items _ c.self.inside.outbox.items _ _ c.in_ok-out.out _ _ _ _ _ c.self.invariant.legal (first c) c.in_ok-out.ensures.items (went c))
+    (sends _ _ _ _ _ _ _ _ _ _ _ new c.in_ok-out.out c.pop_front.new.self.items c.self.invariant (first c) c.in_ok-out.ensures.items refl
+    (enters _ _ _ _ _ _ _ _ _ _ _ None _ _ _ _ _ _ _ _ _ _ c.self.invariant refl (went c)))

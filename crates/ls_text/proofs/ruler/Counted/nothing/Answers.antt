@@ -3,7 +3,7 @@ use Rattle.std.proofs.lemmas.Str.{encodes-chars}
 use Rattle.ls_text.proofs.ruler.Counted.nothing.Goals as goal
 
 pub returns-clause-counted : goal.returns-clause-counted
-returns-clause-counted c = record {
+returns-clause-counted c width = record {
   front = [];
   parts = refl;
   bytes = refl;

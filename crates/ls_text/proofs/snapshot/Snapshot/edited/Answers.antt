@@ -1,7 +1,7 @@
 use Rattle.std.proofs.Common.{◌≡◌, ◌∙◌, ap, sym, subst, length, List}
 use Rattle.std.specs.Str.{chars, encode_utf8_all}
 use Rattle.std.proofs.lemmas.Result.{err_from_is_err_and}
-use Rattle.ls_text.specs.Lines.{utf16_len}
+use Rattle.ls_text.specs.Lines.{units}
 use Rattle.ls_text.specs.Edits.{edited, replaced, position_offset, is_too_large}
 use Rattle.ls_text.specs.Cut.{IsCut}
 use Rattle.ls_text.specs.Cut.{Row}
@@ -9,19 +9,19 @@ use Rattle.ls_text.proofs.EditLaws.{edited-none, edited-some, not_larger, larger
 use Rattle.ls_text.proofs.snapshot.Snapshot.edited.Goals as goal
 use Rattle.ls_text.proofs.snapshot.Snapshot.edited.Goals.{in-None+in_ok-lines-in-None, in-Some+in_ok-lines-in-Some}
 
-lines_are : (c : goal.After-kept) → IsCut (edited utf16_len c.args.self.now c.args.edit.now) c.match-edit.lines
+lines_are : (c : goal.After-kept) → IsCut (edited (units c.args.encoding) c.args.self.now c.args.edit.now) c.match-edit.lines
 lines_are c =
     elim c.match-edit.branch [
       | in-None+in_ok-lines-in-None w ↦
-          let text_is : chars w.as_str.result.now ≡ edited utf16_len c.args.self.now c.args.edit.now = ap chars w.as_str.ensures ∙ sym (edited-none utf16_len c.args.self.now c.args.edit.now w.in-None.is) in
+          let text_is : chars w.as_str.result.now ≡ edited (units c.args.encoding) c.args.self.now c.args.edit.now = ap chars w.as_str.ensures ∙ sym (edited-none (units c.args.encoding) c.args.self.now c.args.edit.now w.in-None.is) in
           let cut : IsCut (chars w.as_str.result.now) w.in_ok-lines-in-None.lines = w.in_ok-lines-in-None.ensures.ok in
-          subst (λ (v : List Row). IsCut (edited utf16_len c.args.self.now c.args.edit.now) v) (sym w.lines-is) (cut.0, cut.1 ∙ text_is)
+          subst (λ (v : List Row). IsCut (edited (units c.args.encoding) c.args.self.now c.args.edit.now) v) (sym w.lines-is) (cut.0, cut.1 ∙ text_is)
       | in-Some+in_ok-lines-in-Some w ↦
           let r = w.in-Some.range in
-          let text_is : replaced c.args.self.now (position_offset utf16_len c.args.self.now r.start) (position_offset utf16_len c.args.self.now r.end) (chars w.as_str-in-Some.result.now) ≡ edited utf16_len c.args.self.now c.args.edit.now =
-          ap (λ x. replaced c.args.self.now (position_offset utf16_len c.args.self.now r.start) (position_offset utf16_len c.args.self.now r.end) (chars x)) w.as_str-in-Some.ensures ∙ sym (edited-some utf16_len c.args.self.now c.args.edit.now w.in-Some.range w.in-Some.is) in
-          let cut : IsCut (replaced c.args.self.now (position_offset utf16_len c.args.self.now w.in-Some.range.start) (position_offset utf16_len c.args.self.now w.in-Some.range.end) (chars w.as_str-in-Some.result.now)) w.in_ok-lines-in-Some.lines = w.in_ok-lines-in-Some.ensures.ok in
-          subst (λ (v : List Row). IsCut (edited utf16_len c.args.self.now c.args.edit.now) v) (sym w.lines-is) (cut.0, cut.1 ∙ text_is)
+          let text_is : replaced c.args.self.now (position_offset (units c.args.encoding) c.args.self.now r.start) (position_offset (units c.args.encoding) c.args.self.now r.end) (chars w.as_str-in-Some.result.now) ≡ edited (units c.args.encoding) c.args.self.now c.args.edit.now =
+          ap (λ x. replaced c.args.self.now (position_offset (units c.args.encoding) c.args.self.now r.start) (position_offset (units c.args.encoding) c.args.self.now r.end) (chars x)) w.as_str-in-Some.ensures ∙ sym (edited-some (units c.args.encoding) c.args.self.now c.args.edit.now w.in-Some.range w.in-Some.is) in
+          let cut : IsCut (replaced c.args.self.now (position_offset (units c.args.encoding) c.args.self.now w.in-Some.range.start) (position_offset (units c.args.encoding) c.args.self.now w.in-Some.range.end) (chars w.as_str-in-Some.result.now)) w.in_ok-lines-in-Some.lines = w.in_ok-lines-in-Some.ensures.ok in
+          subst (λ (v : List Row). IsCut (edited (units c.args.encoding) c.args.self.now c.args.edit.now) v) (sym w.lines-is) (cut.0, cut.1 ∙ text_is)
     ]
 
 pub returns-in_err-lines-in-None-clause-too_large :
@@ -29,7 +29,7 @@ pub returns-in_err-lines-in-None-clause-too_large :
 returns-in_err-lines-in-None-clause-too_large c =
     let p = err_from_is_err_and c.from_residual.result c.from_residual.ensures.1 in
     rw p.1 (λ e.
-    ap is_too_large (edited-none utf16_len c.args.self.now c.args.edit.now c.in-None.is ∙ sym (ap chars c.as_str.ensures))
+    ap is_too_large (edited-none (units c.args.encoding) c.args.self.now c.args.edit.now c.in-None.is ∙ sym (ap chars c.as_str.ensures))
     ∙ larger (length (encode_utf8_all (chars c.as_str.result.now))) (c.in_err-lines-in-None.ensures.too_large (sym p.2 ∙ e)))
 
 pub returns-in_err-lines-in-Some-clause-too_large :
@@ -37,9 +37,9 @@ pub returns-in_err-lines-in-Some-clause-too_large :
 returns-in_err-lines-in-Some-clause-too_large c =
     let p = err_from_is_err_and c.from_residual-in_err-lines-in-Some.result c.from_residual-in_err-lines-in-Some.ensures.1 in
     let r = c.in-Some.range in
-    let text_is : edited utf16_len c.args.self.now c.args.edit.now ≡ replaced c.args.self.now (position_offset utf16_len c.args.self.now r.start) (position_offset utf16_len c.args.self.now r.end) (chars c.as_str-in-Some.result.now) =
-    edited-some utf16_len c.args.self.now c.args.edit.now c.in-Some.range c.in-Some.is ∙ ap (λ x. replaced c.args.self.now (position_offset utf16_len c.args.self.now r.start) (position_offset utf16_len c.args.self.now r.end) (chars x)) (sym c.as_str-in-Some.ensures) in
-    rw p.1 (λ e. ap is_too_large text_is ∙ larger (length (encode_utf8_all (replaced c.args.self.now (position_offset utf16_len c.args.self.now r.start) (position_offset utf16_len c.args.self.now r.end) (chars c.as_str-in-Some.result.now)))) (c.in_err-lines-in-Some.ensures.too_large (sym p.2 ∙ e)))
+    let text_is : edited (units c.args.encoding) c.args.self.now c.args.edit.now ≡ replaced c.args.self.now (position_offset (units c.args.encoding) c.args.self.now r.start) (position_offset (units c.args.encoding) c.args.self.now r.end) (chars c.as_str-in-Some.result.now) =
+    edited-some (units c.args.encoding) c.args.self.now c.args.edit.now c.in-Some.range c.in-Some.is ∙ ap (λ x. replaced c.args.self.now (position_offset (units c.args.encoding) c.args.self.now r.start) (position_offset (units c.args.encoding) c.args.self.now r.end) (chars x)) (sym c.as_str-in-Some.ensures) in
+    rw p.1 (λ e. ap is_too_large text_is ∙ larger (length (encode_utf8_all (replaced c.args.self.now (position_offset (units c.args.encoding) c.args.self.now r.start) (position_offset (units c.args.encoding) c.args.self.now r.end) (chars c.as_str-in-Some.result.now)))) (c.in_err-lines-in-Some.ensures.too_large (sym p.2 ∙ e)))
 
 pub returns-clause-ok : goal.returns-clause-ok
 returns-clause-ok c =

@@ -1,5 +1,4 @@
 use Rattle.std.proofs.Common.{ap, sym, length, ◌∙◌, arith}
-use Rattle.ls_text.specs.Lines.{utf16_len}
 use Rattle.ls_text.specs.Positions.{position_in}
 use Rattle.ls_text.proofs.CutLaws.{line_some}
 use Rattle.ls_text.proofs.OffsetLaws.{text_found}
@@ -18,6 +17,6 @@ pub returns-clause-fits : goal.returns-clause-fits
 returns-clause-fits c = omega (arith, line_small c.self.inside.lines c.self.invariant c.args.at c.line-held.ensures.in_range)
 
 pub returns-clause-position : goal.returns-clause-position
-returns-clause-position c bytes =
+returns-clause-position c width bytes =
     let text_is = text_found c.self.inside.lines c.args.at c.line-held.result.0 c.line-held.ensures.in_range c.line-held.ensures.line_is in
-    ap (λ x. position_in utf16_len c.args.at x bytes) (c.text-2.ensures.characters ∙ sym text_is) ∙ place_in_line c.self.inside.lines c.self.invariant.lines utf16_len c.args.at bytes c.line-held.ensures.in_range _ c.self.view_is
+    ap (λ x. position_in width c.args.at x bytes) (c.text-2.ensures.characters ∙ sym text_is) ∙ place_in_line c.self.inside.lines c.self.invariant.lines width c.args.at bytes c.line-held.ensures.in_range _ c.self.view_is

@@ -1,6 +1,0 @@
-use Rattle.std.proofs.Common.{◌≡◌, take}
-use Rattle.ls_desk.specs.Machine.{requests}
-use Rattle.ls_desk.proofs.find.requests.Given as goal
-
-abbrev pub invariant-loop-job : goal.invariant-loop-job
-invariant-loop-job l = l.count ≡ requests (take l.job-index l.waiting)

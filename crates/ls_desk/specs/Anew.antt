@@ -1,0 +1,16 @@
+-- A journal that begins anew.
+use Rattle.std.specs.Prelude.{◌+◌, List, [], Option, Some, None}
+use Rattle.ls_machine.specs.declared.base.Base.{Base}
+use Rattle.ls_machine.specs.declared.base.Counts.{Counts}
+use Rattle.ls_machine.specs.declared.event.Event.{Event}
+use Rattle.ls_machine.specs.declared.state.State.{State}
+
+-- where there is a state to begin from, it is the base, with all events so far before it
+abbrev pub base_after : Option State → Counts → Base → Base
+base_after None counts base = base
+base_after (Some state) counts base = record { state = state; counts = counts; checkpoints = base.checkpoints + 1 }
+
+-- and then the journal is empty
+abbrev pub journal_after : Option State → List Event → List Event
+journal_after None journal = journal
+journal_after (Some state) journal = []

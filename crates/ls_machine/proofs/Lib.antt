@@ -1,0 +1,4 @@
+pub mod Places
+pub mod Replays
+pub mod Taken
+pub mod Ordered

@@ -1,0 +1,7 @@
+pub mod Same
+pub mod Machine
+pub mod Counts
+pub mod Journal
+pub mod Laws
+pub mod Outs
+pub mod Client

@@ -1,0 +1,241 @@
+-- The desk's machine: a state, the events, where each is possible, and what it does.
+use Rattle.std.specs.Prelude.{◌≡◌, ◌<◌, ◌+◌, ℕ, ℤ, negsuc, List, [], ◌∷◌, ◌++◌, length, filter, Bool, true, false, not, ◌&&◌, ◌==◌, bytes_eq, is_some, Option, Some, None, find, count_by, if◌then◌else◌}
+use Rattle.std.specs.List.{flat_map, list_any}
+use Rattle.std.specs.Option.{option_map}
+use Rattle.ls_text.specs.Edits.{edited_all, is_too_large}
+use Rattle.ls_text.specs.Lines.{units}
+use Rattle.ls_text.specs.Positions.{Measured}
+use Rattle.ls_text.specs.declared.edit.Edit.{Edit}
+use Rattle.ls_text.specs.declared.position.Encoding.{Encoding}
+use Rattle.ls_rpc.specs.declared.message.Id.{Id}
+use Rattle.ls_answers.specs.declared.ask.Ask.{Ask}
+use Rattle.ls_answers.specs.declared.ask.Ask.TheVariants.{Rename, Action, Diagnose}
+use Rattle.ls_machine.specs.Same.{id_eq}
+use Rattle.ls_machine.specs.declared.state.Document.{Document}
+use Rattle.ls_machine.specs.declared.state.Request.{Request}
+use Rattle.ls_machine.specs.declared.state.Waiting.{Waiting}
+use Rattle.ls_machine.specs.declared.state.State.{State}
+use Rattle.ls_machine.specs.declared.state.Entry.{Entry}
+use Rattle.ls_machine.specs.declared.state.Entry.TheVariants.{Body, Failure, Outcome}
+use Rattle.ls_machine.specs.declared.event.Event.{Event}
+use Rattle.ls_machine.specs.declared.event.Event.TheVariants.{Opened, Changed, Closed, Asked, Cancelled, Said, Took, Returned, Finished, Sent}
+
+abbrev pub start : State
+start = record { documents = []; waiting = []; unsent = []; next_version = 1; next_ticket = 1 }
+
+-- ---- documents
+
+abbrev pub is_named : List ℕ → Document → Bool
+is_named uri d = bytes_eq d.uri uri
+
+abbrev pub document_of : List ℕ → List Document → Option Document
+document_of uri documents = find (is_named uri) documents
+
+abbrev pub is_open : List ℕ → List Document → Bool
+is_open uri documents = is_some (document_of uri documents)
+
+abbrev pub others : List ℕ → List Document → List Document
+others uri documents = filter (λ d. not (is_named uri d)) documents
+
+abbrev pub document : List ℕ → ℕ → ℤ → Measured → Document
+document uri version label m = record { uri = uri; version = version; label = label; text = m.text; encoding = m.encoding }
+
+abbrev pub measured : Encoding → List ℕ → Measured
+measured encoding text = record { text = text; encoding = encoding }
+
+-- the text of a document after edits, or none where it would be too large; positions count what they did
+abbrev pub edited_at : Option Document → List Edit → Option Measured
+edited_at None edits = None
+edited_at (Some d) edits = option_map (measured d.encoding) (edited_all (units d.encoding) d.text edits)
+
+-- ---- waiting jobs
+
+abbrev pub is_for_id : Id → Option Request → Bool
+is_for_id id None = false
+is_for_id id (Some r) = id_eq r.id id
+
+abbrev pub asks_with : Id → Waiting → Bool
+asks_with id w = is_for_id id w.request
+
+abbrev pub id_waits : Id → List Waiting → Bool
+id_waits id waiting = is_some (find (asks_with id) waiting)
+
+abbrev pub waits : ℕ → List Waiting → Bool
+waits ticket waiting = list_any (λ w. w.ticket == ticket) waiting
+
+abbrev pub requests : List Waiting → ℕ
+requests waiting = count_by (λ w. is_some w.request) waiting
+
+abbrev pub is_queued : Waiting → Bool
+is_queued w = not w.taken
+
+abbrev pub is_held : ℕ → Waiting → Bool
+is_held ticket w = (w.ticket == ticket) && w.taken
+
+abbrev pub on_first : (Waiting → Bool) → (Waiting → Waiting) → List Waiting → List Waiting
+on_first p f [] = []
+on_first p f (w ∷ ws) = if p w then f w ∷ ws else w ∷ on_first p f ws
+
+abbrev pub without_first : (Waiting → Bool) → List Waiting → List Waiting
+without_first p [] = []
+without_first p (w ∷ ws) = if p w then ws else w ∷ without_first p ws
+
+abbrev pub with_taken : Bool → Waiting → Waiting
+with_taken taken w = record w { taken = taken }
+
+abbrev pub diagnosis : ℕ → List ℕ → ℕ → ℤ → Measured → Waiting
+diagnosis ticket uri version label m = record {
+  ticket = ticket;
+  ask = Diagnose;
+  uri = uri;
+  version = version;
+  label = label;
+  text = m.text;
+  encoding = m.encoding;
+  request = None;
+  taken = false;
+}
+
+abbrev pub asked : ℕ → Id → Ask → Bool → Document → Waiting
+asked ticket id ask links d = record {
+  ticket = ticket;
+  ask = ask;
+  uri = d.uri;
+  version = d.version;
+  label = d.label;
+  text = d.text;
+  encoding = d.encoding;
+  request = Some (record { id = id; links = links });
+  taken = false;
+}
+
+-- ---- what is told
+
+abbrev pub told_to : ℕ → ℤ → Option Request → List Entry
+told_to ticket code None = []
+told_to ticket code (Some r) = Failure ticket r.id code ∷ []
+
+-- what a request's end tells its client; a diagnosis tells nothing
+abbrev pub told_end : ℤ → Waiting → List Entry
+told_end code w = told_to w.ticket code w.request
+
+abbrev pub content_modified : ℤ
+content_modified = negsuc 32800
+
+abbrev pub request_cancelled : ℤ
+request_cancelled = negsuc 32799
+
+abbrev pub internal_error : ℤ
+internal_error = negsuc 32602
+
+-- A change of the text ends these questions, whose answers would be edits of a text that is gone, or are asked anew. The others go on for the
+-- text that they were asked about.
+abbrev pub ends_by_change : Ask → Bool
+ends_by_change (Rename at name) = true
+ends_by_change (Action range) = true
+ends_by_change Diagnose = true
+ends_by_change _ = false
+
+abbrev pub is_ended : List ℕ → Waiting → Bool
+is_ended uri w = bytes_eq w.uri uri && ends_by_change w.ask
+
+abbrev pub end_of : List ℕ → Waiting → List Entry
+end_of uri w = if is_ended uri w then told_end content_modified w else []
+
+-- what the end of a text tells, in ticket order
+abbrev pub ends : List ℕ → List Waiting → List Entry
+ends uri waiting = flat_map (end_of uri) waiting
+
+abbrev pub going_on : List ℕ → List Waiting → List Waiting
+going_on uri waiting = filter (λ w. not (is_ended uri w)) waiting
+
+-- what a job leaves that has run, where memory was refused in it or not
+abbrev pub left_by : Bool → Waiting → List Entry
+left_by failed w = if failed then told_end internal_error w else (Outcome w ∷ [])
+
+abbrev pub left_at : Bool → Option Waiting → List Entry
+left_at failed None = []
+left_at failed (Some w) = left_by failed w
+
+abbrev pub told_at : ℤ → Option Waiting → List Entry
+told_at code None = []
+told_at code (Some w) = told_end code w
+
+abbrev pub rest : List Entry → List Entry
+rest [] = []
+rest (e ∷ es) = es
+
+-- ---- events
+
+-- a text stands at the next version, and is to be diagnosed
+abbrev pub put_text : State → List ℕ → ℤ → Option Measured → State
+put_text s uri label None = s
+put_text s uri label (Some m) = record s {
+  documents = s.documents ++ document uri s.next_version label m ∷ [];
+  waiting = s.waiting ++ diagnosis s.next_ticket uri s.next_version label m ∷ [];
+  next_version = s.next_version + 1;
+  next_ticket = s.next_ticket + 1;
+}
+
+-- a document goes, with the jobs that this ends
+abbrev pub close_text : State → List ℕ → State
+close_text s uri = record s {
+  documents = others uri s.documents;
+  waiting = going_on uri s.waiting;
+  unsent = s.unsent ++ ends uri s.waiting;
+}
+
+abbrev pub ask_at : State → Id → Option Document → Ask → Bool → State
+ask_at s id None ask links = s
+ask_at s id (Some d) ask links = record s {
+  waiting = s.waiting ++ asked s.next_ticket id ask links d ∷ [];
+  next_ticket = s.next_ticket + 1;
+}
+
+-- what an event does
+unfoldable pub step : State → Event → State
+step s (Opened uri label text encoding version) = put_text s uri label (Some (measured encoding text))
+step s (Changed uri label edits version) = put_text (close_text s uri) uri label (edited_at (document_of uri s.documents) edits)
+step s (Closed uri) = close_text s uri
+step s (Asked id uri ask links ticket) = ask_at s id (document_of uri s.documents) ask links
+step s (Cancelled id found) = record s {
+  waiting = without_first (asks_with id) s.waiting;
+  unsent = s.unsent ++ told_at request_cancelled (find (asks_with id) s.waiting);
+}
+step s (Said body) = record s { unsent = s.unsent ++ Body body ∷ [] }
+step s (Took worker) = record s { waiting = on_first is_queued (with_taken true) s.waiting }
+step s (Returned ticket) = record s { waiting = on_first (is_held ticket) (with_taken false) s.waiting }
+step s (Finished ticket failed) = record s {
+  waiting = without_first (is_held ticket) s.waiting;
+  unsent = s.unsent ++ left_at failed (find (is_held ticket) s.waiting);
+}
+step s (Sent ticket) = record s { unsent = rest s.unsent }
+
+abbrev pub ticket_of : Entry → ℕ
+ticket_of (Body body) = 0
+ticket_of (Failure ticket id code) = ticket
+ticket_of (Outcome w) = w.ticket
+
+abbrev pub first_ticket : List Entry → Option ℕ
+first_ticket [] = None
+first_ticket (e ∷ es) = Some (ticket_of e)
+
+abbrev pub version_if : {A : Type 0} → ℕ → Option A → Option ℕ
+version_if version None = None
+version_if version (Some x) = Some version
+
+-- where an event is possible, with the answer that a client's event has there
+unfoldable pub IsPossible : State → Event → Type 0
+IsPossible s (Opened uri label text encoding version) =
+    (is_open uri s.documents ≡ false) × (length s.documents < 256) × (is_too_large text ≡ false) × (version ≡ s.next_version)
+IsPossible s (Changed uri label edits version) =
+    (is_open uri s.documents ≡ true) × (version ≡ version_if s.next_version (edited_at (document_of uri s.documents) edits))
+IsPossible s (Closed uri) = is_open uri s.documents ≡ true
+IsPossible s (Asked id uri ask links ticket) =
+    (is_open uri s.documents ≡ true) × (requests s.waiting < 1024) × (id_waits id s.waiting ≡ false) × (ticket ≡ s.next_ticket)
+IsPossible s (Cancelled id found) = found ≡ id_waits id s.waiting
+IsPossible s (Said body) = Unit {0}
+IsPossible s (Took worker) = is_some (find is_queued s.waiting) ≡ true
+IsPossible s (Returned ticket) = is_some (find (is_held ticket) s.waiting) ≡ true
+IsPossible s (Finished ticket failed) = is_some (find (is_held ticket) s.waiting) ≡ true
+IsPossible s (Sent ticket) = first_ticket s.unsent ≡ Some ticket

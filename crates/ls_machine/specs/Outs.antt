@@ -1,0 +1,30 @@
+-- The entries for which replies stand.
+use Rattle.std.specs.Prelude.{ℕ, ℤ, List, Option, Some, None, true}
+use Rattle.ls_answers.specs.Told.{Told}
+use Rattle.ls_machine.specs.declared.event.Out.{Out}
+use Rattle.ls_machine.specs.declared.event.Out.TheVariants.{Said, Replied, Failed, Findings}
+use Rattle.ls_machine.specs.declared.state.Entry.{Entry}
+use Rattle.ls_machine.specs.declared.state.Entry.TheVariants.{Body, Failure, Outcome}
+use Rattle.ls_machine.specs.declared.state.Request.{Request}
+use Rattle.ls_machine.specs.declared.state.Waiting.{Waiting}
+
+-- the job that has run
+abbrev pub ran : List ℕ → ℕ → ℤ → Option Request → Told → Waiting
+ran uri version label request done = record {
+  ticket = done.ticket;
+  ask = done.ask;
+  uri = uri;
+  version = version;
+  label = label;
+  text = done.text;
+  encoding = done.encoding;
+  request = request;
+  taken = true;
+}
+
+-- the entry for which a reply stands
+abbrev pub entry_for : Out → Entry
+entry_for (Said body) = Body body
+entry_for (Failed ticket id code) = Failure ticket id code
+entry_for (Replied id uri version label links done) = Outcome (ran uri version label (Some (record { id = id; links = links })) done)
+entry_for (Findings uri version label done) = Outcome (ran uri version label None done)

@@ -1,0 +1,7 @@
+use Rattle.ls_threads.proofs.serve.serve_with_journal.Given as goal
+
+abbrev pub ghosts-serve-C-Ledgers : goal.ghosts-serve-C-Ledgers
+ghosts-serve-C-Ledgers g a = record { client = a.blanks.client.name; took = a.blanks.took.name; returned = a.blanks.returned.name; finished = a.blanks.finished.name; sent = a.blanks.sent.name; parts = a.workers }
+
+abbrev pub ghosts-serve-C-Crew : goal.ghosts-serve-C-Crew
+ghosts-serve-C-Crew g a = record { workers = a.workers }
