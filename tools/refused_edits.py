@@ -69,7 +69,7 @@ BLOCK = re.compile(r"(?m)^(?:pub(?:\(\w+\))? )?(impl|trait|mod)\b(.*)")
 TYPE = re.compile(r"(?m)^(?:pub(?:\(\w+\))? )?(?:struct|enum) (\w+)")
 # What may stand in a body and reaches beyond it.
 REACHES_OUT = re.compile(r"\b(impl|trait|macro_rules)\b")
-GOAL = re.compile(r"note: (?:\./)?(src/[^:]*):(\d+):\d+: it is not proved")
+GOAL = re.compile(r"note: (?:\./)?(src/[^:]*):(\d+):\d+: (?:it is not proved|`search` found no proof)")
 ERROR = re.compile(r"(?:\./)?(\S+?):\d+:\d+: error: (`[^`]*`(?:: | is not admitted)|\d+ declarations? that depend|module `)?")
 PROOF_FILE = re.compile(r"proofs/(.*)/(Answers|Proof|Invariants)\.antt")
 # What isn't proved only since something else isn't.
