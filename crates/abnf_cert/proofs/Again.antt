@@ -238,5 +238,6 @@ one_reading n bytes (e ∷ es) (c ∷ cs) r q =
     ap (λ x. x ∷ cs) first ∙ ap (λ x. e ∷ x) more
 
 pub texts_are_read : TextsAreRead
-texts_are_read es w low =
-    (reads_lines 0 es w (omega arith), λ others q. one_reading 0 (cert_text es) es others (reads_lines 0 es w (omega arith)) q)
+texts_are_read es wide =
+    let low = wide.1 in
+    (reads_lines 0 es wide.0 (omega arith), λ others q. one_reading 0 (cert_text es) es others (reads_lines 0 es wide.0 (omega arith)) q)

@@ -1,15 +1,15 @@
 -- Two accepted certificates agree, but for heights and choices where a length is the greatest.
-use Rattle.std.proofs.Common.{◌≡◌, ◌∙◌, ℕ, zero, suc, ◌+◌, ◌*◌, ◌<◌, ◌≤◌, ◌⊎◌, inl, inr, List, [], ◌∷◌, length, map, take, Option, Some, None, refl, sym, ap, subst, arith, min}
-use Rattle.std.proofs.lemmas.Bool.{cases_lt, cases_order}
+use Rattle.std.proofs.Common.{◌≡◌, ◌∙◌, ℕ, zero, suc, ◌+◌, ◌<◌, ◌≤◌, ◌⊎◌, inl, inr, List, [], ◌∷◌, length, map, take, Option, Some, None, refl, sym, ap, subst, arith}
+use Rattle.std.proofs.lemmas.Bool.{cases_lt}
 use Rattle.std.proofs.lemmas.Option.{none-some, same_Some}
-use Rattle.std.specs.Prelude.{slice_get, slice_index_or}
+use Rattle.std.specs.Prelude.{slice_get}
 use Rattle.std.specs.List.{AllByRecursion}
 use Rattle.abnf_cert.specs.declared.entry.Entry.{Entry}
 use Rattle.abnf_cert.specs.declared.entry.Entry.TheVariants.{Nothing, Least}
 use Rattle.abnf_parts.specs.Part.{Part, Parts, quoted, series, span, seq, alt, rep, ref, opaque, end, next, subparts, parts_of, root_number, numbers}
 use Rattle.abnf_parts.specs.Generates.{UpTo, Gen, RuleGen}
-use Rattle.abnf_cert.specs.Accepted.{top, in_a_row, all_in_a_row, times, referred, Exceeds, After, Saturated, IsFirstLeast, IsSaturated, IsChoice, entry_at, IsAccepted}
-use Rattle.abnf_cert.specs.Agreed.{IsGreatest, Agree, AcceptedAgree}
+use Rattle.abnf_cert.specs.Accepted.{top, in_a_row, all_in_a_row, times, referred, Exceeds, After, IsFirstLeast, IsSaturated, IsChoice, entry_at, IsAccepted}
+use Rattle.abnf_cert.specs.Agreed.{Agree, AcceptedAgree}
 use Rattle.abnf_cert.proofs.Below.{TreeFits, TreesFit, part_fits, rule_fits}
 use Rattle.abnf_cert.proofs.Lower.{NotBelow, lower, rule_lower}
 use Rattle.abnf_cert.proofs.Upper.{Reached, upper, rule_upper, past_end, no_rule}

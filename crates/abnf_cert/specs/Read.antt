@@ -79,6 +79,10 @@ abbrev pub IsWide : Entry → Type 0
 IsWide Nothing = Unit {0}
 IsWide (Least l h c) = (l < 2 ^ 64) × (h < 2 ^ 64) × (c < 2 ^ 64)
 
+-- all numbers of a certificate are of 64 bits, and that of its entries too
+abbrev pub IsOf64Bits : List Entry → Type 0
+IsOf64Bits es = AllByRecursion IsWide es × (length es < 2 ^ 64)
+
 -- the fault of the first faulty line, before which the lines of entries stand
 abbrev pub IsFirstFault : CertFault → List ℕ → Type 0
 IsFirstFault fault bytes =
@@ -97,5 +101,5 @@ TextsAreUnique = (bytes : List ℕ) (es : List Entry) → length es < 2 ^ 64 →
 -- the text of a certificate reads as it, and as no other
 abbrev pub TextsAreRead : Type 0
 TextsAreRead =
-    (es : List Entry) → AllByRecursion IsWide es → length es < 2 ^ 64 →
+    (es : List Entry) → IsOf64Bits es →
     Reads 0 (cert_text es) es × ((others : List Entry) → Reads 0 (cert_text es) others → others ≡ es)

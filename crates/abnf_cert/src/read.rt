@@ -7,7 +7,7 @@ ghost use Rattle.abnf_cert.specs.declared.fault.CertFault.TheVariants.{Memory};
 ghost use Rattle.std.specs.Char.{is_ascii_digit};
 ghost use Rattle.std.specs.Str.Parse.{digits_value};
 ghost use Rattle.abnf_cert.specs.Text.{cert_text};
-ghost use Rattle.abnf_cert.specs.Read.{digit_count, is_plain, number_at, behind, told_at, rest_at, line_at, entry_told, IsWide, IsFirstFault, IsLineFault};
+ghost use Rattle.abnf_cert.specs.Read.{digit_count, is_plain, number_at, behind, told_at, rest_at, line_at, entry_told, IsOf64Bits, IsWide, IsFirstFault, IsLineFault};
 ghost use Rattle.abnf_cert.specs.declared.fault.CertFault.{CertFault};
 
 use crate::entry::{Cert, Entry};
@@ -176,10 +176,10 @@ fn read_lines(alloc: Global, bytes: &[u8]) -> Result<Cert, CertFault>
 /// The fault of the first faulty line, and of two that it shows the one that stands first in [`CertFault`]; `Memory` where an
 /// allocation is refused, which is asked for at the line of an entry alone.
 pub fn read_cert(alloc: Global, bytes: &[u8]) -> Result<Cert, CertFault>
-    ensures found { IfOk result (λ c. bytes.now ≡ cert_text c) }
+    ensures found { IfOk result (λ c. IsOf64Bits c × (bytes.now ≡ cert_text c)) }
 
     // The text of a certificate is read as it, unless memory runs out.
-    ensures only { (es : List Entry) → AllByRecursion IsWide es → length es < 2 ^ 64 → bytes.now ≡ cert_text es
+    ensures only { (es : List Entry) → IsOf64Bits es → bytes.now ≡ cert_text es
         → MatchResult result (λ c. c ≡ es) (λ f. f ≡ Memory) }
 
     // Which fault it is. That of the first line is found before memory is asked for.

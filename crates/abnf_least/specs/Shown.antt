@@ -21,6 +21,10 @@ IsKnownOf roots r root NotKnown = ⊥
 abbrev pub IsKnown : List Part → ℕ → Shortest → Type 0
 IsKnown roots r shown = (root : Part) × (slice_get roots r ≡ Some root) × IsKnownOf roots r root shown
 
+-- Rule r generates strings, of which the shortest have at most 4,096 characters.
+abbrev pub HasShortString : List Part → ℕ → Type 0
+HasShortString roots r = (root : Part) × (slice_get roots r ≡ Some root) × (n : ℕ) × IsLeastLength roots root n × (n ≤ 4096)
+
 -- What is shown of rule r: not known exactly where the rule leads to an opaque part, and else what is known.
 abbrev pub IsShown : List Part → ℕ → Shortest → Type 0
 IsShown roots r NotKnown = ReachesOpaque roots r

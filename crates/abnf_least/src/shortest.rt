@@ -1,8 +1,9 @@
 //! What is known of the shortest strings of a rule.
 
-ghost use Rattle.std.specs.Prelude.{◌<◌, IfOk, length};
+ghost use Rattle.std.specs.Prelude.{◌<◌, IfOk, OnErr, length};
 ghost use Rattle.abnf_cert.specs.Accepted.{IsAccepted};
-ghost use Rattle.abnf_least.specs.Shown.{IsKnown, IsShown};
+ghost use Rattle.abnf_parts.specs.Reach.{ReachesOpaque};
+ghost use Rattle.abnf_least.specs.Shown.{HasShortString, IsKnown, IsShown};
 
 use crate::walk::sentence;
 use abnf_cert::entries::entry_of;
@@ -41,7 +42,8 @@ fn known(
 ) -> Result<Shortest, AllocError>
     requires accepted { IsAccepted grammar.now.rules entries.now }
     requires rule { rule < length grammar.now.rules }
-    ensures { IfOk result (λ s. IsKnown grammar.now.rules rule s) }
+    ensures known { IfOk result (λ s. IsKnown grammar.now.rules rule s) }
+    ensures memory { OnErr result (HasShortString grammar.now.rules rule) }
 {
     match entry_of(entries, grammar.root_of(rule).get()) {
         Entry::Nothing => Ok(Shortest::Nothing),
@@ -62,7 +64,7 @@ fn known(
 ///
 /// # Errors
 ///
-/// Where an allocation is refused.
+/// Where an allocation is refused, which is asked for where there is an example to show alone.
 pub fn example(
     alloc: Global,
     grammar: &Grammar,
@@ -71,7 +73,8 @@ pub fn example(
 ) -> Result<Shortest, AllocError>
     requires accepted { IsAccepted grammar.now.rules cert.now }
     requires rule { rule < length grammar.now.rules }
-    ensures { IfOk result (λ s. IsShown grammar.now.rules rule s) }
+    ensures shown { IfOk result (λ s. IsShown grammar.now.rules rule s) }
+    ensures memory { OnErr result ((ReachesOpaque grammar.now.rules rule → ⊥) × HasShortString grammar.now.rules rule) }
 {
     if grammar.reaches_opaque(rule) {
         return Ok(Shortest::NotKnown);

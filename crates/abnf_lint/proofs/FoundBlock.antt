@@ -19,7 +19,8 @@ use Rattle.abnf_parts.specs.Leaf.{bounds, ends_of, number_part}
 use Rattle.abnf_parts.specs.Names.{Name, rule_number}
 use Rattle.abnf_names.specs.Said.{Block, Says, name_of}
 use Rattle.abnf_names.specs.Places.{Named, named, places_in, uses_after}
-use Rattle.abnf_names.specs.Excerpts.{excerpt_of, fault_shown}
+use Rattle.abnf_names.specs.Excerpts.{excerpt_of}
+use Rattle.abnf_names.specs.Shown.{fault_shown}
 use Rattle.abnf_names.specs.Rules.{defined, names_of, rules_of}
 use Rattle.abnf_lint.specs.declared.finding.Code.{Code}
 use Rattle.abnf_lint.specs.declared.finding.Code.TheVariants as c

@@ -26,7 +26,8 @@ use Rattle.abnf_parts.specs.Part.{Part, alt, ref, subparts, all_subparts, parts_
 use Rattle.abnf_parts.specs.Tree.{parts, alternatives}
 use Rattle.abnf_parts.proofs.NameLaws.{never, same_is, same_refl}
 use Rattle.abnf_names.specs.declared.section.Section.{Section}
-use Rattle.abnf_names.specs.Excerpts.{Excerpt, HasSections, excerpt, excerpt_of, fault_shown}
+use Rattle.abnf_names.specs.Excerpts.{Excerpt, HasSections, excerpt, excerpt_of}
+use Rattle.abnf_names.specs.Shown.{fault_shown}
 use Rattle.abnf_names.specs.Places.{Named, is_touched, named, use_after, uses_after}
 use Rattle.abnf_names.specs.Rules.{Grammar, adds, alternatives_said, core_tree, counted, defined, defines, names_of, needed, rule_tree, rules_of, said_alternatives}
 use Rattle.abnf_names.specs.Said.{Block, Says, name_of}

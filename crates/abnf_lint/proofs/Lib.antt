@@ -13,3 +13,6 @@ pub mod Stands
 pub mod Refers
 pub mod Known
 pub mod Seen
+pub mod FaultLines
+pub mod Apart
+pub mod Ascends

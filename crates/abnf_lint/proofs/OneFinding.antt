@@ -23,7 +23,8 @@ use Rattle.abnf_parts.specs.Part.{Part}
 use Rattle.abnf_parts.specs.Names.{Name, with_name}
 use Rattle.abnf_names.specs.Said.{Block, Says, IsWithin, AreWithin, AreSaid, name_of}
 use Rattle.abnf_names.specs.Rules.{Grammar, grammar_of, names_of, rules_of}
-use Rattle.abnf_names.specs.Excerpts.{Excerpt, excerpt_of, fault_shown}
+use Rattle.abnf_names.specs.Excerpts.{Excerpt, excerpt_of}
+use Rattle.abnf_names.specs.Shown.{fault_shown}
 use Rattle.abnf_names.proofs.OneGrammar.{one_grammar}
 use Rattle.abnf_lint.specs.declared.finding.Finding.{Finding}
 use Rattle.abnf_lint.specs.Unproductive.{AreUnproductive}

@@ -1,7 +1,8 @@
 -- The order of findings: by line, by start, and by the row of the table.
-use Rattle.std.specs.Prelude.{ℕ, List}
+use Rattle.std.specs.Prelude.{◌≡◌, ℕ, Bool, true, List, [], ◌∷◌}
 use Rattle.std.specs.declared.cmp.Ordering.{Ordering}
-use Rattle.std.specs.Ordering.{nat_cmp, ordering_then}
+use Rattle.std.specs.Ordering.{is_lt, nat_cmp, ordering_then}
+use Rattle.std.specs.List.{AllByRecursion}
 use Rattle.std.specs.List.Sorted.{IsPermutation, IsSortedByKey, IsStableByKey}
 use Rattle.abnf_lint.specs.declared.finding.Code.{Code}
 use Rattle.abnf_lint.specs.declared.finding.Code.TheVariants as c
@@ -33,3 +34,12 @@ pub record AreOrdered (given found : List Finding) : Type 0 where
   pub all : IsPermutation given found
   pub sorted : IsSortedByKey key key_cmp found
   pub stable : IsStableByKey key key_cmp given found
+
+-- the one stands before the other by line, start and row
+abbrev pub comes_before : Finding → Finding → Bool
+comes_before f g = is_lt (key_cmp (key f) (key g))
+
+-- each finding comes before all that follow it
+abbrev pub Ascend : List Finding → Type 0
+Ascend [] = Unit {0}
+Ascend (f ∷ fs) = AllByRecursion (λ g. comes_before f g ≡ true) fs × Ascend fs

@@ -1,5 +1,5 @@
 -- The rows of the table of findings, one by one: what each code says of a text, and where.
-use Rattle.std.specs.Prelude.{◌≡◌, ℕ, ◌<◌, true, false, List, [], ◌∷◌, ◌++◌, Option, Some, None, Ok, Err, Contains}
+use Rattle.std.specs.Prelude.{◌≡◌, ℕ, ◌<◌, true, false, List, [], ◌∷◌, ◌++◌, Option, Some, None, Ok, Err, Contains, ◌↔◌}
 use Rattle.ls_text.specs.declared.position.Place.{Place}
 use Rattle.abnf_token.specs.declared.token.Kind.TheVariants.{Repeat, Number}
 use Rattle.abnf_token.specs.Folded.{lowercase}
@@ -19,6 +19,7 @@ use Rattle.abnf_names.specs.Rules.{adds, fault_place, head_name, names_of, rules
 use Rattle.abnf_lint.specs.declared.finding.Code.{Code}
 use Rattle.abnf_lint.specs.declared.finding.Code.TheVariants as c
 use Rattle.abnf_lint.specs.declared.finding.Finding.{Finding}
+use Rattle.abnf_lint.specs.Order.{Ascend}
 use Rattle.abnf_lint.specs.Unproductive.{IsUnproductive}
 
 -- the place of a fault of the syntax: of all but a number too large and brackets too deep, which have codes of their own
@@ -94,3 +95,8 @@ pub record Stands (text : List ℕ) (found : Finding) : Type 0 where
   pub after : List Block
   pub split : blocks ≡ before ++ block ∷ after
   pub holds : RowHolds blocks before block found.place found.name found.code
+
+-- These are the rows of the table that hold of the text, each once, by line, start and row.
+pub record AreRows (text : List ℕ) (rows : List Finding) : Type 0 where
+  pub each : (f : Finding) → Contains rows f ↔ Stands text f
+  pub ordered : Ascend rows

@@ -14,5 +14,7 @@ mod unproductive;
 
 pub use finding::{Code, Finding};
 pub use findings_of::findings;
-pub use laws::{findings_are_the_rows, findings_are_unique};
+pub use laws::{
+    findings_are_the_rows, findings_are_unique, findings_ascend, ordered_rows_are_findings,
+};
 pub use message::Severity;

@@ -20,28 +20,28 @@ use Rattle.abnf_names.specs.Said.{Block, AreWithin}
 use Rattle.abnf_names.specs.Places.{AllBehind, Ascend, Named, begins_before, is_touched, named, places_in, places_of, uses_after}
 use Rattle.abnf_names.specs.Rules.{Grammar, IsGrammar}
 
-abbrev Point : Type 0
+abbrev pub Point : Type 0
 Point = ℕ × ℕ
 
 -- the second point isn't before the first
-abbrev Ahead : Point → Point → Type 0
+abbrev pub Ahead : Point → Point → Type 0
 Ahead p q = (p.0 < q.0) ⊎ ((p.0 ≡ q.0) × (p.1 ≤ q.1))
 
-abbrev behind : Point → Point
+abbrev pub behind : Point → Point
 behind p = (p.0, suc p.1)
 
 -- The points ascend between two others: none is before the one, and the other isn't before what stands behind the last.
-abbrev Run : Point → List Point → Point → Type 0
+abbrev pub Run : Point → List Point → Point → Type 0
 Run p [] q = Ahead p q
 Run p (x ∷ xs) q = Ahead p x × Run (behind x) xs q
 
-ahead_trans : (p q r : Point) → Ahead p q → Ahead q r → Ahead p r
+pub ahead_trans : (p q r : Point) → Ahead p q → Ahead q r → Ahead p r
 ahead_trans p q r (inl a) (inl b) = inl (omega (arith, a, b))
 ahead_trans p q r (inl a) (inr b) = inl (let e : q.0 ≡ r.0 = b.0 in omega (arith, a, e))
 ahead_trans p q r (inr a) (inl b) = inl (let e : p.0 ≡ q.0 = a.0 in omega (arith, b, e))
 ahead_trans p q r (inr a) (inr b) = inr (a.0 ∙ b.0, (let l : p.1 ≤ q.1 = a.1 in let m : q.1 ≤ r.1 = b.1 in omega (arith, l, m)))
 
-ahead_behind : (p : Point) → Ahead p (behind p)
+pub ahead_behind : (p : Point) → Ahead p (behind p)
 ahead_behind p = inr (refl, omega arith)
 
 -- ---- runs
@@ -70,7 +70,7 @@ token_points (Some t ∷ ts) = token_point t ∷ token_points ts
 abbrev pair_point : Token × Bool → Point
 pair_point p = token_point p.0
 
-abbrev item_point : Item → Point
+abbrev pub item_point : Item → Point
 item_point item = token_point item.token
 
 next_line : (line start : ℕ) → Ahead (line, start) (suc line, 0)
@@ -121,7 +121,7 @@ viewed : (items : List Item) → map pair_point (map view items) ≡ map item_po
 viewed [] = refl
 viewed (item ∷ items) = ap (λ l. item_point item ∷ l) (viewed items)
 
-block_run : (ls : List Text) (first end : ℕ) (items : List Item) → AreItems ls first end items → Run (first, 0) (map item_point items) (end, 0)
+pub block_run : (ls : List Text) (first end : ℕ) (items : List Item) → AreItems ls first end items → Run (first, 0) (map item_point items) (end, 0)
 block_run ls first end items h =
     subst (λ l. Run (first, 0) l (end, 0)) (ap (map pair_point) (sym h.items_are) ∙ viewed items)
     (items_run (first, 0) (end, 0) (flat_map with_line_end h.tokens) (lines_run ls first end h.tokens h.all h.tokens_are))
@@ -157,7 +157,7 @@ places_run p q (item ∷ items) h =
 
 -- ---- blocks
 
-line_ahead : (from line : ℕ) → from ≤ line → Ahead (from, 0) (line, 0)
+pub line_ahead : (from line : ℕ) → from ≤ line → Ahead (from, 0) (line, 0)
 line_ahead from line h = by (cases_lt from line)
   where
     by : (from < line) ⊎ (line ≤ from) → Ahead (from, 0) (line, 0)

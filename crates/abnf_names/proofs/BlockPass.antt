@@ -1,11 +1,10 @@
 -- The blocks of a text that were read so far, each with its fault.
 use Rattle.std.proofs.Common.{◌≡◌, ◌<◌, ℕ, List, [], ◌∷◌, ◌++◌, map, length, sym, ap, subst, ◌∙◌, append-nil, append_assoc}
-use Rattle.std.specs.Prelude.{All, Option}
+use Rattle.std.specs.Prelude.{All}
 use Rattle.std.proofs.lemmas.List.{map-append}
 use Rattle.std.proofs.lemmas.List.Elements.{All-head, All-tail}
 use Rattle.abnf_token.specs.Classes.{Text}
 use Rattle.abnf_syntax.specs.declared.block.Block.{Block}
-use Rattle.abnf_syntax.specs.declared.fault.SyntaxFault.{SyntaxFault}
 use Rattle.abnf_syntax.specs.Blocks.{line_texts, AreBlocks}
 use Rattle.abnf_syntax.specs.Items.{AreItems}
 use Rattle.abnf_syntax.specs.Bounds.{bounds}
@@ -13,7 +12,8 @@ use Rattle.abnf_names.specs.declared.section.Section.{Section}
 use Rattle.abnf_names.specs.Said.{IsWithin, AreWithin}
 use Rattle.abnf_names.specs.Said as said
 use Rattle.abnf_names.specs.Excerpts.{excerpt, excerpt_of}
-use Rattle.abnf_names.specs.Passes.{AreSections, HasFault}
+use Rattle.abnf_names.specs.Passes.{AreSections}
+use Rattle.abnf_names.specs.Shown.{HasFault}
 
 pub record IsPassed (text : List ℕ) (done rest : List Block) (sections : List Section) : Type 0 where
   pub all : AreBlocks (line_texts text) 0 (map bounds (done ++ rest))
@@ -40,11 +40,10 @@ passed_all text done rest sections now h none same = record {
   excerpts = ap (map excerpt) same ∙ h.excerpts;
 }
 
-pub passed_more : (text : List ℕ) (done : List Block) (b : Block) (rest : List Block) (sections now : List Section) (fault : Option SyntaxFault) →
-    IsPassed text done (b ∷ rest) sections → HasFault b.items fault → now ≡ sections ++ (record { block = b; fault = fault }) ∷ [] → IsPassed text (done ++ b ∷ []) rest now
-passed_more text done b rest sections now fault h shows e =
+pub passed_more : (text : List ℕ) (done : List Block) (b : Block) (rest : List Block) (sections now : List Section) (section : Section) →
+    IsPassed text done (b ∷ rest) sections → section.block ≡ b → HasFault b.items section.fault → now ≡ sections ++ section ∷ [] → IsPassed text (done ++ b ∷ []) rest now
+passed_more text done b rest sections now section h is shows e =
     let block : said.Block = record { items = b.items; said = shows.said } in
-    let section : Section = record { block = b; fault = fault } in
     record {
       all = subst (λ bs. AreBlocks (line_texts text) 0 (map bounds bs)) (sym (append_assoc done (b ∷ []) rest)) h.all;
       items = All-tail (λ x. AreItems (line_texts text) x.first x.end x.items) b rest h.items;
@@ -58,6 +57,6 @@ passed_more text done b rest sections now fault h shows e =
           ap (map excerpt) e
           ∙ (map-append excerpt sections (section ∷ [])
           ∙ (ap (λ front. front ++ excerpt section ∷ []) h.excerpts
-          ∙ (ap (λ (f : Option SyntaxFault). map excerpt_of h.blocks ++ (record { items = b.items; fault = f }) ∷ []) shows.shown
+          ∙ ((λ i. map excerpt_of h.blocks ++ (record { items = (is i).items; fault = shows.shown i }) ∷ [])
           ∙ sym (map-append excerpt_of h.blocks (block ∷ [])))));
     }

@@ -21,7 +21,8 @@ use Rattle.abnf_names.specs.Said.{Block, name_of}
 use Rattle.abnf_names.specs.Places.{Named, named_at, places_in, places_of}
 use Rattle.abnf_names.specs.Rules.{defined, head_name, fault_of, block_fault, faults_of}
 use Rattle.abnf_names.specs.Passes.{members_of, if_same, Grouped, AreGrouped, names_defined, defines_name, section_fault, stated, with_core_name}
-use Rattle.abnf_names.specs.Excerpts.{Excerpt, excerpt, excerpt_of, fault_shown}
+use Rattle.abnf_names.specs.Excerpts.{Excerpt, excerpt, excerpt_of}
+use Rattle.abnf_names.specs.Shown.{fault_shown}
 use Rattle.abnf_names.specs.declared.section.Section.{Section}
 
 abbrev name_in : Excerpt → Option Name

@@ -1,20 +1,16 @@
 -- The blocks of a text without their rules: the items of each, and the fault that it shows.
-use Rattle.std.specs.Prelude.{◌≡◌, List, map, Option, Some, None, Result, Ok, Err}
+use Rattle.std.specs.Prelude.{◌≡◌, List, map, Option}
 use Rattle.abnf_syntax.specs.declared.item.Item.{Item}
 use Rattle.abnf_syntax.specs.declared.fault.SyntaxFault.{SyntaxFault}
-use Rattle.abnf_syntax.specs.declared.tree.Rule.{Rule}
 use Rattle.abnf_names.specs.declared.section.Section.{Section}
 use Rattle.abnf_names.specs.Said.{Block, AreSaid}
 use Rattle.abnf_names.specs.Rules.{Grammar, grammar_of}
+use Rattle.abnf_names.specs.Shown.{fault_shown}
 
 -- of a block its items, and its fault if it says no rule
 pub record Excerpt : Type 0 where
   pub items : List Item
   pub fault : Option SyntaxFault
-
-abbrev pub fault_shown : Result Rule SyntaxFault → Option SyntaxFault
-fault_shown (Ok rule) = None
-fault_shown (Err fault) = Some fault
 
 abbrev pub excerpt_of : Block → Excerpt
 excerpt_of block = record { items = block.items; fault = fault_shown block.said }

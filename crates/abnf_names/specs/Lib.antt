@@ -1,4 +1,5 @@
 pub mod Said
+pub mod Shown
 pub mod Places
 pub mod Rules
 pub mod GrammarCode

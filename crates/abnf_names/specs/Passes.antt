@@ -14,7 +14,8 @@ use Rattle.std.specs.Str.{bytes_eq}
 use Rattle.abnf_names.specs.Said.{Block, Says, AreSaid, name_of}
 use Rattle.abnf_names.specs.Places.{Named, named_at, holds, ends_at, places_of}
 use Rattle.abnf_names.specs.Rules.{adds, alternatives_said, defined, fault_place, needed, rules_of}
-use Rattle.abnf_names.specs.Excerpts.{Excerpt, excerpt, excerpt_of, fault_shown}
+use Rattle.abnf_names.specs.Excerpts.{Excerpt, excerpt, excerpt_of}
+use Rattle.abnf_names.specs.Shown.{fault_shown}
 use Rattle.abnf_syntax.specs.Heads.{head_of}
 use Rattle.abnf_names.specs.declared.own.NamePlaces.{NamePlaces}
 use Rattle.abnf_names.specs.declared.rules.Rules.{Rules}
@@ -24,12 +25,6 @@ use Rattle.abnf_parts.specs.Reach.{AreReaching}
 use Rattle.abnf_parts.specs.Part.{Part, alt, opaque}
 use Rattle.abnf_parts.specs.Tree.{parts, alternatives}
 use Rattle.abnf_parts.specs.Core.{core_name, is_core_name}
-
--- the block shows this fault, or it says a rule and shows none
-pub record HasFault (items : List Item) (fault : Option SyntaxFault) : Type 0 where
-  pub said : Result Rule SyntaxFault
-  pub says : Says items said
-  pub shown : fault ≡ fault_shown said
 
 -- the blocks of a text, all of them and in order
 pub record AreSections (text : List ℕ) (sections : List Section) : Type 0 where

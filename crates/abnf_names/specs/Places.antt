@@ -1,5 +1,5 @@
 -- The places of names in a text.
-use Rattle.std.specs.Prelude.{◌≡◌, ℕ, Bool, true, false, not, ◌&&◌, ◌||◌, nat_le, nat_lt, nat_eq, List, [], ◌∷◌, ◌++◌, flat_map, find, filter, All, Option, if◌then◌else◌}
+use Rattle.std.specs.Prelude.{◌≡◌, ℕ, Bool, true, false, not, ◌&&◌, ◌||◌, nat_le, nat_lt, nat_eq, List, [], ◌∷◌, ◌++◌, flat_map, find, filter, map, drop, All, Option, if◌then◌else◌}
 use Rattle.std.specs.List.{list_any}
 use Rattle.std.specs.Option.{is_some, option_or}
 use Rattle.abnf_token.specs.declared.token.Kind.{Kind}
@@ -17,6 +17,7 @@ use Rattle.std.specs.Str.{bytes_eq}
 use Rattle.abnf_parts.specs.Names.{Name}
 use Rattle.abnf_names.specs.declared.place.Spot.{Spot}
 use Rattle.abnf_names.specs.declared.place.NamePlace.{NamePlace}
+use Rattle.abnf_names.specs.declared.place.PlacesOfName.{PlacesOfName}
 use Rattle.abnf_names.specs.Said.{Block}
 
 -- A name in the text, as it is written there. `defines` says that it is a block's head.
@@ -86,6 +87,14 @@ place_and_name p = (p.0, p.1.0.now)
 -- the places of a name, in the order of the text
 abbrev pub places_of_name : Name → List Named → List Named
 places_of_name name places = filter (λ n. bytes_eq name (lowercase n.text)) places
+
+-- the places of a name among those of all names
+abbrev pub places_among : Folded → List Spot → List NamePlace
+places_among name spots = map name_place (places_of_name (lowercase name.0.now) (map named_at spots))
+
+-- those that an iterator still gives
+abbrev pub places_left : PlacesOfName → List NamePlace
+places_left p = places_among p.name (drop p.passed p.spots.now)
 
 -- Some place defines the name, perhaps in a faulty block.
 abbrev pub is_defined : List Named → Name → Bool

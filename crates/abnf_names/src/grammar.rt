@@ -5,15 +5,16 @@ ghost use Rattle.abnf_parts.specs.Part.{root_number};
 ghost use Rattle.abnf_parts.specs.Nodes.{AreNodes};
 ghost use Rattle.abnf_parts.specs.Names.{folded_text, rule_number};
 ghost use Rattle.abnf_parts.specs.Reach.{ReachesOpaque};
-ghost use Rattle.abnf_names.specs.Places.{at_offset, is_defined, name_place, named_at, place_and_name, place_and_text, places_of_name};
+ghost use Rattle.abnf_names.specs.Places.{at_offset, is_defined, name_place, named_at, place_and_name, place_and_text, places_left, places_of_name};
 ghost use Rattle.abnf_names.specs.Said.{Block, AreSaid};
 ghost use Rattle.abnf_names.specs.Rules.{IsGrammar, defined};
 ghost use Rattle.abnf_names.specs.Excerpts.{HasSections};
 
 use crate::own::{faults_of, name_places};
-use crate::place::{NamePlace, Spot, found_at, places_called};
+use crate::place::{PlacesOfName, Spot, found_at};
 use crate::rules::rules_said;
-use crate::section::{Section, sections_of};
+use crate::section::Section;
+use crate::sections::sections_of;
 use abnf_parts::{Node, NodeNo, RuleNames, RuleNo};
 use abnf_syntax::SyntaxFault;
 use abnf_token::Folded;
@@ -149,14 +150,10 @@ impl<'t> Grammar<'t> {
     }
 
     /// The places of a name, in the order of the text. All places are looked through for them.
-    ///
-    /// # Errors
-    ///
-    /// Where an allocation is refused.
-    pub fn places(&self, alloc: Global, name: Folded<'_>) -> Result<List<NamePlace>, AllocError>
-        ensures { IfOk result (λ found. found ≡ map name_place (places_of_name (folded_text name.entry) self.now.places)) }
+    pub fn places<'s>(&'s self, name: Folded<'s>) -> PlacesOfName<'s, 't>
+        ensures { places_left result ≡ map name_place (places_of_name (folded_text name.entry) self.now.places) }
     {
-        places_called(alloc, self.spots.as_slice(), name)
+        PlacesOfName::among(self.spots.as_slice(), name)
     }
 
     /// The faults of the blocks, each with its place, in the order of the text.

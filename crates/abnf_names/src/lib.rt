@@ -14,10 +14,11 @@ mod places;
 mod reach;
 mod rules;
 mod section;
+mod sections;
 
 pub use abnf_parts::{Node, NodeNo, RuleNo};
 pub use grammar::Grammar;
 pub use laws::{grammars_are_unique, grammars_exist, places_ascend};
-pub use place::{NamePlace, Spot, is_touched};
+pub use place::{NamePlace, PlacesOfName, Spot, is_touched};
 pub use places::Places;
 pub use section::Section;

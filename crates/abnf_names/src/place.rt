@@ -1,6 +1,6 @@
 //! The places of names.
 
-ghost use Rattle.std.specs.Prelude.{◌≡◌, ◌++◌, map, flat_map, find, option_map, IfOk, OnOk};
+ghost use Rattle.std.specs.Prelude.{◌≡◌, ◌++◌, ◌∷◌, [], drop, map, flat_map, find, option_map, IfOk, MatchOption, OnOk};
 ghost use Rattle.abnf_names.specs.Places as places;
 ghost use Rattle.abnf_names.specs.Passes as spec;
 ghost use Rattle.abnf_parts.specs.Names.{folded_text};
@@ -102,24 +102,61 @@ pub(crate) fn places_of<'t>(
     Ok(spots)
 }
 
-/// The places of a name among these.
-pub(crate) fn places_called(
-    alloc: Global,
-    spots: &[Spot<'_>],
-    name: Folded<'_>,
-) -> Result<List<NamePlace>, AllocError>
-    ensures { IfOk result (λ found. found ≡ map places.name_place (places.places_of_name (folded_text name.entry) (map places.named_at spots.now))) }
-{
-    let mut found = List::new(alloc);
-    for spot in spots {
-        if name == spot.name {
-            found.push(NamePlace {
-                place: spot.place,
-                defines: spot.defines,
-            })?;
+/// The places of a name in a text, in its order. Each is found when it is asked for, so that none needs memory.
+#[derive(Drop)]
+pub struct PlacesOfName<'s, 't> {
+    name: Folded<'s>,
+    spots: &'s [Spot<'t>],
+    /// How many spots have been looked at.
+    passed: usize,
+}
+
+impl<'s, 't> PlacesOfName<'s, 't> {
+    /// The places of a name among these.
+    pub(crate) fn among(spots: &'s [Spot<'t>], name: Folded<'s>) -> PlacesOfName<'s, 't>
+        ensures { places.places_left result ≡ places.places_among name.entry spots.now }
+    {
+        PlacesOfName {
+            name,
+            spots,
+            passed: 0,
         }
     }
-    Ok(found)
+}
+
+impl Iterator for PlacesOfName<'_, '_> {
+    ghost use Rattle.std.specs.Iterator.{YieldsFirst, item_count};
+    ghost use Rattle.abnf_names.specs.Places.{places_left};
+
+    type Item = NamePlace;
+
+    ghost next_gives = { YieldsFirst places_left };
+
+    ghost remaining = { item_count places_left };
+
+    fn next(&mut self) -> Option<NamePlace> {
+        let (place, passed) = first_called(self.spots, self.passed, self.name)?;
+        self.passed = passed;
+        Some(place)
+    }
+}
+
+/// The first place of a name behind so many spots, and how many are passed with it.
+fn first_called(spots: &[Spot<'_>], from: usize, name: Folded<'_>) -> Option<(NamePlace, usize)>
+    ensures { let left = places.places_among name.entry (drop from spots.now) in
+        MatchOption result (left ≡ []) (λ r. left ≡ r.0 ∷ places.places_among name.entry (drop r.1 spots.now)) }
+{
+    for at in from..spots.len() {
+        let spot = &spots[at];
+        if name == spot.name {
+            let place = NamePlace {
+                place: spot.place,
+                defines: spot.defines,
+            };
+            return Some((place, at + 1));
+        }
+    }
+    None
 }
 
 /// Whether a spot holds what stands behind a point, which is an empty place.

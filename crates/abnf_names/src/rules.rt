@@ -14,7 +14,8 @@ ghost use Rattle.abnf_parts.specs.Pushed.{Adds, AddsTrees};
 
 use crate::own::{NamePlaces, own_groups, rule_names};
 use crate::reach::reaching;
-use crate::section::{Listed, Section, rule_of};
+use crate::section::{Listed, Section};
+use crate::sections::rule_of;
 use abnf_parts::{Core, Node, NodeNo, RuleNames, fill, push_concatenations, push_needed};
 use abnf_syntax::{MAX_NESTING, Rule};
 use ls_lists::List;

@@ -1,74 +1,19 @@
 //! The blocks of a text without their rules.
 
-ghost use Rattle.std.specs.Prelude.{◌≡◌, ◌<◌, ℕ, length, Option, Result, IfOk};
-ghost use Rattle.abnf_syntax.specs.declared.fault.SyntaxFault.{SyntaxFault};
-ghost use Rattle.abnf_syntax.specs.declared.tree.Rule.{Rule};
-ghost use Rattle.abnf_names.specs.Passes as spec;
+ghost use Rattle.abnf_names.specs.Shown.{HasFault};
 
-use abnf_syntax::{Block, Rule, SyntaxFault, blocks, check_block, parse_block};
-use ls_lists::List;
-use ls_text::Snapshot;
-use std::alloc::{AllocError, Global};
+use abnf_syntax::{Block, SyntaxFault};
 
 /// A block of a text, and the fault that it shows if it says no rule.
 #[derive(Drop)]
 pub struct Section<'t> {
     pub block: Block<'t>,
     pub fault: Option<SyntaxFault>,
+    ghost says: { ∥ HasFault block.items fault ∥₁ },
 }
 
 /// A section that is listed under a name.
 #[derive(Clone, Copy)]
 pub(crate) struct Listed<'s, 't> {
     pub section: &'s Section<'t>,
-}
-
-/// The fault that a block shows, if it says no rule.
-fn fault_shown(alloc: Global, block: &Block<'_>) -> Result<Option<SyntaxFault>, AllocError>
-    requires { 0 < length block.now.items }
-    ensures { IfOk result (λ fault. spec.HasFault block.now.items fault) }
-{
-    match check_block(alloc, block) {
-        Ok(()) => Ok(None),
-        Err(fault) => match fault {
-            SyntaxFault::Memory => Err(AllocError),
-            _ => Ok(Some(fault)),
-        },
-    }
-}
-
-/// The blocks of a text, each with its fault if it says no rule.
-pub(crate) fn sections_of<'t>(
-    alloc: Global,
-    snapshot: &'t Snapshot,
-) -> Result<List<Section<'t>>, AllocError>
-    ensures { IfOk result (λ sections. spec.AreSections snapshot.entry.now sections) }
-{
-    let blocks = blocks(alloc, snapshot)?;
-    let mut sections = Vec::with_capacity(alloc, blocks.len())?;
-    for block in blocks {
-        let fault = fault_shown(alloc, &block)?;
-        sections.push(Section { block, fault })?;
-    }
-    Ok(List::from_vec(sections))
-}
-
-/// The rule that the block of a section says, if it says one; a block without items says none.
-pub(crate) fn rule_of<'t>(
-    alloc: Global,
-    section: &Section<'t>,
-) -> Result<Option<Rule<'t>>, AllocError>
-    ensures { IfOk result (λ rule. (said : Result Rule SyntaxFault) → spec.IsSaidBy section.now said
-        → spec.AreAlike said rule) }
-{
-    if section.fault.is_some() {
-        return Ok(None);
-    }
-    if section.block.items.is_empty() {
-        return Ok(None);
-    }
-    match parse_block(alloc, &section.block) {
-        Ok(rule) => Ok(Some(rule)),
-        Err(_) => Err(AllocError),
-    }
 }

@@ -22,5 +22,6 @@ pub mod LinePieces
 pub mod TextRows
 pub mod NameTexts
 pub mod PieceRows
+pub mod MadeEdits
 pub mod RangeSpots
 pub mod RangesKept

@@ -1,6 +1,6 @@
 -- The text after a granted rename: its lines are the renamed lines, and its grammars are the same but for the name.
 use Rattle.std.proofs.Common.{◌≡◌, ℕ, suc, ◌+◌, ◌-◌, ◌≤◌, true, false, List, [], ◌∷◌, ◌++◌, length, map, refl, sym, ap, subst, ◌∙◌, arith}
-use Rattle.std.specs.Prelude.{All, ◌&&◌, slice_index_or}
+use Rattle.std.specs.Prelude.{All, ◌&&◌, slice_index_or, IfSome}
 use Rattle.std.specs.Char.{IsScalar}
 use Rattle.std.specs.Str.{chars, encode_utf8_all as encodes}
 use Rattle.std.proofs.Math.Utf8.{scalars}
@@ -9,6 +9,7 @@ use Rattle.std.proofs.lemmas.List.Elements.{All-head, All-tail}
 use Rattle.std.proofs.lemmas.Str.{len_utf8_bounds}
 use Rattle.ls_text.specs.Lines.{units, utf16_len}
 use Rattle.ls_text.specs.Positions.{place_range}
+use Rattle.ls_text.specs.Edits.{edited_all}
 use Rattle.ls_text.specs.Cut.{text_of, AreLines}
 use Rattle.ls_text.specs.declared.position.Encoding.{Encoding}
 use Rattle.ls_text.specs.declared.position.Encoding.TheVariants.{Utf8, Utf16, Utf32}
@@ -23,14 +24,15 @@ use Rattle.abnf_names.specs.Places.{Named, places_of, places_of_name}
 use Rattle.abnf_names.specs.Rules.{Grammar, IsGrammar}
 use Rattle.abnf_rename.specs.Lines.{AreRenamedLines}
 use Rattle.abnf_rename.specs.Rules.{IsGranted, AreSameRules, KeepsNames}
-use Rattle.abnf_rename.specs.Text.{text_renamed, ranges_of, KeepsTheGrammar}
+use Rattle.abnf_rename.specs.Text.{text_renamed, renaming_edits, EditsGive, ranges_of, KeepsTheGrammar}
 use Rattle.abnf_rename.proofs.AllPlaces.{ArePieces, range, all_places}
 use Rattle.abnf_rename.proofs.LinesLaw.{tokens_kept}
+use Rattle.abnf_rename.proofs.MadeEdits.{rows_ranges, edits_made}
 use Rattle.abnf_rename.proofs.NameTexts.{name_utf8, name_solid, name_plain}
 use Rattle.abnf_rename.proofs.NamesKept.{both_kept}
 use Rattle.abnf_rename.proofs.PieceRows.{Cut, row_cuts, are_pieces, solid_rows}
 use Rattle.abnf_rename.proofs.PlacesLaw.{the_place, lines_places, line_places}
-use Rattle.abnf_rename.proofs.RangeSpots.{offsets, spot, with_ranges-is, all_spots}
+use Rattle.abnf_rename.proofs.RangeSpots.{offsets, spot, with_ranges-is, all_spots, all_ranges}
 use Rattle.abnf_rename.proofs.SegmentLaws.{row_of, spots, put_in, lines_rows}
 use Rattle.abnf_rename.proofs.TextKept.{rows_of, AreLineCuts, text_kept}
 use Rattle.abnf_rename.proofs.TextRows.{each_text}
@@ -105,18 +107,43 @@ module _ (encoding : Encoding) (old : Name) (new : Text) (named : is_name new �
         (ranges_spots (places_of_name old (places_of blocks))
         ∙ (ap (map spot_of) (all_listed old whole_text blocks pieces said are) ∙ all_spots old (units encoding) (units_some encoding) cuts c h))
 
+    abbrev ranges : List Block → List Range
+    ranges blocks = map (range_in encoding whole_text) (places_of_name old (places_of blocks))
+
+    place_ranges : (ns : List Named) → map (range_in encoding whole_text) ns ≡ map (place_range (units encoding) whole_text) (map (the_place old) ns)
+    place_ranges [] = refl
+    place_ranges (n ∷ ns) = ap (λ l. range_in encoding whole_text n ∷ l) (place_ranges ns)
+
+    ranges_are : (blocks : List Block) → AreSaid whole_text blocks → ranges blocks ≡ rows_ranges (units encoding) 0 (rows_of old cuts)
+    ranges_are blocks said =
+        place_ranges (places_of_name old (places_of blocks))
+        ∙ (ap (map (place_range (units encoding) whole_text)) (all_listed old whole_text blocks pieces said are) ∙ all_ranges old (units encoding) (units_some encoding) cuts c h)
+
+    cuts_made : (blocks : List Block) → AreSaid whole_text blocks → EditsGive encoding whole_text new (ranges blocks)
+    cuts_made blocks said =
+        subst (λ rs. IfSome (edited_all (units encoding) whole_text (renaming_edits new rs)) (λ t. t ≡ text_renamed encoding whole_text new (ranges blocks)))
+        (sym (ranges_are blocks said))
+        (subst (λ u. IfSome (edited_all (units encoding) whole_text (renaming_edits new (rows_ranges (units encoding) 0 (rows_of old cuts)))) (λ t. t ≡ u))
+        (sym (edited blocks said))
+        (edits_made (units encoding) (units_some encoding) new (name_solid new named) (name_plain new named) (rows_of old cuts) (solid_rows old new named cuts c) h))
+
     cuts_kept : (blocks : List Block) → AreSaid whole_text blocks → HasRenamedLines encoding old new whole_text blocks
     cuts_kept blocks said =
         subst (λ t. AreRenamedLines old new (line_texts whole_text) (line_texts t)) (sym (edited blocks said))
         (text_kept old new (name_utf8 new named) (name_solid new named) (name_plain new named) cuts c (solid_rows old new named cuts c) h)
 
-  lines_kept : (text : List ℕ) → scalars text ≡ true → (blocks : List Block) → AreSaid text blocks → HasRenamedLines encoding old new text blocks
+  -- the lines after the edits, and what the edits give
+  abbrev HasEdits : List ℕ → List Block → Type 0
+  HasEdits text blocks = HasRenamedLines encoding old new text blocks × EditsGive encoding text new (map (range_in encoding text) (places_of_name old (places_of blocks)))
+
+  lines_kept : (text : List ℕ) → scalars text ≡ true → (blocks : List Block) → AreSaid text blocks → HasEdits text blocks
   lines_kept text s blocks said =
       let rows = each_text text in
       let cuts = row_cuts old rows.0 (ap scalars rows.1.1 ∙ s) in
       let is : text_of (map row_of (rows_of old cuts.cuts)) ≡ text = ap text_of cuts.are ∙ rows.1.1 in
-      subst (λ t. HasRenamedLines encoding old new t blocks) is
-      (cuts_kept cuts.cuts cuts.cut (subst AreLines (sym cuts.are) rows.1.0) blocks (subst (λ t. AreSaid t blocks) (sym is) said))
+      let h : AreLines (map row_of (rows_of old cuts.cuts)) = subst AreLines (sym cuts.are) rows.1.0 in
+      let of : AreSaid (text_of (map row_of (rows_of old cuts.cuts))) blocks = subst (λ t. AreSaid t blocks) (sym is) said in
+      subst (λ t. HasEdits t blocks) is (cuts_kept cuts.cuts cuts.cut h blocks of, cuts_made cuts.cuts cuts.cut h blocks of)
 
 scalars_of : (cs : List ℕ) → All IsScalar cs → scalars cs ≡ true
 scalars_of [] h = refl
@@ -125,14 +152,16 @@ scalars_of (c ∷ cs) h = (λ i. All-head IsScalar c cs h i && scalars_of cs (Al
 pub grammar_kept : (encoding : Encoding) (old : Name) (new : Text) (g : Grammar) → IsGrammar g → All IsScalar g.text → IsGranted old new g → KeepsTheGrammar encoding old new g (ranges_of encoding g old)
 grammar_kept encoding old new g right s granted =
     let places : places_of right.blocks ≡ g.places = sym (ap (λ (h : Grammar). h.places) right.is) in
-    let lines : AreRenamedLines old new (line_texts g.text) (line_texts (text_renamed encoding g.text new (ranges_of encoding g old))) =
-    subst (λ ns. AreRenamedLines old new (line_texts g.text) (line_texts (text_renamed encoding g.text new (map (range_in encoding g.text) (places_of_name old ns))))) places
+    let kept : (AreRenamedLines old new (line_texts g.text) (line_texts (text_renamed encoding g.text new (ranges_of encoding g old)))) × EditsGive encoding g.text new (ranges_of encoding g old) =
+    subst (λ ns. (AreRenamedLines old new (line_texts g.text) (line_texts (text_renamed encoding g.text new (map (range_in encoding g.text) (places_of_name old ns))))) × EditsGive encoding g.text new (map (range_in encoding g.text) (places_of_name old ns))) places
     (lines_kept encoding old new granted.named g.text (scalars_of g.text s) right.blocks right.of_text)
     in
+    let lines : AreRenamedLines old new (line_texts g.text) (line_texts (text_renamed encoding g.text new (ranges_of encoding g old))) = kept.0 in
     let both : (after : Grammar) → IsGrammar after → after.text ≡ text_renamed encoding g.text new (ranges_of encoding g old) → AreSameRules old new g after × KeepsNames old new g after =
     λ after is of_text. both_kept old new g after right is granted (subst (λ t. AreRenamedLines old new (line_texts g.text) (line_texts t)) (sym of_text) lines)
     in
     record {
+      edits = kept.1;
       lines = lines;
       tokens = tokens_kept old new granted.named (line_texts g.text) (line_texts (text_renamed encoding g.text new (ranges_of encoding g old))) lines;
       rules = λ after is of_text. (both after is of_text).0;

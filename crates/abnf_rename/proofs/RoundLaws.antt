@@ -1,4 +1,4 @@
--- An offset between two characters of a line, its position, and the offset of that.
+-- An offset between two characters of a line, and its position.
 use Rattle.std.proofs.Common.{◌≡◌, ℕ, zero, suc, ◌+◌, ◌-◌, ◌<◌, ◌≤◌, inl, inr, List, [], ◌∷◌, ◌++◌, length, take, ap, ◌∙◌, arith, length-append}
 use Rattle.std.specs.Prelude.{sum_by}
 use Rattle.std.proofs.Math.Seq.{take-append_seam, take-append-add}
@@ -6,7 +6,6 @@ use Rattle.std.proofs.lemmas.List.Sums.{sum_by-cons, sum_by-append}
 use Rattle.std.proofs.lemmas.Bool.{cases_order}
 use Rattle.ls_text.specs.Lines.{offset_of, fitting, lowered, line_at, units_at}
 use Rattle.ls_text.specs.Positions.{position_of}
-use Rattle.ls_text.specs.Edits.{position_offset}
 use Rattle.ls_text.specs.Cut.{text_of, AreLines, start_of, text_at}
 use Rattle.ls_text.specs.Cut.{Row}
 use Rattle.ls_text.proofs.OffsetLaws.{at_line, is_apart, start_le, offset_of-line, fits, fitting_le}
@@ -45,9 +44,9 @@ module _ (w : ℕ → ℕ) (some : (c : ℕ) → 1 ≤ w c) where
         offset_of-line w ls h m (sum_by w front) lt
         ∙ ap (λ n. start_of ls m + n) (ap (λ l. fitting w l (sum_by w front)) cut ∙ fitting_sum front back)
 
-    -- There and back again.
-    pub round : position_offset w (text_of ls) (position_of w (text_of ls) (start_of ls m + length front)) ≡ start_of ls m + length front
-    round =
+    -- the position of that offset
+    pub position_behind : position_of w (text_of ls) (start_of ls m + length front) ≡ record { line = m; character = sum_by w front }
+    position_behind =
         let within : length front ≤ length (text_at ls m) = omega (arith, ap length cut, length-append front back) in
         let o = start_of ls m + length front in
         let here = at_line ls h m (length front) lt within in
@@ -56,4 +55,4 @@ module _ (w : ℕ → ℕ) (some : (c : ℕ) → 1 ≤ w c) where
         let units : units_at w (text_of ls) (lowered (text_of ls) o) ≡ sum_by w front =
         ap (units_at w (text_of ls)) same ∙ (ap (sum_by w) (here.before_is ∙ (ap (take (length front)) cut ∙ take-append_seam front back)))
         in
-        (λ i. offset_of w (text_of ls) (line i) (units i)) ∙ offset_behind
+        (λ i. record { line = line i; character = units i })

@@ -38,7 +38,7 @@ greatest_by a n true e = refl
 greatest_by a zero false e = omega arith
 greatest_by a (suc n) false e = absurd (let t : nat_lt a (a + suc n) ≡ true = lt-ltb a (a + suc n) (omega arith) in cc (sym t ∙ e))
 
-replaced_between : (front x back new : List ℕ) → replaced (front ++ (x ++ back)) (length front) (length front + length x) new ≡ front ++ (new ++ back)
+pub replaced_between : (front x back new : List ℕ) → replaced (front ++ (x ++ back)) (length front) (length front + length x) new ≡ front ++ (new ++ back)
 replaced_between front x back new =
     let least : min (length front) (length front + length x) ≡ length front = omega arith in
     let most : greater (length front) (length front + length x) ≡ length front + length x = greatest_by (length front) (length x) (nat_lt (length front) (length front + length x)) refl in
@@ -75,7 +75,7 @@ rows_text rows = text_of (map row_of rows)
 abbrev pub AreRows : List RowOf → Type 0
 AreRows rows = AreLines (map row_of rows)
 
-append_nil : (xs : List ℕ) → xs ++ [] ≡ xs
+pub append_nil : (xs : List ℕ) → xs ++ [] ≡ xs
 append_nil [] = refl
 append_nil (x ∷ xs) = ap (λ l. x ∷ l) (append_nil xs)
 
@@ -101,9 +101,15 @@ start_of : (x t : List ℕ) → IsSolid x → starts_with_lf (x ++ t) ≡ false
 start_of [] t h = absurd (omega (arith, h.some))
 start_of (c ∷ x) t h = h.no_lf
 
-start_tail : (x s t : List ℕ) → starts_with_lf s ≡ starts_with_lf t → starts_with_lf (x ++ s) ≡ starts_with_lf (x ++ t)
+pub start_tail : (x s t : List ℕ) → starts_with_lf s ≡ starts_with_lf t → starts_with_lf (x ++ s) ≡ starts_with_lf (x ++ t)
 start_tail [] s t e = e
 start_tail (c ∷ x) s t e = refl
+
+pub end_same : (e : LineEnd) (s t : List ℕ) → starts_with_lf s ≡ starts_with_lf t → is_end_before e t ≡ true → is_end_before e s ≡ true
+end_same Eof s t h e = e
+end_same Lf s t h e = e
+end_same Cr s t h e = ap not h ∙ e
+end_same CrLf s t h e = e
 
 module _ (new : List ℕ) (solid : IsSolid new) (new_plain : IsPlain new) where
   start_by : (b : Bool) (x s t : List ℕ) → (b ≡ true → IsSolid x) → starts_with_lf s ≡ starts_with_lf t → starts_with_lf ((if b then new else x) ++ s) ≡ starts_with_lf (x ++ t)
@@ -128,18 +134,12 @@ module _ (new : List ℕ) (solid : IsSolid new) (new_plain : IsPlain new) where
   changed_rows [] = []
   changed_rows (r ∷ rows) = ((false, changed new r.0) ∷ [], r.1) ∷ changed_rows rows
 
-  start_rows : (rows : List RowOf) → AreSolidRows rows → starts_with_lf (rows_text (changed_rows rows)) ≡ starts_with_lf (rows_text rows)
+  pub start_rows : (rows : List RowOf) → AreSolidRows rows → starts_with_lf (rows_text (changed_rows rows)) ≡ starts_with_lf (rows_text rows)
   start_rows [] h = refl
   start_rows (r ∷ rows) h =
       ap (λ l. starts_with_lf (l ++ (end_text r.1 ++ rows_text (changed_rows rows)))) (append_nil (changed new r.0))
       ∙ start_changed r.0 (end_text r.1 ++ rows_text (changed_rows rows)) (end_text r.1 ++ rows_text rows) h.0
       (start_end r.1 (rows_text (changed_rows rows)) (rows_text rows) (start_rows rows h.1))
-
-  end_same : (e : LineEnd) (s t : List ℕ) → starts_with_lf s ≡ starts_with_lf t → is_end_before e t ≡ true → is_end_before e s ≡ true
-  end_same Eof s t h e = e
-  end_same Lf s t h e = e
-  end_same Cr s t h e = ap not h ∙ e
-  end_same CrLf s t h e = e
 
   any_append : (xs ys : List ℕ) → list_any is_break (xs ++ ys) ≡ list_any is_break xs || list_any is_break ys
   any_append [] ys = refl
@@ -166,7 +166,7 @@ module _ (new : List ℕ) (solid : IsSolid new) (new_plain : IsPlain new) where
   one_plain : (xs : List Segment) → IsPlain (plain xs) → IsPlain (changed new xs ++ [])
   one_plain xs p = subst IsPlain (sym (append_nil (changed new xs))) (plain_changed xs p)
 
-  rows_changed : (rows : List RowOf) → AreSolidRows rows → AreRows rows → AreRows (changed_rows rows)
+  pub rows_changed : (rows : List RowOf) → AreSolidRows rows → AreRows rows → AreRows (changed_rows rows)
   rows_changed [] s h = absurd h
   rows_changed (r ∷ []) s h = (one_plain r.0 h.0, h.1)
   rows_changed (r ∷ q ∷ rows) s h =

@@ -3,7 +3,7 @@ use Rattle.std.proofs.Common.{◌≡◌, ℕ, false, List, [], ◌∷◌, ◌++�
 use Rattle.std.specs.Prelude.{if◌then◌else◌}
 use Rattle.ls_text.specs.Lines.{lines}
 use Rattle.ls_text.specs.Cut.{end_text, IsPlain}
-use Rattle.abnf_rename.proofs.SegmentLaws.{Segment, plain, changed, spots, put_in, put_in-is, RowOf, rows_text, AreRows, IsSolid, AreSolidRows, changed_rows, lines_changed}
+use Rattle.abnf_rename.proofs.SegmentLaws.{Segment, plain, changed, spots, put_in, put_in-is, RowOf, rows_text, AreRows, IsSolid, AreSolidRows, changed_rows, append_nil, lines_changed}
 
 -- the segments of the whole text, line ends among them
 abbrev pub whole : List RowOf → List Segment
@@ -23,10 +23,6 @@ pub plain_whole : (rows : List RowOf) → plain (whole rows) ≡ rows_text rows
 plain_whole [] = refl
 plain_whole (r ∷ rows) = plain_parts r.0 ((false, end_text r.1) ∷ whole rows) ∙ ap (λ l. plain r.0 ++ (end_text r.1 ++ l)) (plain_whole rows)
 
-append_nil : (xs : List ℕ) → xs ++ [] ≡ xs
-append_nil [] = refl
-append_nil (x ∷ xs) = ap (λ l. x ∷ l) (append_nil xs)
-
 module _ (new : List ℕ) (solid : IsSolid new) (new_plain : IsPlain new) where
   changed_whole : (rows : List RowOf) → changed new (whole rows) ≡ rows_text (changed_rows new solid new_plain rows)
   changed_whole [] = refl
@@ -34,9 +30,11 @@ module _ (new : List ℕ) (solid : IsSolid new) (new_plain : IsPlain new) where
       changed_parts new r.0 ((false, end_text r.1) ∷ whole rows)
       ∙ (λ i. sym (append_nil (changed new r.0)) i ++ (end_text r.1 ++ changed_whole rows i))
 
+  -- A text of rows that is changed from its last segment to its first is that of the changed rows.
+  pub put_in_whole : (rows : List RowOf) → put_in (rows_text rows) new (spots 0 (whole rows)) ≡ rows_text (changed_rows new solid new_plain rows)
+  put_in_whole rows = ap (λ t. put_in t new (spots 0 (whole rows))) (sym (plain_whole rows)) ∙ (put_in-is [] (whole rows) new ∙ changed_whole rows)
+
   -- The lines of a text that is changed from its last segment to its first are its lines, each changed by itself.
   pub edited_lines : (rows : List RowOf) → AreSolidRows new solid new_plain rows → AreRows rows →
       lines (put_in (rows_text rows) new (spots 0 (whole rows))) ≡ map (λ (r : RowOf). changed new r.0) rows
-  edited_lines rows s h =
-      ap (λ t. lines (put_in t new (spots 0 (whole rows)))) (sym (plain_whole rows))
-      ∙ (ap lines (put_in-is [] (whole rows) new ∙ changed_whole rows) ∙ lines_changed new solid new_plain rows s h)
+  edited_lines rows s h = ap lines (put_in_whole rows) ∙ lines_changed new solid new_plain rows s h

@@ -18,6 +18,8 @@
 //! Each line of the renamed text has the tokens of the line as it was, but for the name. Of a single line this is a law of `abnf_token`
 //! (`renames_keep_tokens`). [`renames_keep_grammars`] says all of this of the text after the edits, which is found by writing the new text
 //! into each range, from the last to the first: so the ranges that a client is sent are enough, and no line comes or goes by them.
+//! Whoever makes the edits one after another in that order, as `ls_text` applies those that it is
+//! told, has just this text.
 //!
 //! It is said of each grammar of the renamed text. A text has no more than one, and has one if its lines have fewer than 2^64 bytes, as
 //! `abnf_names` shows. There is no code here.
@@ -54,8 +56,10 @@ pub fn grammars_are_kept()
 {}
 
 /// The whole of it, for the text after the edits of a granted rename, which write the new text in the range of each place of the old
-/// name: its lines are those of the text with the new text at the places of the old name, and each grammar of it has the same rules
-/// but for that name, as [`grammars_are_kept`] says.
+/// name. The edits give it, made one after another from the last range to the first, wherever no text
+/// on the way is too large. Its lines are those of the text with the new text at the places of the
+/// old name, and each grammar of it has the same rules but for that name, as [`grammars_are_kept`]
+/// says.
 ///
 /// What a position counts within its line may be any of the encodings on which client and server agree. A text is made of Unicode scalar values, as every document is.
 pub fn renames_keep_grammars()

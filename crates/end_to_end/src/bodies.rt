@@ -1,8 +1,9 @@
 use ls_answers::{Ask, Done, Job, run};
+use ls_bodies::Refusal;
 use ls_desk::{DeskFault, Out};
 use ls_lists::{List, Text};
 use ls_rpc::Id;
-use ls_session::{ClientEvent, Refusal, Session, Turn, body_of, refusal_body};
+use ls_session::{ClientEvent, Session, Turn, body_of, refusal_body};
 use ls_text::{Encoding, Snapshot};
 use std::alloc::{AllocError as Memory, Global};
 use std::sync::Arc;

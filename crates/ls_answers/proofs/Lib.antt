@@ -9,4 +9,5 @@ pub mod OneList
 pub mod WalkLaws
 pub mod RenameLaws
 pub mod RenameKept
+pub mod NoName
 pub mod InsertionLaws

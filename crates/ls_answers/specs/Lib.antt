@@ -2,6 +2,7 @@ pub mod Outline
 pub mod Places
 pub mod Hovers
 pub mod Asks
+pub mod Asked
 pub mod Renames
 pub mod RenameKeeps
 pub mod Insertions

@@ -3,6 +3,7 @@
 ghost use Rattle.std.specs.Prelude.{◌<◌, ◌≡◌, ◌∷◌, ◌++◌, [], IfOk, IfSome, codes, length, string_bytes};
 ghost use Rattle.std.specs.Fmt.{decimal};
 ghost use Rattle.abnf_cert.specs.Accepted.{IsAccepted};
+ghost use Rattle.abnf_least.specs.Shown.{IsShown};
 ghost use Rattle.ls_answers.specs.Hover.{IsHoverText, shown_text};
 
 use abnf_cert::Cert;
@@ -30,7 +31,7 @@ fn with_length(alloc: Global, length: u64, said: &str) -> Result<String, Memory>
 }
 
 /// What is known of the shortest strings of a rule, as a text.
-pub(crate) fn shown_text(alloc: Global, shown: &Shortest) -> Result<String, Memory>
+fn shown_text(alloc: Global, shown: &Shortest) -> Result<String, Memory>
     ensures { IfOk result (λ text. string_bytes text ≡ shown_text shown.now) }
 {
     match shown {
@@ -47,14 +48,21 @@ pub(crate) fn shown_text(alloc: Global, shown: &Shortest) -> Result<String, Memo
     }
 }
 
-/// The text of a rule.
-fn rule_text(alloc: Global, grammar: &Grammar, cert: &Cert, rule: RuleNo) -> Result<String, Memory>
+/// What is known of the shortest strings of a rule, and the same as a text.
+pub(crate) fn shown_of(
+    alloc: Global,
+    grammar: &Grammar,
+    cert: &Cert,
+    rule: RuleNo,
+) -> Result<(Shortest, String), Memory>
     requires accepted { IsAccepted grammar.now.rules cert.now }
     requires rule { rule < length grammar.now.rules }
-    ensures { IfOk result (λ text. IsHoverText grammar.now.rules (Some rule) (string_bytes text)) }
+    ensures shown { IfOk result (λ r. IsShown grammar.now.rules rule r.0) }
+    ensures text { IfOk result (λ r. string_bytes r.1 ≡ shown_text r.0) }
 {
     let shown = example(alloc, grammar, cert, rule)?;
-    shown_text(alloc, &shown)
+    let text = shown_text(alloc, &shown)?;
+    Ok((shown, text))
 }
 
 /// The text that is shown of a rule, by an accepted certificate; `undefined` where a name stands for no rule. The rule must be one
@@ -78,7 +86,7 @@ pub fn hover_text(
     ensures { IfOk result (λ text. IsHoverText grammar.now.rules rule (string_bytes text)) }
 {
     match rule {
-        Some(rule) => rule_text(alloc, grammar, cert, rule),
+        Some(rule) => Ok(shown_of(alloc, grammar, cert, rule)?.1),
         None => String::from_str(alloc, "undefined"),
     }
 }

@@ -4,8 +4,8 @@ ghost use Rattle.abnf_parts.specs.Names.{folded_text};
 ghost use Rattle.ls_answers.specs.Hovers.{IsHover, IsHoverOfName, IsHoverOfRule};
 
 use crate::answer::HoverText;
-use crate::hover::shown_text;
-use abnf_least::{example, least};
+use crate::hover::shown_of;
+use abnf_least::least;
 use abnf_names::Grammar;
 use abnf_parts::RuleNo;
 use abnf_token::Folded;
@@ -64,8 +64,7 @@ fn hover_of_rule(
     ensures { IfOk result (λ hover. IsHoverOfRule grammar.now.rules range (Some rule) hover) }
 {
     let cert = least(alloc, grammar)?;
-    let shown = example(alloc, grammar, &cert, rule)?;
-    let text = shown_text(alloc, &shown)?;
+    let (shown, text) = shown_of(alloc, grammar, &cert, rule)?;
     Ok(HoverText {
         range,
         text: Text::new(text),

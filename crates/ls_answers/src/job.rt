@@ -1,20 +1,24 @@
 //! Questions about a text, and what they give.
-ghost use Rattle.std.specs.Prelude.{◌≡◌, IfOk, IfSome, MatchResult, None, Some};
+ghost use Rattle.std.specs.Prelude.{◌≡◌, IfOk, IfSome, List, MatchResult, None, Ok, Some, false, ℕ};
 ghost use Rattle.std.specs.Arc.{arc_value};
+ghost use Rattle.abnf_token.specs.Classes as classes;
 ghost use Rattle.ls_answers.specs.Answers.{IsAnswer};
+ghost use Rattle.ls_answers.specs.Asks.{IsToNoName};
+ghost use Rattle.ls_answers.specs.Asked.{asked};
 ghost use Rattle.ls_answers.specs.RenameKeeps.{KeepsIfRenamed};
 
-use crate::answer::Answer;
+use crate::answer::{Answer, RenameFault};
 use crate::ask::Ask;
 use crate::diagnostics::diagnostics;
 use crate::hovers::hover;
 use crate::insertion::insertion;
 use crate::outline::symbols;
 use crate::places::{definitions, references};
-use crate::rename::rename;
+use crate::rename::{is_name, rename};
 use crate::semantic_tokens::semantic_tokens;
 use abnf_names::Grammar;
-use ls_text::{Encoding, Snapshot};
+use ls_lists::Text;
+use ls_text::{Encoding, Position, Range, Snapshot};
 use std::alloc::{AllocError as Memory, Global};
 use std::marker::Model;
 use std::sync::Arc;
@@ -106,14 +110,26 @@ impl Done {
     }
 }
 
-/// The answer to a question about a text. An outline and the places of a name need no rules; all else is asked of the text's grammar.
+/// A question that is asked of a text's grammar. All others need no rules.
+#[derive(Clone, Copy)]
+enum GrammarAsk<'a> {
+    Hover(Position),
+    Rename(Position, &'a Text),
+    Action(Range),
+    Tokens,
+    Diagnose,
+}
+
+/// The answer to a question about a text. An outline and the places of a name need no rules, nor does a new name that is none; all
+/// else is asked of the text's grammar.
 fn answer_of(
     alloc: Global,
     snapshot: &Snapshot,
     encoding: Encoding,
     ask: &Ask,
 ) -> Result<Answer, Memory>
-    ensures { IfOk result (λ answer. IsAnswer encoding snapshot.now ask.now answer) }
+    ensures answer { IfOk result (λ answer. IsAnswer encoding snapshot.now ask.now answer) }
+    ensures not_a_name { IsToNoName ask.now → result ≡ Ok (Answer.Refused RenameFault.NotAName) }
 {
     match ask {
         Ask::Symbols => Ok(Answer::Symbols(symbols(alloc, snapshot, encoding)?)),
@@ -125,8 +141,27 @@ fn answer_of(
             encoding,
             *declarations,
         )?)),
-        _ => by_grammar(alloc, snapshot, encoding, ask),
+        Ask::Rename(at, new) => {
+            if !is_name(new.as_str()) {
+                return Ok(not_a_name(snapshot));
+            }
+            by_grammar(alloc, snapshot, encoding, GrammarAsk::Rename(*at, new))
+        }
+        Ask::Hover(at) => by_grammar(alloc, snapshot, encoding, GrammarAsk::Hover(*at)),
+        Ask::Action(range) => by_grammar(alloc, snapshot, encoding, GrammarAsk::Action(*range)),
+        Ask::Tokens => by_grammar(alloc, snapshot, encoding, GrammarAsk::Tokens),
+        Ask::Diagnose => by_grammar(alloc, snapshot, encoding, GrammarAsk::Diagnose),
     }
+}
+
+/// What is answered to a rename whose new text is no name.
+fn not_a_name(snapshot: &Snapshot) -> Answer
+    ensures value { result ≡ Answer.Refused RenameFault.NotAName }
+    ensures answer { (encoding : Encoding) (at : Position) (new : List ℕ) → classes.is_name new ≡ false
+        → IsAnswer encoding snapshot.now (Ask.Rename at new) result }
+{
+    let _count = snapshot.char_count();
+    Answer::Refused(RenameFault::NotAName)
 }
 
 /// The answer by the grammar of the text, which is made once and let go here.
@@ -134,9 +169,9 @@ fn by_grammar(
     alloc: Global,
     snapshot: &Snapshot,
     encoding: Encoding,
-    ask: &Ask,
+    ask: GrammarAsk<'_>,
 ) -> Result<Answer, Memory>
-    ensures { IfOk result (λ answer. IsAnswer encoding snapshot.now ask.now answer) }
+    ensures { IfOk result (λ answer. IsAnswer encoding snapshot.now (asked ask.entry) answer) }
 {
     let grammar = Grammar::of(alloc, snapshot)?;
     let answer = answer_in(alloc, &grammar, encoding, ask);
@@ -149,43 +184,32 @@ fn answer_in(
     alloc: Global,
     grammar: &Grammar,
     encoding: Encoding,
-    ask: &Ask,
+    ask: GrammarAsk<'_>,
 ) -> Result<Answer, Memory>
-    ensures { IfOk result (λ answer. IsAnswer encoding grammar.now.text ask.now answer) }
+    ensures { IfOk result (λ answer. IsAnswer encoding grammar.now.text (asked ask.entry) answer) }
 {
     match ask {
-        Ask::Hover(at) => Ok(Answer::Hover(hover(alloc, grammar, *at, encoding)?)),
-        Ask::Definition(at) => Ok(Answer::Places(definitions(
-            alloc,
-            grammar.source(),
-            *at,
-            encoding,
-        )?)),
-        Ask::References(at, declarations) => Ok(Answer::Places(references(
-            alloc,
-            grammar.source(),
-            *at,
-            encoding,
-            *declarations,
-        )?)),
-        Ask::Symbols => Ok(Answer::Symbols(symbols(alloc, grammar.source(), encoding)?)),
-        Ask::Rename(at, new) => rename(alloc, grammar, *at, encoding, new),
-        Ask::Action(range) => Ok(Answer::Insert(insertion(alloc, grammar, *range, encoding)?)),
-        Ask::Tokens => Ok(Answer::Numbers(semantic_tokens(alloc, grammar, encoding)?)),
-        Ask::Diagnose => Ok(Answer::Findings(diagnostics(alloc, grammar, encoding)?)),
+        GrammarAsk::Hover(at) => Ok(Answer::Hover(hover(alloc, grammar, at, encoding)?)),
+        GrammarAsk::Rename(at, new) => rename(alloc, grammar, at, encoding, new),
+        GrammarAsk::Action(range) => {
+            Ok(Answer::Insert(insertion(alloc, grammar, range, encoding)?))
+        }
+        GrammarAsk::Tokens => Ok(Answer::Numbers(semantic_tokens(alloc, grammar, encoding)?)),
+        GrammarAsk::Diagnose => Ok(Answer::Findings(diagnostics(alloc, grammar, encoding)?)),
     }
 }
 
 /// Answers the question of a job. A refusal of memory is kept in what it gives.
 ///
 /// The edits of a rename that is granted keep the grammar of the text: line by line its tokens but at the places of the name, and its
-/// rules with what they generate.
+/// rules with what they generate. A rename to what is no name is refused as that, whatever memory there is.
 pub fn run(alloc: Global, job: Job) -> Done
     ensures ticket { result.ticket ≡ job.ticket }
     ensures text { result.text ≡ arc_value job.snapshot }
     ensures encoding { result.encoding ≡ job.encoding }
     ensures ask { result.ask ≡ job.ask }
     ensures keeps { IfSome result.answer (λ answer. KeepsIfRenamed job.encoding (arc_value job.snapshot) job.ask answer) }
+    ensures not_a_name { IsToNoName job.ask → result.answer ≡ Some (Answer.Refused RenameFault.NotAName) }
 {
     let Job {
         ticket,

@@ -96,7 +96,7 @@ fn is_in_use(grammar: &Grammar, name: Folded) -> bool
 }
 
 /// Whether a text is a name: a letter, then letters, digits and `-` (RFC 5234, sections 2.1 and 4).
-fn is_name(text: &str) -> bool
+pub(crate) fn is_name(text: &str) -> bool
     ensures { result ≡ classes.is_name text.now }
 {
     match text.as_bytes() {

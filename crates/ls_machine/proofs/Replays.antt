@@ -1,5 +1,5 @@
 -- Events, one after the other: the states that they lead to, and how many there are.
-use Rattle.std.proofs.Common.{◌≡◌, ℕ, zero, suc, ◌+◌, ◌≤◌, Bool, true, false, List, [], ◌∷◌, ◌++◌, length, refl, sym, ap, ◌∙◌, subst, arith, length-append, append-nil}
+use Rattle.std.proofs.Common.{◌≡◌, ℕ, zero, suc, ◌+◌, ◌≤◌, false, List, [], ◌∷◌, ◌++◌, length, refl, sym, ap, ◌∙◌, subst, arith}
 use Rattle.ls_machine.specs.declared.base.Base.{Base}
 use Rattle.ls_machine.specs.declared.base.Counts.{Counts}
 use Rattle.ls_machine.specs.declared.event.Event.{Event}

@@ -1,5 +1,5 @@
 -- A job that has run was taken.
-use Rattle.std.proofs.Common.{◌≡◌, ℕ, ◌+◌, Bool, true, false, List, [], ◌∷◌, ◌++◌, refl, sym, ap, ◌∙◌, subst}
+use Rattle.std.proofs.Common.{◌≡◌, ℕ, Bool, true, false, List, [], ◌∷◌, ◌++◌, refl}
 use Rattle.std.specs.Prelude.{ℤ, Option, Some, None, find, ◌&&◌, ◌==◌, cond}
 use Rattle.ls_rpc.specs.declared.message.Id.{Id}
 use Rattle.ls_text.specs.Positions.{Measured}

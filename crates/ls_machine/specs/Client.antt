@@ -3,6 +3,7 @@ use Rattle.ls_answers.specs.declared.ask.Ask.TheVariants.{Diagnose}
 use Rattle.std.specs.Prelude.{◌≡◌, ◌≢◌, ◌++◌, ◌∷◌, [], ℕ, List, Option, Some, None, Bool, false, nat_lt, length, filter_map}
 use Rattle.std.specs.Str.{chars}
 use Rattle.ls_text.specs.Edits.{is_too_large}
+use Rattle.ls_rpc.specs.Message.{IsText}
 use Rattle.ls_rpc.specs.declared.message.Id.{Id}
 use Rattle.ls_machine.specs.declared.event.Event.{Event}
 use Rattle.ls_machine.specs.declared.event.Event.TheVariants as event
@@ -30,6 +31,11 @@ Notes e answer old new = (entry : Event) × (entry_of e answer ≡ Some entry) �
 abbrev pub IsAllowed : ClientEvent → Type 0
 IsAllowed (Request id uri question links) = question ≢ Diagnose
 IsAllowed _ = Unit {0}
+
+-- the event has a text or a body, as all have but a cancel by a number
+abbrev pub HoldsText : ClientEvent → Type 0
+HoldsText (Cancel id) = IsText (Some id)
+HoldsText _ = Unit {0}
 
 -- whom a refusal of this event concerns
 abbrev pub asker_of : ClientEvent → Option Id

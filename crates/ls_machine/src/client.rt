@@ -1,6 +1,7 @@
 //! What a client does at a desk.
-ghost use Rattle.std.specs.Prelude.{◌≡◌, IfOk};
-ghost use Rattle.ls_machine.specs.Client.{asker_of};
+ghost use Rattle.std.specs.Prelude.{◌≡◌, ◌<◌, IfOk, OnErr, length};
+ghost use Rattle.ls_rpc.specs.Message.{IsText};
+ghost use Rattle.ls_machine.specs.Client.{HoldsText, asker_of};
 
 use ls_answers::Ask;
 use ls_lists::{List, Text};
@@ -8,7 +9,8 @@ use ls_rpc::Id;
 use ls_text::{Edit, Encoding};
 use std::alloc::AllocError as Memory;
 
-/// What a client does: a call of the desk, with its arguments.
+/// What a client does: a call of the desk, with its arguments. Texts and lists are those of
+/// `ls_lists`, here and in the calls of the desk, so contracts see what they hold and no memory.
 #[derive(Drop)]
 pub enum ClientEvent {
     /// A document is opened: its uri, the client's version of it, its text, and what the positions in its texts count.
@@ -45,9 +47,10 @@ pub enum ClientAnswer {
 impl ClientEvent {
     /// An event of its own that is the same.
     ///
-    /// `Memory` says that an allocation was refused.
+    /// `Memory` says that an allocation was refused. A cancel by a number needs none.
     pub fn copy(&self) -> Result<ClientEvent, Memory>
-        ensures { IfOk result (λ event. event ≡ self.now) }
+        ensures ok { IfOk result (λ event. event ≡ self.now) }
+        ensures memory { OnErr result (HoldsText self.now) }
     {
         match self {
             ClientEvent::DidOpen(uri, label, text, encoding) => {
@@ -71,9 +74,10 @@ impl ClientEvent {
 
     /// The id of the request, where the event is one: a refusal concerns whoever asked.
     ///
-    /// `Memory` says that an allocation was refused.
+    /// `Memory` says that an allocation was refused. Only a request whose id is a text needs one.
     pub fn asker(&self) -> Result<Option<Id>, Memory>
-        ensures { IfOk result (λ id. id ≡ asker_of self.now) }
+        ensures ok { IfOk result (λ id. id ≡ asker_of self.now) }
+        ensures memory { OnErr result (IsText (asker_of self.now)) }
     {
         match self {
             ClientEvent::Request(id, _, _, _) => Ok(Some(id.copy()?)),
@@ -86,9 +90,10 @@ impl ClientEvent {
     }
 }
 
-/// Edits of their own that are the same.
+/// Edits of their own that are the same. No edits need no memory.
 pub fn copy_of(edits: &List<Edit>) -> Result<List<Edit>, Memory>
-    ensures { IfOk result (λ copy. copy ≡ edits.now) }
+    ensures ok { IfOk result (λ copy. copy ≡ edits.now) }
+    ensures memory { OnErr result (0 < length edits.now) }
 {
     let mut copy = edits.new_alike();
     for edit in edits.as_slice() {

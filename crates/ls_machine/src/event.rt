@@ -7,7 +7,8 @@ use ls_text::{Edit, Encoding};
 use std::alloc::AllocError;
 use thiserror::Error;
 
-/// One entry of the journal. A client's event has the answer that its call gave.
+/// One entry of the journal. A client's event has the answer that its call gave. Texts and lists are
+/// those of `ls_lists`.
 #[derive(Drop)]
 pub enum Event {
     /// A document was opened.

@@ -1,5 +1,6 @@
 //! States, and their parts.
-ghost use Rattle.std.specs.Prelude.{◌≡◌, IfOk};
+ghost use Rattle.std.specs.Prelude.{◌≡◌, IfOk, OnErr, Some};
+ghost use Rattle.ls_rpc.specs.Message.{IsText};
 ghost use Rattle.ls_machine.specs.Machine.{start};
 
 use crate::shared::SharedSnapshot;
@@ -46,9 +47,10 @@ pub struct Request {
 }
 
 impl Request {
-    /// A request of its own that is the same.
+    /// A request of its own that is the same. Only an id that is a text needs memory.
     pub fn copy(&self) -> Result<Request, AllocError>
-        ensures { IfOk result (λ request. request ≡ self.now) }
+        ensures ok { IfOk result (λ request. request ≡ self.now) }
+        ensures memory { OnErr result (IsText (Some self.now.id)) }
     {
         Ok(Request {
             id: self.id.copy()?,

@@ -15,7 +15,7 @@ use Rattle.abnf_names.proofs.OneGrammar.{one_grammar}
 use Rattle.abnf_names.proofs.Within.{rule_within}
 use Rattle.abnf_cert.specs.Accepted.{IsAccepted}
 use Rattle.abnf_cert.specs.Text.{cert_text}
-use Rattle.abnf_cert.specs.Read.{Reads}
+use Rattle.abnf_cert.specs.Read.{IsOf64Bits, Reads}
 use Rattle.abnf_cert.proofs.Again.{texts_are_read}
 use Rattle.abnf_least.specs.declared.shortest.Shortest.{Shortest}
 use Rattle.abnf_least.specs.declared.shortest.Shortest.TheVariants.{Shown, Long, Huge, Nothing, NotKnown}
@@ -23,7 +23,7 @@ use Rattle.abnf_least.specs.Rendered.{rendered, rendered_text}
 use Rattle.abnf_least.proofs.SomeShown.{certificate_of}
 use Rattle.ls_answers.specs.Hover.{IsHoverText, shown_text}
 use Rattle.ls_answers.proofs.HoverTexts.{some_hover_text}
-use Rattle.ls_server.specs.Commands.{behind_empty_line, cert_part, IsExampleText, IsChecked, IsOf64Bits}
+use Rattle.ls_server.specs.Commands.{behind_empty_line, cert_part, IsExampleText, IsChecked}
 
 pub some_example : (text name : List ℕ) → length text < 2 ^ 62 → (bytes : List ℕ) × IsExampleText text name bytes
 some_example text name small =
@@ -151,9 +151,9 @@ of_hover roots None text cert is =
     ap (λ x. behind_empty_line 10 (x ++ 10 ∷ 10 ∷ cert)) is ∙ one_line (codes "undefined") cert (omega arith) (all_above (codes "undefined") refl)
 of_hover roots (Some r) text cert is = ap (λ x. behind_empty_line 10 (x ++ 10 ∷ 10 ∷ cert)) is.2 ∙ of_shown is.0 cert
 
-pub accepted : (text name bytes : List ℕ) (answer : Bool) (example : IsExampleText text name bytes) (checked : IsChecked text bytes answer)
-    → IsOf64Bits example.example.entries → IsOf64Bits checked.entries → IsTrue answer
-accepted text name bytes answer example checked wide other =
+pub accepted : (text name bytes : List ℕ) (answer : Bool) (example : IsExampleText text name bytes) → IsOf64Bits example.example.entries
+    → IsChecked text bytes answer → IsTrue answer
+accepted text name bytes answer example wide checked =
     let e = example.example in
     let g : Grammar = example.grammar in
     let same : g ≡ checked.grammar = one_grammar g checked.grammar example.right checked.right (example.of_text ∙ sym checked.of_text) in
@@ -161,5 +161,5 @@ accepted text name bytes answer example checked wide other =
     ap (λ o. unwrap_or o bytes) (ap (behind_empty_line 10) (e.bytes_are ∙ append_assoc e.shown (10 ∷ 10 ∷ []) (cert_text e.entries)) ∙ of_hover g.rules (rule_number g.names (lowercase name)) e.shown (cert_text e.entries) e.hover) in
     let same_text : cert_text checked.entries ≡ cert_text e.entries = sym checked.read ∙ part in
     let is : checked.entries ≡ e.entries =
-    (texts_are_read e.entries wide.0 wide.1).1 checked.entries (subst (λ t. Reads 0 t checked.entries) same_text (texts_are_read checked.entries other.0 other.1).0) in
+    (texts_are_read e.entries wide).1 checked.entries (subst (λ t. Reads 0 t checked.entries) same_text (texts_are_read checked.entries checked.wide).0) in
     checked.answer.1 (subst (λ es. IsAccepted checked.grammar.rules es) (sym is) (subst (λ (h : Grammar). IsAccepted h.rules e.entries) same e.accepted))

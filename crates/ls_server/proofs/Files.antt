@@ -1,10 +1,11 @@
 -- What is known of the bytes of a file.
-use Rattle.std.proofs.Common.{◌≡◌, ◌∙◌, ℕ, ◌+◌, ◌≤◌, List, [], ◌++◌, Option, Some, None, length, take, option_map, ap, subst, arith}
+use Rattle.std.proofs.Common.{◌≡◌, ◌∙◌, ℕ, ◌+◌, ◌<◌, ◌≤◌, ⊎_elim, List, [], ◌++◌, Option, Some, None, length, take, option_map, ap, subst, arith}
 use Rattle.std.specs.Prelude.{IfSome, Vec, String, string_bytes, string_len, chars}
 use Rattle.std.specs.String.{string_vec}
 use Rattle.std.proofs.Common.{Global}
 use Rattle.std.proofs.lemmas.Str.{IsUtf8-string_bytes}
 use Rattle.ls_server.specs.Commands.{IsTextFile}
+use Rattle.std.proofs.lemmas.Bool.{cases_lt}
 use Rattle.std.proofs.lemmas.List.{take_all, length-take}
 
 -- what is read with a limit above the most is all, if it isn't more than the most
@@ -19,3 +20,9 @@ pub text_file : (text : String Global) (bytes : Vec ℕ Global) (s : List ℕ) �
 text_file text bytes s is small same =
     let few : length (string_bytes text) ≤ 4194304 = omega (arith, text.bytes.ok.0) in
     subst (λ (v : Vec ℕ Global). IsTextFile v.items × (s ≡ chars v.items)) is (record { utf8 = IsUtf8-string_bytes text; small = few }, same)
+
+-- Bytes that are UTF-8 and aren't too many are a text's.
+pub small_file : (text : String Global) (bytes : Vec ℕ Global) → string_vec text ≡ bytes → (4194304 < string_len text → ⊥) → IsTextFile bytes.items
+small_file text bytes is few =
+    let small : length (string_bytes text) ≤ 4194304 = ⊎_elim (λ more. absurd (few (omega (arith, more, text.bytes.ok.0)))) (λ le. le) (cases_lt 4194304 (length (string_bytes text))) in
+    subst (λ (v : Vec ℕ Global). IsTextFile v.items) is (record { utf8 = IsUtf8-string_bytes text; small = small })

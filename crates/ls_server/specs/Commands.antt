@@ -1,7 +1,6 @@
 -- What the commands of the program say of a text.
 use Rattle.std.specs.Prelude.{◌≡◌, ◌≤◌, ◌<◌, ◌^◌, ◌↔◌, ℕ, ◌++◌, ◌∷◌, Bool, ◌&&◌, ◌==◌, IsTrue, List, [], Option, Some, None, length, if◌then◌else◌}
 use Rattle.std.specs.Option.{unwrap_or}
-use Rattle.std.specs.List.{AllByRecursion}
 use Rattle.std.specs.Str.{IsUtf8}
 use Rattle.abnf_token.specs.Folded.{lowercase}
 use Rattle.abnf_parts.specs.Names.{rule_number}
@@ -9,7 +8,7 @@ use Rattle.abnf_names.specs.Rules.{Grammar, IsGrammar}
 use Rattle.abnf_cert.specs.declared.entry.Entry.{Entry}
 use Rattle.abnf_cert.specs.Accepted.{IsAccepted}
 use Rattle.abnf_cert.specs.Says.{EachSays}
-use Rattle.abnf_cert.specs.Read.{IsWide}
+use Rattle.abnf_cert.specs.Read.{IsOf64Bits}
 use Rattle.abnf_cert.specs.Text.{cert_text}
 use Rattle.ls_answers.specs.Hover.{IsHoverText}
 
@@ -39,12 +38,13 @@ pub record IsExampleText (text name bytes : List ℕ) : Type 0 where
   pub example : IsExampleIn grammar name bytes
 
 -- The answer is yes exactly where the bytes, past their first empty line, are the text of a certificate that is accepted for the
--- text's grammar, and then each of its entries is right. They are the text of a certificate.
+-- text's grammar, and then each of its entries is right. They are the text of a certificate with numbers of 64 bits.
 pub record IsChecked (text bytes : List ℕ) (yes : Bool) : Type 0 where
   pub grammar : Grammar
   pub of_text : grammar.text ≡ text
   pub right : IsGrammar grammar
   pub entries : List Entry
+  pub wide : IsOf64Bits entries
   pub read : cert_part bytes ≡ cert_text entries
   pub answer : IsTrue yes ↔ IsAccepted grammar.rules entries
   pub sound : IsTrue yes → EachSays grammar.rules entries
@@ -54,10 +54,6 @@ pub record IsTextFile (bytes : List ℕ) : Type 0 where
   pub utf8 : IsUtf8 bytes
   pub small : length bytes ≤ 4194304
 
--- the numbers in a certificate's text are of 64 bits
-abbrev pub IsOf64Bits : List Entry → Type 0
-IsOf64Bits entries = AllByRecursion IsWide entries × (length entries < 2 ^ 64)
-
 -- each text of fewer than 2^62 characters has an example for each name
 abbrev pub ExampleTextsExist : Type 0
 ExampleTextsExist = (text name : List ℕ) → length text < 2 ^ 62 → (bytes : List ℕ) × IsExampleText text name bytes
@@ -65,5 +61,5 @@ ExampleTextsExist = (text name : List ℕ) → length text < 2 ^ 62 → (bytes :
 -- what is said of an example of the same text is yes
 abbrev pub ExampleTextsAreAccepted : Type 0
 ExampleTextsAreAccepted =
-    (text name bytes : List ℕ) (yes : Bool) (example : IsExampleText text name bytes) (checked : IsChecked text bytes yes) →
-    IsOf64Bits example.example.entries → IsOf64Bits checked.entries → IsTrue yes
+    (text name bytes : List ℕ) (yes : Bool) (example : IsExampleText text name bytes) → IsOf64Bits example.example.entries →
+    IsChecked text bytes yes → IsTrue yes

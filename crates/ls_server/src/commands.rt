@@ -1,9 +1,9 @@
 //! What the commands of the program say of a text.
 
-ghost use Rattle.std.specs.Prelude.{◌≡◌, ◌≢◌, ◌<◌, ◌^◌, ◌∷◌, ◌++◌, [], IfErr, IfOk, List, length, string_bytes};
-ghost use Rattle.std.specs.List.{AllByRecursion};
+ghost use Rattle.std.specs.Prelude.{◌≡◌, ◌≢◌, ◌∷◌, ◌++◌, [], Err, IfErr, IfOk, List, string_bytes};
 ghost use Rattle.abnf_cert.specs.declared.entry.Entry.{Entry};
-ghost use Rattle.abnf_cert.specs.Read.{IsFirstFault, IsWide};
+ghost use Rattle.abnf_cert.specs.declared.fault.CertFault.{CertFault};
+ghost use Rattle.abnf_cert.specs.Read.{IsFirstFault, IsLineFault, IsOf64Bits};
 ghost use Rattle.abnf_cert.specs.Text.{cert_text};
 ghost use Rattle.abnf_names.specs.Rules.{IsGrammar};
 ghost use Rattle.ls_server.specs.Commands.{IsChecked, IsExampleIn, IsExampleText, cert_part};
@@ -78,16 +78,17 @@ pub fn example_text(alloc: Global, snapshot: &Snapshot, rule: &str) -> Result<St
 ///
 /// # Errors
 ///
-/// The fault of [`read_cert`], and `Memory` where an allocation is refused.
+/// The fault of [`read_cert`], and `Memory` where an allocation is refused, which none needs for a fault of the first line.
 pub fn check_text(alloc: Global, snapshot: &Snapshot, cert: &[u8]) -> Result<bool, CertFault>
     ensures answer { IfOk result (λ yes. IsChecked snapshot.now cert.now yes) }
 
     // The text of a certificate is read as it, unless memory runs out.
-    ensures only { (es : List Entry) → AllByRecursion IsWide es → length es < 2 ^ 64 → cert_part cert.now ≡ cert_text es
+    ensures only { (es : List Entry) → IsOf64Bits es → cert_part cert.now ≡ cert_text es
         → IfErr result (λ fault. fault ≡ CertFault.Memory) }
 
-    // Which fault it is, of what can't be read.
+    // Which fault it is, of what can't be read. That of the first line is found before memory is asked for.
     ensures fault { IfErr result (λ fault. fault ≢ CertFault.Memory → IsFirstFault fault (cert_part cert.now)) }
+    ensures first { (fault : CertFault) → fault ≢ CertFault.Memory → IsLineFault fault 0 (cert_part cert.now) → result ≡ Err fault }
 {
     let cert = read_cert(alloc, cert_part(cert))?;
     match grammar_of(alloc, snapshot) {

@@ -1,6 +1,7 @@
 //! The files that the commands read.
 
-ghost use Rattle.std.specs.Prelude.{◌≡◌, ◌≤◌, ◌<◌, ◌⊎◌, IfErr, IfOk, IfSome, length};
+ghost use Rattle.std.specs.Prelude.{◌≡◌, ◌≤◌, ◌<◌, ◌⊎◌, ◌↔◌, IfErr, IfOk, IfSome, length};
+ghost use Rattle.std.specs.IoError.{error_kind};
 ghost use Rattle.std.specs.Str.{chars};
 ghost use Rattle.ls_server.specs.Commands.{IsTextFile};
 
@@ -27,9 +28,10 @@ pub enum FileFault {
 }
 
 impl FileFault {
-    /// What a file's error means.
+    /// What a file's error means: `Memory` where its kind says so, else `CannotRead`.
     pub fn of(error: &io::Error) -> FileFault
-        ensures { (result ≡ FileFault.CannotRead) ⊎ (result ≡ FileFault.Memory) }
+        ensures one { (result ≡ FileFault.CannotRead) ⊎ (result ≡ FileFault.Memory) }
+        ensures memory { (result ≡ FileFault.Memory) ↔ (error_kind error.now ≡ ErrorKind.OutOfMemory) }
     {
         if error.kind() == ErrorKind::OutOfMemory {
             FileFault::Memory
@@ -77,7 +79,7 @@ pub fn read_text<R: Read + Drop>(alloc: Global, file: R) -> Result<Snapshot, Fil
 /// The text that these bytes are.
 fn text_of(alloc: Global, bytes: Vec<u8>) -> Result<Snapshot, FileFault>
     ensures text { IfOk result (λ text. IsTextFile bytes.items × (text ≡ chars bytes.items)) }
-    ensures fault { result ≡ Err FileFault.NotText → ¬ (IsTextFile bytes.items) }
+    ensures fault { (result ≡ Err FileFault.NotText) ↔ ¬ (IsTextFile bytes.items) }
 {
     let Ok(text) = String::from_utf8(bytes) else {
         return Err(FileFault::NotText);

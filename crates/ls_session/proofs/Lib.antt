@@ -1,4 +1,2 @@
-pub mod Arrays
-pub mod Floats
 pub mod Changes
-pub mod WithoutCert
+pub mod Ended

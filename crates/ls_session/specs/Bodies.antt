@@ -1,135 +1,14 @@
--- The bodies of what is said. Members of their JSON stand in the order of their keys.
-use Rattle.std.specs.Prelude.{ℕ, ℤ, List, [], map, Bool, codes, Option, Some, None, option_map}
-use Rattle.serde_json.specs.Data.{Data, null, number, string, array, object, unsigned, member, no_members}
-use Rattle.serde_json.specs.Find.{of_integer}
-use Rattle.serde_json.specs.View.{items_of}
-use Rattle.serde_json.specs.Written.{compact_text}
-use Rattle.ls_text.specs.declared.position.Range.{Range}
+-- The bodies of what the desk says: of what waits to be said, and of its refusals.
+use Rattle.std.specs.Prelude.{ℕ, List, Option, Some, None, option_map}
 use Rattle.ls_rpc.specs.declared.message.Id.{Id}
-use Rattle.ls_rpc.specs.Reply.{notice_json, result_json}
-use Rattle.ls_session.specs.Edits.{actions_json, edits_json, workspace_edit_json}
-use Rattle.ls_session.specs.Positions.{range_json}
-use Rattle.ls_session.specs.Refusal.{error_body, refusal_of_failure, refusal_of_fault, refusal_of_rename}
-use Rattle.ls_session.specs.Tokens.{tokens_json}
-use Rattle.abnf_lint.specs.Messages.{code_text, severity_of}
-use Rattle.abnf_lint.specs.declared.message.Severity.{Severity}
-use Rattle.abnf_lint.specs.declared.message.Severity.TheVariants.{Error, Warning}
-use Rattle.ls_answers.specs.declared.answer.Symbol.{Symbol}
-use Rattle.ls_answers.specs.declared.answer.HoverText.{HoverText}
-use Rattle.ls_answers.specs.declared.answer.Diagnostic.{Diagnostic}
-use Rattle.ls_answers.specs.declared.answer.RenameFault.{RenameFault}
-use Rattle.ls_answers.specs.declared.answer.Answer.{Answer}
-use Rattle.ls_answers.specs.declared.answer.Answer.TheVariants as answer
+use Rattle.ls_bodies.specs.Bodies.{failure_body, findings_body, reply_body}
+use Rattle.ls_bodies.specs.Refusal.{error_body}
+use Rattle.ls_bodies.specs.declared.refusal.Refusal.{Refusal}
+use Rattle.ls_bodies.specs.declared.refusal.Refusal.TheVariants as refusal
 use Rattle.ls_machine.specs.declared.event.Out.{Out}
 use Rattle.ls_machine.specs.declared.event.Out.TheVariants as out
 use Rattle.ls_machine.specs.declared.event.DeskFault.{DeskFault}
-
--- of the kind 12, a function (LSP 3.17, "Document Symbols Request")
-abbrev pub symbol_json : Symbol → Data
-symbol_json symbol =
-    object (member (codes "kind") (number (unsigned 12))
-    (member (codes "name") (string symbol.name)
-    (member (codes "range") (range_json symbol.range)
-    (member (codes "selectionRange") (range_json symbol.name_range) no_members))))
-
-abbrev pub symbols_json : List Symbol → Data
-symbols_json symbols = array (items_of (map symbol_json symbols))
-
--- a place in a document (LSP 3.17, "Location")
-abbrev pub location_json : List ℕ → Range → Data
-location_json uri range =
-    object (member (codes "range") (range_json range)
-    (member (codes "uri") (string uri) no_members))
-
-abbrev pub locations_json : List ℕ → List Range → Data
-locations_json uri ranges = array (items_of (map (location_json uri) ranges))
-
--- a text that isn't marked up (LSP 3.17, "MarkupContent")
-abbrev pub plain_text_json : List ℕ → Data
-plain_text_json text =
-    object (member (codes "kind") (string (codes "plaintext"))
-    (member (codes "value") (string text) no_members))
-
--- what is shown of a name (LSP 3.17, "Hover Request")
-abbrev pub hover_json : HoverText → Data
-hover_json hover =
-    object (member (codes "contents") (plain_text_json hover.text)
-    (member (codes "range") (range_json hover.range) no_members))
-
-abbrev pub hover_or_null : Option HoverText → Data
-hover_or_null None = null
-hover_or_null (Some hover) = hover_json hover
-
--- `DiagnosticSeverity` (LSP 3.17, "Diagnostic")
-abbrev pub severity_number : Severity → ℕ
-severity_number Error = 1
-severity_number Warning = 2
-
--- what is wrong or doubtful at a place (LSP 3.17, "Diagnostic")
-abbrev pub diagnostic_json : Diagnostic → Data
-diagnostic_json diagnostic =
-    object (member (codes "code") (string (code_text diagnostic.code))
-    (member (codes "message") (string diagnostic.message)
-    (member (codes "range") (range_json diagnostic.range)
-    (member (codes "severity") (number (unsigned (severity_number (severity_of diagnostic.code))))
-    (member (codes "source") (string (codes "abnf")) no_members)))))
-
-abbrev pub diagnostics_json : List Diagnostic → Data
-diagnostics_json diagnostics = array (items_of (map diagnostic_json diagnostics))
-
--- the result that an answer about a document is, by its uri, the client's version of it, and whether the client takes edits as
--- `documentChanges`; a rename that isn't granted has none
-abbrev pub answer_json : List ℕ → ℤ → Bool → Answer → Data
-answer_json uri label links (answer.Hover hover) = hover_or_null hover
-answer_json uri label links (answer.Places ranges) = locations_json uri ranges
-answer_json uri label links (answer.Symbols symbols) = symbols_json symbols
-answer_json uri label links (answer.Edits ranges new) = workspace_edit_json uri label links (edits_json new ranges)
-answer_json uri label links (answer.Refused fault) = null
-answer_json uri label links (answer.Insert insertion) = actions_json uri label links insertion
-answer_json uri label links (answer.Numbers numbers) = tokens_json numbers
-answer_json uri label links (answer.Findings diagnostics) = diagnostics_json diagnostics
-
--- the findings that an answer tells; one of another kind tells none
-abbrev pub found_in : Answer → List Diagnostic
-found_in (answer.Findings diagnostics) = diagnostics
-found_in _ = []
-
--- what is published of the document's version with this label (LSP 3.17, "PublishDiagnostics Notification")
-abbrev pub findings_json : List ℕ → ℤ → Answer → Data
-findings_json uri label answer =
-    object (member (codes "diagnostics") (diagnostics_json (found_in answer))
-    (member (codes "uri") (string uri)
-    (member (codes "version") (number (of_integer label)) no_members)))
-
--- why a rename isn't granted, if the answer says so
-abbrev pub fault_in : Answer → Option RenameFault
-fault_in (answer.Refused fault) = Some fault
-fault_in _ = None
-
--- the reply whose result an answer is
-unfoldable pub answered_json : Id → List ℕ → ℤ → Bool → Answer → Data
-answered_json id uri label links answer = result_json id (answer_json uri label links answer)
-
--- the notice that publishes what was found
-unfoldable pub published_json : List ℕ → ℤ → Answer → Data
-published_json uri label answer = notice_json (codes "textDocument/publishDiagnostics") (findings_json uri label answer)
-
--- the error where there is one, else the result
-abbrev pub error_or_result : Id → Option RenameFault → Data → List ℕ
-error_or_result id (Some fault) reply = error_body (Some id) (refusal_of_rename fault)
-error_or_result id None reply = compact_text reply
-
--- the body that replies to a request about a document with an answer
-unfoldable pub reply_body : Id → List ℕ → ℤ → Bool → Answer → List ℕ
-reply_body id uri label links answer = error_or_result id (fault_in answer) (answered_json id uri label links answer)
-
--- the body that publishes what was found in a document
-unfoldable pub findings_body : List ℕ → ℤ → Answer → List ℕ
-findings_body uri label answer = compact_text (published_json uri label answer)
-
--- the body that replies to a request which the desk gave up, by the code that it keeps
-unfoldable pub failure_body : Id → ℤ → List ℕ
-failure_body id code = error_body (Some id) (refusal_of_failure code)
+use Rattle.ls_machine.specs.declared.event.DeskFault.TheVariants as fault
 
 -- the body of what waits to be said; there is none of a job that was refused memory
 unfoldable pub body_of : Out → Option (List ℕ)
@@ -137,6 +16,19 @@ body_of (out.Said body) = Some body
 body_of (out.Replied id uri version label links done) = option_map (reply_body id uri label links) done.answer
 body_of (out.Failed ticket id code) = Some (failure_body id code)
 body_of (out.Findings uri version label done) = option_map (findings_body uri label) done.answer
+
+-- the refusal of a request that the desk doesn't take, where it is one that is answered
+abbrev pub refusal_of_fault : DeskFault → Option Refusal
+refusal_of_fault fault.NotOpen = Some refusal.DocumentNotOpen
+refusal_of_fault fault.AlreadyOpen = None
+refusal_of_fault fault.TooManyDocuments = None
+refusal_of_fault fault.TooManyWaiting = Some refusal.TooManyWaiting
+refusal_of_fault fault.IdInUse = Some refusal.IdInUse
+refusal_of_fault fault.TooLarge = None
+refusal_of_fault fault.UnknownTicket = None
+refusal_of_fault fault.OtherText = None
+refusal_of_fault fault.SessionFull = None
+refusal_of_fault fault.Memory = None
 
 -- the body that answers a refused request, where there is one
 unfoldable pub refusal_of : Id → DeskFault → Option (List ℕ)

@@ -3,7 +3,7 @@ use Rattle.std.specs.Prelude.{ℕ, List, true, codes}
 use Rattle.serde_json.specs.Data.{Data, Members, boolean, number, string, object, unsigned, member, no_members}
 use Rattle.ls_text.specs.declared.position.Encoding.{Encoding}
 use Rattle.ls_text.specs.declared.position.Encoding.TheVariants.{Utf8, Utf16, Utf32}
-use Rattle.ls_session.specs.Tokens.{legend_json}
+use Rattle.ls_session.specs.Legend.{legend_json}
 
 -- documents are opened and closed, and changes come as edits
 abbrev pub sync_json : Data

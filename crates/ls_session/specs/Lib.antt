@@ -1,9 +1,6 @@
 pub mod Kind
 pub mod Params
-pub mod Refusal
-pub mod Positions
-pub mod Tokens
+pub mod Legend
 pub mod Initialize
 pub mod Session
-pub mod Edits
 pub mod Bodies

@@ -8,7 +8,9 @@ use Rattle.ls_rpc.specs.Reply.{result_json}
 use Rattle.ls_session.specs.Initialize.{initialize_json}
 use Rattle.ls_session.specs.Kind.{request_named, notice_named}
 use Rattle.ls_session.specs.Params.{cancel_of, event_of, question_of, agreed_of}
-use Rattle.ls_session.specs.Refusal.{error_body, refusal_of_code}
+use Rattle.ls_bodies.specs.Refusal.{error_body, refusal_of_code}
+use Rattle.ls_bodies.specs.declared.refusal.Refusal.{Refusal}
+use Rattle.ls_bodies.specs.declared.refusal.Refusal.TheVariants as refusal
 use Rattle.ls_answers.specs.declared.ask.Ask.{Ask}
 use Rattle.ls_machine.specs.declared.client.ClientEvent.{ClientEvent}
 use Rattle.ls_machine.specs.declared.client.ClientEvent.TheVariants as event
@@ -19,8 +21,6 @@ use Rattle.ls_session.specs.declared.kind.RequestKind.{RequestKind}
 use Rattle.ls_session.specs.declared.kind.RequestKind.TheVariants as kind
 use Rattle.ls_session.specs.declared.kind.NoticeKind.{NoticeKind}
 use Rattle.ls_session.specs.declared.kind.NoticeKind.TheVariants as note
-use Rattle.ls_session.specs.declared.refusal.Refusal.{Refusal}
-use Rattle.ls_session.specs.declared.refusal.Refusal.TheVariants as refusal
 use Rattle.ls_session.specs.declared.session.Agreed.{Agreed}
 use Rattle.ls_session.specs.declared.session.Stage.{Stage}
 use Rattle.ls_session.specs.declared.session.Stage.TheVariants.{BeforeInitialize, Running, ShutDown, Ended}

@@ -20,6 +20,7 @@ pub enum Status {
 #[derive(Drop)]
 pub enum Turn {
     Nothing,
+    /// What the client does, or a body that is to be said. Texts and lists are those of `ls_lists`.
     Event(ClientEvent),
     /// The session has ended. No message is read after it.
     Exit(Status),

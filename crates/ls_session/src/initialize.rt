@@ -2,7 +2,7 @@ ghost use Rattle.std.specs.Prelude.{◌≡◌, IfOk};
 ghost use Rattle.serde_json.specs.View.{view, members_view};
 ghost use Rattle.ls_session.specs.Initialize.{encoding_name, initialize_json, capabilities_json, semantic_tokens_json, served_json, sync_json};
 
-use crate::tokens::legend_value;
+use crate::legend::legend_value;
 use ls_text::Encoding;
 use serde_json::{Map, Value, put};
 use std::alloc::{AllocError as Memory, Global};

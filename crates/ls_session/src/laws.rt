@@ -4,10 +4,10 @@ ghost use Rattle.serde_json.specs.Written.{compact_text};
 ghost use Rattle.ls_rpc.specs.Reply.{error_json};
 ghost use Rattle.ls_rpc.specs.declared.message.Id.{Id};
 ghost use Rattle.ls_machine.specs.Machine.{content_modified, internal_error, request_cancelled};
-ghost use Rattle.ls_session.specs.Bodies.{failure_body};
+ghost use Rattle.ls_bodies.specs.Bodies.{failure_body};
 
 /// Each code that the desk keeps for a request is said as it is, with its text.
-#[tactic(auto, unfolding(crate::specs::Bodies::failure_body))]
+#[tactic(auto, unfolding(ls_bodies::specs::Bodies::failure_body))]
 pub fn failures_have_their_code()
     ensures modified { (id : Id) → failure_body id content_modified
         ≡ compact_text (error_json (Some id) content_modified (codes "content modified")) }

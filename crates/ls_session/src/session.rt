@@ -1,18 +1,18 @@
-ghost use Rattle.std.specs.Prelude.{◌≡◌, IfOk, OnErr, false};
+ghost use Rattle.std.specs.Prelude.{◌≡◌, IfOk, OnErr, Ok, false};
 ghost use Rattle.std.specs.Option.{option_copied};
 ghost use Rattle.serde_json.specs.View.{view};
 ghost use Rattle.serde_json.specs.Written.{has_float};
 ghost use Rattle.ls_rpc.specs.Message.{message_of, message_view};
 ghost use Rattle.ls_rpc.specs.Reply.{result_json};
 ghost use Rattle.ls_session.specs.Session.{turn_of, request_turn, running_turn, first_turn, notice_turn, exit_turn, stage_event, late_event, bad_turn, asked, refused, said};
-ghost use Rattle.ls_session.specs.declared.session.Stage.TheVariants.{BeforeInitialize};
+ghost use Rattle.ls_session.specs.declared.session.Stage.TheVariants.{BeforeInitialize, Ended};
 
 use crate::event::{Status, Turn};
 use crate::initialize::initialize_value;
 use crate::kind::{NoticeKind, RequestKind, notice_kind, request_kind};
 use crate::params;
-use crate::refusal::Refusal;
 use ls_answers::Ask;
+use ls_bodies::Refusal;
 use ls_lists::{List, Text};
 use ls_machine::ClientEvent;
 use ls_rpc::{Id, Message, read_message, result_text};
@@ -71,12 +71,18 @@ impl Session {
 
     /// The turn on the next message, by its body. Every body has one: what is no message is refused to the client.
     ///
-    /// `Memory` says that an allocation was refused. The session is then as before.
+    /// `Memory` says that an allocation was refused. The session is then as before. After `exit` no
+    /// body is read, and no memory is needed.
+    #[tactic(auto, using(crate::proofs::Ended::turn_ended))]
     pub fn event(&mut self, body: &[u8]) -> Result<Turn, Memory>
         ensures turn { IfOk result
             (λ turn. (turn, self.new) ≡ turn_of self.old (message_of body.now)) }
+        ensures ended { self.old ≡ Ended → result ≡ Ok Turn.Nothing }
         ensures err { OnErr result (self.new ≡ self.old) }
     {
+        if let Stage::Ended = self.stage {
+            return Ok(Turn::Nothing);
+        }
         let message = read_message(self.alloc, body)?;
         let (turn, stage) = turn(self.alloc, self.stage, message)?;
         self.stage = stage;

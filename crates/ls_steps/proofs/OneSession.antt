@@ -17,8 +17,9 @@ use Rattle.ls_answers.specs.Answers.{IsAnswer}
 use Rattle.ls_machine.specs.Same.{is_for}
 use Rattle.ls_desk.specs.Faults.{finish_fault, full_fault, or_else}
 use Rattle.ls_frame.specs.Frames.{frame_of}
-use Rattle.ls_session.specs.Bodies.{body_of, reply_body, findings_body}
-use Rattle.ls_session.proofs.WithoutCert.{same_findings, same_reply}
+use Rattle.ls_bodies.specs.Bodies.{reply_body, findings_body}
+use Rattle.ls_bodies.proofs.WithoutCert.{same_findings, same_reply}
+use Rattle.ls_session.specs.Bodies.{body_of}
 use Rattle.ls_steps.specs.Runs.{Going, Held, Steps, desk_of, finished_by, finishes, hear, leaving, ran, runs, state_at, take_job, unless_full}
 use Rattle.ls_steps.specs.Plain.{RunsOne, Works, AreFramesFor, Serves, Says, has_run_all, sent_all}
 

@@ -23,7 +23,8 @@ use Rattle.ls_machine.proofs.Replays.{replay-push}
 use Rattle.ls_frame.specs.Frames.{frame_of}
 use Rattle.ls_rpc.specs.Message.{message_of}
 use Rattle.ls_rpc.specs.declared.message.Id.{Id}
-use Rattle.ls_session.specs.Bodies.{body_of, failure_body}
+use Rattle.ls_bodies.specs.Bodies.{failure_body}
+use Rattle.ls_session.specs.Bodies.{body_of}
 use Rattle.ls_session.specs.Session.{turn_of}
 use Rattle.ls_machine.specs.declared.client.ClientEvent.{ClientEvent}
 use Rattle.ls_machine.specs.declared.client.ClientEvent.TheVariants.{DidOpen, DidChange, DidClose, Request, Cancel, Say}

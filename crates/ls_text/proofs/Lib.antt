@@ -13,3 +13,4 @@ pub mod ChunkLaws
 pub mod ScalarLaws
 pub mod PartLaws
 pub mod RulerLaws
+pub mod SizeLaws

@@ -1,5 +1,5 @@
 -- Edits of a text (LSP 3.17, "TextDocumentContentChangeEvent"). The width of a character is a parameter, as in Lines.
-use Rattle.std.specs.Prelude.{ℕ, min, if◌then◌else◌, nat_lt, Bool, Option, Some, None, List, [], ◌∷◌, ◌++◌, length, take, drop}
+use Rattle.std.specs.Prelude.{ℕ, min, if◌then◌else◌, nat_lt, Bool, false, Option, Some, None, List, [], ◌∷◌, ◌++◌, length, take, drop}
 use Rattle.std.specs.Str.{chars, encode_utf8_all}
 use Rattle.ls_text.specs.Lines.{offset_of}
 use Rattle.ls_text.specs.declared.position.Position.{Position}
@@ -34,3 +34,8 @@ unfoldable pub edited_all : (ℕ → ℕ) → List ℕ → List Edit → Option 
 edited_all width t [] = Some t
 edited_all width t (e ∷ es) =
     if is_too_large (edited width t e) then None else edited_all width (edited width t e) es
+
+-- whether the text after the first of the edits is too large already
+abbrev pub first_is_too_large : (ℕ → ℕ) → List ℕ → List Edit → Bool
+first_is_too_large width t [] = false
+first_is_too_large width t (e ∷ es) = is_too_large (edited width t e)

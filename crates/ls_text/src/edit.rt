@@ -1,4 +1,4 @@
-ghost use Rattle.std.specs.Prelude.{◌≡◌, ◌-◌, ◌<◌, ◌≤◌, ◌++◌, length, take, drop, OnOk, IfOk, IfErr};
+ghost use Rattle.std.specs.Prelude.{◌≡◌, ◌+◌, ◌-◌, ◌<◌, ◌≤◌, ◌++◌, ◌↔◌, length, take, drop, Err, OnOk, IfOk, IfErr};
 ghost use Rattle.std.specs.Str.{chars, encode_utf8_all};
 ghost use Rattle.std.specs.String.{string_bytes};
 ghost use Rattle.ls_text.specs.Lines.{offset_of, units};
@@ -135,15 +135,12 @@ fn middle(
     Ok(text)
 }
 
-// The lines of a text. A chunk is made as soon as it is full.
-pub fn whole(alloc: Global, text: &str) -> Result<Lines, TextFault>
+// The lines of a text, which isn't too large. A chunk is made as soon as it is full.
+fn cut_whole(alloc: Global, text: &str) -> Result<Lines, TextFault>
+    requires { length text.now ≤ MAX_BYTES }
     ensures ok { IfOk result (λ lines. IsCut (chars text.now) lines) }
-    ensures too_large { IfErr result
-        (λ e. e ≡ TextFault.TooLarge → MAX_BYTES < length (encode_utf8_all (chars text.now))) }
+    ensures memory { IfErr result (λ e. e ≡ TextFault.Memory) }
 {
-    if text.len() > MAX_BYTES {
-        return Err(TextFault::TooLarge);
-    }
     let mut lines = Lines::with_room(alloc, 0)?;
     let mut part = Part::new(alloc);
     let mut rest = text;
@@ -161,8 +158,71 @@ pub fn whole(alloc: Global, text: &str) -> Result<Lines, TextFault>
     }
 }
 
+// The lines of a text. Nothing grows where it is too large.
+pub fn whole(alloc: Global, text: &str) -> Result<Lines, TextFault>
+    ensures ok { IfOk result (λ lines. IsCut (chars text.now) lines) }
+    ensures too_large { (result ≡ Err TextFault.TooLarge) ↔ (MAX_BYTES < length (encode_utf8_all (chars text.now))) }
+{
+    if text.len() > MAX_BYTES {
+        return Err(TextFault::TooLarge);
+    }
+    cut_whole(alloc, text)
+}
+
+// The bytes of the lines from one up to another.
+fn bytes_between(lines: &Lines, from: usize, to: usize) -> usize
+    requires lines { IsKept lines.now }
+    requires order { from ≤ to }
+    requires within { to ≤ length lines.now }
+    ensures { result ≡ length (encode_utf8_all (text_of (take (to - from) (drop from lines.now)))) }
+{
+    let mut bytes = 0;
+    for i in from..to {
+        let (line, _) = lines.line(i);
+        bytes += line.text().len() + line.end().len();
+    }
+    bytes
+}
+
+// The bytes of a text but for those between two spots.
+fn bytes_around(lines: &Lines, from: Spot, to: Spot) -> usize
+    requires lines { IsKept lines.now }
+    requires from { IsSpot lines.now from }
+    requires to { IsSpot lines.now to }
+    requires order { from.offset ≤ to.offset }
+    ensures { result ≡ length (encode_utf8_all (take from.offset (text_of lines.now)))
+        + length (encode_utf8_all (drop to.offset (text_of lines.now))) }
+{
+    let gone = bytes_between(lines, from.line, to.line) + to.bytes;
+    lines.byte_count() + from.bytes - gone
+}
+
+// The lines with what stands between two spots replaced, where the text isn't too large then.
+fn joined(alloc: Global, lines: &Lines, from: Spot, to: Spot, new: &str) -> Result<Lines, TextFault>
+    requires lines { IsKept lines.now }
+    requires from { IsSpot lines.now from }
+    requires to { IsSpot lines.now to }
+    requires small { let text = take from.offset (text_of lines.now)
+        ++ (chars new.now ++ drop to.offset (text_of lines.now)) in
+        length (encode_utf8_all text) ≤ MAX_BYTES }
+    ensures ok { let text = take from.offset (text_of lines.now)
+        ++ (chars new.now ++ drop to.offset (text_of lines.now)) in
+        IfOk result (λ cut. IsCut text cut) }
+    ensures memory { IfErr result (λ e. e ≡ TextFault.Memory) }
+{
+    let kept = from.line.saturating_sub(1);
+    let part = middle(alloc, lines, kept, from, to, new)?;
+    let (mut cut, rest) = with_lines(Part::new(alloc), part.as_str())?;
+    let (last, _) = lines.line(to.line);
+    if let LineEnd::Eof = last.end() {
+        cut = cut.pushed(rest, LineEnd::Eof)?;
+    }
+    lines.replaced(alloc, kept, to.line + 1, &cut)
+}
+
 // The lines with what stands between two spots replaced. The lines before the one before the first spot, and those after the
 // second spot's, are taken over with their marks. The line before is cut anew, since its CR and a new LF are one line end.
+// The bytes of the whole are counted first: nothing grows where they are too many.
 pub fn spliced(
     alloc: Global,
     lines: &Lines,
@@ -173,22 +233,16 @@ pub fn spliced(
     requires lines { IsKept lines.now }
     requires from { IsSpot lines.now from }
     requires to { IsSpot lines.now to }
+    requires order { from.offset ≤ to.offset }
     ensures ok { let text = take from.offset (text_of lines.now)
         ++ (chars new.now ++ drop to.offset (text_of lines.now)) in
         IfOk result (λ cut. IsCut text cut) }
     ensures too_large { let text = take from.offset (text_of lines.now)
         ++ (chars new.now ++ drop to.offset (text_of lines.now)) in
-        IfErr result (λ e. e ≡ TextFault.TooLarge → MAX_BYTES < length (encode_utf8_all text)) }
+        (result ≡ Err TextFault.TooLarge) ↔ (MAX_BYTES < length (encode_utf8_all text)) }
 {
-    let kept = from.line.saturating_sub(1);
-    let part = middle(alloc, lines, kept, from, to, new)?;
-    if part.len() > MAX_BYTES {
+    if bytes_around(lines, from, to).saturating_add(new.len()) > MAX_BYTES {
         return Err(TextFault::TooLarge);
     }
-    let (mut cut, rest) = with_lines(Part::new(alloc), part.as_str())?;
-    let (last, _) = lines.line(to.line);
-    if let LineEnd::Eof = last.end() {
-        cut = cut.pushed(rest, LineEnd::Eof)?;
-    }
-    lines.replaced(alloc, kept, to.line + 1, &cut)
+    joined(alloc, lines, from, to, new)
 }

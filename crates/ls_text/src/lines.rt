@@ -260,7 +260,9 @@ impl Lines {
     {
         match Lines::with_room(alloc, self.chunks.len())?.with_chunks(&self.chunks) {
             Ok(lines) => Ok(lines),
-            Err(_) => Err(AllocError),
+            Err(TextFault::Memory) => Err(AllocError),
+            // These lines aren't too large.
+            Err(TextFault::TooLarge) => unreachable!(),
         }
     }
 
@@ -295,6 +297,13 @@ impl Lines {
         ensures small { length (encode_utf8_all (text_of self.now)) ≤ MAX_BYTES }
     {
         self.char_count
+    }
+
+    // The bytes of the lines with their line ends.
+    pub fn byte_count(&self) -> usize
+        ensures { result ≡ length (encode_utf8_all (text_of self.now)) }
+    {
+        self.byte_count
     }
 
     // A line, and where it starts.

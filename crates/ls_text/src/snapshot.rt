@@ -7,7 +7,7 @@ ghost use Rattle.std.specs.List.{slice_get};
 ghost use Rattle.ls_text.specs.Lines.{line_ends, lines, offset_of, units};
 ghost use Rattle.ls_text.specs.Marks.{AreMarksOf};
 ghost use Rattle.ls_text.specs.Positions.{position_of, position_in, place_at, place_range};
-ghost use Rattle.ls_text.specs.Edits.{position_offset, replaced, edited, edited_all, is_too_large};
+ghost use Rattle.ls_text.specs.Edits.{position_offset, replaced, edited, edited_all, is_too_large, first_is_too_large};
 ghost use Rattle.ls_text.specs.Cut.{AreLines, IsCut, text_of};
 
 use crate::edit::{Edit, push_text, spliced, spot_of, whole};
@@ -181,7 +181,7 @@ impl Snapshot {
     }
 
     // The position of so many bytes in a line.
-    pub fn position_in(&self, line: usize, bytes: usize, encoding: Encoding) -> Position
+    pub(crate) fn position_in(&self, line: usize, bytes: usize, encoding: Encoding) -> Position
         ensures position { result ≡ position_of (units encoding) self.now (offset_of len_utf8 self.now line bytes) }
         ensures in_line { IfSome (slice_get (lines self.now) line)
             (λ text. result ≡ position_in (units encoding) line text bytes) }
@@ -199,7 +199,7 @@ impl Snapshot {
     }
 
     // A line whose units have to be counted: it isn't ASCII, and bytes aren't units.
-    pub fn wide_line(&self, at: usize, encoding: Encoding) -> Option<&str>
+    pub(crate) fn wide_line(&self, at: usize, encoding: Encoding) -> Option<&str>
         ensures line { IfSome result (λ line. slice_get (lines self.now) at ≡ Some (chars line.now)) }
         ensures small { IfSome result (λ line. length line.now ≤ MAX_BYTES) }
         ensures fits { IfSome result (λ _. at < 4_294_967_296) }
@@ -264,7 +264,7 @@ impl Snapshot {
             (position_offset (units encoding) self.now range.start)
             (position_offset (units encoding) self.now range.end)
             (chars new.now) in
-            IfErr result (λ e. e ≡ TextFault.TooLarge → MAX_BYTES < length (encode_utf8_all text)) }
+            (result ≡ Err TextFault.TooLarge) ↔ (MAX_BYTES < length (encode_utf8_all text)) }
     {
         let start = spot_of(&self.lines, range.start, encoding);
         let end = spot_of(&self.lines, range.end, encoding);
@@ -278,8 +278,8 @@ impl Snapshot {
     // The text after one edit.
     fn edited(&self, edit: &Edit, encoding: Encoding) -> Result<Snapshot, TextFault>
         ensures ok { IfOk result (λ s. (s ≡ edited (units encoding) self.now edit.now) × (is_too_large s ≡ false)) }
-        ensures too_large { IfErr result
-            (λ e. e ≡ TextFault.TooLarge → is_too_large (edited (units encoding) self.now edit.now) ≡ true) }
+        ensures too_large { (result ≡ Err TextFault.TooLarge)
+            ↔ (is_too_large (edited (units encoding) self.now edit.now) ≡ true) }
     {
         let lines = match edit.range {
             None => whole(self.alloc, edit.text.as_str())?,
@@ -317,12 +317,14 @@ impl Snapshot {
     ///
     /// # Errors
     ///
-    /// `TooLarge` exactly where the text after one of the edits has more than [`MAX_BYTES`] bytes, also where a later edit would
-    /// shrink it, and `Memory` where an allocation is refused.
+    /// `TooLarge` where the text after one of the edits has more than [`MAX_BYTES`] bytes, also where a later edit would shrink it,
+    /// and `Memory` where an allocation is refused before. The bytes of a text are counted before anything grows for it, so of the
+    /// first edit `TooLarge` is told whatever memory there is.
     pub fn apply(&self, edits: &[Edit], encoding: Encoding) -> Result<Snapshot, TextFault>
         ensures ok { IfOk result (λ s. edited_all (units encoding) self.now edits.now ≡ Some s) }
         ensures too_large { IfErr result
             (λ e. e ≡ TextFault.TooLarge → edited_all (units encoding) self.now edits.now ≡ None) }
+        ensures first { first_is_too_large (units encoding) self.now edits.now ≡ true → result ≡ Err TextFault.TooLarge }
     {
         match edits {
             [] => Ok(self.share()?),

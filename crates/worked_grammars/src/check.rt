@@ -5,7 +5,6 @@ use super::names::{
 };
 use super::sentences::{shows_all, shows_each};
 use abnf_names::Grammar;
-use abnf_token::Folded;
 use ls_text::{Place, Snapshot, TextFault};
 use std::alloc::{AllocError, Global};
 
@@ -65,10 +64,7 @@ fn has(alloc: Global, grammar: &Grammar<'_>, check: Check) -> Result<bool, Alloc
             grammar.nodes().len() == count && has_nodes(grammar.nodes(), rows)
         }
         Check::BadToken(line, start, end) => has_bad_token(grammar, Place { line, start, end }),
-        Check::Places(name, rows) => are_places(
-            grammar.places(alloc, Folded(name))?.as_slice(),
-            rows,
-        ),
+        Check::Places(name, rows) => are_places(grammar, name, rows),
         Check::Offsets(rows) => are_at(grammar, rows),
         Check::Reach(names, want) => all_reach(grammar, names, want),
         Check::Lines(count) => grammar.source().line_count() == count,

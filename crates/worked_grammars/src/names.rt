@@ -103,13 +103,19 @@ fn is_place(name: &NamePlace, want: (usize, usize, usize, bool)) -> bool {
     name.place == Place { line, start, end } && name.defines == defines
 }
 
-pub(crate) fn are_places(names: &[NamePlace], rows: &[(usize, usize, usize, bool)]) -> bool {
-    for (name, row) in names.iter().zip(rows) {
-        if !is_place(name, *row) {
-            return false;
+pub(crate) fn are_places(
+    grammar: &Grammar<'_>,
+    name: &str,
+    rows: &[(usize, usize, usize, bool)],
+) -> bool {
+    let mut places = grammar.places(Folded(name));
+    for row in rows {
+        match places.next() {
+            Some(place) if is_place(&place, *row) => {}
+            _ => return false,
         }
     }
-    names.len() == rows.len()
+    places.next().is_none()
 }
 
 /// Whether this name stands at an offset.

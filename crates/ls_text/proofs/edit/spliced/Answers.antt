@@ -1,51 +1,19 @@
-use Rattle.std.proofs.Common.{◌≡◌, ◌<◌, ◌+◌, ◌-◌, ◌∙◌, ◌++◌, ap, sym, arith, subst, length, take, drop, List, []}
-use Rattle.std.specs.Str.{chars, encode_utf8_all}
-use Rattle.std.specs.String.{string_bytes}
-use Rattle.std.proofs.lemmas.Str.{encodes-chars, IsUtf8-string_bytes}
-use Rattle.std.proofs.lemmas.Result.{IfOk-weaker, IfErr-weaker}
-use Rattle.ls_text.specs.Cut.{end_at, IsCut, IsCutOnto}
-use Rattle.ls_text.specs.Cut.{Row}
-use Rattle.ls_text.specs.declared.fault.TextFault.TheVariants.{TooLarge}
-use Rattle.ls_text.specs.declared.snapshot.TheConstants.{MAX_BYTES}
-use Rattle.ls_text.proofs.PositionLaws.{line_small}
-use Rattle.ls_text.proofs.SpliceLaws.{spliced_eof, spliced_rest, wanted_text, middle_bytes}
-use Rattle.ls_text.proofs.SpotLaws.{end_found}
+use Rattle.std.proofs.Common.{refl, arith}
+use Rattle.ls_text.proofs.EditLaws.{small_one}
+use Rattle.ls_text.proofs.SizeLaws.{counted}
 use Rattle.ls_text.proofs.edit.spliced.Goals as goal
-use Rattle.ls_text.proofs.edit.spliced.Goals.{in-Eof+in_ok-cut-2, in_default}
 
-pub overflow_add-to : goal.overflow_add-to
-overflow_add-to c = omega (arith, line_small c.args.lines.now c.requires.lines c.args.to.line c.requires.to.line_in_range)
+pub joined-requires-clause-small : goal.joined-requires-clause-small
+joined-requires-clause-small c =
+    omega (arith, counted c.args.lines.now c.args.from c.args.to c.args.new.now c.bytes_around.result c.utf8.new c.bytes_around.ensures, c.saturating_add.ensures, c.if-saturating_add-gt-MAX_BYTES.false)
 
-pub returns-then-len-gt-MAX_BYTES-clause-too_large : goal.returns-then-len-gt-MAX_BYTES-clause-too_large
-returns-then-len-gt-MAX_BYTES-clause-too_large c = λ e.
-    omega (
-      arith,
-      c.if-len-gt-MAX_BYTES.true,
-      c.len.ensures,
-      c.in_ok-part.part.bytes.ok.0,
-      ap length (encodes-chars (string_bytes c.in_ok-part.part) (IsUtf8-string_bytes c.in_ok-part.part)),
-      ap (λ z. length (encode_utf8_all z)) c.in_ok-part.ensures,
-      middle_bytes c.args.lines.now c.requires.lines.lines c.args.from c.args.to c.requires.from c.requires.to c.saturating_sub-kept.result (omega (arith, c.saturating_sub-kept.ensures)) (chars c.args.new.now),
-    )
-
-cut_is : (c : goal.After-drop-part-2) → IsCut (wanted_text c.args.lines.now c.args.from c.args.to (chars c.args.new.now)) (take c.saturating_sub-kept.result c.args.lines.now ++ (c.match-end.cut ++ drop (c.args.to.line + 1) c.args.lines.now))
-cut_is c =
-    let end_is : end_at c.args.lines.now c.args.to.line ≡ c.line-last.result.0.end = end_found c.args.lines.now c.args.to.line c.line-last.result.0 c.line-last.ensures.in_range c.line-last.ensures.line_is in
-    let kept_is : c.saturating_sub-kept.result ≡ c.args.from.line - 1 = omega (arith, c.saturating_sub-kept.ensures) in
-    let text_is = ap chars c.as_str.ensures.value ∙ c.in_ok-part.ensures in
-    let onto : IsCutOnto [] c.as_str.result.now c.in_ok-cut.rest.now c.in_ok-cut.cut = subst (λ z. IsCutOnto z c.as_str.result.now c.in_ok-cut.rest.now c.in_ok-cut.cut) c.new.ensures c.in_ok-cut.ensures.cut in
-    elim c.match-end.branch [
-      | in-Eof+in_ok-cut-2 w ↦
-          subst (λ (v : List Row). IsCut (wanted_text c.args.lines.now c.args.from c.args.to (chars c.args.new.now)) (take c.saturating_sub-kept.result c.args.lines.now ++ (v ++ drop (c.args.to.line + 1) c.args.lines.now))) (sym w.cut-is)
-          (spliced_eof c.args.lines.now c.requires.lines.lines c.args.from c.args.to c.requires.from c.requires.to c.saturating_sub-kept.result kept_is (chars c.args.new.now) onto c.in_ok-cut.ensures.plain text_is w.in_ok-cut-2.ensures (end_is ∙ sym c.end.ensures ∙ w.in-Eof.is))
-      | in_default w ↦
-          subst (λ (v : List Row). IsCut (wanted_text c.args.lines.now c.args.from c.args.to (chars c.args.new.now)) (take c.saturating_sub-kept.result c.args.lines.now ++ (v ++ drop (c.args.to.line + 1) c.args.lines.now))) (sym w.cut-is)
-          (spliced_rest c.args.lines.now c.requires.lines.lines c.args.from c.args.to c.requires.from c.requires.to c.saturating_sub-kept.result kept_is (chars c.args.new.now) onto c.in_ok-cut.ensures.plain text_is (λ e. w.in_default.not-Eof (c.end.ensures ∙ sym end_is ∙ e)))
-    ]
-
-pub returns-clause-ok : goal.returns-clause-ok
-returns-clause-ok c = IfOk-weaker c.replaced.result _ (λ (cut : List Row). IsCut (wanted_text c.args.lines.now c.args.from c.args.to (chars c.args.new.now)) cut) (λ cut is. subst (IsCut (wanted_text c.args.lines.now c.args.from c.args.to (chars c.args.new.now))) (sym is) (cut_is c)) c.replaced.ensures.ok
+pub returns-then-saturating_add-gt-MAX_BYTES-clause-too_large : goal.returns-then-saturating_add-gt-MAX_BYTES-clause-too_large
+returns-then-saturating_add-gt-MAX_BYTES-clause-too_large c = (
+  λ is. omega (arith, counted c.args.lines.now c.args.from c.args.to c.args.new.now c.bytes_around.result c.utf8.new c.bytes_around.ensures, c.saturating_add.ensures, c.if-saturating_add-gt-MAX_BYTES.true),
+  λ larger. refl,
+)
 
 pub returns-clause-too_large : goal.returns-clause-too_large
 returns-clause-too_large c =
-    IfErr-weaker c.replaced.result _ (λ e. e ≡ TooLarge → MAX_BYTES < length (encode_utf8_all (wanted_text c.args.lines.now c.args.from c.args.to (chars c.args.new.now)))) (λ e before is. omega (arith, before is, ap (λ z. length (encode_utf8_all z)) (cut_is c).1)) c.replaced.ensures.too_large
+    small_one c.joined.result c.joined.ensures.memory
+    (λ larger. omega (arith, larger, counted c.args.lines.now c.args.from c.args.to c.args.new.now c.bytes_around.result c.utf8.new c.bytes_around.ensures, c.saturating_add.ensures, c.if-saturating_add-gt-MAX_BYTES.false))

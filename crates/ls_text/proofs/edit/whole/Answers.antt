@@ -1,52 +1,10 @@
-use Rattle.std.proofs.Common.{◌≡◌, ◌++◌, ◌<◌, [], List, ap, sym, subst, refl, ◌∙◌, arith, length}
-use Rattle.std.specs.Str.{chars, encode_utf8_all}
-use Rattle.std.proofs.lemmas.List.{append-nil}
-use Rattle.std.proofs.lemmas.Result.{err_from_is_err_and, IfOk-weaker, IfErr-weaker}
+use Rattle.std.proofs.Common.{refl, ap, arith, length}
 use Rattle.std.proofs.lemmas.Str.{encodes-chars}
-use Rattle.ls_text.specs.Cut.{Row, IsCut, IsCutOnto}
-use Rattle.ls_text.specs.declared.fault.TextFault.TheVariants.{TooLarge}
-use Rattle.ls_text.specs.declared.snapshot.TheConstants.{MAX_BYTES}
-use Rattle.ls_text.proofs.CutLaws.{onto_plain, onto_last, onto_more, lines_of_cut, parts_le, pushed_behind, pushed_last, cut_bytes}
+use Rattle.ls_text.proofs.EditLaws.{small_one}
 use Rattle.ls_text.proofs.edit.whole.Goals as goal
 
 pub returns-then-text-gt-MAX_BYTES-clause-too_large : goal.returns-then-text-gt-MAX_BYTES-clause-too_large
-returns-then-text-gt-MAX_BYTES-clause-too_large c = λ e. omega (arith, c.if-text-gt-MAX_BYTES.true, ap length (encodes-chars c.args.text.now c.utf8.text))
+returns-then-text-gt-MAX_BYTES-clause-too_large c = (λ is. omega (arith, c.if-text-gt-MAX_BYTES.true, ap length (encodes-chars c.args.text.now c.utf8.text)), λ larger. refl)
 
--- all lines, at the last one
-all_cut : (c : goal.After-with_part) → IsCut (chars c.args.text.now) (c.lines.lines ++ c.in_ok-part.part)
-all_cut c =
-    lines_of_cut (onto_last c.lines.invariant.cut c.first_line-end.ensures c.in-Eof.is) (onto_plain c.first_line-end.ensures)
-    (pushed_last c.in-Eof.is (pushed_behind c.lines.lines c.in_ok-part.ensures)) refl
-
-pub returns-in-Eof-clause-ok : goal.returns-in-Eof-clause-ok
-returns-in-Eof-clause-ok c =
-    IfOk-weaker c.with_part.result _ (λ (lines : List Row). IsCut (chars c.args.text.now) lines) (λ lines is. subst (IsCut (chars c.args.text.now)) (sym is) (all_cut c)) c.with_part.ensures.ok
-
-pub returns-in-Eof-clause-too_large : goal.returns-in-Eof-clause-too_large
-returns-in-Eof-clause-too_large c =
-    IfErr-weaker c.with_part.result _ (λ e. e ≡ TooLarge → MAX_BYTES < length (encode_utf8_all (chars c.args.text.now))) (λ e before is. omega (arith, before is, ap (λ t. length (encode_utf8_all t)) (all_cut c).1)) c.with_part.ensures.too_large
-
-pub returns-in_err-lines-2-clause-too_large : goal.returns-in_err-lines-2-clause-too_large
-returns-in_err-lines-2-clause-too_large c =
-    let p = err_from_is_err_and c.from_residual-in_err-lines-2.result c.from_residual-in_err-lines-2.ensures.1 in
-    rw p.1 (λ e. omega (
-      arith,
-      c.in_err-lines-2.ensures.too_large (sym p.2 ∙ e),
-      cut_bytes (onto_more c.lines.invariant.cut c.first_line-end.ensures (pushed_behind c.lines.lines c.in_ok-part.ensures) c.in_default.not-Eof),
-    ))
-
-pub lines-preserved-in_ok-lines-2 : goal.lines-preserved-in_ok-lines-2
-lines-preserved-in_ok-lines-2 c = record {
-  cut = subst (λ z. IsCutOnto [] c.args.text.now c.first_line-end.result.2.now z)
-      (sym ((λ i. c.in_ok-lines-2.ensures.ok i ++ c.new-part-then-len-ge-MOST_LINES.ensures i) ∙ append-nil _))
-      (onto_more c.lines.invariant.cut c.first_line-end.ensures (pushed_behind c.lines.lines c.in_ok-part.ensures) c.in_default.not-Eof);
-  few = omega (arith, ap length c.new-part-then-len-ge-MOST_LINES.ensures);
-  small = omega (arith, c.lines.invariant.small, (parts_le _ _ _ _ c.first_line-end.ensures).1);
-}
-
-pub lines-preserved : goal.lines-preserved
-lines-preserved c = record {
-  cut = onto_more c.lines.invariant.cut c.first_line-end.ensures (pushed_behind c.lines.lines c.in_ok-part.ensures) c.in_default.not-Eof;
-  few = omega (arith, c.if-len-ge-MOST_LINES.false, c.len.ensures);
-  small = omega (arith, c.lines.invariant.small, (parts_le _ _ _ _ c.first_line-end.ensures).1);
-}
+pub returns-clause-too_large : goal.returns-clause-too_large
+returns-clause-too_large c = small_one c.cut_whole.result c.cut_whole.ensures.memory (λ larger. omega (arith, larger, c.if-text-gt-MAX_BYTES.false, ap length (encodes-chars c.args.text.now c.utf8.text)))

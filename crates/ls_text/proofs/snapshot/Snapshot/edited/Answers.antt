@@ -1,11 +1,12 @@
-use Rattle.std.proofs.Common.{◌≡◌, ◌∙◌, ap, sym, subst, length, List}
+use Rattle.std.proofs.Common.{◌≡◌, ◌∙◌, ap, sym, subst, arith, length, List, ℕ}
+use Rattle.std.specs.Prelude.{Err}
 use Rattle.std.specs.Str.{chars, encode_utf8_all}
 use Rattle.std.proofs.lemmas.Result.{err_from_is_err_and}
 use Rattle.ls_text.specs.Lines.{units}
 use Rattle.ls_text.specs.Edits.{edited, replaced, position_offset, is_too_large}
 use Rattle.ls_text.specs.Cut.{IsCut}
 use Rattle.ls_text.specs.Cut.{Row}
-use Rattle.ls_text.proofs.EditLaws.{edited-none, edited-some, not_larger, larger}
+use Rattle.ls_text.proofs.EditLaws.{edited-none, edited-some, not_larger, larger, large_bytes, carried}
 use Rattle.ls_text.proofs.snapshot.Snapshot.edited.Goals as goal
 use Rattle.ls_text.proofs.snapshot.Snapshot.edited.Goals.{in-None+in_ok-lines-in-None, in-Some+in_ok-lines-in-Some}
 
@@ -28,18 +29,28 @@ pub returns-in_err-lines-in-None-clause-too_large :
     goal.returns-in_err-lines-in-None-clause-too_large
 returns-in_err-lines-in-None-clause-too_large c =
     let p = err_from_is_err_and c.from_residual.result c.from_residual.ensures.1 in
-    rw p.1 (λ e.
-    ap is_too_large (edited-none (units c.args.encoding) c.args.self.now c.args.edit.now c.in-None.is ∙ sym (ap chars c.as_str.ensures))
-    ∙ larger (length (encode_utf8_all (chars c.as_str.result.now))) (c.in_err-lines-in-None.ensures.too_large (sym p.2 ∙ e)))
+    let text_is : edited (units c.args.encoding) c.args.self.now c.args.edit.now ≡ chars c.as_str.result.now = edited-none (units c.args.encoding) c.args.self.now c.args.edit.now c.in-None.is ∙ sym (ap chars c.as_str.ensures) in
+    carried c.from_residual.result _ (p.1 ∙ ap Err p.2) c.in_err-lines-in-None.ensures.too_large
+    (λ more. ap is_too_large text_is ∙ larger (length (encode_utf8_all (chars c.as_str.result.now))) more)
+    (λ large. large_bytes (length (encode_utf8_all (chars c.as_str.result.now))) (sym (ap is_too_large text_is) ∙ large))
 
 pub returns-in_err-lines-in-Some-clause-too_large :
     goal.returns-in_err-lines-in-Some-clause-too_large
 returns-in_err-lines-in-Some-clause-too_large c =
     let p = err_from_is_err_and c.from_residual-in_err-lines-in-Some.result c.from_residual-in_err-lines-in-Some.ensures.1 in
     let r = c.in-Some.range in
-    let text_is : edited (units c.args.encoding) c.args.self.now c.args.edit.now ≡ replaced c.args.self.now (position_offset (units c.args.encoding) c.args.self.now r.start) (position_offset (units c.args.encoding) c.args.self.now r.end) (chars c.as_str-in-Some.result.now) =
+    let text : List ℕ = replaced c.args.self.now (position_offset (units c.args.encoding) c.args.self.now r.start) (position_offset (units c.args.encoding) c.args.self.now r.end) (chars c.as_str-in-Some.result.now) in
+    let text_is : edited (units c.args.encoding) c.args.self.now c.args.edit.now ≡ text =
     edited-some (units c.args.encoding) c.args.self.now c.args.edit.now c.in-Some.range c.in-Some.is ∙ ap (λ x. replaced c.args.self.now (position_offset (units c.args.encoding) c.args.self.now r.start) (position_offset (units c.args.encoding) c.args.self.now r.end) (chars x)) (sym c.as_str-in-Some.ensures) in
-    rw p.1 (λ e. ap is_too_large text_is ∙ larger (length (encode_utf8_all (replaced c.args.self.now (position_offset (units c.args.encoding) c.args.self.now r.start) (position_offset (units c.args.encoding) c.args.self.now r.end) (chars c.as_str-in-Some.result.now)))) (c.in_err-lines-in-Some.ensures.too_large (sym p.2 ∙ e)))
+    carried c.from_residual-in_err-lines-in-Some.result _ (p.1 ∙ ap Err p.2) c.in_err-lines-in-Some.ensures.too_large
+    (λ more. ap is_too_large text_is ∙ larger (length (encode_utf8_all text)) more)
+    (λ large. large_bytes (length (encode_utf8_all text)) (sym (ap is_too_large text_is) ∙ large))
+
+pub returns-clause-too_large : goal.returns-clause-too_large
+returns-clause-too_large c = (
+  λ is. absurd (cc),
+  λ large. absurd (omega (arith, large_bytes (length (encode_utf8_all _)) (ap (λ t. is_too_large t) (lines_are c).1 ∙ large), c.kept.ensures.small)),
+)
 
 pub returns-clause-ok : goal.returns-clause-ok
 returns-clause-ok c =

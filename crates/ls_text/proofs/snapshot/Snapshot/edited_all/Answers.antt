@@ -1,4 +1,5 @@
 use Rattle.std.proofs.Common.{◌+◌, ◌∙◌, ap, sym, drop}
+use Rattle.std.specs.Prelude.{Err}
 use Rattle.std.proofs.lemmas.Result.{err_from_is_err_and}
 use Rattle.ls_text.specs.Lines.{units}
 use Rattle.ls_text.specs.Edits.{edited_all, is_too_large}
@@ -8,7 +9,7 @@ use Rattle.ls_text.proofs.snapshot.Snapshot.edited_all.Goals as goal
 pub returns-in_err-text-clause-too_large : goal.returns-in_err-text-clause-too_large
 returns-in_err-text-clause-too_large c =
     let p = err_from_is_err_and c.from_residual.result c.from_residual.ensures.1 in
-    rw p.1 (λ e. c.loop-edit.invariant ∙ all_none (units c.args.encoding) c.loop-edit.text c.args.edits.now c.loop-edit.edit-index c.edit-item.result c.loop-edit-test.true c.edit-item.is (c.in_err-text.ensures.too_large (sym p.2 ∙ e)))
+    rw p.1 (λ e. c.loop-edit.invariant ∙ all_none (units c.args.encoding) c.loop-edit.text c.args.edits.now c.loop-edit.edit-index c.edit-item.result c.loop-edit-test.true c.edit-item.is (c.in_err-text.ensures.too_large.0 (ap Err (sym p.2 ∙ e))))
 
 pub loop-edit-preserved : goal.loop-edit-preserved
 loop-edit-preserved c =

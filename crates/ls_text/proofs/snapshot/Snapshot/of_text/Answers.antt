@@ -1,4 +1,5 @@
 use Rattle.std.proofs.Common.{sym, ap, ◌∙◌, arith, length}
+use Rattle.std.specs.Prelude.{Err}
 use Rattle.std.specs.Str.{chars, encode_utf8_all}
 use Rattle.std.specs.String.{string_bytes}
 use Rattle.std.proofs.lemmas.Str.{encodes-chars, IsUtf8-string_bytes}
@@ -10,7 +11,7 @@ returns-in_err-whole-clause-too_large c =
     let p = err_from_is_err_and c.from_residual.result c.from_residual.ensures.1 in (
       λ is. omega (
         arith,
-        c.in_err-whole.ensures.too_large (sym p.2 ∙ (cc p.1)),
+        c.in_err-whole.ensures.too_large.0 (ap Err (sym p.2 ∙ (cc p.1))),
         ap (λ x. length (encode_utf8_all (chars x))) c.as_str.ensures.value ∙ ap length (encodes-chars (string_bytes c.args.text) (IsUtf8-string_bytes c.args.text)),
         c.args.text.bytes.ok.0,
       ),

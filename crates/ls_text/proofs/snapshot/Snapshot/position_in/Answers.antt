@@ -2,7 +2,6 @@ use Rattle.std.proofs.Common.{◌≡◌, ◌≤◌, ap, refl, sym, subst, ◌∙
 use Rattle.std.specs.Prelude.{sum_by, Option, Some, IfSome}
 use Rattle.std.specs.Char.{len_utf8}
 use Rattle.std.specs.List.{slice_get}
-use Rattle.std.specs.Str.{chars}
 use Rattle.ls_text.specs.Lines.{lines, fitting, units}
 use Rattle.ls_text.specs.Cut.{line_text, text_at}
 use Rattle.ls_text.specs.Positions.{position_of, position_in}

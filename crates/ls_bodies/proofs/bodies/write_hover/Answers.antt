@@ -1,0 +1,7 @@
+use Rattle.std.proofs.lemmas.Result.{on_ok_weaker}
+use Rattle.ls_bodies.proofs.bodies.write_hover.Goals as goal
+
+pub returns : goal.returns
+returns g c =
+    on_ok_weaker c.end_map.result (λ e.
+    (_, c.in_ok-begin_map.ensures, (_, _, c.in_ok-key.ensures, (rw c.as_str.ensures at c.in_ok-write_plain_text.ensures), (_, _, c.in_ok-key-2.ensures, c.in_ok-write_range.ensures, e)))) c.end_map.ensures

@@ -1,0 +1,7 @@
+use Rattle.std.proofs.lemmas.Result.{on_ok_weaker}
+use Rattle.ls_bodies.proofs.edits.write_action.Goals as goal
+
+pub returns : goal.returns
+returns g c =
+    on_ok_weaker c.end_map.result (λ e.
+    (_, c.in_ok-begin_map.ensures, (_, _, c.in_ok-key.ensures, c.in_ok-write_insertion.ensures, (_, _, c.in_ok-key-2.ensures, c.in_ok-str.ensures, (_, _, c.in_ok-key-3.ensures, c.in_ok-str-2.ensures, e))))) c.end_map.ensures

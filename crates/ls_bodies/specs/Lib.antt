@@ -1,0 +1,5 @@
+pub mod Refusal
+pub mod Positions
+pub mod Tokens
+pub mod Edits
+pub mod Bodies

@@ -1,0 +1,129 @@
+ghost use Rattle.std.specs.Prelude.{◌≡◌, IfOk};
+ghost use Rattle.std.specs.Option.{option_copied};
+ghost use Rattle.ls_bodies.specs.Refusal.{code_of, text_of, error_body, refusal_of_code, refusal_of_failure, refusal_of_rename};
+
+use ls_answers::RenameFault;
+use ls_rpc::{INVALID_REQUEST, Id, PARSE_ERROR, error_text};
+use std::alloc::{AllocError as Memory, Global};
+
+/// The errors that are answered, each with a code and a text (JSON-RPC 2.0, section 5.1; LSP 3.17, "Response
+/// Message").
+#[derive(Clone, Copy, Debug, PartialEq, Eq)]
+pub enum Refusal {
+    /// The body is no JSON.
+    ParseError,
+    /// The body is no message, or the request doesn't fit the session's stage.
+    InvalidRequest,
+    /// The method isn't known as a request.
+    MethodNotFound,
+    /// The parameters can't be read.
+    InvalidParams,
+    /// The document of the request isn't open.
+    DocumentNotOpen,
+    /// The request came before `initialize`.
+    NotInitialized,
+    /// As many requests wait as may.
+    TooManyWaiting,
+    /// A request with this id waits.
+    IdInUse,
+    /// The document of the request has changed, so that the answer would be out of date.
+    ContentModified,
+    /// The client has cancelled the request.
+    RequestCancelled,
+    /// The answer couldn't be made.
+    InternalError,
+    /// A rename to a text that isn't the name of a rule.
+    NotAName,
+    /// A rename where no name stands that the document defines.
+    NothingToRename,
+    /// A rename to a name that stands for something else.
+    NameInUse,
+}
+
+impl Refusal {
+    /// The code of the error.
+    pub fn code(self) -> i32
+        ensures { result ≡ code_of self }
+    {
+        match self {
+            Refusal::ParseError => PARSE_ERROR,
+            Refusal::InvalidRequest | Refusal::IdInUse => INVALID_REQUEST,
+            Refusal::MethodNotFound => -32601,
+            Refusal::InvalidParams | Refusal::DocumentNotOpen => -32602,
+            Refusal::NotInitialized => -32002,
+            Refusal::ContentModified => -32801,
+            Refusal::RequestCancelled => -32800,
+            Refusal::InternalError => -32603,
+            Refusal::TooManyWaiting
+            | Refusal::NotAName
+            | Refusal::NothingToRename
+            | Refusal::NameInUse => -32803,
+        }
+    }
+
+    /// The message of the error.
+    pub fn text(self) -> &'static str
+        ensures { result.now ≡ text_of self }
+    {
+        match self {
+            Refusal::ParseError => "parse error",
+            Refusal::InvalidRequest => "invalid request",
+            Refusal::MethodNotFound => "method not found",
+            Refusal::InvalidParams => "invalid params",
+            Refusal::DocumentNotOpen => "document not open",
+            Refusal::NotInitialized => "not initialized",
+            Refusal::TooManyWaiting => "too many requests waiting",
+            Refusal::IdInUse => "id in use",
+            Refusal::ContentModified => "content modified",
+            Refusal::RequestCancelled => "request cancelled",
+            Refusal::InternalError => "internal error",
+            Refusal::NotAName => "not a rule name",
+            Refusal::NothingToRename => "nothing to rename",
+            Refusal::NameInUse => "name in use",
+        }
+    }
+
+    /// The refusal of a body that is no message.
+    pub fn of_code(code: i32) -> Refusal
+        ensures { result ≡ refusal_of_code code }
+    {
+        if code == PARSE_ERROR {
+            Refusal::ParseError
+        } else {
+            Refusal::InvalidRequest
+        }
+    }
+
+    /// The refusal of a rename that isn't granted.
+    pub(crate) fn of_rename(fault: RenameFault) -> Refusal
+        ensures { result ≡ refusal_of_rename fault }
+    {
+        match fault {
+            RenameFault::NotAName => Refusal::NotAName,
+            RenameFault::NothingToRename => Refusal::NothingToRename,
+            RenameFault::NameInUse => Refusal::NameInUse,
+        }
+    }
+
+    /// The refusal of a request that was given up, by the code that is kept for it.
+    pub(crate) fn of_failure(code: i32) -> Refusal
+        ensures { result ≡ refusal_of_failure code }
+    {
+        if code == Refusal::ContentModified.code() {
+            Refusal::ContentModified
+        } else if code == Refusal::RequestCancelled.code() {
+            Refusal::RequestCancelled
+        } else {
+            Refusal::InternalError
+        }
+    }
+
+    /// The body that answers the error, with a null id where the request's isn't known.
+    ///
+    /// `Memory` says that an allocation was refused.
+    pub fn body(self, alloc: Global, id: Option<&Id>) -> Result<Vec<u8>, Memory>
+        ensures { IfOk result (λ body. body.items ≡ error_body (option_copied id.entry) self) }
+    {
+        error_text(alloc, id, self.code(), self.text())
+    }
+}

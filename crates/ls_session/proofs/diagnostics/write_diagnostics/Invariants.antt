@@ -1,6 +1,0 @@
-use Rattle.ls_session.specs.Bodies.{diagnostic_json}
-use Rattle.ls_session.proofs.Arrays.{ToFirst}
-use Rattle.ls_session.proofs.diagnostics.write_diagnostics.Given as goal
-
-abbrev pub invariant-loop-diagnostic : goal.invariant-loop-diagnostic
-invariant-loop-diagnostic g l = ToFirst diagnostic_json l.diagnostics l.diagnostic-index (g.S.Serializer.written l.initial.out) (g.S.Serializer.written l.out)

@@ -1,7 +1,0 @@
-use Rattle.std.proofs.lemmas.Result.{on_ok_weaker}
-use Rattle.ls_session.proofs.edits.write_document_edit.Goals as goal
-
-pub returns : goal.returns
-returns g c =
-    on_ok_weaker c.end_map.result (λ e.
-    (_, c.in_ok-begin_map.ensures, (_, _, c.in_ok-key.ensures, c.in_ok-write_edits.ensures, (_, _, c.in_ok-key-2.ensures, c.in_ok-write_versioned.ensures, e)))) c.end_map.ensures
