@@ -12,7 +12,6 @@ use Rattle.ls_text.specs.declared.position.Encoding.{Encoding}
 use Rattle.ls_text.specs.declared.position.Encoding.TheVariants.{Utf8, Utf16, Utf32}
 use Rattle.std.proofs.Common.{append-nil}
 use Rattle.ls_text.specs.declared.edit.Edit.{Edit}
-use Rattle.ls_machine.specs.declared.event.Event.{Event}
 use Rattle.ls_machine.specs.declared.event.Event.TheVariants.{Opened, Changed, Closed, Asked, Cancelled, Said, Took, Returned, Finished}
 use Rattle.ls_machine.specs.declared.event.Out.{Out}
 use Rattle.ls_machine.specs.declared.state.Document.{Document}

@@ -16,7 +16,7 @@ use Rattle.ls_machine.specs.declared.state.Entry.TheVariants.{Body, Failure, Out
 use Rattle.ls_machine.specs.Machine.{step, IsPossible, told_to, end_of, ends, is_ended, content_modified}
 use Rattle.ls_machine.specs.Counts.{count_one, counted, is_client, total}
 use Rattle.ls_machine.specs.Journal.{replay_from, IsLegalFrom, IsCutAt, IsPast}
-use Rattle.ls_machine.proofs.Replays.{counted-push, cut-none, cut-push, legal-none, legal-push, past-more, past-state, replay-none, replay-push, total-counted, total-one}
+use Rattle.ls_machine.proofs.Replays.{counted-push, cut-push, legal-push, past-more, past-state, replay-push, total-counted, total-one}
 use Rattle.ls_machine.proofs.Taken.{WereTaken, taken-all}
 use Rattle.ls_machine.specs.Outs.{entry_for}
 use Rattle.ls_desk.specs.Anew.{base_after, journal_after}

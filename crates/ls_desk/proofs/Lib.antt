@@ -3,3 +3,4 @@ pub mod Events
 pub mod Jobs
 pub mod Rules
 pub mod Sends
+pub mod Told

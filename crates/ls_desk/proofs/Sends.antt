@@ -1,5 +1,5 @@
 -- The first reply leaves; a new desk.
-use Rattle.std.proofs.Common.{◌≡◌, ℕ, suc, zero, ◌+◌, ◌<◌, ◌≤◌, List, [], ◌∷◌, ◌++◌, length, get_or, ltb, refl, sym, ap, ◌∙◌, subst, arith}
+use Rattle.std.proofs.Common.{◌≡◌, ℕ, suc, zero, ◌<◌, List, [], ◌∷◌, ◌++◌, length, get_or, ltb, refl, sym, ap, ◌∙◌, subst, arith}
 use Rattle.std.specs.Prelude.{Option, Some, None, IfSome, is_some, slice_get}
 use Rattle.std.proofs.lemmas.Bool.{ltb-true}
 use Rattle.std.proofs.lemmas.Option.{same_Some, slice_get_read}
@@ -16,14 +16,14 @@ use Rattle.ls_machine.specs.Machine.{step, IsPossible, rest, first_ticket, ticke
 use Rattle.ls_machine.specs.declared.base.Base.{Base}
 use Rattle.ls_machine.specs.declared.base.Counts.{Counts}
 use Rattle.ls_machine.specs.declared.state.State.{State}
-use Rattle.ls_machine.specs.Counts.{counted, first, no_events, total}
-use Rattle.ls_machine.specs.Journal.{replay_from, replay, IsLegalFrom, IsLegal, IsPast}
-use Rattle.ls_desk.specs.Stands.{Enters, IsOutFor, AreOutsFor, Seen, Sends, StandsAt, WasCurrentAt, Answers, out_of, ticket_of_out}
+use Rattle.ls_machine.specs.Counts.{first, no_events, total}
+use Rattle.ls_machine.specs.Journal.{replay_from, IsLegalFrom, IsPast}
+use Rattle.ls_desk.specs.Stands.{Enters, IsOutFor, AreOutsFor, Seen, Sends, StandsAt, Answers, out_of, ticket_of_out}
 use Rattle.ls_desk.specs.Kept.{IsKept}
 use Rattle.ls_machine.specs.Laws.{WasEntryCurrent, WereEntriesCurrent}
 use Rattle.ls_desk.proofs.Grows.{Stepped, Holds, seen}
 use Rattle.ls_machine.proofs.Ordered.{ordered}
-use Rattle.ls_machine.proofs.Replays.{counted-none, cut-none, legal-none, past-first, past-legal, past-state, replay-none}
+use Rattle.ls_machine.proofs.Replays.{counted-none, cut-none, legal-none, past-first, past-legal, past-state}
 
 pub ticket-same : (e : Entry) (o : Out) → IsOutFor e o → ticket_of e ≡ ticket_of_out o
 unfolding IsOutFor

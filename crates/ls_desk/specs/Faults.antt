@@ -1,5 +1,5 @@
--- Which refusal comes first, memory aside.
-use Rattle.std.specs.Prelude.{◌≡◌, ◌+◌, ◌⊎◌, ℕ, List, length, Bool, false, not, ◌&&◌, Option, Some, None, nat_le, nat_lt, find, bytes_eq, is_none, is_some, if◌then◌else◌}
+-- Which refusal comes first.
+use Rattle.std.specs.Prelude.{◌≡◌, ◌+◌, ◌⊎◌, ℕ, List, length, Bool, not, ◌&&◌, Option, Some, None, nat_le, nat_lt, find, is_none, is_some, if◌then◌else◌}
 use Rattle.std.specs.Arc.{arc_value}
 use Rattle.ls_answers.specs.Told.{Told}
 use Rattle.ls_answers.specs.declared.job.Job.{Job}
@@ -81,9 +81,13 @@ kept_at failed (Some w) = kept_for failed w.request
 abbrev pub kept_of : Seen → Told → Kept
 kept_of d done = kept_at (is_none done.answer) (find (is_held done.ticket) (state_of d).waiting)
 
--- a refusal is for want of memory, or the first whose cause holds, and nothing has changed
+-- the first whose cause holds, or want of memory where none does
+abbrev pub IsFirst : Option DeskFault → DeskFault → Type 0
+IsFirst first fault = (first ≡ Some fault) ⊎ ((first ≡ None) × (fault ≡ Memory))
+
+-- a refusal is the first whose cause holds, or for want of memory where none does, and nothing has changed
 pub record Refuses (first : Option DeskFault) (old new : Seen) (fault : DeskFault) : Type 0 where
-  pub cause : (fault ≡ Memory) ⊎ (first ≡ Some fault)
+  pub cause : IsFirst first fault
   pub same : new ≡ old
 
 -- nothing stood against the call, the event is possible, and the journal has it at its end

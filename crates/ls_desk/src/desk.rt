@@ -2,7 +2,7 @@
 //!
 //! Each call has three steps: it makes all that needs memory and finds its refusal, it makes room, and it writes what changes, where nothing
 //! can fail any more.
-ghost use Rattle.std.specs.Prelude.{◌≢◌, is_some, slice_get, false, is_none, find, position, ◌≡◌, ◌==◌, ◌+◌, ◌<◌, ◌≤◌, ◌⊎◌, IfOk, IfErr, OnOk, IfSome, IfNone, Some, None, [], length, true};
+ghost use Rattle.std.specs.Prelude.{◌≢◌, is_some, slice_get, false, is_none, find, position, ◌≡◌, ◌==◌, ◌+◌, ◌<◌, ◌≤◌, IfOk, IfErr, OnOk, OnErr, IfSome, IfNone, Some, None, [], length, true};
 ghost use Rattle.std.specs.Option.{option_map};
 ghost use Rattle.std.specs.Str.{chars};
 ghost use Rattle.ls_text.specs.Edits.{is_too_large};
@@ -10,15 +10,18 @@ ghost use Rattle.ls_machine.specs.Machine.{is_open, document_of, edited_at, meas
 ghost use Rattle.ls_machine.specs.Counts.{first, no_events};
 ghost use Rattle.ls_machine.specs.Same.{is_for};
 ghost use Rattle.ls_desk.specs.Stands.{Sends, IsSound, StandsAt, counts_of, failures, fresh, state_of, used};
-ghost use Rattle.ls_desk.specs.Faults.{Accepts, open_fault, open_shared_fault, Refuses, end_fault, is_full, finish_fault, request_fault, take_fault, give_back_fault, cancel_fault, full_fault, kept_of, IsJobOf, Takes};
+ghost use Rattle.ls_desk.specs.Faults.{Accepts, open_fault, open_shared_fault, Refuses, end_fault, is_full, finish_fault, request_fault, take_fault, give_back_fault, cancel_fault, full_fault, kept_of, IsFirst, IsJobOf, Takes};
 ghost use Rattle.ls_desk.specs.Puts.{next_of};
 
 use crate::history::History;
 use crate::outs::{
     Next, Opening, ask, asked, cancel, cancel_none, change, changed_text, close, failures, finish,
-    give_back, has_failed, job_of, next_text, open, remove_at, say, shared_text, take, ticket_of,
+    give_back, has_failed, job_of, next_text, open, remove_at, replies_at_end, say, shared_text,
+    take, ticket_of,
 };
-use crate::room::{put_replies, room_for_event, room_for_reply, room_for_text};
+use crate::room::{
+    put_change, put_replies, room_for_event, room_for_job, room_for_replies, room_for_text,
+};
 use ls_answers::{Ask, Done, Job};
 use ls_lists::{List, Text};
 use ls_machine::{
@@ -163,16 +166,15 @@ impl Desk {
         ensures none { OnOk result (end_fault self.now uri.now ≡ None) }
         ensures open { OnOk result (is_open uri.now (state_of self.now).documents ≡ true) }
         ensures room { IfOk result (λ replies. used self.now + (1 + length replies.items) ≤ self.now.max_events) }
-        ensures err { IfErr result (λ fault. (fault ≡ DeskFault.Memory) ⊎ (end_fault self.now uri.now ≡ Some fault)) }
+        ensures err { IfErr result (λ fault. IsFirst (end_fault self.now uri.now) fault) }
     {
         if find::document_of(self.documents.as_slice(), uri).is_none() {
             return Err(DeskFault::NotOpen);
         }
-        let replies = failures(self.alloc, uri, self.waiting.as_slice())?;
-        if self.is_full(replies.len()) {
+        if self.is_full(replies_at_end(uri, self.waiting.as_slice())) {
             return Err(DeskFault::SessionFull);
         }
-        Ok(replies)
+        Ok(failures(self.alloc, uri, self.waiting.as_slice())?)
     }
 
     // The text of a document after edits.
@@ -206,13 +208,13 @@ impl Desk {
         let replies = self.ends(&uri)?;
         let next = self.changed(&uri, label, edits.as_slice())?;
         let state = self.fresh()?;
-        put_replies(
-            &mut self.documents,
+        put_change(
             &mut self.waiting,
             &mut self.history.events,
             &state,
             &mut self.outbox,
             replies,
+            &next,
         )?;
         let version = change(
             &mut self.documents,
@@ -236,14 +238,7 @@ impl Desk {
     {
         let replies = self.ends(&uri)?;
         let state = self.fresh()?;
-        put_replies(
-            &mut self.documents,
-            &mut self.waiting,
-            &mut self.history.events,
-            &state,
-            &mut self.outbox,
-            replies,
-        )?;
+        put_replies(&mut self.history.events, &state, &mut self.outbox, replies)?;
         close(
             &mut self.documents,
             &mut self.waiting,
@@ -254,12 +249,13 @@ impl Desk {
         Ok(())
     }
 
-    // Where the job stands that was run there, or the refusal that comes first.
-    fn check_finish(&self, done: &Done, failed: bool) -> Result<usize, DeskFault>
+    // Where the job stands that was run there and how many replies it leaves, or the refusal that comes first.
+    fn check_finish(&self, done: &Done, failed: bool) -> Result<(usize, usize), DeskFault>
         requires { failed ≡ is_none done.now.answer }
         ensures none { OnOk result (finish_fault self.now done.now ≡ None) }
-        ensures at { IfOk result (λ at. position (is_held done.now.ticket) (state_of self.now).waiting ≡ Some at) }
-        ensures within { IfOk result (λ at. at < length (state_of self.now).waiting) }
+        ensures at { IfOk result (λ found. position (is_held done.now.ticket) (state_of self.now).waiting ≡ Some found.0) }
+        ensures within { IfOk result (λ found. found.0 < length (state_of self.now).waiting) }
+        ensures replies { IfOk result (λ found. found.1 ≡ length (left_at (is_none done.now.answer) (find (is_held done.now.ticket) (state_of self.now).waiting))) }
         ensures job { OnOk result (is_for (find (is_held done.now.ticket) (state_of self.now).waiting) done.now ≡ true) }
         ensures room { OnOk result (used self.now + (1 + length (left_at (is_none done.now.answer) (find (is_held done.now.ticket) (state_of self.now).waiting))) ≤ self.now.max_events) }
         ensures err { IfErr result (λ fault. finish_fault self.now done.now ≡ Some fault) }
@@ -270,10 +266,11 @@ impl Desk {
         if !find::is_for(job, done) {
             return Err(DeskFault::OtherText);
         }
-        if self.is_full(find::replies_of(failed, job)) {
+        let replies = find::replies_of(failed, job);
+        if self.is_full(replies) {
             return Err(DeskFault::SessionFull);
         }
-        Ok(at)
+        Ok((at, replies))
     }
 
     /// Takes back a job that has run. Its answer is kept for sending; where memory was refused in it, a failure is, or nothing
@@ -283,11 +280,11 @@ impl Desk {
         ensures err { IfErr result (λ e. Refuses (finish_fault self.old done) self.old self.new e.0 × (e.1 ≡ done)) }
     {
         let failed = has_failed(&done);
-        let at = match self.check_finish(&done, failed) {
-            Ok(at) => at,
+        let (at, replies) = match self.check_finish(&done, failed) {
+            Ok(found) => found,
             Err(fault) => return Err((fault, done)),
         };
-        match room_for_reply(&mut self.history.events, &None, &mut self.outbox) {
+        match room_for_replies(&mut self.history.events, &None, &mut self.outbox, replies) {
             Ok(()) => {}
             Err(_) => return Err((DeskFault::Memory, done)),
         }
@@ -302,7 +299,7 @@ impl Desk {
         ensures none { OnOk result (request_fault self.now id.now uri.now ≡ None) }
         ensures possible { OnOk result ((requests (state_of self.now).waiting < 1024) × (id_waits id.now (state_of self.now).waiting ≡ false)) }
         ensures room { OnOk result (used self.now + 1 ≤ self.now.max_events) }
-        ensures err { IfErr result (λ fault. (fault ≡ DeskFault.Memory) ⊎ (request_fault self.now id.now uri.now ≡ Some fault)) }
+        ensures err { IfErr result (λ fault. IsFirst (request_fault self.now id.now uri.now) fault) }
     {
         let Some(document) = find::document_of(self.documents.as_slice(), uri) else {
             return Err(DeskFault::NotOpen);
@@ -333,8 +330,7 @@ impl Desk {
     {
         let job = self.asked(&id, &uri, &question, links)?;
         let state = self.fresh()?;
-        room_for_text(
-            &mut self.documents,
+        room_for_job(
             &mut self.waiting,
             &mut self.history.events,
             &state,
@@ -362,7 +358,8 @@ impl Desk {
         ensures within { IfOk result (λ next. IfSome next (λ n. n.0 < length (state_of self.now).waiting)) }
         ensures job { IfOk result (λ next. IfSome next (λ n. IfSome (find is_queued (state_of self.now).waiting) (λ w. IsJobOf w n.1))) }
         ensures room { IfOk result (λ next. IfSome next (λ _. used self.now + 1 ≤ self.now.max_events)) }
-        ensures err { IfErr result (λ fault. (fault ≡ DeskFault.Memory) ⊎ (take_fault self.now ≡ Some fault)) }
+        ensures err { IfErr result (λ fault. IsFirst (take_fault self.now) fault) }
+        ensures queued { OnErr result (is_some (find is_queued (state_of self.now).waiting) ≡ true) }
     {
         let Some((at, job)) = find::queued(self.waiting.as_slice()) else {
             return Ok(None);
@@ -373,10 +370,11 @@ impl Desk {
         Ok(Some((at, job_of(job)?)))
     }
 
-    /// Hands out the queued job with the least ticket.
+    /// Hands out the queued job with the least ticket. Where none is queued it answers so, whatever memory there is.
     pub fn take(&mut self, worker: u32) -> Result<Option<Job>, DeskFault>
         ensures ok { IfOk result (λ job. Takes worker self.old self.new job) }
         ensures err { IfErr result (λ fault. Refuses (take_fault self.old) self.old self.new fault) }
+        ensures queued { OnErr result (is_some (find is_queued (state_of self.old).waiting) ≡ true) }
     {
         let Some((at, job)) = self.next_job()? else {
             return Ok(None);
@@ -450,7 +448,7 @@ impl Desk {
         let state = self.fresh()?;
         match at {
             Some(at) => {
-                room_for_reply(&mut self.history.events, &state, &mut self.outbox)?;
+                room_for_replies(&mut self.history.events, &state, &mut self.outbox, 1)?;
                 let job = remove_at(&mut self.waiting, at);
                 cancel(&mut self.outbox, &mut self.history, state, id, job);
                 Ok(true)
@@ -468,7 +466,7 @@ impl Desk {
         ensures copy { IfOk result (λ copy. copy ≡ body.now) }
         ensures none { OnOk result (full_fault self.now 2 ≡ None) }
         ensures room { OnOk result (used self.now + 2 ≤ self.now.max_events) }
-        ensures err { IfErr result (λ fault. (fault ≡ DeskFault.Memory) ⊎ (full_fault self.now 2 ≡ Some fault)) }
+        ensures err { IfErr result (λ fault. IsFirst (full_fault self.now 2) fault) }
     {
         if self.is_full(1) {
             return Err(DeskFault::SessionFull);
@@ -483,7 +481,7 @@ impl Desk {
     {
         let copy = self.copied(&body)?;
         let state = self.fresh()?;
-        room_for_reply(&mut self.history.events, &state, &mut self.outbox)?;
+        room_for_replies(&mut self.history.events, &state, &mut self.outbox, 1)?;
         say(&mut self.outbox, &mut self.history, state, body, copy);
         Ok(())
     }
@@ -524,7 +522,7 @@ impl Desk {
         ensures text { IfOk result (λ made. made ≡ chars text) }
         ensures none { OnOk result (open_fault self.now uri.now text ≡ None) }
         ensures fits { IfOk result (λ made. is_too_large made ≡ false) }
-        ensures err { IfErr result (λ fault. (fault ≡ DeskFault.Memory) ⊎ (open_fault self.now uri.now text ≡ Some fault)) }
+        ensures err { IfErr result (λ fault. IsFirst (open_fault self.now uri.now text) fault) }
     {
         if find::document_of(self.documents.as_slice(), uri).is_some() {
             return Err(DeskFault::AlreadyOpen);
@@ -557,7 +555,7 @@ impl Desk {
         ensures next { IfOk result (λ opening. Some opening.next ≡ next_of (state_of self.now).next_version (state_of self.now).next_ticket uri.now label (Some (measured opening.encoding opening.text))) }
         ensures possible { OnOk result ((is_open uri.now (state_of self.now).documents ≡ false) × (length (state_of self.now).documents < 256)) }
         ensures room { OnOk result (used self.now + 1 ≤ self.now.max_events) }
-        ensures err { IfErr result (λ fault. (fault ≡ DeskFault.Memory) ⊎ (open_shared_fault self.now uri.now ≡ Some fault)) }
+        ensures err { IfErr result (λ fault. IsFirst (open_shared_fault self.now uri.now) fault) }
     {
         if find::document_of(self.documents.as_slice(), uri).is_some() {
             return Err(DeskFault::AlreadyOpen);

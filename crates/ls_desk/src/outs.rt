@@ -5,7 +5,7 @@ ghost use Rattle.std.specs.Str.{chars};
 ghost use Rattle.ls_text.specs.Edits.{is_too_large};
 ghost use Rattle.ls_answers.specs.Answers.{IsAnswer};
 ghost use Rattle.ls_machine.specs.declared.state.Waiting.{Waiting};
-ghost use Rattle.ls_machine.specs.Machine.{going_on, others, without_first, on_first, with_taken, document_of, edited_at, measured, version_if, asked, request_cancelled};
+ghost use Rattle.ls_machine.specs.Machine.{ends, is_open, going_on, others, without_first, on_first, with_taken, document_of, edited_at, measured, version_if, asked, request_cancelled};
 ghost use Rattle.ls_desk.specs.Stands.{failed, failed_by, failures, finished, ticket_of_out};
 ghost use Rattle.ls_desk.specs.Faults.{kept_for, IsJobOf};
 ghost use Rattle.ls_desk.specs.Writes.{HasRoom, Writes};
@@ -61,6 +61,19 @@ pub fn failures(alloc: Global, uri: &Text, waiting: &[Waiting]) -> Result<VecDeq
     Ok(replies)
 }
 
+/// How many replies are put down where the text of a document ends.
+pub fn replies_at_end(uri: &Text, waiting: &[Waiting]) -> usize
+    ensures { result ≡ length (ends uri.now waiting.now) }
+{
+    let mut count = 0;
+    for job in waiting {
+        if is_ended(uri, job) && job.request.is_some() {
+            count += 1;
+        }
+    }
+    count
+}
+
 /// The jobs that the end of a text ends go.
 fn end_jobs(waiting: &mut Vec<Waiting>, uri: &Text)
     ensures items { waiting.new.items ≡ going_on uri.now waiting.old.items }
@@ -73,8 +86,8 @@ fn end_jobs(waiting: &mut Vec<Waiting>, uri: &Text)
 /// The document of this name goes.
 fn close_document(documents: &mut Vec<Document>, uri: &Text)
     ensures items { documents.new.items ≡ others uri.now documents.old.items }
-    ensures fewer { vec_len documents.new ≤ vec_len documents.old }
     ensures capacity { vec_capacity documents.new ≡ vec_capacity documents.old }
+    ensures place { is_open uri.now documents.old.items ≡ true → vec_len documents.new < vec_capacity documents.new }
 {
     documents.retain(|document| document.uri.as_str() != uri.as_str());
 }
@@ -161,8 +174,8 @@ fn put_text(
     next_ticket: &mut u64,
     next: Option<Next>,
 )
-    requires documents { vec_len documents.old < vec_capacity documents.old }
-    requires waiting { vec_len waiting.old < vec_capacity waiting.old }
+    requires documents { vec_len documents.old + count_of next ≤ vec_capacity documents.old }
+    requires waiting { vec_len waiting.old + count_of next ≤ vec_capacity waiting.old }
     requires version { next_version.old + 1 < 2 ^ 64 }
     requires ticket { next_ticket.old + 1 < 2 ^ 64 }
     ensures documents { documents.new.items ≡ documents.old.items ++ documents_of next }
@@ -184,7 +197,7 @@ fn put_text(
     }
 }
 
-/// A document is changed: what it ends goes, the new text is put down, and the event enters the journal.
+/// A document is changed: what it ends goes, the new text is put down in its place, and the event enters the journal.
 pub fn change(
     documents: &mut Vec<Document>,
     waiting: &mut Vec<Waiting>,
@@ -197,8 +210,8 @@ pub fn change(
     edits: List<Edit>,
     next: Option<Next>,
 ) -> Option<u64>
-    requires documents { vec_len documents.old < vec_capacity documents.old }
-    requires waiting { vec_len waiting.old < vec_capacity waiting.old }
+    requires open { is_open uri documents.old.items ≡ true }
+    requires waiting { vec_len waiting.old + count_of next ≤ vec_capacity waiting.old }
     requires history { HasRoom state history.old }
     requires version { next_version.old + 1 < 2 ^ 64 }
     requires ticket { next_ticket.old + 1 < 2 ^ 64 }
@@ -263,7 +276,7 @@ fn mark_at(waiting: &mut Vec<Waiting>, at: usize, taken: bool)
 
 /// Puts down what is told to the client of a job.
 pub fn put_failure(outbox: &mut VecDeque<Out>, job: Waiting, code: i32)
-    requires { deque_len outbox.old < deque_capacity outbox.old }
+    requires { deque_len outbox.old + length (failed code job) ≤ deque_capacity outbox.old }
     ensures { outbox.new.items ≡ outbox.old.items ++ failed code job }
 {
     let Waiting {
@@ -305,7 +318,7 @@ fn kept_for(failed: bool, job: &Waiting) -> Kept
 
 /// Puts down what a job leaves that has run.
 fn put_finished(outbox: &mut VecDeque<Out>, job: Waiting, done: Done, failed: bool)
-    requires room { deque_len outbox.old < deque_capacity outbox.old }
+    requires room { deque_len outbox.old + length (finished job done) ≤ deque_capacity outbox.old }
     requires failed { failed ≡ is_none done.answer }
     ensures { outbox.new.items ≡ outbox.old.items ++ finished job done }
 {
@@ -351,7 +364,7 @@ pub fn finish(
     done: Done,
     failed: bool,
 ) -> Kept
-    requires room { deque_len outbox.old < deque_capacity outbox.old }
+    requires room { deque_len outbox.old + length (finished job done) ≤ deque_capacity outbox.old }
     requires history { HasRoom None history.old }
     requires failed { failed ≡ is_none done.answer }
     ensures outbox { outbox.new.items ≡ outbox.old.items ++ finished job done }

@@ -2,3 +2,4 @@ pub mod Places
 pub mod Replays
 pub mod Taken
 pub mod Ordered
+pub mod Once

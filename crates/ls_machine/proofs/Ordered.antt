@@ -18,9 +18,9 @@ use Rattle.ls_machine.specs.declared.state.Entry.{Entry}
 use Rattle.ls_machine.specs.declared.state.Entry.TheVariants.{Body, Failure, Outcome}
 use Rattle.ls_machine.specs.Same.{id_eq}
 use Rattle.ls_machine.specs.declared.state.State.{State}
-use Rattle.ls_machine.specs.Machine.{start, step, IsPossible, is_named, document, document_of, others, edited_at, measured, is_for_id, asks_with, is_queued, is_held, on_first, without_first, with_taken, diagnosis, asked, told_to, told_at, told_end, request_cancelled, internal_error, content_modified, is_ended, end_of, ends, left_by, left_at, rest, put_text, close_text, ask_at}
+use Rattle.ls_machine.specs.Machine.{start, step, IsPossible, is_named, document, document_of, others, edited_at, measured, is_for_id, asks_with, is_queued, is_held, on_first, without_first, with_taken, diagnosis, asked, told_to, told_at, told_end, request_cancelled, internal_error, content_modified, is_ended, end_of, ends, left_by, left_at, rest, put_text, close_text, ask_at, version_if}
 use Rattle.ls_machine.specs.Journal.{replay_from, replay, IsLegalFrom, IsLegal}
-use Rattle.ls_machine.specs.Laws.{WasCurrent, IsAlone, AreOrdered, WasEntryCurrent, WereEntriesCurrent, IsOrdered}
+use Rattle.ls_machine.specs.Laws.{IsMadeBy, WasAsked, WasCurrent, IsAlone, AreOrdered, WasEntryCurrent, WereEntriesCurrent, IsOrdered}
 use Rattle.ls_machine.proofs.Replays.{replay-push}
 
 -- ---- what isn't found
@@ -159,6 +159,18 @@ ordered-without js low p [] high h = h
 ordered-without js low p (w ∷ ws) high h =
     ordered-unless js low (p w) w ws (without_first p ws) high h.0 h.3 (alone-without w.request p ws h.1) h.2 (ordered-without js (w.ticket + 1) p ws high h.3)
 
+made-marked : (e : Event) (taken : Bool) (w : Waiting) → IsMadeBy e w → IsMadeBy e (with_taken taken w)
+made-marked (Asked id uri question links ticket) taken w h = h
+made-marked (Opened uri label text encoding version) taken w h = h
+made-marked (Changed uri label edits version) taken w h = h
+made-marked (Closed uri) taken w h = h
+made-marked (Cancelled id found) taken w h = h
+made-marked (Said body) taken w h = h
+made-marked (Took worker) taken w h = h
+made-marked (Returned ticket) taken w h = h
+made-marked (Finished ticket failed) taken w h = h
+made-marked (Sent ticket) taken w h = h
+
 -- who has a job doesn't matter
 current-marked : (js : List Event) (taken : Bool) (w : Waiting) → WasCurrent js w → WasCurrent js (with_taken taken w)
 current-marked js taken w c = record {
@@ -166,6 +178,7 @@ current-marked js taken w c = record {
   event = c.event;
   later = c.later;
   journal_is = c.journal_is;
+  made_by = made-marked c.event taken w c.made_by;
   ticket_is = c.ticket_is;
   given = c.given;
   document_is = c.document_is;
@@ -187,7 +200,7 @@ current-found : (js : List Event) (b : Bool) (w : Waiting) (o : Option Waiting) 
 current-found js true w o x c f h = let P : Waiting → Type 0 = λ y. WasCurrent js y in subst P (same_Some w x h) c
 current-found js false w o x c f h = f h
 
-found-current : (js : List Event) (low : ℕ) (p : Waiting → Bool) (ws : List Waiting) (high : ℕ) (x : Waiting) → AreOrdered js low ws high → find p ws ≡ Some x → WasCurrent js x
+pub found-current : (js : List Event) (low : ℕ) (p : Waiting → Bool) (ws : List Waiting) (high : ℕ) (x : Waiting) → AreOrdered js low ws high → find p ws ≡ Some x → WasCurrent js x
 unfolding AreOrdered
 found-current js low p [] high x h is = absurd (cc)
 found-current js low p (w ∷ ws) high x h is = current-found js (p w) w (find p ws) x h.2 (found-current js (w.ticket + 1) p ws high x h.3) is
@@ -200,6 +213,7 @@ current-later js e w c = record {
   event = c.event;
   later = c.later ++ e ∷ [];
   journal_is = ap (λ (es : List Event). es ++ e ∷ []) c.journal_is ∙ append_assoc c.before (c.event ∷ c.later) (e ∷ []);
+  made_by = c.made_by;
   ticket_is = c.ticket_is;
   given = c.given;
   document_is = c.document_is;
@@ -210,9 +224,19 @@ unfolding AreOrdered
 ordered-later js e low [] high h = h
 ordered-later js e low (w ∷ ws) high h = (h.0, h.1, current-later js e w h.2, ordered-later js e (w.ticket + 1) ws high h.3)
 
+asked-later : (js : List Event) (e : Event) (ticket : ℕ) (id : Id) → WasAsked js ticket id → WasAsked (js ++ e ∷ []) ticket id
+asked-later js e ticket id a = record {
+  before = a.before;
+  uri = a.uri;
+  question = a.question;
+  links = a.links;
+  later = a.later ++ e ∷ [];
+  journal_is = ap (λ (es : List Event). es ++ e ∷ []) a.journal_is ∙ append_assoc a.before (Asked id a.uri a.question a.links ticket ∷ a.later) (e ∷ []);
+}
+
 entry-later : (js : List Event) (e : Event) (x : Entry) → WasEntryCurrent js x → WasEntryCurrent (js ++ e ∷ []) x
 entry-later js e (Body body) h = tt
-entry-later js e (Failure ticket id code) h = tt
+entry-later js e (Failure ticket id code) h = asked-later js e ticket id h
 entry-later js e (Outcome w) h = current-later js e w h
 
 entries-later : (js : List Event) (e : Event) (es : List Entry) → WereEntriesCurrent js es → WereEntriesCurrent (js ++ e ∷ []) es
@@ -236,30 +260,55 @@ body-current : (js : List Event) (body : List ℕ) → WereEntriesCurrent js (Bo
 unfolding WereEntriesCurrent
 body-current js body = (tt, tt)
 
-told-current : (js : List Event) (ticket : ℕ) (code : ℤ) (r : Option Request) → WereEntriesCurrent js (told_to ticket code r)
-unfolding WereEntriesCurrent
-told-current js ticket code None = tt
-told-current js ticket code (Some r) = (tt, tt)
+-- a request's job was made by that request
+asked-by : (js before : List Event) (e : Event) (later : List Event) (w : Waiting) (r : Request) → js ≡ before ++ e ∷ later → IsMadeBy e w → w.request ≡ Some r → WasAsked js w.ticket r.id
+asked-by js before (Asked id uri question links ticket) later w r is made some =
+    let same : record { id = id; links = links } ≡ r = same_Some (record { id = id; links = links }) r (sym made.0 ∙ some) in
+    record {
+      before = before;
+      uri = uri;
+      question = question;
+      links = links;
+      later = later;
+      journal_is = is ∙ (λ i. before ++ Asked (ap (λ (q : Request). q.id) same i) uri question links (sym made.3 i) ∷ later);
+    }
+asked-by js before (Opened uri label text encoding version) later w r is made some = let none = made.0.0 in absurd (cc)
+asked-by js before (Changed uri label edits version) later w r is made some = let none = made.0.0 in absurd (cc)
+asked-by js before (Closed uri) later w r is made some = absurd made
+asked-by js before (Cancelled id found) later w r is made some = absurd made
+asked-by js before (Said body) later w r is made some = absurd made
+asked-by js before (Took worker) later w r is made some = absurd made
+asked-by js before (Returned ticket) later w r is made some = absurd made
+asked-by js before (Finished ticket failed) later w r is made some = absurd made
+asked-by js before (Sent ticket) later w r is made some = absurd made
 
-at-current : (js : List Event) (code : ℤ) (o : Option Waiting) → WereEntriesCurrent js (told_at code o)
+told-to-asker : (js : List Event) (ticket : ℕ) (code : ℤ) (r : Option Request) → ((q : Request) → r ≡ Some q → WasAsked js ticket q.id) → WereEntriesCurrent js (told_to ticket code r)
 unfolding WereEntriesCurrent
-at-current js code None = tt
-at-current js code (Some w) = told-current js w.ticket code w.request
+told-to-asker js ticket code None f = tt
+told-to-asker js ticket code (Some r) f = (f r refl, tt)
+
+told-current : (js : List Event) (code : ℤ) (w : Waiting) → WasCurrent js w → WereEntriesCurrent js (told_to w.ticket code w.request)
+told-current js code w c = told-to-asker js w.ticket code w.request (λ q is. asked-by js c.before c.event c.later w q c.journal_is c.made_by is)
+
+at-current : (js : List Event) (code : ℤ) (o : Option Waiting) → ((w : Waiting) → o ≡ Some w → WasCurrent js w) → WereEntriesCurrent js (told_at code o)
+unfolding WereEntriesCurrent
+at-current js code None f = tt
+at-current js code (Some w) f = told-current js code w (f w refl)
 
 if-current : (js : List Event) (b : Bool) (es : List Entry) → WereEntriesCurrent js es → WereEntriesCurrent js (cond b es [])
 unfolding WereEntriesCurrent
 if-current js true es h = h
 if-current js false es h = tt
 
-ends-current : (js : List Event) (uri : List ℕ) (ws : List Waiting) → WereEntriesCurrent js (ends uri ws)
-unfolding WereEntriesCurrent
-ends-current js uri [] = tt
-ends-current js uri (w ∷ ws) =
-    entries-append js (end_of uri w) (ends uri ws) (if-current js (is_ended uri w) (told_end content_modified w) (told-current js w.ticket content_modified w.request)) (ends-current js uri ws)
+ends-current : (js : List Event) (uri : List ℕ) (low : ℕ) (ws : List Waiting) (high : ℕ) → AreOrdered js low ws high → WereEntriesCurrent js (ends uri ws)
+unfolding AreOrdered WereEntriesCurrent
+ends-current js uri low [] high h = tt
+ends-current js uri low (w ∷ ws) high h =
+    entries-append js (end_of uri w) (ends uri ws) (if-current js (is_ended uri w) (told_end content_modified w) (told-current js content_modified w h.2)) (ends-current js uri (w.ticket + 1) ws high h.3)
 
 left-current : (js : List Event) (failed : Bool) (w : Waiting) → WasCurrent js w → WereEntriesCurrent js (left_by failed w)
 unfolding WereEntriesCurrent
-left-current js true w c = told-current js w.ticket internal_error w.request
+left-current js true w c = told-current js internal_error w c
 left-current js false w c = (c, tt)
 
 left-at-current : (js : List Event) (failed : Bool) (o : Option Waiting) → ((w : Waiting) → o ≡ Some w → WasCurrent js w) → WereEntriesCurrent js (left_at failed o)
@@ -270,7 +319,7 @@ left-at-current js failed (Some w) f = left-current js failed w (f w refl)
 -- ---- events
 
 -- the waiting jobs and the unsent entries of a state, by a journal
-record Fits (js : List Event) (s : State) : Type 0 where
+pub record Fits (js : List Event) (s : State) : Type 0 where
   pub waiting : AreOrdered js 1 s.waiting s.next_ticket
   pub unsent : WereEntriesCurrent js s.unsent
 
@@ -291,15 +340,17 @@ fits-text : (js : List Event) (e : Event) (s : State) (uri : List ℕ) (label : 
     → find (is_named uri) s.documents ≡ None
     → (replay js).next_ticket ≡ s.next_ticket
     → step (replay js) e ≡ put_text s uri label x
+    → ((m : Measured) → x ≡ Some m → IsMadeBy e (diagnosis s.next_ticket uri s.next_version label m))
     → Fits (js ++ e ∷ []) (put_text s uri label x)
-fits-text js e s uri label None fits none same is = fits
-fits-text js e s uri label (Some m) fits none same is =
+fits-text js e s uri label None fits none same is made = fits
+fits-text js e s uri label (Some m) fits none same is made =
     let w : Waiting = diagnosis s.next_ticket uri s.next_version label m in
     let current : WasCurrent (js ++ e ∷ []) w = record {
       before = js;
       event = e;
       later = [];
       journal_is = refl;
+      made_by = made m refl;
       ticket_is = same;
       given = ap (λ (t : State). t.next_ticket) is;
       document_is = ap (λ (t : State). document_of uri t.documents) is
@@ -313,7 +364,7 @@ fits-text js e s uri label (Some m) fits none same is =
 fits-close : (js : List Event) (s : State) (uri : List ℕ) → Fits js s → Fits js (close_text s uri)
 fits-close js s uri fits = record {
   waiting = ordered-filter js 1 (λ w. not (is_ended uri w)) s.waiting s.next_ticket fits.waiting;
-  unsent = entries-append js s.unsent (ends uri s.waiting) fits.unsent (ends-current js uri s.waiting);
+  unsent = entries-append js s.unsent (ends uri s.waiting) fits.unsent (ends-current js uri 1 s.waiting s.next_ticket fits.waiting);
 }
 
 passes-if : (b : Bool) (p : Document → Bool) (d x : Document) (o : Option Document) → p d ≡ b → (o ≡ Some x → p x ≡ true) → cond b (Some d) o ≡ Some x → p x ≡ true
@@ -331,9 +382,10 @@ fits-ask : (js : List Event) (e : Event) (s : State) (id : Id) (uri : List ℕ) 
     → find (asks_with id) s.waiting ≡ None
     → replay js ≡ s
     → step (replay js) e ≡ ask_at s id o question links
+    → ((d : Document) → uri ≡ d.uri → IsMadeBy e (asked s.next_ticket id question links d))
     → Fits (js ++ e ∷ []) (ask_at s id o question links)
-fits-ask js e s id uri question links None fits found new same is = fits
-fits-ask js e s id uri question links (Some d) fits found new same is =
+fits-ask js e s id uri question links None fits found new same is made = fits
+fits-ask js e s id uri question links (Some d) fits found new same is made =
     let w : Waiting = asked s.next_ticket id question links d in
     let named : uri ≡ d.uri = sym ((bytes_eq-Decides d.uri uri).0 (passes (is_named uri) s.documents d found)) in
     let current : WasCurrent (js ++ e ∷ []) w = record {
@@ -341,6 +393,7 @@ fits-ask js e s id uri question links (Some d) fits found new same is =
       event = e;
       later = [];
       journal_is = refl;
+      made_by = made d named;
       ticket_is = ap (λ (t : State). t.next_ticket) same;
       given = ap (λ (t : State). t.next_ticket) is;
       document_is = ap (λ (t : State). document_of d.uri t.documents) is ∙ (sym (λ i. document_of (named i) s.documents) ∙ found);
@@ -356,25 +409,30 @@ fits-later js e s fits = record {
   unsent = entries-later js e s.unsent fits.unsent;
 }
 
-fits-step : (js : List Event) (e : Event) → IsPossible (replay js) e → Fits js (replay js) → Fits (js ++ e ∷ []) (step (replay js) e)
+pub fits-step : (js : List Event) (e : Event) → IsPossible (replay js) e → Fits js (replay js) → Fits (js ++ e ∷ []) (step (replay js) e)
 unfolding step IsPossible
 fits-step js (Opened uri label text encoding version) possible fits =
     fits-text js (Opened uri label text encoding version) (replay js) uri label (Some (measured encoding text)) (fits-later js (Opened uri label text encoding version) (replay js) fits) (none-of _ possible.0) refl refl
+    (λ m is. ((refl, refl), refl, refl, sym possible.3))
 fits-step js (Changed uri label edits version) possible fits =
     let e = Changed uri label edits version in
     fits-text js e (close_text (replay js) uri) uri label (edited_at (document_of uri (replay js).documents) edits)
     (fits-close (js ++ e ∷ []) (replay js) uri (fits-later js e (replay js) fits))
     (no-other uri (replay js).documents)
     refl refl
+    (λ m is. ((refl, refl), refl, refl, sym (possible.1 ∙ ap (version_if (replay js).next_version) is)))
 fits-step js (Closed uri) possible fits = fits-close (js ++ Closed uri ∷ []) (replay js) uri (fits-later js (Closed uri) (replay js) fits)
 fits-step js (Asked id uri question links ticket) possible fits =
     let e = Asked id uri question links ticket in
     fits-ask js e (replay js) id uri question links (document_of uri (replay js).documents) (fits-later js e (replay js) fits) refl (none-of _ possible.2) refl refl
+    (λ d named. (refl, sym named, refl, sym possible.3))
 fits-step js (Cancelled id found) possible fits =
     let now = fits-later js (Cancelled id found) (replay js) fits in
     record {
       waiting = ordered-without (js ++ Cancelled id found ∷ []) 1 (asks_with id) (replay js).waiting (replay js).next_ticket now.waiting;
-      unsent = entries-append (js ++ Cancelled id found ∷ []) (replay js).unsent _ now.unsent (at-current (js ++ Cancelled id found ∷ []) request_cancelled (find (asks_with id) (replay js).waiting));
+      unsent = entries-append (js ++ Cancelled id found ∷ []) (replay js).unsent _ now.unsent
+          (at-current (js ++ Cancelled id found ∷ []) request_cancelled (find (asks_with id) (replay js).waiting)
+          (λ w h. found-current (js ++ Cancelled id found ∷ []) 1 (asks_with id) (replay js).waiting (replay js).next_ticket w now.waiting h));
     }
 fits-step js (Said body) possible fits =
     let now = fits-later js (Said body) (replay js) fits in
@@ -419,7 +477,7 @@ fits-from most n js (e ∷ es) legal fits =
     subst R (append_assoc js (e ∷ []) es)
     (fits-from most (n + 1) (js ++ e ∷ []) es (subst Q (sym now) legal.2) (subst P (sym now) (fits-step js e legal.0 fits)))
 
-fits-start : Fits [] start
+pub fits-start : Fits [] start
 unfolding AreOrdered WereEntriesCurrent
 fits-start = record { waiting = omega arith; unsent = tt }
 

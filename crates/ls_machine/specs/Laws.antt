@@ -1,20 +1,38 @@
 -- What holds of the state that a legal journal leads to.
-use Rattle.std.specs.Prelude.{◌≡◌, ◌≤◌, ◌+◌, ℕ, List, [], ◌∷◌, ◌++◌, Option, Some, None, find}
+use Rattle.std.specs.Prelude.{◌≡◌, ◌≤◌, ◌<◌, ◌+◌, ◌⊎◌, ◌==◌, ℕ, List, [], ◌∷◌, ◌++◌, Bool, true, Option, Some, None, find, count_by}
+use Rattle.ls_rpc.specs.declared.message.Id.{Id}
+use Rattle.ls_answers.specs.declared.ask.Ask.{Ask}
+use Rattle.ls_answers.specs.declared.ask.Ask.TheVariants.{Diagnose}
 use Rattle.ls_machine.specs.declared.event.Event.{Event}
+use Rattle.ls_machine.specs.declared.event.Event.TheVariants.{Opened, Changed, Closed, Asked, Finished}
 use Rattle.ls_machine.specs.declared.state.Entry.{Entry}
 use Rattle.ls_machine.specs.declared.state.Entry.TheVariants.{Body, Failure, Outcome}
 use Rattle.ls_machine.specs.declared.state.Request.{Request}
 use Rattle.ls_machine.specs.declared.state.Waiting.{Waiting}
-use Rattle.ls_machine.specs.Machine.{step, document, document_of, measured, asks_with}
+use Rattle.ls_machine.specs.Machine.{step, document, document_of, measured, asks_with, ticket_of}
+use Rattle.ls_machine.specs.Client.{sent_tickets}
 use Rattle.ls_machine.specs.Journal.{replay, IsLegal}
 
--- Of the events of a journal one gave the job its ticket, and after it the job's document was open at the job's version, with its label, its
--- text and what positions count in it: for a request the one by which it was asked, for findings the open or the change.
+-- nobody asked for it, and its question is what is found in a text
+abbrev pub IsForFindings : Waiting → Type 0
+IsForFindings w = (w.request ≡ None) × (w.ask ≡ Diagnose)
+
+-- The event made this job: it is the request with the job's id, links, document, question and ticket, or, where the job is for findings, the
+-- open or the change of its document with its label and its version.
+abbrev pub IsMadeBy : Event → Waiting → Type 0
+IsMadeBy (Asked id uri question links ticket) w = (w.request ≡ Some (record { id = id; links = links })) × (w.uri ≡ uri) × (w.ask ≡ question) × (w.ticket ≡ ticket)
+IsMadeBy (Opened uri label text encoding version) w = IsForFindings w × (w.uri ≡ uri) × (w.label ≡ label) × (w.version ≡ version)
+IsMadeBy (Changed uri label edits version) w = IsForFindings w × (w.uri ≡ uri) × (w.label ≡ label) × (Some w.version ≡ version)
+IsMadeBy _ w = ⊥
+
+-- Of the events of a journal one made the job and gave it its ticket, and after it the job's document was open at the job's version, with its
+-- label, its text and what positions count in it.
 pub record WasCurrent (journal : List Event) (w : Waiting) : Type 0 where
   pub before : List Event
   pub event : Event
   pub later : List Event
   pub journal_is : journal ≡ before ++ event ∷ later
+  pub made_by : IsMadeBy event w
   pub ticket_is : (replay before).next_ticket ≡ w.ticket
   pub given : (step (replay before) event).next_ticket ≡ w.ticket + 1
   pub document_is : document_of w.uri (step (replay before) event).documents ≡ Some (document w.uri w.version w.label (measured w.encoding w.text))
@@ -30,10 +48,19 @@ unfoldable pub AreOrdered : List Event → ℕ → List Waiting → ℕ → Type
 AreOrdered journal low [] high = low ≤ high
 AreOrdered journal low (w ∷ ws) high = (low ≤ w.ticket) × IsAlone w.request ws × WasCurrent journal w × AreOrdered journal (w.ticket + 1) ws high
 
--- an outcome's text was that of its document when it was asked
+-- one of the events of a journal is the request with this id that got this ticket
+pub record WasAsked (journal : List Event) (ticket : ℕ) (id : Id) : Type 0 where
+  pub before : List Event
+  pub uri : List ℕ
+  pub question : Ask
+  pub links : Bool
+  pub later : List Event
+  pub journal_is : journal ≡ before ++ Asked id uri question links ticket ∷ later
+
+-- an outcome's text was that of its document when it was asked, and a failure is told to the request that got its ticket
 abbrev pub WasEntryCurrent : List Event → Entry → Type 0
 WasEntryCurrent journal (Body body) = Unit {0}
-WasEntryCurrent journal (Failure ticket id code) = Unit {0}
+WasEntryCurrent journal (Failure ticket id code) = WasAsked journal ticket id
 WasEntryCurrent journal (Outcome w) = WasCurrent journal w
 
 unfoldable pub WereEntriesCurrent : List Event → List Entry → Type 0
@@ -46,3 +73,51 @@ pub record IsOrdered (journal : List Event) : Type 0 where
 
 abbrev pub LegalJournalsAreOrdered : Type 0
 LegalJournalsAreOrdered = (most : ℕ) (journal : List Event) → IsLegal most journal → IsOrdered journal
+
+-- ---- nothing is lost, and nothing is told twice
+
+abbrev pub has_ticket : ℕ → Waiting → Bool
+has_ticket ticket w = w.ticket == ticket
+
+abbrev pub is_told_of : ℕ → Entry → Bool
+is_told_of ticket e = ticket_of e == ticket
+
+-- how often a ticket stands among the jobs that wait, the entries that were sent, and those that aren't sent yet
+abbrev pub places : List Event → ℕ → ℕ
+places journal ticket =
+    count_by (has_ticket ticket) (replay journal).waiting
+    + count_by (λ sent. sent == ticket) (sent_tickets journal)
+    + count_by (is_told_of ticket) (replay journal).unsent
+
+-- these events end a job of findings and tell nothing: a change or a close of its document, and a run of it in which memory was refused
+abbrev pub EndsUntold : Event → Waiting → Type 0
+EndsUntold (Changed uri label edits version) w = w.uri ≡ uri
+EndsUntold (Closed uri) w = w.uri ≡ uri
+EndsUntold (Finished ticket failed) w = (w.ticket ≡ ticket) × (failed ≡ true)
+EndsUntold _ w = ⊥
+
+-- a job of findings with this ticket waited, and one of the events ended it and told nothing
+pub record WasLetGo (journal : List Event) (ticket : ℕ) : Type 0 where
+  pub before : List Event
+  pub event : Event
+  pub later : List Event
+  pub journal_is : journal ≡ before ++ event ∷ later
+  pub job : Waiting
+  pub waited : find (has_ticket ticket) (replay before).waiting ≡ Some job
+  pub findings : IsForFindings job
+  pub ends : EndsUntold event job
+
+-- a job waits, or it has one entry, sent or not; or neither, and then it was let go
+abbrev pub IsKeptOnce : List Event → ℕ → Type 0
+IsKeptOnce journal ticket = (places journal ticket ≡ 1) ⊎ ((places journal ticket ≡ 0) × WasLetGo journal ticket)
+
+-- so it is with each ticket that was given
+abbrev pub TicketsAreKeptOnce : Type 0
+TicketsAreKeptOnce = (most : ℕ) (journal : List Event) → IsLegal most journal
+    → (ticket : ℕ) → 0 < ticket → ticket < (replay journal).next_ticket → IsKeptOnce journal ticket
+
+-- a request is never let go: it waits, or it has one entry, sent or not
+abbrev pub RequestsAreKeptOnce : Type 0
+RequestsAreKeptOnce = (most : ℕ) (before later : List Event) (id : Id) (uri : List ℕ) (question : Ask) (links : Bool) (ticket : ℕ)
+    → IsLegal most (before ++ Asked id uri question links ticket ∷ later)
+    → places (before ++ Asked id uri question links ticket ∷ later) ticket ≡ 1

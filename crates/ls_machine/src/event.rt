@@ -109,7 +109,7 @@ pub enum Kept {
     Nothing,
 }
 
-/// Why a call was refused. The first whose cause holds is given, in each call's own order; `Memory` may come in place of any.
+/// Why a call was refused: the first whose cause holds, in each call's own order, or `Memory` where none does.
 #[derive(Clone, Copy, Debug, Drop, PartialEq, Eq, Error)]
 pub enum DeskFault {
     /// No document of this name is open.

@@ -1,9 +1,18 @@
 //! Laws of legal journals.
-ghost use Rattle.ls_machine.specs.Laws.{LegalJournalsAreOrdered};
+ghost use Rattle.ls_machine.specs.Laws.{LegalJournalsAreOrdered, RequestsAreKeptOnce, TicketsAreKeptOnce};
 
 /// In the state that a legal journal leads to, tickets rise along the waiting jobs, so that a ticket stands once; no two of them wait for
 /// requests with the same id; and the text of each, as of each outcome that isn't sent yet, is that of the version of its document that was
-/// current when it was asked, or when its text was opened or changed.
+/// current when it was asked, or when its text was opened or changed. The event that made it is that very request, or that very open or
+/// change; and what tells a request's failure has the ticket and the id of one that was asked.
 pub fn legal_journals_are_ordered()
     ensures { LegalJournalsAreOrdered }
+{}
+
+/// Nothing is lost, and nothing is told twice. In a legal journal each ticket that was given stands at one place: its job waits, or it has one
+/// entry, that was sent or isn't sent yet. Or it stands at none: then it was for findings, and a change or a close of its document or a run
+/// without memory has ended it, which tells nothing. A request is never let go so.
+pub fn tickets_are_kept_once()
+    ensures tickets { TicketsAreKeptOnce }
+    ensures requests { RequestsAreKeptOnce }
 {}

@@ -25,7 +25,7 @@ use Rattle.ls_session.specs.declared.event.Turn.{Turn}
 use Rattle.ls_session.specs.declared.event.Turn.TheVariants.{Nothing, Event as Happens, Exit}
 use Rattle.ls_machine.specs.declared.client.ClientEvent.{ClientEvent}
 use Rattle.ls_machine.specs.Client.{asker_of}
-use Rattle.ls_steps.specs.Runs.{Act, Going, Held, IsSent, Left, Runs, Steps, begun, break_off, desk_of, entry_at, fault_at, finish_job, finished_by, finishes, hear, heard, is_filled, met, on_turn, ran, refused, runs, said_by, send, state_at, take_job, takes, tells, told_of, took}
+use Rattle.ls_steps.specs.Runs.{Act, Going, Held, IsSent, Left, Runs, Steps, begun, break_off, desk_of, entry_at, fault_at, finish_job, finished_by, hear, heard, is_filled, met, on_turn, ran, refused, runs, said_by, send, state_at, take_job, takes, tells, told_of, took}
 use Rattle.ls_steps.specs.Comes.{ComesTo, EndWith, after, come}
 
 -- a desk with what is left of its base and journal
@@ -115,29 +115,29 @@ sent-comes : (g h : Going) (es : List Entry) (bytes : List ℕ) → IsSent g es 
 sent-comes g h [] bytes s = same-comes (desk_of g) g h s.0 (none-comes (desk_of g))
 sent-comes g h (e ∷ es) bytes s = same-comes (desk_of g) _ h s.0 (one-comes (desk_of g) (Sent _))
 
-step-comes : (g h : Going) (act : Act) (bytes : List ℕ) → Steps g act h bytes → Follows (desk_of g) (desk_of h)
+step-comes : (f : Bool) (g h : Going) (act : Act) (bytes : List ℕ) → Steps f g act h bytes → Follows (desk_of g) (desk_of h)
 unfolding Steps
-step-comes g h (hear body) bytes s =
+step-comes f g h (hear body) bytes s =
     let turn = turn_of g.stage (message_of body) in
     same-comes (desk_of g) _ h s.0 (if-comes (desk_of g) (is_some g.status) g (heard g body) (none-comes (desk_of g)) (turn-comes (record g { stage = turn.1 }) turn.0))
-step-comes g h (break_off fault) bytes s = same-comes (desk_of g) _ h s.0 (if-comes (desk_of g) (is_some g.status) g _ (none-comes (desk_of g)) (none-comes (desk_of g)))
-step-comes g h take_job bytes s =
+step-comes f g h (break_off fault) bytes s = same-comes (desk_of g) _ h s.0 (if-comes (desk_of g) (is_some g.status) g _ (none-comes (desk_of g)) (none-comes (desk_of g)))
+step-comes f g h take_job bytes s =
     same-comes (desk_of g) _ h s.0 (if-comes (desk_of g) (is_filled g.status) g _ (none-comes (desk_of g)) (takes-comes g (find is_queued (state_at g).waiting)))
-step-comes g h (finish_job k) bytes s =
-    same-comes (desk_of g) _ h s.1 (if-comes (desk_of g) (is_filled g.status) g _ (none-comes (desk_of g)) (runs-comes g k s.0 (slice_get g.held k)))
-step-comes g h send bytes s = sent-comes g h (state_at g).unsent bytes s
+step-comes f g h (finish_job k) bytes s =
+    same-comes (desk_of g) _ h s.2 (if-comes (desk_of g) (is_filled g.status) g _ (none-comes (desk_of g)) (runs-comes g k s.0 (slice_get g.held k)))
+step-comes f g h send bytes s = sent-comes g h (state_at g).unsent bytes s
 
 come-append : (d : Seen) (es fs : List Event) → come d (es ++ fs) ≡ come (come d es) fs
 unfolding come
 come-append d [] fs = refl
 come-append d (e ∷ es) fs = come-append (after d e) es fs
 
-run-comes : (g h : Going) (acts : List Act) (bytes : List ℕ) → Runs g acts h bytes → Follows (desk_of g) (desk_of h)
+run-comes : (f : Bool) (g h : Going) (acts : List Act) (bytes : List ℕ) → Runs f g acts h bytes → Follows (desk_of g) (desk_of h)
 unfolding Runs
-run-comes g h [] bytes r = same-comes (desk_of g) g h r.0 (none-comes (desk_of g))
-run-comes g h (act ∷ acts) bytes r =
-    let first = step-comes g r.0 act r.1 r.3.0 in
-    let rest = run-comes r.0 h acts r.2 r.3.1 in
+run-comes f g h [] bytes r = same-comes (desk_of g) g h r.0 (none-comes (desk_of g))
+run-comes f g h (act ∷ acts) bytes r =
+    let first = step-comes f g r.0 act r.1 r.3.0 in
+    let rest = run-comes f r.0 h acts r.2 r.3.1 in
     (first.0 ++ rest.0, rest.1 ∙ (ap (λ (d : Seen). come d rest.0) first.1 ∙ sym (come-append (desk_of g) first.0 rest.0)))
 
 -- ---- what the events end with
@@ -176,8 +176,8 @@ end-come events d [] end = subst (λ (l : List Event). EndWith l d) (sym (append
 end-come events d (e ∷ es) end =
     subst (λ (l : List Event). EndWith l (come (after d e) es)) (append_assoc events (e ∷ []) es) (end-come (events ++ e ∷ []) (after d e) es (end-after events d e end))
 
-pub run-events : (acts : List Act) (h : Going) (bytes : List ℕ) → Runs begun acts h bytes → (events : List Event) × ComesTo begun events h × EndWith events (desk_of h)
-run-events acts h bytes r =
-    let all = run-comes begun h acts bytes r in
+pub run-events : (f : Bool) (acts : List Act) (h : Going) (bytes : List ℕ) → Runs f begun acts h bytes → (events : List Event) × ComesTo begun events h × EndWith events (desk_of h)
+run-events f acts h bytes r =
+    let all = run-comes f begun h acts bytes r in
     let start_end : EndWith [] (desk_of begun) = record { past = []; events_are = refl; state_is = replay-none start; counts_are = counted-none no_events } in
     (all.0, all.1, subst (λ (d : Seen). EndWith all.0 d) (sym all.1) (end-come [] (desk_of begun) all.0 start_end))

@@ -1,5 +1,5 @@
 -- The state behind an event, whether it makes a checkpoint or not.
-use Rattle.std.proofs.Common.{◌≡◌, Bool, true, false, List, [], ◌∷◌, ◌++◌, cond}
+use Rattle.std.proofs.Common.{◌≡◌, Bool, true, false, [], ◌∷◌, ◌++◌, cond}
 use Rattle.std.specs.Prelude.{Some, None}
 use Rattle.ls_machine.specs.declared.event.Event.{Event}
 use Rattle.ls_machine.specs.Machine.{step}

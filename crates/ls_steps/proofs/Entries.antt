@@ -1,6 +1,6 @@
 -- What the desk enters for an event of a client, and why it refuses one.
 use Rattle.std.proofs.Common.{◌≡◌, ℕ, ℤ, List, Bool, Option, Some, subst, inl, inr}
-use Rattle.std.specs.Prelude.{◌≢◌, ◌⊎◌}
+use Rattle.std.specs.Prelude.{◌≢◌}
 use Rattle.ls_text.specs.declared.edit.Edit.{Edit}
 use Rattle.ls_text.specs.declared.position.Encoding.{Encoding}
 use Rattle.ls_rpc.specs.declared.message.Id.{Id}
@@ -10,13 +10,13 @@ use Rattle.ls_machine.specs.declared.event.DeskFault.{DeskFault}
 use Rattle.ls_machine.specs.declared.event.DeskFault.TheVariants.{Memory}
 use Rattle.ls_machine.specs.Machine.{IsPossible, document_of, edited_at, id_waits, version_if}
 use Rattle.ls_desk.specs.Stands.{Seen, state_of}
-use Rattle.ls_desk.specs.Faults.{Accepts, Refuses}
+use Rattle.ls_desk.specs.Faults.{Accepts, IsFirst, Refuses}
 
 -- ---- refusals
 
-first-of : (first : Option DeskFault) (fault : DeskFault) → fault ≢ Memory → (fault ≡ Memory) ⊎ (first ≡ Some fault) → first ≡ Some fault
-first-of first fault n (inl e) = absurd (n e)
-first-of first fault n (inr e) = e
+first-of : (first : Option DeskFault) (fault : DeskFault) → fault ≢ Memory → IsFirst first fault → first ≡ Some fault
+first-of first fault n (inl e) = e
+first-of first fault n (inr e) = absurd (n e.1)
 
 -- memory aside, it is the first whose cause holds
 pub first-cause : (first : Option DeskFault) (old new : Seen) (fault : DeskFault) → fault ≢ Memory → Refuses first old new fault → first ≡ Some fault

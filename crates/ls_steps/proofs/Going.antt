@@ -24,27 +24,27 @@ use Rattle.ls_steps.specs.Runs.{Act, Going, Held, IsSent, Runs, Steps, acts_of, 
 
 -- what is left of the acts ends a run of all of them, with these bytes before it
 abbrev pub Continues : Going → List Act → List ℕ → List Act → Type 0
-Continues talk left bytes all = (h : Going) (later : List ℕ) → Runs talk left h later → Runs begun all h (bytes ++ later)
+Continues talk left bytes all = (h : Going) (later : List ℕ) → Runs true talk left h later → Runs true begun all h (bytes ++ later)
 
 pub continue-start : (all : List Act) → Continues begun all [] all
 continue-start all h later r = r
 
-pub continue-act : (talk next : Going) (act : Act) (left all : List Act) (bytes now : List ℕ) → Steps talk act next now → Continues talk (act ∷ left) bytes all → Continues next left (bytes ++ now) all
+pub continue-act : (talk next : Going) (act : Act) (left all : List Act) (bytes now : List ℕ) → Steps true talk act next now → Continues talk (act ∷ left) bytes all → Continues next left (bytes ++ now) all
 unfolding Runs
 continue-act talk next act left all bytes now s k h later r =
-    let P : List ℕ → Type 0 = λ l. Runs begun all h l in
+    let P : List ℕ → Type 0 = λ l. Runs true begun all h l in
     subst P (sym (append_assoc bytes now later)) (k h (now ++ later) (next, now, later, (s, r, refl)))
 
 -- an act that writes nothing
-pub continue-silent : (talk next : Going) (act : Act) (left all : List Act) (bytes : List ℕ) → Steps talk act next [] → Continues talk (act ∷ left) bytes all → Continues next left bytes all
+pub continue-silent : (talk next : Going) (act : Act) (left all : List Act) (bytes : List ℕ) → Steps true talk act next [] → Continues talk (act ∷ left) bytes all → Continues next left bytes all
 continue-silent talk next act left all bytes s k =
     let P : List ℕ → Type 0 = λ l. Continues next left l all in
     subst P (append-nil bytes) (continue-act talk next act left all bytes [] s k)
 
-pub continue-end : (talk : Going) (all : List Act) (bytes : List ℕ) → Continues talk [] bytes all → Runs begun all talk bytes
+pub continue-end : (talk : Going) (all : List Act) (bytes : List ℕ) → Continues talk [] bytes all → Runs true begun all talk bytes
 unfolding Runs
 continue-end talk all bytes k =
-    let P : List ℕ → Type 0 = λ l. Runs begun all talk l in
+    let P : List ℕ → Type 0 = λ l. Runs true begun all talk l in
     subst P (append-nil bytes) (k talk [] (refl, refl))
 
 -- ---- the steps that are left
@@ -111,7 +111,7 @@ item steps i other s h e = sym (get_or_from_slice_get steps i s s (slice_get-get
 act-on : (contents : List (List ℕ)) (fault : Option FrameFault) (steps : List Step) (s : Step) (act : Act) (i read later : ℕ) (talk next : Going) (bytes now : List ℕ)
     → i < length steps → get_or steps i step.Message ≡ s
     → acts_of (drop read contents) fault (s ∷ drop (i + 1) steps) ≡ act ∷ acts_of (drop later contents) fault (drop (i + 1) steps)
-    → Steps talk act next now → GoesOn contents fault steps talk bytes read i → GoesOn contents fault steps next (bytes ++ now) later (i + 1)
+    → Steps true talk act next now → GoesOn contents fault steps talk bytes read i → GoesOn contents fault steps next (bytes ++ now) later (i + 1)
 act-on contents fault steps s act i read later talk next bytes now within is does did g =
     let P : List Act → Type 0 = λ acts. Continues talk acts bytes (acts_of contents fault steps) in
     continue-act talk next act (acts_of (drop later contents) fault (drop (i + 1) steps)) (acts_of contents fault steps) bytes now did
@@ -125,7 +125,7 @@ silent-on contents fault steps next bytes later i g =
 
 pub heard-on : (contents : List (List ℕ)) (fault : Option FrameFault) (steps : List Step) (i read : ℕ) (talk next : Going) (bytes body : List ℕ)
     → i < length steps → get_or steps i step.Message ≡ step.Message → read < length contents → body ≡ get_or contents read body
-    → Steps talk (hear body) next [] → GoesOn contents fault steps talk bytes read i → GoesOn contents fault steps next bytes (read + 1) (i + 1)
+    → Steps true talk (hear body) next [] → GoesOn contents fault steps talk bytes read i → GoesOn contents fault steps next bytes (read + 1) (i + 1)
 heard-on contents fault steps i read talk next bytes body within is there body_is did g =
     silent-on contents fault steps next bytes (read + 1) (i + 1)
     (act-on contents fault steps step.Message (hear body) i read (read + 1) talk next bytes [] within is (hears contents fault (drop (i + 1) steps) read body there body_is) did g)
@@ -138,7 +138,7 @@ breaks-as contents o fault rest i h e =
 
 pub broken-on : (contents : List (List ℕ)) (o : Option FrameFault) (fault : FrameFault) (steps : List Step) (i read : ℕ) (talk next : Going) (bytes : List ℕ)
     → i < length steps → get_or steps i step.Message ≡ step.Message → length contents ≤ read → o ≡ Some fault
-    → Steps talk (break_off fault) next [] → GoesOn contents o steps talk bytes read i → GoesOn contents o steps next bytes read (i + 1)
+    → Steps true talk (break_off fault) next [] → GoesOn contents o steps talk bytes read i → GoesOn contents o steps next bytes read (i + 1)
 broken-on contents o fault steps i read talk next bytes within is past e did g =
     silent-on contents o steps next bytes read (i + 1)
     (act-on contents o steps step.Message (break_off fault) i read read talk next bytes [] within is (breaks-as contents o fault (drop (i + 1) steps) read past e) did g)
@@ -157,34 +157,34 @@ passed-on contents o steps i read talk bytes within is past e g =
     subst P (acts-next (drop read contents) o steps i step.Message within (sym is) ∙ passes-as contents o (drop (i + 1) steps) read past e) g
 
 pub taken-on : (contents : List (List ℕ)) (fault : Option FrameFault) (steps : List Step) (i read : ℕ) (talk next : Going) (bytes : List ℕ)
-    → i < length steps → get_or steps i step.Message ≡ step.Take → Steps talk take_job next []
+    → i < length steps → get_or steps i step.Message ≡ step.Take → Steps true talk take_job next []
     → GoesOn contents fault steps talk bytes read i → GoesOn contents fault steps next bytes read (i + 1)
 taken-on contents fault steps i read talk next bytes within is did g =
     silent-on contents fault steps next bytes read (i + 1) (act-on contents fault steps step.Take take_job i read read talk next bytes [] within is refl did g)
 
 pub finished-on : (contents : List (List ℕ)) (fault : Option FrameFault) (steps : List Step) (i read at : ℕ) (talk next : Going) (bytes : List ℕ)
-    → i < length steps → get_or steps i step.Message ≡ step.Finish at → Steps talk (finish_job at) next []
+    → i < length steps → get_or steps i step.Message ≡ step.Finish at → Steps true talk (finish_job at) next []
     → GoesOn contents fault steps talk bytes read i → GoesOn contents fault steps next bytes read (i + 1)
 finished-on contents fault steps i read at talk next bytes within is did g =
     silent-on contents fault steps next bytes read (i + 1)
     (act-on contents fault steps (step.Finish at) (finish_job at) i read read talk next bytes [] within is refl did g)
 
 pub sent-on : (contents : List (List ℕ)) (fault : Option FrameFault) (steps : List Step) (i read : ℕ) (talk next : Going) (bytes : List ℕ) (frame given : Option (Vec ℕ Global))
-    → i < length steps → get_or steps i step.Message ≡ step.Send → frame ≡ given → Steps talk send next (bytes_in frame)
+    → i < length steps → get_or steps i step.Message ≡ step.Send → frame ≡ given → Steps true talk send next (bytes_in frame)
     → GoesOn contents fault steps talk bytes read i → GoesOn contents fault steps next (bytes ++ bytes_in given) read (i + 1)
 sent-on contents fault steps i read talk next bytes frame given within is e did g =
-    let P : Option (Vec ℕ Global) → Type 0 = λ o. Steps talk send next (bytes_in o) in
+    let P : Option (Vec ℕ Global) → Type 0 = λ o. Steps true talk send next (bytes_in o) in
     act-on contents fault steps step.Send send i read read talk next bytes (bytes_in given) within is refl (subst P e did) g
 
 pub unsent-on : (contents : List (List ℕ)) (fault : Option FrameFault) (steps : List Step) (i read : ℕ) (talk next : Going) (bytes : List ℕ) (frame : Option (Vec ℕ Global))
-    → i < length steps → get_or steps i step.Message ≡ step.Send → frame ≡ None → Steps talk send next (bytes_in frame)
+    → i < length steps → get_or steps i step.Message ≡ step.Send → frame ≡ None → Steps true talk send next (bytes_in frame)
     → GoesOn contents fault steps talk bytes read i → GoesOn contents fault steps next bytes read (i + 1)
 unsent-on contents fault steps i read talk next bytes frame within is e did g =
     silent-on contents fault steps next bytes read (i + 1) (sent-on contents fault steps i read talk next bytes frame None within is e did g)
 
 -- no step is left
 pub ends-on : (contents : List (List ℕ)) (fault : Option FrameFault) (steps : List Step) (talk : Going) (bytes : List ℕ) (read i : ℕ)
-    → length steps ≤ i → GoesOn contents fault steps talk bytes read i → Runs begun (acts_of contents fault steps) talk bytes
+    → length steps ≤ i → GoesOn contents fault steps talk bytes read i → Runs true begun (acts_of contents fault steps) talk bytes
 ends-on contents fault steps talk bytes read i past g =
     let P : List Step → Type 0 = λ left. Continues talk (acts_of (drop read contents) fault left) bytes (acts_of contents fault steps) in
     continue-end talk (acts_of contents fault steps) bytes (subst P (drop_all i steps past) g)
@@ -223,16 +223,16 @@ sent-most : (g h : Going) (es : List Entry) (bytes : List ℕ) → IsSent g es h
 sent-most g h [] bytes s = ap (λ (x : Going). x.max_events) s.0
 sent-most g h (e ∷ es) bytes s = ap (λ (x : Going). x.max_events) s.0
 
-step-most : (g h : Going) (act : Act) (bytes : List ℕ) → Steps g act h bytes → h.max_events ≡ g.max_events
+step-most : (g h : Going) (act : Act) (bytes : List ℕ) → Steps true g act h bytes → h.max_events ≡ g.max_events
 unfolding Steps
 step-most g h (hear body) bytes s = ap (λ (x : Going). x.max_events) s.0 ∙ if-most (is_some g.status) g (heard g body) (turn-most (record g { stage = (turn_of g.stage (message_of body)).1 }) (turn_of g.stage (message_of body)).0)
 step-most g h (break_off fault) bytes s = ap (λ (x : Going). x.max_events) s.0 ∙ if-most (is_some g.status) g (record g { status = Some (BadFrame fault) }) refl
 step-most g h take_job bytes s = ap (λ (x : Going). x.max_events) s.0 ∙ if-most (is_filled g.status) g (takes g (find is_queued (state_at g).waiting)) (takes-most g (find is_queued (state_at g).waiting))
 step-most g h (finish_job at) bytes s =
-    ap (λ (x : Going). x.max_events) s.1 ∙ if-most (is_filled g.status) g (runs g at s.0 (slice_get g.held at)) (runs-most g at s.0 (slice_get g.held at))
+    ap (λ (x : Going). x.max_events) s.2 ∙ if-most (is_filled g.status) g (runs g at s.0 (slice_get g.held at)) (runs-most g at s.0 (slice_get g.held at))
 step-most g h send bytes s = sent-most g h (state_at g).unsent bytes s
 
-pub run-most : (g h : Going) (acts : List Act) (bytes : List ℕ) → Runs g acts h bytes → h.max_events ≡ g.max_events
+pub run-most : (g h : Going) (acts : List Act) (bytes : List ℕ) → Runs true g acts h bytes → h.max_events ≡ g.max_events
 unfolding Runs
 run-most g h [] bytes r = ap (λ (x : Going). x.max_events) r.0
 run-most g h (act ∷ acts) bytes r = run-most r.0 h acts r.2 r.3.1 ∙ step-most g r.0 act r.1 r.3.0

@@ -1,10 +1,12 @@
 pub mod Asks
 pub mod Bounds
+pub mod ByActs
 pub mod Coming
 pub mod Entered
 pub mod Entries
 pub mod Going
 pub mod Inputs
+pub mod Lawful
 pub mod OneSession
 pub mod Serving
 pub mod Settled

@@ -1,5 +1,5 @@
--- What is said on messages, where no memory is refused in a job, is one thing.
-use Rattle.std.proofs.Common.{◌≡◌, ℕ, zero, suc, ◌++◌, Bool, true, false, List, [], ◌∷◌, Option, Some, None, refl, sym, ap, subst, ◌∙◌}
+-- What a run by acts writes, and what is said on messages, is one thing where no memory is refused in a job.
+use Rattle.std.proofs.Common.{◌≡◌, inl, ℕ, zero, suc, ◌++◌, Bool, true, false, List, [], ◌∷◌, Option, Some, None, refl, sym, ap, subst, ◌∙◌}
 use Rattle.std.specs.Prelude.{◌+◌, find, is_none, is_some, length, not, slice_get, remove, option_map}
 use Rattle.ls_answers.specs.Told.{Told}
 use Rattle.ls_answers.specs.declared.answer.Answer.{Answer}
@@ -20,8 +20,8 @@ use Rattle.ls_frame.specs.Frames.{frame_of}
 use Rattle.ls_bodies.specs.Bodies.{reply_body, findings_body}
 use Rattle.ls_bodies.proofs.WithoutCert.{same_findings, same_reply}
 use Rattle.ls_session.specs.Bodies.{body_of}
-use Rattle.ls_steps.specs.Runs.{Going, Held, Steps, desk_of, finished_by, finishes, hear, leaving, ran, runs, state_at, take_job, unless_full}
-use Rattle.ls_steps.specs.Plain.{RunsOne, Works, AreFramesFor, Serves, Says, has_run_all, sent_all}
+use Rattle.ls_steps.specs.Runs.{Act, Going, Held, IsSent, Runs, Steps, break_off, desk_of, finish_job, finished_by, finishes, hear, leaving, ran, runs, send, state_at, take_job, unless_full}
+use Rattle.ls_steps.specs.Plain.{Replies, RunsUntil, Says, Serves, Works, has_run_all, has_sent_all, job_acts}
 
 -- ---- jobs
 
@@ -58,29 +58,6 @@ runs_alike g k (Some a) None (Some job) p q = absurd (cc)
 runs_alike g k (Some a) (Some b) (Some job) p q =
     ap (leaving (record g { held = remove g.held k })) (finishes_alike (desk_of g) job a b)
 
-one_taken : (g a b : Going) → Steps g take_job a [] → Steps g take_job b [] → a ≡ b
-unfolding Steps
-one_taken g a b p q = p.0 ∙ sym q.0
-
-one_job : (g h k : Going) → RunsOne false g h → RunsOne false g k → h ≡ k
-one_job g h k p q =
-    let same = one_taken g p.taken q.taken p.takes q.takes in
-    let alike = runs_alike q.taken 0 p.answer q.answer (slice_get q.taken.held 0) (p.answered refl) (q.answered refl) in
-    p.h_is
-    ∙ (ap (λ (t : Going). unless_full t.status t (runs t 0 p.answer (slice_get t.held 0))) same
-    ∙ (ap (unless_full q.taken.status q.taken) alike ∙ sym q.h_is))
-
-not_both : {A : Type 0} (b : Bool) → b ≡ true → b ≡ false → A
-not_both b p q = absurd (cc)
-
-one_work : (n m : ℕ) (g h k : Going) → Works false n g h → Works false m g k → h ≡ k
-unfolding Works
-one_work zero zero g h k p q = p.1 ∙ sym q.1
-one_work zero (suc m) g h k p q = not_both (has_run_all g) p.0 q.0
-one_work (suc n) zero g h k p q = not_both (has_run_all g) q.0 p.0
-one_work (suc n) (suc m) g h k p q =
-    one_work n m q.1.0 h k (subst (λ t. Works false n t h) (one_job g p.1.0 q.1.0 p.1.1 q.1.1) p.1.2) q.1.2
-
 -- ---- what leaves
 
 some_same : (a b : List ℕ) → Some a ≡ Some b → a ≡ b
@@ -113,27 +90,55 @@ one_body (Outcome w) o p a b x y s t =
     ∙ (ap Some (one_told w w.request x.2.right.0 y.2.right.0 x.2.right.2 y.2.right.2)
     ∙ (sym (body_told w p y.0 y.2.right.0 y.1 y.2.right.1) ∙ t))))
 
-one_list : (es : List Entry) (a b : List ℕ) → AreFramesFor es a → AreFramesFor es b → a ≡ b
-unfolding AreFramesFor
-one_list [] a b x y = x ∙ sym y
-one_list (e ∷ es) a b x y =
-    x.3.3
-    ∙ ((λ i. frame_of (one_body e x.0 y.0 x.1 y.1 x.3.0 y.3.0 x.3.1 y.3.1 i) ++ one_list es x.2 y.2 x.3.2 y.3.2 i)
-    ∙ sym y.3.3)
+one_sent : (g h k : Going) (es : List Entry) (a b : List ℕ) → IsSent g es h a → IsSent g es k b → (h ≡ k) × (a ≡ b)
+one_sent g h k [] a b p q = (p.0 ∙ sym q.0, p.1 ∙ sym q.1)
+one_sent g h k (e ∷ es) a b p q =
+    let x = p.2 in
+    let y = q.2 in
+    (p.0 ∙ sym q.0, x.4 ∙ (ap frame_of (one_body e x.0 y.0 x.1 y.1 x.2 y.2 x.3 y.3) ∙ sym y.4))
+
+-- ---- runs
+
+one_step : (g h k : Going) (act : Act) (a b : List ℕ) → Steps false g act h a → Steps false g act k b → (h ≡ k) × (a ≡ b)
+unfolding Steps
+one_step g h k (hear body) a b p q = (p.0 ∙ sym q.0, p.1 ∙ sym q.1)
+one_step g h k (break_off fault) a b p q = (p.0 ∙ sym q.0, p.1 ∙ sym q.1)
+one_step g h k take_job a b p q = (p.0 ∙ sym q.0, p.1 ∙ sym q.1)
+one_step g h k (finish_job at) a b p q =
+    (p.2 ∙ (ap (unless_full g.status g) (runs_alike g at p.0 q.0 (slice_get g.held at) (p.1 (inl refl)) (q.1 (inl refl))) ∙ sym q.2), p.3 ∙ sym q.3)
+one_step g h k send a b p q = one_sent g h k (state_at g).unsent a b p q
+
+pub one_run : (g h k : Going) (acts : List Act) (a b : List ℕ) → Runs false g acts h a → Runs false g acts k b → (h ≡ k) × (a ≡ b)
+unfolding Runs
+one_run g h k [] a b p q = (p.0 ∙ sym q.0, p.1 ∙ sym q.1)
+one_run g h k (act ∷ acts) a b p q =
+    let first = one_step g p.0 q.0 act p.1 q.1 p.3.0 q.3.0 in
+    let rest = one_run q.0 h k acts p.2 q.2 (subst (λ t. Runs false t acts h p.2) first.0 p.3.1) q.3.1 in
+    (rest.0, p.3.2 ∙ ((λ i. first.1 i ++ rest.1 i) ∙ sym q.3.2))
+
+not_both : {A : Type 0} (b : Bool) → b ≡ true → b ≡ false → A
+not_both b p q = absurd (cc)
+
+one_until : (is_done : Going → Bool) (acts : List Act) (n m : ℕ) (g h k : Going) (a b : List ℕ)
+    → RunsUntil false is_done acts n g h a → RunsUntil false is_done acts m g k b → (h ≡ k) × (a ≡ b)
+unfolding RunsUntil
+one_until is_done acts zero zero g h k a b p q = (p.1 ∙ sym q.1, p.2 ∙ sym q.2)
+one_until is_done acts zero (suc m) g h k a b p q = not_both (is_done g) p.0 q.0
+one_until is_done acts (suc n) zero g h k a b p q = not_both (is_done g) q.0 p.0
+one_until is_done acts (suc n) (suc m) g h k a b p q =
+    let x = p.1 in
+    let y = q.1 in
+    let first = one_run g x.0 y.0 acts x.1 y.1 x.3.0 y.3.0 in
+    let rest = one_until is_done acts n m y.0 h k x.2 y.2 (subst (λ t. RunsUntil false is_done acts n t h x.2) first.0 x.3.1) y.3.1 in
+    (rest.0, x.3.2 ∙ ((λ i. first.1 i ++ rest.1 i) ∙ sym y.3.2))
 
 -- ---- messages
 
-one_heard : (g a b : Going) (body : List ℕ) → Steps g (hear body) a [] → Steps g (hear body) b [] → a ≡ b
-unfolding Steps
-one_heard g a b body p q = p.0 ∙ sym q.0
-
 pub one_message : (g h k : Going) (body bytes other : List ℕ) → Serves false g body h bytes → Serves false g body k other → (h ≡ k) × (bytes ≡ other)
 one_message g h k body bytes other p q =
-    let heard = one_heard g p.heard q.heard body p.hears q.hears in
-    let worked = one_work p.jobs q.jobs q.heard p.worked q.worked (subst (λ t. Works false p.jobs t p.worked) heard p.works) q.works in (
-      p.h_is ∙ (ap (λ (t : Going). sent_all t (state_at t).unsent) worked ∙ sym q.h_is),
-      one_list (state_at q.worked).unsent bytes other (subst (λ (t : Going). AreFramesFor (state_at t).unsent bytes) worked p.frames) q.frames,
-    )
+    let heard = one_step g p.hears.heard q.hears.heard (hear body) [] [] p.hears.hears q.hears.hears in
+    let worked = one_until has_run_all job_acts p.hears.jobs q.hears.jobs q.hears.heard p.worked q.worked [] [] (subst (λ t. Works false p.hears.jobs t p.worked) heard.0 p.hears.works) q.hears.works in
+    one_until has_sent_all (send ∷ []) p.replies q.replies q.worked h k bytes other (subst (λ t. Replies false p.replies t h bytes) worked.0 p.sends) q.sends
 
 pub one_session : (g h k : Going) (bodies : List (List ℕ)) (bytes other : List ℕ) → Says false g bodies h bytes → Says false g bodies k other → (h ≡ k) × (bytes ≡ other)
 unfolding Says

@@ -1,5 +1,5 @@
 -- What the loops of the plain schedule keep.
-use Rattle.std.proofs.Common.{◌≡◌, ℕ, suc, ◌+◌, ◌-◌, ◌<◌, ◌≤◌, Bool, true, false, not, ◌&&◌, List, [], ◌∷◌, ◌++◌, length, map, Option, Some, None, refl, sym, ap, subst, ◌∙◌, append_assoc, length-append, arith}
+use Rattle.std.proofs.Common.{◌≡◌, ℕ, zero, suc, ◌+◌, ◌-◌, ◌<◌, ◌≤◌, Bool, true, false, not, ◌&&◌, List, [], ◌∷◌, ◌++◌, length, Option, Some, None, refl, sym, ap, subst, ◌∙◌, arith}
 use Rattle.std.specs.Prelude.{find, is_none, is_some, IfNone, IfSome, slice_get, ◌||◌, Vec, if◌then◌else◌}
 use Rattle.std.specs.declared.alloc.Global.{Global}
 use Rattle.ls_answers.specs.Told.{Told}
@@ -9,7 +9,7 @@ use Rattle.ls_machine.specs.declared.event.DeskFault.{DeskFault}
 use Rattle.ls_machine.specs.declared.event.DeskFault.TheVariants as fault
 use Rattle.ls_machine.specs.declared.state.Entry.{Entry}
 use Rattle.ls_machine.specs.declared.state.Waiting.{Waiting}
-use Rattle.ls_machine.specs.Machine.{start, step, first_ticket, is_queued, ticket_of, rest}
+use Rattle.ls_machine.specs.Machine.{step, first_ticket, is_queued, ticket_of, rest}
 use Rattle.ls_desk.specs.Faults.{finish_fault, take_fault}
 use Rattle.ls_desk.specs.Stands.{Seen}
 use Rattle.ls_machine.specs.declared.base.Counts.{Counts}
@@ -17,8 +17,9 @@ use Rattle.ls_machine.specs.declared.event.Event.{Event}
 use Rattle.ls_machine.specs.Counts.{counted, total}
 use Rattle.ls_desk.specs.Stands.{counts_of}
 use Rattle.ls_machine.proofs.Replays.{counted-push, replay-push, total-one}
-use Rattle.ls_steps.specs.Runs.{Going, Held, IsSent, Steps, bytes_in, counts_at, desk_of, finish_job, finished_by, is_filled, ran, runs, send, state_at, take_job, takes, took, unless_full}
-use Rattle.ls_steps.specs.Plain.{AreFramesFor, RunsOne, Works, has_run_all, sent_all}
+use Rattle.ls_steps.specs.Runs.{Going, Held, IsSent, Runs, Steps, bytes_in, counts_at, desk_of, finish_job, finished_by, is_filled, ran, runs, send, state_at, take_job, takes, took, unless_full}
+use Rattle.ls_steps.specs.Plain.{CanSendAll, Replies, RunsUntil, Works, has_run_all, has_sent_all, job_acts}
+use Rattle.ls_steps.proofs.Talks.{unfinished}
 
 -- ---- a job is taken
 
@@ -35,36 +36,32 @@ either true b e f = absurd (cc)
 either false true e f = refl
 either false false e f = absurd (cc)
 
-pub job-runs : (g t m : Going) → Steps g take_job t [] → IsTaken true g t → Steps t (finish_job 0) m [] → (has_run_all g ≡ false) × RunsOne true g m
-unfolding Steps
-job-runs g t m p taken q =
-    ((both (has_run_all g) (is_filled t.status) taken).0, record { taken = t; takes = p; answer = q.0; answered = λ e. absurd (cc); h_is = q.1 })
+pub job-runs : (f : Bool) (g t m : Going) → Steps f g take_job t [] → Steps f t (finish_job 0) m [] → Runs f g job_acts m []
+unfolding Runs
+job-runs f g t m p q = (t, [], [], (p, (m, [], [], (q, (refl, refl), refl)), refl))
 
-pub works-more : (g t m h : Going) (n : ℕ) → Steps g take_job t [] → IsTaken true g t → Steps t (finish_job 0) m [] → Works true n m h → Works true (suc n) g h
-unfolding Works
-works-more g t m h n p taken q w = let job = job-runs g t m p taken q in (job.0, (m, job.1, w))
+pub works-more : (g t m h : Going) (n : ℕ) → Steps true g take_job t [] → IsTaken true g t → Steps true t (finish_job 0) m [] → Works true n m h → Works true (suc n) g h
+unfolding RunsUntil
+works-more g t m h n p taken q w = ((both (has_run_all g) (is_filled t.status) taken).0, (m, [], [], (job-runs true g t m p q, w, refl)))
 
 idle-by : (g t : Going) (b : Bool) (o : Option Waiting) → is_filled g.status ≡ b → find is_queued (state_at g).waiting ≡ o → b || is_none o ≡ true → t ≡ unless_full g.status g (takes g o) → t ≡ g
 idle-by g t true o f w e p = p ∙ ap (λ b. if b then g else takes g o) f
 idle-by g t false None f w e p = p ∙ ap (λ b. if b then g else g) f
 idle-by g t false (Some x) f w e p = absurd (cc)
 
-idle-take : (g t : Going) → Steps g take_job t [] → has_run_all g ≡ true → t ≡ g
+idle-take : (g t : Going) → Steps true g take_job t [] → has_run_all g ≡ true → t ≡ g
 unfolding Steps
 idle-take g t p e = idle-by g t (is_filled g.status) (find is_queued (state_at g).waiting) refl refl e p.0
 
-filled-ends : (t : Going) → is_filled t.status ≡ true → t ≡ unless_full t.status t (runs t 0 None (slice_get t.held 0))
-filled-ends t e = sym (ap (λ b. if b then t else runs t 0 None (slice_get t.held 0)) e)
-
-works-by : (g t : Going) (b : Bool) → has_run_all g ≡ b → Steps g take_job t [] → IsTaken false g t → (n : ℕ) × Works true n g t
-unfolding Works
-works-by g t true e p taken = (0, (e, idle-take g t p e))
+works-by : (g t : Going) (b : Bool) → has_run_all g ≡ b → Steps true g take_job t [] → IsTaken false g t → (n : ℕ) × Works true n g t
+unfolding RunsUntil
+works-by g t true e p taken = (0, (e, idle-take g t p e, refl))
 works-by g t false e p taken =
     let full = either (has_run_all g) (is_filled t.status) taken e in
-    (1, (e, (t, record { taken = t; takes = p; answer = None; answered = λ e. absurd (cc); h_is = filled-ends t full }, (ap (λ b. b || is_none (find is_queued (state_at t).waiting)) full, refl))))
+    (1, (e, (t, [], [], (job-runs true g t t p (unfinished t 0 full), (ap (λ b. b || is_none (find is_queued (state_at t).waiting)) full, refl, refl), refl))))
 
 -- none was taken, so nothing is left to run
-pub works-end : (g t : Going) → Steps g take_job t [] → IsTaken false g t → (n : ℕ) × Works true n g t
+pub works-end : (g t : Going) → Steps true g take_job t [] → IsTaken false g t → (n : ℕ) × Works true n g t
 works-end g t p taken = works-by g t (has_run_all g) refl p taken
 
 -- ---- events come
@@ -87,7 +84,7 @@ take-grew-by g t false (Some w) f e s p =
     let same : t ≡ took g w (take_fault (desk_of g)) = p ∙ ap (λ b. if b then g else takes g (Some w)) f in
     subst (λ (x : Going). Grew g x 1) (sym same) (took-grew g w (take_fault (desk_of g)) (subst (λ (x : Going). is_filled x.status ≡ false) same s))
 
-pub take-grew : (g t : Going) → Steps g take_job t [] → IsTaken true g t → Grew g t 1
+pub take-grew : (g t : Going) → Steps true g take_job t [] → IsTaken true g t → Grew g t 1
 unfolding Steps
 take-grew g t p taken =
     let parts = both (has_run_all g) (is_filled t.status) taken in
@@ -115,13 +112,13 @@ unless-grew : (t : Going) (x : Going) (b : Bool) → Grew t x 0 → Grew t (if b
 unless-grew t x true g = record { longer = omega arith; most = refl }
 unless-grew t x false g = g
 
-finish-grew : (t m : Going) → Steps t (finish_job 0) m [] → Grew t m 0
+finish-grew : (t m : Going) → Steps true t (finish_job 0) m [] → Grew t m 0
 unfolding Steps
 finish-grew t m p =
-    subst (λ (x : Going). Grew t x 0) (sym p.1) (unless-grew t (runs t 0 p.0 (slice_get t.held 0)) (is_filled t.status) (runs-grew t p.0 (slice_get t.held 0)))
+    subst (λ (x : Going). Grew t x 0) (sym p.2) (unless-grew t (runs t 0 p.0 (slice_get t.held 0)) (is_filled t.status) (runs-grew t p.0 (slice_get t.held 0)))
 
 -- what is left of the session's room
-pub room-shrinks : (g t m : Going) → Steps g take_job t [] → IsTaken true g t → total (counts_at t) ≤ t.max_events → Steps t (finish_job 0) m []
+pub room-shrinks : (g t m : Going) → Steps true g take_job t [] → IsTaken true g t → total (counts_at t) ≤ t.max_events → Steps true t (finish_job 0) m []
     → m.max_events - total (counts_at m) < g.max_events - total (counts_at g)
 room-shrinks g t m p taken fits q =
     let first = take-grew g t p taken in
@@ -130,59 +127,78 @@ room-shrinks g t m p taken fits q =
 
 -- ---- what leaves
 
-pub record OneSent (g m : Going) (frame : List ℕ) : Type 0 where
-  pub frames : (later : List ℕ) → AreFramesFor (state_at m).unsent later → AreFramesFor (state_at g).unsent (frame ++ later)
-  pub ends : sent_all m (state_at m).unsent ≡ sent_all g (state_at g).unsent
-  pub fewer : length (state_at m).unsent < length (state_at g).unsent
-
-left-is : (g m : Going) (e : Entry) (es : List Entry) → (state_at g).unsent ≡ e ∷ es → m ≡ record g { journal = g.journal ++ Sent (ticket_of e) ∷ [] } → (state_at m).unsent ≡ es
+pub left-is : (g m : Going) (e : Entry) (es : List Entry) → (state_at g).unsent ≡ e ∷ es → m ≡ record g { journal = g.journal ++ Sent (ticket_of e) ∷ [] } → (state_at m).unsent ≡ es
 unfolding step
 left-is g m e es u s =
     ap (λ (x : Going). (state_at x).unsent) s ∙ (ap (λ x. x.unsent) (replay-push g.base.state g.journal (Sent (ticket_of e))) ∙ ap rest u)
-
-sent-by : (g m : Going) (es : List Entry) (frame : List ℕ) → (state_at g).unsent ≡ es → is_some (first_ticket es) ≡ true → IsSent g es m frame → OneSent g m frame
-unfolding AreFramesFor
-sent-by g m [] frame u some s = absurd (cc)
-sent-by g m (e ∷ es) frame u some s =
-    let left = left-is g m e es u s.0 in
-    let o = s.2 in
-    record {
-      frames = λ later are. subst (λ l. AreFramesFor l (frame ++ later)) (sym u) (o.0, o.1, later, (o.2, o.3, subst (λ l. AreFramesFor l later) left are, ap (λ f. f ++ later) o.4));
-      ends =
-          ap (sent_all m) left
-          ∙ (ap (λ (x : Going). sent_all x es) s.0
-          ∙ (ap (λ j. record g { journal = j }) (append_assoc g.journal (Sent (ticket_of e) ∷ []) (map (λ e. Sent (ticket_of e)) es)) ∙ ap (sent_all g) (sym u)));
-      fewer = omega (arith, ap length left, ap length u);
-    }
-
-pub one-sent : (g m : Going) (frame : List ℕ) → Steps g send m frame → is_some (first_ticket (state_at g).unsent) ≡ true → OneSent g m frame
-unfolding Steps
-one-sent g m frame s some = sent-by g m (state_at g).unsent frame refl some s
 
 pub append_nil : {A : Type 0} (xs : List A) → xs ++ [] ≡ xs
 append_nil [] = refl
 append_nil (x ∷ xs) = ap (λ l. x ∷ l) (append_nil xs)
 
--- nothing is left to send
-pub record NoneLeft (g m : Going) : Type 0 where
-  pub frames : AreFramesFor (state_at g).unsent []
-  pub same : m ≡ sent_all g (state_at g).unsent
+pub send-runs : (f : Bool) (g m : Going) (frame : List ℕ) → Steps f g send m frame → Runs f g (send ∷ []) m frame
+unfolding Runs
+send-runs f g m frame s = (m, frame, [], (s, (refl, refl), sym (append_nil frame)))
 
-none-sent : (g m : Going) → Steps g send m [] → (state_at g).unsent ≡ [] → NoneLeft g m
-unfolding Steps AreFramesFor
-none-sent g m s u =
-    let P : List Entry → Type 0 = λ es. IsSent g es m [] in
-    record {
-      frames = subst (λ l. AreFramesFor l []) (sym u) refl;
-      same = (subst P u s).0 ∙ sym (ap (sent_all g) u ∙ ap (λ j. record g { journal = j }) (append_nil g.journal));
-    }
+not-none : (o : Option ℕ) → is_some o ≡ true → is_none o ≡ false
+not-none None e = absurd (cc)
+not-none (Some x) e = refl
 
-pub none-left : (g m : Going) (o : Option (Vec ℕ Global)) → ((frame : Vec ℕ Global) → o ≡ Some frame → ⊥) → Steps g send m (bytes_in o) → IfNone o ((state_at g).unsent ≡ []) → NoneLeft g m
-none-left g m None n s u = none-sent g m s u
-none-left g m (Some frame) n s u = absurd (n frame refl)
+-- a reply leaves
+pub record OneSent (g m : Going) (frame : List ℕ) : Type 0 where
+  pub sends : Steps true g send m frame
+  pub more : has_sent_all g ≡ false
+  pub fewer : length (state_at m).unsent < length (state_at g).unsent
 
-pub frame-sent : (g m : Going) (o : Option (Vec ℕ Global)) (frame : Vec ℕ Global) → o ≡ Some frame → Steps g send m (bytes_in o) → IfSome o (λ _. is_some (first_ticket (state_at g).unsent) ≡ true) → OneSent g m frame.items
+fewer-by : (g m : Going) (es : List Entry) (frame : List ℕ) → (state_at g).unsent ≡ es → is_some (first_ticket es) ≡ true → IsSent g es m frame → length (state_at m).unsent < length (state_at g).unsent
+fewer-by g m [] frame u some s = absurd (cc)
+fewer-by g m (e ∷ es) frame u some s = omega (arith, ap length (left-is g m e es u s.0), ap length u)
+
+one-sent : (g m : Going) (frame : List ℕ) → Steps true g send m frame → is_some (first_ticket (state_at g).unsent) ≡ true → OneSent g m frame
+unfolding Steps
+one-sent g m frame s some =
+    record { sends = s; more = not-none (first_ticket (state_at g).unsent) some; fewer = fewer-by g m (state_at g).unsent frame refl some s }
+
+pub frame-sent : (g m : Going) (o : Option (Vec ℕ Global)) (frame : Vec ℕ Global) → o ≡ Some frame → Steps true g send m (bytes_in o) → IfSome o (λ _. is_some (first_ticket (state_at g).unsent) ≡ true) → OneSent g m frame.items
 frame-sent g m None frame e s some = absurd (cc)
 frame-sent g m (Some x) frame e s some =
     let same : x ≡ frame = cc in
     subst (λ (v : Vec ℕ Global). OneSent g m v.items) same (one-sent g m x.items s some)
+
+pub replies-more : (g m h : Going) (n : ℕ) (frame later : List ℕ) → OneSent g m frame → Replies true n m h later → Replies true (suc n) g h (frame ++ later)
+unfolding RunsUntil
+replies-more g m h n frame later one w = (one.more, (m, frame, later, (send-runs true g m frame one.sends, w, refl)))
+
+none-sent : (g m : Going) → Steps true g send m [] → (state_at g).unsent ≡ [] → Replies true 0 g m []
+unfolding Steps RunsUntil
+none-sent g m s u = (ap (λ es. is_none (first_ticket es)) u, (subst (λ es. IsSent g es m []) u s).0, refl)
+
+-- nothing is left to send
+pub replies-end : (g m : Going) (o : Option (Vec ℕ Global)) → ((frame : Vec ℕ Global) → o ≡ Some frame → ⊥) → Steps true g send m (bytes_in o) → IfNone o ((state_at g).unsent ≡ []) → Replies true 0 g m []
+replies-end g m None n s u = none-sent g m s u
+replies-end g m (Some frame) n s u = absurd (n frame refl)
+
+-- ---- what is left to send
+
+once-sent : (g h k : Going) (es : List Entry) (a b : List ℕ) → IsSent g es h a → IsSent g es k b → h ≡ k
+once-sent g h k [] a b p q = p.0 ∙ sym q.0
+once-sent g h k (e ∷ es) a b p q = p.0 ∙ sym q.0
+
+-- by whatever frame a reply leaves, the session is the same then
+step-sent : (g h k : Going) (a b : List ℕ) → Steps true g send h a → Steps true g send k b → h ≡ k
+unfolding Steps
+step-sent g h k a b p q = once-sent g h k (state_at g).unsent a b p q
+
+run-sent : (g h k : Going) (a b : List ℕ) → Runs true g (send ∷ []) h a → Steps true g send k b → h ≡ k
+unfolding Runs
+run-sent g h k a b r q = r.3.1.0 ∙ step-sent g r.0 k r.1 b r.3.0 q
+
+goes-on-by : (replies : ℕ) (g m left : Going) (bytes frame : List ℕ) → Replies true replies g left bytes → OneSent g m frame → CanSendAll m
+unfolding RunsUntil
+goes-on-by zero g m left bytes frame w one = let done = w.0 in let more = one.more in absurd (cc)
+goes-on-by (suc n) g m left bytes frame w one =
+    let x = w.1 in (n, left, x.2, subst (λ t. Replies true n t left x.2) (run-sent g x.0 m x.1 frame x.3.0 one.sends) x.3.1)
+
+-- once a reply has left, all others can
+pub can-go-on : (g m : Going) (frame : List ℕ) → CanSendAll g → OneSent g m frame → CanSendAll m
+can-go-on g m frame can one = goes-on-by can.0 g m can.1 can.2 frame can.3 one

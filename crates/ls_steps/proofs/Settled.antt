@@ -1,19 +1,17 @@
 -- A session that is served plainly has nothing left to run or to send between its messages.
-use Rattle.std.proofs.Common.{◌≡◌, ℕ, zero, suc, Bool, true, false, List, [], ◌∷◌, ◌++◌, map, refl, sym, ap, subst, ◌∙◌, append_assoc}
-use Rattle.std.specs.Prelude.{find, is_none, is_some, slice_get, ◌||◌, if◌then◌else◌}
+use Rattle.std.proofs.Common.{◌≡◌, inr, inl, ℕ, zero, suc, Bool, true, false, List, [], ◌∷◌, ◌++◌, Option, refl, sym, ap, subst, ◌∙◌, append_assoc}
+use Rattle.std.specs.Prelude.{find, is_none, is_some, slice_get, ◌⊎◌, ◌||◌, if◌then◌else◌}
 use Rattle.ls_machine.specs.declared.event.Event.{Event}
 use Rattle.ls_machine.specs.declared.event.Event.TheVariants.{Sent}
 use Rattle.ls_machine.specs.declared.state.Entry.{Entry}
 use Rattle.ls_machine.specs.declared.state.State.{State}
-use Rattle.ls_machine.specs.Machine.{start, step, is_queued, rest, ticket_of}
+use Rattle.ls_machine.specs.Machine.{first_ticket, step, is_queued, ticket_of}
 use Rattle.ls_machine.specs.Journal.{replay_from}
 use Rattle.ls_machine.proofs.Replays.{replay-push}
-use Rattle.ls_rpc.specs.Message.{message_of}
-use Rattle.ls_session.specs.Session.{turn_of}
-use Rattle.ls_steps.specs.Runs.{Going, Steps, begun, hear, heard, is_filled, runs, state_at, take_job, takes}
-use Rattle.ls_steps.specs.Plain.{AreFramesFor, IsSettled, RunsOne, Says, Serves, Works, has_run_all, sent_all}
-use Rattle.ls_steps.proofs.ShortTexts.{IsFine, fine_sent}
-use Rattle.ls_steps.proofs.SomeSession.{fine_open, fine_runs, fine_takes, fine_turned, fine_unless, said}
+use Rattle.ls_steps.specs.Runs.{Act, Going, Held, IsSent, NeedsNoMemory, Runs, Steps, begun, break_off, finish_job, hear, heard, is_filled, send, state_at, take_job}
+use Rattle.ls_steps.specs.Plain.{CanSendAll, Hears, IsSettled, Replies, RunsUntil, Says, Serves, has_run_all, has_sent_all, job_acts}
+use Rattle.ls_steps.proofs.Lawful.{Good, good-begun, good-run, good-step}
+use Rattle.ls_steps.proofs.SomeSession.{said, some_replies}
 
 pub settled-begun : IsSettled begun
 unfolding replay_from
@@ -21,47 +19,46 @@ settled-begun = record { idle = refl; sent = refl }
 
 -- ---- what is left once all has been sent
 
-record AreSent (before after : State) : Type 0 where
-  waiting : after.waiting ≡ before.waiting
-  unsent : after.unsent ≡ []
-
-abbrev sendings : List Entry → List Event
-sendings es = map (λ e. Sent (ticket_of e)) es
-
 append_nil : {A : Type 0} (xs : List A) → xs ++ [] ≡ xs
 append_nil [] = refl
 append_nil (x ∷ xs) = ap (λ l. x ∷ l) (append_nil xs)
 
-one_gone : (s : State) (journal : List Event) (e : Entry) (es : List Entry) → (replay_from s journal).unsent ≡ e ∷ es → (replay_from s (journal ++ Sent (ticket_of e) ∷ [])).unsent ≡ es
-unfolding step
-one_gone s journal e es u = ap (λ z. z.unsent) (replay-push s journal (Sent (ticket_of e))) ∙ ap rest u
+none_unsent : (es : List Entry) → is_none (first_ticket es) ≡ true → es ≡ []
+none_unsent [] e = refl
+none_unsent (x ∷ es) e = absurd (cc)
+
+pub until-done : (f : Bool) (is_done : Going → Bool) (acts : List Act) (n : ℕ) (g h : Going) (bytes : List ℕ) → RunsUntil f is_done acts n g h bytes → is_done h ≡ true
+unfolding RunsUntil
+until-done f is_done acts zero g h bytes w = ap is_done w.1 ∙ w.0
+until-done f is_done acts (suc n) g h bytes w = let x = w.1 in until-done f is_done acts n x.0 h x.2 x.3.1
 
 one_waits : (s : State) (journal : List Event) (e : Entry) → (replay_from s (journal ++ Sent (ticket_of e) ∷ [])).waiting ≡ (replay_from s journal).waiting
 unfolding step
 one_waits s journal e = ap (λ z. z.waiting) (replay-push s journal (Sent (ticket_of e)))
 
-all_sent : (es : List Entry) (z : State) (journal : List Event) → (replay_from z journal).unsent ≡ es → AreSent (replay_from z journal) (replay_from z (journal ++ sendings es))
-all_sent [] z journal u = let same = ap (replay_from z) (append_nil journal) in record { waiting = ap (λ s. s.waiting) same; unsent = ap (λ s. s.unsent) same ∙ u }
-all_sent (e ∷ es) z journal u =
-    let later = all_sent es z (journal ++ Sent (ticket_of e) ∷ []) (one_gone z journal e es u) in
-    let same = ap (replay_from z) (append_assoc journal (Sent (ticket_of e) ∷ []) (sendings es)) in
-    record {
-      waiting = sym (ap (λ s. s.waiting) same) ∙ (later.waiting ∙ one_waits z journal e);
-      unsent = sym (ap (λ s. s.unsent) same) ∙ later.unsent;
-    }
+sent_idle : (g h : Going) (es : List Entry) (bytes : List ℕ) → IsSent g es h bytes → has_run_all h ≡ has_run_all g
+sent_idle g h [] bytes s = ap has_run_all s.0
+sent_idle g h (e ∷ es) bytes s = ap has_run_all s.0 ∙ ap (λ ws. is_filled g.status || is_none (find is_queued ws)) (one_waits g.base.state g.journal e)
 
-works-idle : (f : Bool) (n : ℕ) (g h : Going) → Works f n g h → has_run_all h ≡ true
-unfolding Works
-works-idle f zero g h w = ap has_run_all w.1 ∙ w.0
-works-idle f (suc n) g h w = works-idle f n w.1.0 h w.1.2
+-- a reply leaves the jobs as they are
+send_idle : (f : Bool) (g h : Going) (bytes : List ℕ) → Steps f g send h bytes → has_run_all h ≡ has_run_all g
+unfolding Steps
+send_idle f g h bytes s = sent_idle g h (state_at g).unsent bytes s
 
-settled-after : (g : Going) → has_run_all g ≡ true → IsSettled (sent_all g (state_at g).unsent)
-settled-after g idle =
-    let all = all_sent (state_at g).unsent g.base.state g.journal refl in
-    record { idle = ap (λ ws. is_filled g.status || is_none (find is_queued ws)) all.waiting ∙ idle; sent = all.unsent }
+sends_idle : (f : Bool) (g h : Going) (bytes : List ℕ) → Runs f g (send ∷ []) h bytes → has_run_all h ≡ has_run_all g
+unfolding Runs
+sends_idle f g h bytes r = ap has_run_all r.3.1.0 ∙ send_idle f g r.0 r.1 r.3.0
+
+replies_idle : (f : Bool) (n : ℕ) (g h : Going) (bytes : List ℕ) → Replies f n g h bytes → has_run_all h ≡ has_run_all g
+unfolding RunsUntil
+replies_idle f zero g h bytes w = ap has_run_all w.1
+replies_idle f (suc n) g h bytes w = let x = w.1 in replies_idle f n x.0 h x.2 x.3.1 ∙ sends_idle f g x.0 x.1 x.3.0
 
 pub settled-served : (f : Bool) (g h : Going) (body bytes : List ℕ) → Serves f g body h bytes → IsSettled h
-settled-served f g h body bytes s = subst IsSettled (sym s.h_is) (settled-after s.worked (works-idle f s.jobs s.heard s.worked s.works))
+settled-served f g h body bytes s = record {
+  idle = replies_idle f s.replies s.worked h bytes s.sends ∙ until-done f has_run_all job_acts s.hears.jobs s.hears.heard s.worked [] s.hears.works;
+  sent = none_unsent (state_at h).unsent (until-done f has_sent_all (send ∷ []) s.replies s.worked h bytes s.sends);
+}
 
 pub settled-said : (f : Bool) (g h : Going) (bodies : List (List ℕ)) (bytes : List ℕ) → IsSettled g → Says f g bodies h bytes → IsSettled h
 unfolding Says
@@ -83,15 +80,17 @@ says-one f g h body bytes s = (h, bytes, [], (s, (refl, refl), sym (append_nil b
 
 -- where the session has ended nothing is said
 served-ended : (f : Bool) (g : Going) (body : List ℕ) → IsSettled g → is_some g.status ≡ true → Serves f g body g []
-unfolding Steps Works AreFramesFor
+unfolding Steps RunsUntil
 served-ended f g body settled ended = record {
-  heard = g;
-  hears = (sym (ap (λ b. if b then g else heard g body) ended), refl);
-  jobs = 0;
   worked = g;
-  works = (settled.idle, refl);
-  frames = subst (λ es. AreFramesFor es []) (sym settled.sent) refl;
-  h_is = sym (ap (sent_all g) settled.sent ∙ ap (λ j. record g { journal = j }) (append_nil g.journal));
+  hears = record {
+    heard = g;
+    hears = (sym (ap (λ b. if b then g else heard g body) ended), refl);
+    jobs = 0;
+    works = (settled.idle, refl, refl);
+  };
+  replies = 0;
+  sends = (ap (λ es. is_none (first_ticket es)) settled.sent, refl, refl);
 }
 
 pub says-nothing : (f : Bool) (g : Going) (bodies : List (List ℕ)) → IsSettled g → is_some g.status ≡ true → Says f g bodies g []
@@ -105,66 +104,70 @@ says-stays f g h xs ys a settled ended s =
 
 -- ---- a session in which no job fails is one in which jobs may fail
 
-weak_job : (g h : Going) → RunsOne false g h → RunsOne true g h
-weak_job g h r = record { taken = r.taken; takes = r.takes; answer = r.answer; answered = λ e. absurd (cc); h_is = r.h_is }
+needs_none : (job : Option Held) → (true ≡ false) ⊎ NeedsNoMemory job → NeedsNoMemory job
+needs_none job (inl e) = absurd (cc)
+needs_none job (inr none) = none
 
-weak_work : (n : ℕ) (g h : Going) → Works false n g h → Works true n g h
-unfolding Works
-weak_work zero g h w = w
-weak_work (suc n) g h w = (w.0, (w.1.0, weak_job g w.1.0 w.1.1, weak_work n w.1.0 h w.1.2))
+weak_step : (g h : Going) (act : Act) (bytes : List ℕ) → Steps false g act h bytes → Steps true g act h bytes
+unfolding Steps
+weak_step g h (hear body) bytes s = s
+weak_step g h (break_off fault) bytes s = s
+weak_step g h take_job bytes s = s
+weak_step g h (finish_job k) bytes s = (s.0, (λ e. s.1 (inr (needs_none (slice_get g.held k) e))), s.2, s.3)
+weak_step g h send bytes s = s
+
+pub weak-run : (g h : Going) (acts : List Act) (bytes : List ℕ) → Runs false g acts h bytes → Runs true g acts h bytes
+unfolding Runs
+weak-run g h [] bytes r = r
+weak-run g h (act ∷ acts) bytes r = (r.0, r.1, r.2, (weak_step g r.0 act r.1 r.3.0, weak-run r.0 h acts r.2 r.3.1, r.3.2))
+
+weak_until : (is_done : Going → Bool) (acts : List Act) (n : ℕ) (g h : Going) (bytes : List ℕ) → RunsUntil false is_done acts n g h bytes → RunsUntil true is_done acts n g h bytes
+unfolding RunsUntil
+weak_until is_done acts zero g h bytes w = w
+weak_until is_done acts (suc n) g h bytes w =
+    let x = w.1 in (w.0, (x.0, x.1, x.2, (weak-run g x.0 acts x.1 x.3.0, weak_until is_done acts n x.0 h x.2 x.3.1, x.3.2)))
+
+weak_served : (g h : Going) (body bytes : List ℕ) → Serves false g body h bytes → Serves true g body h bytes
+weak_served g h body bytes s =
+    let x = s.hears in
+    record {
+      worked = s.worked;
+      hears = record { heard = x.heard; hears = weak_step g x.heard (hear body) [] x.hears; jobs = x.jobs; works = weak_until has_run_all job_acts x.jobs x.heard s.worked [] x.works };
+      replies = s.replies;
+      sends = weak_until has_sent_all (send ∷ []) s.replies s.worked h bytes s.sends;
+    }
 
 pub weaker : (g h : Going) (bodies : List (List ℕ)) (bytes : List ℕ) → Says false g bodies h bytes → Says true g bodies h bytes
 unfolding Says
 weaker g h [] bytes s = s
-weaker g h (body ∷ bodies) bytes s =
-    let r = s.3.0 in (
-      s.0,
-      s.1,
-      s.2,
-      (
-        record { heard = r.heard; hears = r.hears; jobs = r.jobs; worked = r.worked; works = weak_work r.jobs r.heard r.worked r.works; frames = r.frames; h_is = r.h_is },
-        weaker s.0 h bodies s.2 s.3.1,
-        s.3.2,
-      ),
-    )
+weaker g h (body ∷ bodies) bytes s = (s.0, s.1, s.2, (weak_served g s.0 body s.1 s.3.0, weaker s.0 h bodies s.2 s.3.1, s.3.2))
 
--- ---- texts stay short, so a session can go on
+-- ---- whatever has been said, a session can go on
 
-abbrev Fine : Going → Type 0
-Fine g = IsFine g.base.state g.journal
+good_until : (f : Bool) (is_done : Going → Bool) (acts : List Act) (n : ℕ) (g h : Going) (bytes : List ℕ) → RunsUntil f is_done acts n g h bytes → Good g → Good h
+unfolding RunsUntil
+good_until f is_done acts zero g h bytes w good = subst Good (sym w.1) good
+good_until f is_done acts (suc n) g h bytes w good =
+    let x = w.1 in good_until f is_done acts n x.0 h x.2 x.3.1 (good-run f g x.0 acts x.1 x.3.0 good)
 
-fine_taken : (g t : Going) → Steps g take_job t [] → Fine g → Fine t
-unfolding Steps
-fine_taken g t p fine = subst Fine (sym p.0) (fine_unless g.status g (takes g (find is_queued (state_at g).waiting)) fine (fine_takes g (find is_queued (state_at g).waiting) fine))
+good_served : (f : Bool) (g h : Going) (body bytes : List ℕ) → Serves f g body h bytes → Good g → Good h
+good_served f g h body bytes s good =
+    let x = s.hears in
+    good_until f has_sent_all (send ∷ []) s.replies s.worked h bytes s.sends
+    (good_until f has_run_all job_acts x.jobs x.heard s.worked [] x.works (good-step f g x.heard (hear body) [] x.hears good))
 
-fine_job : (f : Bool) (g h : Going) → RunsOne f g h → Fine g → Fine h
-fine_job f g h r fine =
-    let t = r.taken in
-    let after = fine_taken g t r.takes fine in
-    subst Fine (sym r.h_is) (fine_unless t.status t (runs t 0 r.answer (slice_get t.held 0)) after (fine_runs t r.answer (slice_get t.held 0) after))
-
-fine_work : (f : Bool) (n : ℕ) (g h : Going) → Works f n g h → Fine g → Fine h
-unfolding Works
-fine_work f zero g h w fine = subst Fine (sym w.1) fine
-fine_work f (suc n) g h w fine = fine_work f n w.1.0 h w.1.2 (fine_job f g w.1.0 w.1.1 fine)
-
-fine_heard : (g h : Going) (body : List ℕ) → Steps g (hear body) h [] → Fine g → Fine h
-unfolding Steps
-fine_heard g h body p fine = subst Fine (sym p.0) (fine_open g.status g (heard g body) fine (fine_turned g (turn_of g.stage (message_of body)) fine))
-
-fine_served : (f : Bool) (g h : Going) (body bytes : List ℕ) → Serves f g body h bytes → Fine g → Fine h
-fine_served f g h body bytes s fine =
-    subst Fine (sym s.h_is) (fine_sent (state_at s.worked).unsent s.worked.base.state s.worked.journal (fine_work f s.jobs s.heard s.worked s.works (fine_heard g s.heard body s.hears fine)))
-
-fine_said : (f : Bool) (g h : Going) (bodies : List (List ℕ)) (bytes : List ℕ) → Says f g bodies h bytes → Fine g → Fine h
+good_said : (f : Bool) (g h : Going) (bodies : List (List ℕ)) (bytes : List ℕ) → Says f g bodies h bytes → Good g → Good h
 unfolding Says
-fine_said f g h [] bytes s fine = subst Fine (sym s.0) fine
-fine_said f g h (body ∷ bodies) bytes s fine = fine_said f s.0 h bodies s.2 s.3.1 (fine_served f g s.0 body s.1 s.3.0 fine)
+good_said f g h [] bytes s good = subst Good (sym s.0) good
+good_said f g h (body ∷ bodies) bytes s good = good_said f s.0 h bodies s.2 s.3.1 (good_served f g s.0 body s.1 s.3.0 good)
 
-fine_begun : Fine begun
-unfolding replay_from
-fine_begun = record { documents = tt; waiting = tt; unsent = tt }
-
--- whatever has been said, more can be said on more messages
+-- more can be said on more messages
 pub goes-on : (f : Bool) (h : Going) (xs ys : List (List ℕ)) (a : List ℕ) → Says f begun xs h a → (k : Going) × (later : List ℕ) × Says false h ys k later
-goes-on f h xs ys a s = said h ys (fine_said f begun h xs a s fine_begun)
+goes-on f h xs ys a s = said h ys (good_said f begun h xs a s good-begun)
+
+-- whatever has been said, all that a message leads to can be sent
+pub can-send : (f : Bool) (g worked : Going) (xs : List (List ℕ)) (a body : List ℕ) → Says f begun xs g a → Hears f g body worked → CanSendAll worked
+can-send f g worked xs a body s x =
+    let good = good_until f has_run_all job_acts x.jobs x.heard worked [] x.works (good-step f g x.heard (hear body) [] x.hears (good_said f begun g xs a s good-begun)) in
+    let all = some_replies (state_at worked).unsent worked refl good in
+    (all.replies, all.left, all.bytes, weak_until has_sent_all (send ∷ []) all.replies worked all.left all.bytes all.sends)

@@ -1,8 +1,8 @@
 -- The texts at a desk stay short, whatever happens there, so that each question about them has an answer.
-use Rattle.std.proofs.Common.{◌≡◌, ℕ, zero, suc, ◌+◌, ◌-◌, ◌*◌, ◌^◌, ◌<◌, ◌≤◌, ⊎_elim, Bool, true, false, List, [], ◌∷◌, ◌++◌, length, Option, Some, None, refl, sym, ap, subst, ◌∙◌, append_assoc, arith}
-use Rattle.std.specs.Prelude.{ℤ, filter, find, nat_lt, map, if◌then◌else◌}
+use Rattle.std.proofs.Common.{◌≡◌, ℕ, ◌+◌, ◌-◌, ◌^◌, ◌<◌, ◌≤◌, ⊎_elim, Bool, true, false, List, [], ◌∷◌, ◌++◌, length, Option, Some, None, refl, sym, ◌∙◌, arith}
+use Rattle.std.specs.Prelude.{ℤ, filter, find, nat_lt, if◌then◌else◌}
 use Rattle.std.specs.Option.{option_map}
-use Rattle.std.specs.Str.{chars, chars_after, continuation_len, lead_bits, encode_utf8_all}
+use Rattle.std.specs.Str.{encode_utf8_all}
 use Rattle.std.proofs.lemmas.Bool.{cases_lt, lt-ltb, false≢true}
 use Rattle.std.proofs.lemmas.Str.{length-le-encodes}
 use Rattle.ls_text.specs.Edits.{edited, edited_all, is_too_large}
@@ -20,9 +20,8 @@ use Rattle.ls_machine.specs.declared.state.Waiting.{Waiting}
 use Rattle.ls_machine.specs.declared.state.Entry.{Entry}
 use Rattle.ls_machine.specs.declared.state.Entry.TheVariants.{Body, Failure, Outcome}
 use Rattle.ls_machine.specs.declared.state.State.{State}
-use Rattle.ls_machine.specs.Machine.{start, step, is_named, document_of, edited_at, measured, asks_with, is_held, is_queued, on_first, without_first, with_taken, told_to, told_end, told_at, end_of, ends, is_ended, left_at, rest, put_text, close_text, ask_at, content_modified, request_cancelled, internal_error, ticket_of}
+use Rattle.ls_machine.specs.Machine.{step, is_named, document_of, edited_at, measured, asks_with, is_held, is_queued, on_first, without_first, with_taken, told_to, told_end, told_at, end_of, ends, is_ended, left_at, rest, put_text, close_text, ask_at, content_modified, request_cancelled, internal_error}
 use Rattle.ls_machine.specs.Journal.{replay_from}
-use Rattle.ls_machine.proofs.Replays.{replay-push}
 
 -- ---- lists of which each element has a property
 
@@ -104,23 +103,12 @@ abbrev pub IsShortEvent : Event → Type 0
 IsShortEvent (Opened uri label text encoding version) = IsShort text
 IsShortEvent _ = Unit {0}
 
-after_short : (n c : ℕ) (bs : List ℕ) → length (chars_after n c bs) ≤ suc (length bs)
-after_short zero c [] = omega arith
-after_short zero c (b ∷ bs) = omega (arith, after_short (continuation_len b) (lead_bits b) bs)
-after_short (suc n) c [] = omega arith
-after_short (suc n) c (b ∷ bs) = omega (arith, after_short n (c * 64 + (b - 128)) bs)
-
--- a text has no more characters than bytes
-chars_short : (bs : List ℕ) → length (chars bs) ≤ length bs
-unfolding chars
-chars_short [] = omega arith
-chars_short (b ∷ bs) = omega (arith, after_short (continuation_len b) (lead_bits b) bs)
-
 at_most : (m n : ℕ) → nat_lt m n ≡ false → n ≤ m
 at_most m n e = ⊎_elim (λ less. absurd (false≢true (sym e ∙ lt-ltb m n less))) (λ ge. ge) (cases_lt m n)
 
-pub short_chars : (text : List ℕ) → nat_lt 4194304 (length text) ≡ false → IsShort (chars text)
-short_chars text e = omega (arith, at_most 4194304 (length text) e, chars_short text)
+-- a text that isn't too large
+pub short_chars_of : (text : List ℕ) → is_too_large text ≡ false → IsShort text
+short_chars_of text e = omega (arith, at_most 4194304 (length (encode_utf8_all text)) e, length-le-encodes text)
 
 short_edited : (width : ℕ → ℕ) (t : List ℕ) (es : List Edit) → IsShort t → At IsShort (edited_all width t es)
 unfolding edited_all
@@ -221,16 +209,3 @@ short_step s (Sent ticket) h t = record { documents = h.documents; waiting = h.w
 -- the state that a journal leads to has short texts
 abbrev pub IsFine : State → List Event → Type 0
 IsFine s journal = AreShort (replay_from s journal)
-
-pub fine_pushed : (s : State) (journal : List Event) (e : Event) → IsFine s journal → IsShortEvent e → IsFine s (journal ++ e ∷ [])
-fine_pushed s journal e h t = subst AreShort (sym (replay-push s journal e)) (short_step (replay_from s journal) e h t)
-
-append_nil : (es : List Event) → es ++ [] ≡ es
-append_nil [] = refl
-append_nil (e ∷ es) = ap (λ l. e ∷ l) (append_nil es)
-
-pub fine_sent : (es : List Entry) (s : State) (journal : List Event) → IsFine s journal → IsFine s (journal ++ map (λ e. Sent (ticket_of e)) es)
-fine_sent [] s journal h = subst (IsFine s) (sym (append_nil journal)) h
-fine_sent (e ∷ es) s journal h =
-    subst (IsFine s) (append_assoc journal (Sent (ticket_of e) ∷ []) (map (λ e. Sent (ticket_of e)) es))
-    (fine_sent es s (journal ++ Sent (ticket_of e) ∷ []) (fine_pushed s journal (Sent (ticket_of e)) h tt))

@@ -1,12 +1,12 @@
--- On each list of messages something is said, where no memory is refused in a job.
-use Rattle.std.proofs.Common.{◌≡◌, ◌⊎◌, inl, inr, ℕ, zero, suc, ◌≤◌, Bool, true, false, List, [], ◌∷◌, ◌++◌, length, Option, Some, None, refl, sym, ap, subst, ◌∙◌, arith}
-use Rattle.std.specs.Prelude.{find, is_none, remove, slice_get, nat_lt, nat_le, ◌||◌, if◌then◌else◌}
+-- On each list of messages something is said, and each list of acts is a run, where no memory is refused in a job.
+use Rattle.std.proofs.Common.{◌≡◌, ◌⊎◌, inl, inr, ℕ, zero, suc, ◌≤◌, Bool, true, false, List, [], ◌∷◌, ◌++◌, Option, Some, None, refl, sym, ap, subst, ◌∙◌, arith}
+use Rattle.std.specs.Prelude.{find, is_none, remove, slice_get, ◌||◌, if◌then◌else◌}
 use Rattle.ls_answers.specs.Told.{Told}
 use Rattle.ls_answers.specs.declared.answer.Answer.{Answer}
 use Rattle.ls_answers.specs.declared.answer.Answer.TheVariants.{Hover}
 use Rattle.ls_answers.proofs.Exist.{some_answer}
 use Rattle.ls_machine.specs.declared.event.Event.{Event}
-use Rattle.ls_machine.specs.declared.event.Event.TheVariants.{Finished, Took, Said}
+use Rattle.ls_machine.specs.declared.event.Event.TheVariants.{Finished, Sent, Took}
 use Rattle.ls_machine.specs.declared.event.Out.{Out}
 use Rattle.ls_machine.specs.declared.event.Out.TheVariants as out
 use Rattle.ls_machine.specs.declared.event.DeskFault.{DeskFault}
@@ -14,126 +14,22 @@ use Rattle.ls_machine.specs.declared.event.DeskFault.TheVariants as fault
 use Rattle.ls_machine.specs.declared.state.Entry.{Entry}
 use Rattle.ls_machine.specs.declared.state.Entry.TheVariants.{Body, Failure, Outcome}
 use Rattle.ls_machine.specs.declared.state.Waiting.{Waiting}
-use Rattle.ls_machine.specs.Machine.{start, step, is_held, is_open, is_queued, on_first, with_taken, without_first}
+use Rattle.ls_machine.specs.Machine.{first_ticket, step, is_held, is_queued, on_first, ticket_of, with_taken, without_first}
 use Rattle.ls_machine.specs.declared.state.State.{State}
 use Rattle.ls_machine.specs.Journal.{replay_from}
-use Rattle.ls_desk.specs.Faults.{finish_fault, full_fault, or_else, take_fault}
+use Rattle.ls_desk.specs.Faults.{finish_fault, take_fault}
 use Rattle.ls_desk.specs.Stands.{IsOutFor, Seen, out_of, state_of}
 use Rattle.ls_machine.proofs.Replays.{replay-push}
 use Rattle.ls_frame.specs.Frames.{frame_of}
-use Rattle.ls_rpc.specs.Message.{message_of}
-use Rattle.ls_rpc.specs.declared.message.Id.{Id}
 use Rattle.ls_bodies.specs.Bodies.{failure_body}
 use Rattle.ls_session.specs.Bodies.{body_of}
-use Rattle.ls_session.specs.Session.{turn_of}
-use Rattle.ls_machine.specs.declared.client.ClientEvent.{ClientEvent}
-use Rattle.ls_machine.specs.declared.client.ClientEvent.TheVariants.{DidOpen, DidChange, DidClose, Request, Cancel, Say}
-use Rattle.ls_session.specs.declared.event.Status.{Status}
-use Rattle.ls_session.specs.declared.event.Turn.{Turn}
-use Rattle.ls_session.specs.declared.event.Turn.TheVariants.{Nothing, Event as Happens, Exit}
-use Rattle.ls_session.specs.declared.session.Stage.{Stage}
-use Rattle.ls_machine.specs.Client.{asker_of}
-use Rattle.ls_steps.specs.Runs.{Going, Held, Left, Steps, begun, desk_of, entered, entry_at, fault_at, finished_by, finishes, heard, is_filled, leaving, met, on_turn, ran, refused, runs, said_by, state_at, status_by, takes, tells, told_of, took, turned, unless_full, while_open}
-use Rattle.ls_steps.specs.Plain.{RunsOne, Works, AreFramesFor, Serves, Says, has_run_all, sent_all}
+use Rattle.ls_session.specs.declared.event.Status.TheVariants.{BadFrame}
+use Rattle.ls_steps.specs.Runs.{Act, Going, Held, IsSent, Left, Runs, Steps, begun, break_off, desk_of, finish_job, finished_by, finishes, hear, heard, is_filled, leaving, ran, runs, send, state_at, status_by, take_job, takes, took, unless_full, while_open}
+use Rattle.ls_steps.specs.Plain.{Replies, RunsUntil, Says, Serves, Works, has_run_all, job_acts}
 use Rattle.ls_steps.proofs.OneSession.{body_for, body_told}
-use Rattle.ls_steps.proofs.ShortTexts.{AreShort, Each, IsFine, IsShortEntry, IsShortEvent, fine_pushed, fine_sent, short_chars, short_step}
-use Rattle.ls_steps.proofs.Entered.{entered-state}
-
-abbrev pub Fine : Going → Type 0
-Fine g = IsFine g.base.state g.journal
-
-abbrev FineLeft : Left → Type 0
-FineLeft left = IsFine left.base.state left.journal
-
--- ---- a client's event
-
-or_none : (b : Bool) (f : DeskFault) (next : Option DeskFault) → or_else b f next ≡ None → (b ≡ false) × (next ≡ None)
-or_none true f next e = absurd (cc)
-or_none false f next e = (refl, e)
-
-short_entry : (d : Seen) (event : ClientEvent) → fault_at d event ≡ None → IsShortEvent (entry_at (state_of d) event)
-short_entry d (DidOpen uri label text encoding) e =
-    let shut = or_none (is_open uri (state_of d).documents) fault.AlreadyOpen _ e in
-    let many = or_none (nat_le 256 (length (state_of d).documents)) fault.TooManyDocuments _ shut.1 in
-    short_chars text (or_none (nat_lt 4194304 (length text)) fault.TooLarge _ many.1).0
-short_entry d (DidChange uri label edits) e = tt
-short_entry d (DidClose uri) e = tt
-short_entry d (Request id uri ask links) e = tt
-short_entry d (Cancel id) e = tt
-short_entry d (Say body) e = tt
-
-fine_entered : (d : Seen) (e : Event) → IsFine d.base.state d.journal → IsShortEvent e → FineLeft (entered d e)
-fine_entered d e h t = subst AreShort (sym (entered-state d e)) (short_step (state_of d) e h t)
-
-fine_said : (d : Seen) (body : List ℕ) (o : Option DeskFault) → IsFine d.base.state d.journal → FineLeft (said_by d body o)
-fine_said d body None h = fine_entered d (Said body) h tt
-fine_said d body (Some fault) h = h
-
-fine_told : (d : Seen) (o : Option (List ℕ)) → IsFine d.base.state d.journal → FineLeft (tells d o)
-fine_told d None h = h
-fine_told d (Some body) h = fine_said d body (full_fault d 2) h
-
-fine_refused : (d : Seen) (id : Option Id) (f : DeskFault) → IsFine d.base.state d.journal → FineLeft (refused d id f)
-fine_refused d id fault.SessionFull h = h
-fine_refused d id fault.NotOpen h = fine_told d (told_of id fault.NotOpen) h
-fine_refused d id fault.AlreadyOpen h = fine_told d (told_of id fault.AlreadyOpen) h
-fine_refused d id fault.TooManyDocuments h = fine_told d (told_of id fault.TooManyDocuments) h
-fine_refused d id fault.TooManyWaiting h = fine_told d (told_of id fault.TooManyWaiting) h
-fine_refused d id fault.IdInUse h = fine_told d (told_of id fault.IdInUse) h
-fine_refused d id fault.TooLarge h = fine_told d (told_of id fault.TooLarge) h
-fine_refused d id fault.UnknownTicket h = fine_told d (told_of id fault.UnknownTicket) h
-fine_refused d id fault.OtherText h = fine_told d (told_of id fault.OtherText) h
-fine_refused d id fault.Memory h = fine_told d (told_of id fault.Memory) h
-
-fine_met : (d : Seen) (event : ClientEvent) (o : Option DeskFault) → fault_at d event ≡ o → IsFine d.base.state d.journal → FineLeft (met d event o)
-fine_met d event None e h = fine_entered d (entry_at (state_of d) event) h (short_entry d event e)
-fine_met d event (Some f) e h = fine_refused d (asker_of event) f h
-
-fine_turn : (g : Going) (t : Turn) → Fine g → Fine (on_turn g t)
-fine_turn g Nothing h = h
-fine_turn g (Happens event) h = fine_met (desk_of g) event (fault_at (desk_of g) event) refl h
-fine_turn g (Exit status) h = h
-
-pub fine_turned : (g : Going) (t : Turn × Stage) → Fine g → Fine (turned g t)
-fine_turned g t h = fine_turn (record g { stage = t.1 }) t.0 h
-
-pub fine_open : (o : Option Status) (g k : Going) → Fine g → Fine k → Fine (while_open o g k)
-fine_open None g k p q = q
-fine_open (Some status) g k p q = p
-
--- ---- jobs
-
-pub fine_unless : (o : Option Status) (g k : Going) → Fine g → Fine k → Fine (unless_full o g k)
-fine_unless o g k p q = by (is_filled o)
-  where
-    by : (b : Bool) → Fine (if b then g else k)
-    by true = p
-    by false = q
-
-fine_took : (g : Going) (w : Waiting) (o : Option DeskFault) → Fine g → Fine (took g w o)
-fine_took g w None h = fine_pushed g.base.state g.journal (Took 0) h tt
-fine_took g w (Some f) h = h
-
-pub fine_takes : (g : Going) (o : Option Waiting) → Fine g → Fine (takes g o)
-fine_takes g None h = h
-fine_takes g (Some w) h = fine_took g w (take_fault (desk_of g)) h
-
-fine_finished : (d : Seen) (done : Told) (o : Option DeskFault) → IsFine d.base.state d.journal → FineLeft (finished_by d done o)
-fine_finished d done None h = fine_pushed d.base.state d.journal (Finished done.ticket (is_none done.answer)) h tt
-fine_finished d done (Some fault.SessionFull) h = h
-fine_finished d done (Some fault.NotOpen) h = h
-fine_finished d done (Some fault.AlreadyOpen) h = h
-fine_finished d done (Some fault.TooManyDocuments) h = h
-fine_finished d done (Some fault.TooManyWaiting) h = h
-fine_finished d done (Some fault.IdInUse) h = h
-fine_finished d done (Some fault.TooLarge) h = h
-fine_finished d done (Some fault.UnknownTicket) h = h
-fine_finished d done (Some fault.OtherText) h = h
-fine_finished d done (Some fault.Memory) h = h
-
-pub fine_runs : (g : Going) (answer : Option Answer) (o : Option Held) → Fine g → Fine (runs g 0 answer o)
-fine_runs g answer None h = h
-fine_runs g answer (Some job) h = fine_finished (desk_of g) (ran job answer) (finish_fault (desk_of g) (ran job answer)) h
+use Rattle.ls_steps.proofs.ShortTexts.{Each, IsShortEntry}
+use Rattle.ls_steps.proofs.Lawful.{Good, first-current, good-begun, good-run, good-step}
+use Rattle.ls_steps.proofs.Serving.{job-runs, left-is, send-runs}
 
 -- ---- how many jobs are queued
 
@@ -143,14 +39,6 @@ queued (w ∷ ws) = if is_queued w then suc (queued ws) else queued ws
 
 abbrev queued_at : Going → ℕ
 queued_at g = queued (state_at g).waiting
-
-none_queued : (ws : List Waiting) → queued ws ≡ 0 → find is_queued ws ≡ None
-none_queued [] e = refl
-none_queued (w ∷ ws) e = by (is_queued w) refl e (none_queued ws)
-  where
-    by : (b : Bool) → is_queued w ≡ b → (if b then suc (queued ws) else queued ws) ≡ 0 → (queued ws ≡ 0 → find is_queued ws ≡ None) → find is_queued (w ∷ ws) ≡ None
-    by true q e later = absurd (omega (arith, e))
-    by false q e later = rw q (later e)
 
 -- the first queued job is taken
 one_fewer : (ws : List Waiting) (w : Waiting) → find is_queued ws ≡ Some w → suc (queued (on_first is_queued (with_taken true) ws)) ≡ queued ws
@@ -221,69 +109,6 @@ progress g w answer None free found =
     let t = took g w None in
     subst (λ b. Progress g (if b then t else runs t 0 answer (slice_get t.held 0))) (sym free) (run_on g t answer (slice_get t.held 0) (queued_took g.base.state g.journal w found))
 
-record Job (g : Going) : Type 0 where
-  left : Going
-  runs_it : RunsOne false g left
-  fine : Fine left
-  further : Progress g left
-
-some_job : (g : Going) (w : Waiting) → is_filled g.status ≡ false → find is_queued (state_at g).waiting ≡ Some w → Fine g → Job g
-unfolding Steps
-some_job g w free found fine =
-    let t = took g w (take_fault (desk_of g)) in
-    let answer = Some (Hover None) in
-    let after = fine_took g w (take_fault (desk_of g)) fine in
-    record {
-      left = ended answer t;
-      runs_it = record {
-        taken = t;
-        takes = (sym (ap (λ b. if b then g else takes g (find is_queued (state_at g).waiting)) free ∙ ap (takes g) found), refl);
-        answer = answer;
-        answered = λ _. refl;
-        h_is = refl;
-      };
-      fine = fine_unless t.status t (runs t 0 answer (slice_get t.held 0)) after (fine_runs t answer (slice_get t.held 0) after);
-      further = progress g w answer (take_fault (desk_of g)) free found;
-    }
-
--- ---- all jobs
-
-record Worked (g : Going) : Type 0 where
-  jobs : ℕ
-  left : Going
-  works : Works false jobs g left
-  fine : Fine left
-
-both_false : (a b : Bool) → a || b ≡ false → (a ≡ false) × (b ≡ false)
-both_false true b e = absurd (cc)
-both_false false b e = (refl, e)
-
-some_found : (o : Option Waiting) → is_none o ≡ false → (w : Waiting) × (o ≡ Some w)
-some_found None e = absurd (cc)
-some_found (Some w) e = (w, refl)
-
-idle : (g : Going) → has_run_all g ≡ true → Fine g → Worked g
-unfolding Works
-idle g e fine = record { jobs = 0; left = g; works = (e, refl); fine = fine }
-
-work_by : (g : Going) (b : Bool) → has_run_all g ≡ b → Fine g → ((mid : Going) → Fine mid → Progress g mid → Worked mid) → Worked g
-unfolding Works
-work_by g true e fine more = idle g e fine
-work_by g false e fine more =
-    let parts = both_false (is_filled g.status) (is_none (find is_queued (state_at g).waiting)) e in
-    let w = some_found (find is_queued (state_at g).waiting) parts.1 in
-    let job = some_job g w.0 parts.0 w.1 fine in
-    let later = more job.left job.fine job.further in
-    record { jobs = suc later.jobs; left = later.left; works = (e, (job.left, job.runs_it, later.works)); fine = later.fine }
-
-onward : (g mid : Going) → Fine mid → Progress g mid → (suc (queued_at mid) ≤ queued_at g → Worked mid) → Worked mid
-onward g mid fine (inl full) more = idle mid (ap (λ b. b || is_none (find is_queued (state_at mid).waiting)) full) fine
-onward g mid fine (inr less) more = more less
-
-some_work : (fuel : ℕ) (g : Going) → Fine g → queued_at g ≤ fuel → Worked g
-some_work zero g fine le = work_by g (has_run_all g) refl fine (λ mid f p. onward g mid f p (λ less. absurd (omega (arith, le, less))))
-some_work (suc fuel) g fine le = work_by g (has_run_all g) refl fine (λ mid f p. onward g mid f p (λ less. some_work fuel mid f (omega (arith, le, less))))
-
 -- ---- what leaves
 
 record Leaving (e : Entry) : Type 0 where
@@ -306,13 +131,128 @@ some_out (Outcome w) h =
       body_is = body_told w (out_of w w.request done) done a.0 refl refl;
     }
 
-some_frames : (es : List Entry) → Each IsShortEntry es → (bytes : List ℕ) × AreFramesFor es bytes
-unfolding AreFramesFor
-some_frames [] h = ([], refl)
-some_frames (e ∷ es) h =
-    let first = some_out e h.0 in
-    let later = some_frames es h.1 in
-    (frame_of first.body ++ later.0, (first.leaves, first.body, later.0, (first.is_for, first.body_is, later.1, refl)))
+-- ---- acts
+
+-- what an act leaves
+record Next (g : Going) (act : Act) : Type 0 where
+  left : Going
+  bytes : List ℕ
+  steps : Steps false g act left bytes
+
+some_sent : (g : Going) (es : List Entry) → (state_at g).unsent ≡ es → Good g → (h : Going) × (bytes : List ℕ) × IsSent g es h bytes
+some_sent g [] u good = (g, [], (refl, refl))
+some_sent g (e ∷ es) u good =
+    let o = some_out e (subst (Each IsShortEntry) u good.short.unsent).0 in
+    (record g { journal = g.journal ++ Sent (ticket_of e) ∷ [] }, frame_of o.body, (refl, first-current (desk_of g) e es good.lawful u, (o.leaves, o.body, o.is_for, o.body_is, refl)))
+
+some_step : (g : Going) (act : Act) → Good g → Next g act
+unfolding Steps
+some_step g (hear body) good = record { left = while_open g.status g (heard g body); bytes = []; steps = (refl, refl) }
+some_step g (break_off x) good = record { left = while_open g.status g (record g { status = Some (BadFrame x) }); bytes = []; steps = (refl, refl) }
+some_step g take_job good = record { left = unless_full g.status g (takes g (find is_queued (state_at g).waiting)); bytes = []; steps = (refl, refl) }
+some_step g (finish_job k) good =
+    record { left = unless_full g.status g (runs g k (Some (Hover None)) (slice_get g.held k)); bytes = []; steps = (Some (Hover None), (λ f. refl), refl, refl) }
+some_step g send good =
+    let s = some_sent g (state_at g).unsent refl good in record { left = s.0; bytes = s.1; steps = s.2 }
+
+run_from : (g : Going) (acts : List Act) → Good g → (h : Going) × (bytes : List ℕ) × Runs false g acts h bytes
+unfolding Runs
+run_from g [] good = (g, [], (refl, refl))
+run_from g (act ∷ acts) good =
+    let first = some_step g act good in
+    let rest = run_from first.left acts (good-step false g first.left act first.bytes first.steps good) in
+    (rest.0, first.bytes ++ rest.1, (first.left, first.bytes, rest.1, (first.steps, rest.2, refl)))
+
+pub some_run : (acts : List Act) → (h : Going) × (bytes : List ℕ) × Runs false begun acts h bytes
+some_run acts = run_from begun acts good-begun
+
+-- ---- all jobs
+
+record Job (g : Going) : Type 0 where
+  left : Going
+  runs_it : Runs false g job_acts left []
+  further : Progress g left
+
+finish_of : (t : Going) (answer : Answer) → Steps false t (finish_job 0) (ended (Some answer) t) []
+unfolding Steps
+finish_of t answer = (Some answer, (λ f. refl), refl, refl)
+
+take_of : (g : Going) (w : Waiting) → is_filled g.status ≡ false → find is_queued (state_at g).waiting ≡ Some w → Steps false g take_job (took g w (take_fault (desk_of g))) []
+unfolding Steps
+take_of g w free found = (sym (ap (λ b. if b then g else takes g (find is_queued (state_at g).waiting)) free ∙ ap (takes g) found), refl)
+
+some_job : (g : Going) (w : Waiting) → is_filled g.status ≡ false → find is_queued (state_at g).waiting ≡ Some w → Job g
+some_job g w free found =
+    let t = took g w (take_fault (desk_of g)) in
+    record {
+      left = ended (Some (Hover None)) t;
+      runs_it = job-runs false g t (ended (Some (Hover None)) t) (take_of g w free found) (finish_of t (Hover None));
+      further = progress g w (Some (Hover None)) (take_fault (desk_of g)) free found;
+    }
+
+record Worked (g : Going) : Type 0 where
+  jobs : ℕ
+  left : Going
+  works : Works false jobs g left
+  good : Good left
+
+both_false : (a b : Bool) → a || b ≡ false → (a ≡ false) × (b ≡ false)
+both_false true b e = absurd (cc)
+both_false false b e = (refl, e)
+
+some_found : (o : Option Waiting) → is_none o ≡ false → (w : Waiting) × (o ≡ Some w)
+some_found None e = absurd (cc)
+some_found (Some w) e = (w, refl)
+
+idle : (g : Going) → has_run_all g ≡ true → Good g → Worked g
+unfolding RunsUntil
+idle g e good = record { jobs = 0; left = g; works = (e, refl, refl); good = good }
+
+work_by : (g : Going) (b : Bool) → has_run_all g ≡ b → Good g → ((mid : Going) → Good mid → Progress g mid → Worked mid) → Worked g
+unfolding RunsUntil
+work_by g true e good more = idle g e good
+work_by g false e good more =
+    let parts = both_false (is_filled g.status) (is_none (find is_queued (state_at g).waiting)) e in
+    let w = some_found (find is_queued (state_at g).waiting) parts.1 in
+    let job = some_job g w.0 parts.0 w.1 in
+    let later = more job.left (good-run false g job.left job_acts [] job.runs_it good) job.further in
+    record { jobs = suc later.jobs; left = later.left; works = (e, (job.left, [], [], (job.runs_it, later.works, refl))); good = later.good }
+
+onward : (g mid : Going) → Good mid → Progress g mid → (suc (queued_at mid) ≤ queued_at g → Worked mid) → Worked mid
+onward g mid good (inl full) more = idle mid (ap (λ b. b || is_none (find is_queued (state_at mid).waiting)) full) good
+onward g mid good (inr less) more = more less
+
+some_work : (fuel : ℕ) (g : Going) → Good g → queued_at g ≤ fuel → Worked g
+some_work zero g good le = work_by g (has_run_all g) refl good (λ mid f p. onward g mid f p (λ less. absurd (omega (arith, le, less))))
+some_work (suc fuel) g good le = work_by g (has_run_all g) refl good (λ mid f p. onward g mid f p (λ less. some_work fuel mid f (omega (arith, le, less))))
+
+-- ---- all that is kept
+
+-- they have left
+pub record Replied (g : Going) : Type 0 where
+  pub replies : ℕ
+  pub left : Going
+  pub bytes : List ℕ
+  pub sends : Replies false replies g left bytes
+  pub good : Good left
+
+unsent_after : (g m : Going) (e : Entry) (es : List Entry) (bytes : List ℕ) → (state_at g).unsent ≡ e ∷ es → Steps false g send m bytes → (state_at m).unsent ≡ es
+unfolding Steps
+unsent_after g m e es bytes u s = left-is g m e es u (subst (λ l. IsSent g l m bytes) u s).0
+
+pub some_replies : (es : List Entry) (g : Going) → (state_at g).unsent ≡ es → Good g → Replied g
+unfolding RunsUntil
+some_replies [] g u good = record { replies = 0; left = g; bytes = []; sends = (ap (λ l. is_none (first_ticket l)) u, refl, refl); good = good }
+some_replies (e ∷ es) g u good =
+    let first = some_step g send good in
+    let rest = some_replies es first.left (unsent_after g first.left e es first.bytes u first.steps) (good-step false g first.left send first.bytes first.steps good) in
+    record {
+      replies = suc rest.replies;
+      left = rest.left;
+      bytes = first.bytes ++ rest.bytes;
+      sends = (ap (λ l. is_none (first_ticket l)) u, (first.left, first.bytes, rest.bytes, (send-runs false g first.left first.bytes first.steps, rest.sends, refl)));
+      good = rest.good;
+    }
 
 -- ---- messages
 
@@ -320,38 +260,38 @@ record Message (g : Going) (body : List ℕ) : Type 0 where
   left : Going
   bytes : List ℕ
   serves : Serves false g body left bytes
-  fine : Fine left
+  good : Good left
 
-some_message : (g : Going) (body : List ℕ) → Fine g → Message g body
+hear_of : (g : Going) (body : List ℕ) → Steps false g (hear body) (while_open g.status g (heard g body)) []
 unfolding Steps
-some_message g body fine =
+hear_of g body = (refl, refl)
+
+some_message : (g : Going) (body : List ℕ) → Good g → Message g body
+some_message g body good =
     let first = while_open g.status g (heard g body) in
-    let work = some_work (queued_at first) first (fine_open g.status g (heard g body) fine (fine_turned g (turn_of g.stage (message_of body)) fine)) (omega arith) in
-    let frames = some_frames (state_at work.left).unsent work.fine.unsent in
+    let hears = hear_of g body in
+    let work = some_work (queued_at first) first (good-step false g first (hear body) [] hears good) (omega arith) in
+    let sent = some_replies (state_at work.left).unsent work.left refl work.good in
     record {
-      left = sent_all work.left (state_at work.left).unsent;
-      bytes = frames.0;
+      left = sent.left;
+      bytes = sent.bytes;
       serves = record {
-        heard = first;
-        hears = (refl, refl);
-        jobs = work.jobs;
         worked = work.left;
-        works = work.works;
-        frames = frames.1;
-        h_is = refl;
+        hears = record { heard = first; hears = hears; jobs = work.jobs; works = work.works };
+        replies = sent.replies;
+        sends = sent.sends;
       };
-      fine = fine_sent (state_at work.left).unsent work.left.base.state work.left.journal work.fine;
+      good = sent.good;
     }
 
-pub said : (g : Going) (bodies : List (List ℕ)) → Fine g → (h : Going) × (bytes : List ℕ) × Says false g bodies h bytes
+pub said : (g : Going) (bodies : List (List ℕ)) → Good g → (h : Going) × (bytes : List ℕ) × Says false g bodies h bytes
 unfolding Says
-said g [] fine = (g, [], (refl, refl))
-said g (body ∷ bodies) fine =
-    let first = some_message g body fine in
-    let rest = said first.left bodies first.fine in
+said g [] good = (g, [], (refl, refl))
+said g (body ∷ bodies) good =
+    let first = some_message g body good in
+    let rest = said first.left bodies first.good in
     (rest.0, first.bytes ++ rest.1, (first.left, first.bytes, rest.1, (first.serves, rest.2, refl)))
 
 -- nothing is open at the start
 pub some_session : (bodies : List (List ℕ)) → (h : Going) × (bytes : List ℕ) × Says false begun bodies h bytes
-unfolding replay_from
-some_session bodies = said begun bodies (record { documents = tt; waiting = tt; unsent = tt })
+some_session bodies = said begun bodies good-begun

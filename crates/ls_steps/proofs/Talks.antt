@@ -1,12 +1,15 @@
 -- What each method of a session does, from what the calls in it ensure.
-use Rattle.std.proofs.Common.{◌≡◌, ◌<◌, ℕ, suc, List, [], ◌∷◌, ◌++◌, length, map, take, drop, get_or, Bool, true, false, Option, Some, None, option_map, refl, sym, ap, subst, ◌∙◌}
-use Rattle.std.specs.Prelude.{◌≢◌, ◌&&◌, find, is_some, remove, slice_get, if◌then◌else◌}
+use Rattle.std.proofs.Common.{◌≡◌, ◌<◌, ◌≤◌, arith, ℕ, zero, suc, List, [], ◌∷◌, ◌++◌, length, map, take, drop, get_or, Bool, true, false, Option, Some, None, option_map, inl, inr, refl, sym, ap, subst, ◌∙◌}
+use Rattle.std.specs.Prelude.{◌≢◌, ◌⊎◌, ◌&&◌, find, is_some, remove, slice_get, if◌then◌else◌}
 use Rattle.std.proofs.lemmas.List.{drop-map, map-append, take-map}
 use Rattle.std.proofs.lemmas.Option.{slice_get-map, slice_get_read}
 use Rattle.std.specs.Arc.{arc_value}
 use Rattle.ls_frame.specs.Frames.{frame_of}
 use Rattle.ls_rpc.specs.Message.{message_of}
+use Rattle.ls_answers.specs.Asks.{IsToNoName}
 use Rattle.ls_answers.specs.Told.{Told}
+use Rattle.ls_answers.specs.declared.answer.Answer.{Answer}
+use Rattle.ls_answers.specs.declared.answer.Answer.TheVariants.{Hover}
 use Rattle.ls_answers.specs.declared.job.Job.{Job}
 use Rattle.ls_machine.specs.declared.event.Event.TheVariants.{Sent}
 use Rattle.ls_machine.specs.declared.event.Out.{Out}
@@ -29,7 +32,7 @@ use Rattle.ls_session.specs.declared.event.Status.TheVariants.{Full}
 use Rattle.ls_session.specs.declared.event.Turn.{Turn}
 use Rattle.ls_session.specs.declared.event.Turn.TheVariants.{Event as Happens}
 use Rattle.ls_session.specs.declared.session.Stage.{Stage}
-use Rattle.ls_steps.specs.Runs.{Going, Held, IsSent, Steps, desk_of, finish_job, finishes, hear, held_as, held_of, is_filled, leaving, meets, ran, runs, send, state_at, status_by, take_job, takes, took, turned}
+use Rattle.ls_steps.specs.Runs.{Going, Held, IsSent, NeedsNoMemory, Steps, desk_of, finish_job, finishes, hear, held_as, held_of, is_filled, leaving, meets, ran, runs, send, state_at, status_by, take_job, takes, took, turned}
 use Rattle.ls_steps.specs.Leaves.{Leaves}
 use Rattle.ls_steps.proofs.Entries.{first-cause}
 
@@ -53,11 +56,11 @@ over stage d held status = record { stage = stage; base = d.base; journal = d.jo
 
 -- ---- hear
 
-pub unheard : (g : Going) (body : List ℕ) → is_some g.status ≡ true → Steps g (hear body) g []
+pub unheard : (g : Going) (body : List ℕ) → is_some g.status ≡ true → Steps true g (hear body) g []
 unfolding Steps
 unheard g body e = (let P : Bool → Type 0 = λ b. g ≡ (if b then g else turned g (turn_of g.stage (message_of body))) in subst P (sym e) refl, refl)
 
-pub heard-turn : (g h : Going) (body : List ℕ) (turn : Turn × Stage) → is_some g.status ≡ false → turn ≡ turn_of g.stage (message_of body) → h ≡ turned g turn → Steps g (hear body) h []
+pub heard-turn : (g h : Going) (body : List ℕ) (turn : Turn × Stage) → is_some g.status ≡ false → turn ≡ turn_of g.stage (message_of body) → h ≡ turned g turn → Steps true g (hear body) h []
 unfolding Steps
 heard-turn g h body turn e t s = (
   (let P : Bool → Type 0 = λ b. h ≡ (if b then g else turned g (turn_of g.stage (message_of body))) in subst P (sym e) (s ∙ ap (turned g) t)),
@@ -75,7 +78,7 @@ meets-alike d (event.Say body) = refl
 
 pub heard-event : (stage later : Stage) (d new : Seen) (held : List Held) (status : Option Status) (body : List ℕ) (e : ClientEvent) (full : Bool)
     → is_some status ≡ false → (Happens e, later) ≡ turn_of stage (message_of body) → Leaves (meets d e) full d new
-    → Steps (over stage d held status) (hear body) (over later new held (status_by status full)) []
+    → Steps true (over stage d held status) (hear body) (over later new held (status_by status full)) []
 heard-event stage later d new held status body e full none turn left =
     heard-turn (over stage d held status) (over later new held (status_by status full)) body (Happens e, later) none turn
     (λ i. record {
@@ -93,16 +96,16 @@ heard-event stage later d new held status body e full none turn left =
 unless-filled : (g h : Going) (b : Bool) → b ≡ false → h ≡ (if b then g else h)
 unless-filled g h b e = let P : Bool → Type 0 = λ b. h ≡ (if b then g else h) in subst P (sym e) refl
 
-pub untaken : (g : Going) → is_filled g.status ≡ true → Steps g take_job g []
+pub untaken : (g : Going) → is_filled g.status ≡ true → Steps true g take_job g []
 unfolding Steps
 untaken g e = (let P : Bool → Type 0 = λ b. g ≡ (if b then g else takes g (find is_queued (state_at g).waiting)) in subst P (sym e) refl, refl)
 
-pub takes-then : (g h : Going) → is_filled g.status ≡ false → h ≡ takes g (find is_queued (state_at g).waiting) → Steps g take_job h []
+pub takes-then : (g h : Going) → is_filled g.status ≡ false → h ≡ takes g (find is_queued (state_at g).waiting) → Steps true g take_job h []
 unfolding Steps
 takes-then g h e t = (let P : Bool → Type 0 = λ b. h ≡ (if b then g else takes g (find is_queued (state_at g).waiting)) in subst P (sym e) t, refl)
 
 pub takes-none : (stage : Stage) (d new : Seen) (held : List Held) (status : Option Status) → is_filled status ≡ false
-    → Takes 0 d new None → Steps (over stage d held status) take_job (over stage new held status) []
+    → Takes 0 d new None → Steps true (over stage d held status) take_job (over stage new held status) []
 takes-none stage d new held status e t =
     takes-then (over stage d held status) (over stage new held status) e
     (ap (λ (s : Seen). over stage s held status) t.1 ∙ sym (ap (takes (over stage d held status)) t.0))
@@ -111,7 +114,7 @@ job-held : (w : Waiting) (job : Job) → IsJobOf w job → held_as job ≡ held_
 job-held w job j = λ i. record { ticket = j.ticket i; text = j.text i; encoding = j.encoding i; ask = j.ask i }
 
 pub takes-one : (stage : Stage) (d new : Seen) (held : List Held) (status : Option Status) (job : Job) → is_filled status ≡ false
-    → Takes 0 d new (Some job) → Steps (over stage d held status) take_job (over stage new (held ++ held_as job ∷ []) status) []
+    → Takes 0 d new (Some job) → Steps true (over stage d held status) take_job (over stage new (held ++ held_as job ∷ []) status) []
 takes-one stage d new held status job e t =
     let g = over stage d held status in
     let a = t.3 in
@@ -126,7 +129,7 @@ takes-full-at g None b x e f = absurd (cc)
 takes-full-at g (Some w) b x e f = ap (took g w) f
 
 pub takes-full : (stage : Stage) (d new : Seen) (held : List Held) (status : Option Status) (x : DeskFault) → is_filled status ≡ false → x ≢ fault.Memory
-    → Refuses (take_fault d) d new x → Steps (over stage d held status) take_job (over stage new held (Some Full)) []
+    → Refuses (take_fault d) d new x → Steps true (over stage d held status) take_job (over stage new held (Some Full)) []
 takes-full stage d new held status x e n r =
     let g = over stage d held status in
     let f = first-cause (take_fault d) d new x n r in
@@ -135,24 +138,34 @@ takes-full stage d new held status x e n r =
 
 -- ---- finish
 
-pub unfinished : (g : Going) (at : ℕ) → is_filled g.status ≡ true → Steps g (finish_job at) g []
+-- an answer, where none is kept
+abbrev some : Option Answer
+some = Some (Hover None)
+
+pub unfinished : (g : Going) (at : ℕ) → is_filled g.status ≡ true → Steps true g (finish_job at) g []
 unfolding Steps
-unfinished g at e = (None, (let P : Bool → Type 0 = λ b. g ≡ (if b then g else runs g at None (slice_get g.held at)) in subst P (sym e) refl), refl)
+unfinished g at e = (some, (λ f. refl), (let P : Bool → Type 0 = λ b. g ≡ (if b then g else runs g at some (slice_get g.held at)) in subst P (sym e) refl), refl)
 
 if-same : (g : Going) (b : Bool) → g ≡ (if b then g else g)
 if-same g true = refl
 if-same g false = refl
 
 -- there is no such job
-pub no-job : (g : Going) (at : ℕ) → slice_get g.held at ≡ None → Steps g (finish_job at) g []
+pub no-job : (g : Going) (at : ℕ) → slice_get g.held at ≡ None → Steps true g (finish_job at) g []
 unfolding Steps
-no-job g at e = (None, (let P : Option Held → Type 0 = λ o. g ≡ (if is_filled g.status then g else runs g at None o) in subst P (sym e) (if-same g (is_filled g.status))), refl)
+no-job g at e = (some, (λ f. refl), (let P : Option Held → Type 0 = λ o. g ≡ (if is_filled g.status then g else runs g at some o) in subst P (sym e) (if-same g (is_filled g.status))), refl)
+
+-- nothing but want of memory leaves a job without an answer, and a rename to what is no name needs none
+answered-by : (held : List Held) (at : ℕ) (job : Held) (answer : Option Answer) → slice_get held at ≡ Some job → (IsToNoName job.ask → is_some answer ≡ true)
+    → (true ≡ false) ⊎ NeedsNoMemory (slice_get held at) → is_some answer ≡ true
+answered-by held at job answer found sure (inl e) = absurd (cc)
+answered-by held at job answer found sure (inr none) = sure (subst NeedsNoMemory found none)
 
 pub finished : (stage : Stage) (d new : Seen) (held : List Held) (status : Option Status) (at : ℕ) (job : Held) (done : Told) (full : Bool)
-    → is_filled status ≡ false → slice_get held at ≡ Some job → done ≡ ran job done.answer → Leaves (finishes d done) full d new
-    → Steps (over stage d held status) (finish_job at) (over stage new (remove held at) (status_by status full)) []
+    → is_filled status ≡ false → slice_get held at ≡ Some job → (IsToNoName job.ask → is_some done.answer ≡ true) → done ≡ ran job done.answer → Leaves (finishes d done) full d new
+    → Steps true (over stage d held status) (finish_job at) (over stage new (remove held at) (status_by status full)) []
 unfolding Steps
-finished stage d new held status at job done full e found r left =
+finished stage d new held status at job done full e found sure r left =
     let g = over stage d held status in
     let h = over stage new (remove held at) (status_by status full) in
     let one : h ≡ leaving (record g { held = remove held at }) (finishes d done)
@@ -160,37 +173,37 @@ finished stage d new held status at job done full e found r left =
     let P : Told → Type 0 = λ t. h ≡ leaving (record g { held = remove held at }) (finishes d t) in
     let Q : Option Held → Type 0 = λ o. h ≡ runs g at done.answer o in
     let R : Bool → Type 0 = λ b. h ≡ (if b then g else runs g at done.answer (slice_get held at)) in
-    (done.answer, subst R (sym e) (subst Q (sym found) (subst P r one)), refl)
+    (done.answer, answered-by held at job done.answer found sure, subst R (sym e) (subst Q (sym found) (subst P r one)), refl)
 
 map-remove : (jobs : List Job) (at : ℕ) → map held_as (remove jobs at) ≡ remove (map held_as jobs) at
 map-remove jobs at =
     map-append held_as (take at jobs) (drop (suc at) jobs) ∙ (λ j. sym (take-map held_as at jobs) j ++ sym (drop-map held_as (suc at) jobs) j)
 
 finished-job : (stage : Stage) (d new : Seen) (jobs left : List Job) (status : Option Status) (at : ℕ) (job : Job) (done : Told) (full : Bool)
-    → is_filled status ≡ false → at < length jobs → job ≡ get_or jobs at job → left ≡ remove jobs at → done ≡ ran (held_as job) done.answer → Leaves (finishes d done) full d new
-    → Steps (over stage d (map held_as jobs) status) (finish_job at) (over stage new (map held_as left) (status_by status full)) []
-finished-job stage d new jobs left status at job done full e within is gone r l =
+    → is_filled status ≡ false → at < length jobs → job ≡ get_or jobs at job → left ≡ remove jobs at → (IsToNoName job.ask → is_some done.answer ≡ true) → done ≡ ran (held_as job) done.answer → Leaves (finishes d done) full d new
+    → Steps true (over stage d (map held_as jobs) status) (finish_job at) (over stage new (map held_as left) (status_by status full)) []
+finished-job stage d new jobs left status at job done full e within is gone sure r l =
     let found : slice_get (map held_as jobs) at ≡ Some (held_as job)
     = slice_get-map held_as jobs at ∙ ap (option_map held_as) (slice_get_read jobs (length jobs) at job refl within is) in
-    let P : List Held → Type 0 = λ hs. Steps (over stage d (map held_as jobs) status) (finish_job at) (over stage new hs (status_by status full)) [] in
-    subst P (sym (ap (map held_as) gone ∙ map-remove jobs at)) (finished stage d new (map held_as jobs) status at (held_as job) done full e found r l)
+    let P : List Held → Type 0 = λ hs. Steps true (over stage d (map held_as jobs) status) (finish_job at) (over stage new hs (status_by status full)) [] in
+    subst P (sym (ap (map held_as) gone ∙ map-remove jobs at)) (finished stage d new (map held_as jobs) status at (held_as job) done full e found sure r l)
 
 -- the job at a place of those held has run, and the session is full by it or not
 pub finished-as : (g : Going) (stage : Stage) (d new : Seen) (jobs left : List Job) (status : Option Status) (at : ℕ) (job : Job) (done : Told) (said full filled : Bool)
     → over stage d (map held_as jobs) status ≡ g → filled ≡ is_filled g.status → filled ≡ false → at < length jobs → job ≡ get_or jobs at job → left ≡ remove jobs at
-    → done.ticket ≡ job.ticket → done.text ≡ arc_value job.snapshot → done.encoding ≡ job.encoding → done.ask ≡ job.ask → said ≡ full → Leaves (finishes d done) said d new
-    → Steps g (finish_job at) (over stage new (map held_as left) (status_by status full)) []
-finished-as g stage d new jobs left status at job done said full filled view f e within is gone ticket text encoding ask s l =
-    let P : Going → Type 0 = λ x. Steps x (finish_job at) (over stage new (map held_as left) (status_by status full)) [] in
+    → done.ticket ≡ job.ticket → done.text ≡ arc_value job.snapshot → done.encoding ≡ job.encoding → done.ask ≡ job.ask → (IsToNoName job.ask → is_some done.answer ≡ true) → said ≡ full → Leaves (finishes d done) said d new
+    → Steps true g (finish_job at) (over stage new (map held_as left) (status_by status full)) []
+finished-as g stage d new jobs left status at job done said full filled view f e within is gone ticket text encoding ask sure s l =
+    let P : Going → Type 0 = λ x. Steps true x (finish_job at) (over stage new (map held_as left) (status_by status full)) [] in
     let Q : Bool → Type 0 = λ b. Leaves (finishes d done) b d new in
     subst P view
-    (finished-job stage d new jobs left status at job done full (ap (λ (x : Going). is_filled x.status) view ∙ (sym f ∙ e)) within is gone
+    (finished-job stage d new jobs left status at job done full (ap (λ (x : Going). is_filled x.status) view ∙ (sym f ∙ e)) within is gone sure
     (λ i. record { ticket = ticket i; text = text i; encoding = encoding i; ask = ask i; answer = done.answer }) (subst Q s l))
 
 -- ---- send
 
 pub sends-none : (stage : Stage) (d new : Seen) (held : List Held) (status : Option Status) → IsSound d → d.outbox ≡ [] → new ≡ d
-    → Steps (over stage d held status) send (over stage new held status) []
+    → Steps true (over stage d held status) send (over stage new held status) []
 unfolding Steps
 sends-none stage d new held status sound empty same =
     let g = over stage d held status in
@@ -203,7 +216,7 @@ first-is es rest e ticket f s =
     let h : Some (ticket_of e) ≡ Some ticket = subst P s f in cc
 
 pub sends-one : (stage : Stage) (d new : Seen) (held : List Held) (status : Option Status) (out : Out) (body frame : List ℕ)
-    → Sends d new out → Some body ≡ body_of out → frame ≡ frame_of body → Steps (over stage d held status) send (over stage new held status) frame
+    → Sends d new out → Some body ≡ body_of out → frame ≡ frame_of body → Steps true (over stage d held status) send (over stage new held status) frame
 unfolding Steps IsPossible
 sends-one stage d new held status out body frame s b f =
     let g = over stage d held status in
@@ -214,3 +227,15 @@ sends-one stage d new held status out body frame s b f =
     let same : over stage new held status ≡ record g { journal = d.journal ++ Sent (ticket_of e) ∷ [] }
     = λ i. record { stage = stage; base = s.enters.base i; journal = j i; max_journal = s.enters.most_journal i; max_events = s.enters.most i; held = held; status = status } in
     subst P (sym s.is_for.2) (same, s.was_current, (out, body, s.is_for.3, sym b, f))
+
+pub first-left : (d new : Seen) (out : Out) → Sends d new out → is_some (first_ticket (state_of d).unsent) ≡ true
+first-left d new out s = ap (λ es. is_some (first_ticket es)) s.is_for.2
+
+none-there : {A : Type 0} (xs : List A) (at : ℕ) → length xs ≤ at → slice_get xs at ≡ None
+none-there [] at h = refl
+none-there (x ∷ xs) zero h = absurd (omega (arith, h))
+none-there (x ∷ xs) (suc at) h = none-there xs at (omega (arith, h))
+
+-- past the jobs that are held there is none
+pub none-held : (jobs : List Job) (at : ℕ) → length jobs ≤ at → slice_get (map held_as jobs) at ≡ None
+none-held jobs at h = slice_get-map held_as jobs at ∙ ap (option_map held_as) (none-there jobs at h)

@@ -1,5 +1,5 @@
 -- The events of a session: all that a run enters, of which the desk's journal is the end.
-use Rattle.std.specs.Prelude.{◌≡◌, ℕ, List, [], ◌∷◌, ◌++◌}
+use Rattle.std.specs.Prelude.{◌≡◌, ℕ, List, [], ◌∷◌, ◌++◌, Bool}
 use Rattle.ls_machine.specs.declared.event.Event.{Event}
 use Rattle.ls_machine.specs.Counts.{counted, no_events}
 use Rattle.ls_machine.specs.Journal.{replay}
@@ -27,4 +27,4 @@ pub record EndWith (events : List Event) (d : Seen) : Type 0 where
   pub counts_are : counted no_events past ≡ d.base.counts
 
 abbrev pub RunsHaveEvents : Type 0
-RunsHaveEvents = (acts : List Act) (h : Going) (bytes : List ℕ) → Runs begun acts h bytes → (events : List Event) × ComesTo begun events h × EndWith events (desk_of h)
+RunsHaveEvents = (may_fail : Bool) (acts : List Act) (h : Going) (bytes : List ℕ) → Runs may_fail begun acts h bytes → (events : List Event) × ComesTo begun events h × EndWith events (desk_of h)

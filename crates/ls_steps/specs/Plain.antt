@@ -1,58 +1,69 @@
 -- The plain schedule of a session: a message is heard, then the jobs that wait are run one after the other, and then all that is kept is
--- sent, before the next message is read.
-use Rattle.std.specs.Prelude.{◌≡◌, ℕ, zero, suc, List, [], ◌∷◌, ◌++◌, map, find, is_none, is_some, slice_get, ◌||◌, Bool, true, false, Option, Some}
-use Rattle.ls_answers.specs.declared.answer.Answer.{Answer}
-use Rattle.ls_machine.specs.declared.event.Out.{Out}
-use Rattle.ls_machine.specs.declared.event.Event.TheVariants.{Sent}
-use Rattle.ls_machine.specs.declared.state.Entry.{Entry}
-use Rattle.ls_machine.specs.Machine.{is_queued, ticket_of}
-use Rattle.ls_desk.specs.Stands.{IsOutFor}
-use Rattle.ls_frame.specs.Frames.{frame_of}
-use Rattle.ls_session.specs.Bodies.{body_of}
-use Rattle.ls_steps.specs.Runs.{Going, Steps, hear, take_job, is_filled, runs, state_at, unless_full}
+-- sent, before the next message is read. It is told in the acts of a run.
+use Rattle.std.specs.Prelude.{◌≡◌, ℕ, zero, suc, List, [], ◌∷◌, ◌++◌, find, is_none, ◌||◌, Bool, true, false}
+use Rattle.ls_machine.specs.Machine.{first_ticket, is_queued}
+use Rattle.ls_steps.specs.Runs.{Act, Going, Runs, Steps, finish_job, hear, is_filled, send, state_at, take_job}
 
 -- nothing is left to run: no job is queued, or the session is full
 abbrev pub has_run_all : Going → Bool
 has_run_all g = is_filled g.status || is_none (find is_queued (state_at g).waiting)
 
--- The first queued job is taken, run and handed in. Where `may_fail` is false, no memory was refused in it.
-pub record RunsOne (may_fail : Bool) (g h : Going) : Type 0 where
-  pub taken : Going
-  pub takes : Steps g take_job taken []
-  pub answer : Option Answer
-  pub answered : may_fail ≡ false → is_some answer ≡ true
-  pub h_is : h ≡ unless_full taken.status taken (runs taken 0 answer (slice_get taken.held 0))
+-- nothing is left to send
+abbrev pub has_sent_all : Going → Bool
+has_sent_all g = is_none (first_ticket (state_at g).unsent)
+
+-- these acts again and again, so many times, until it is done
+unfoldable pub RunsUntil : Bool → (Going → Bool) → List Act → ℕ → Going → Going → List ℕ → Type 0
+RunsUntil may_fail is_done acts zero g h bytes = (is_done g ≡ true) × (h ≡ g) × (bytes ≡ [])
+RunsUntil may_fail is_done acts (suc n) g h bytes = (is_done g ≡ false) × ((mid : Going) × (now : List ℕ) × (later : List ℕ)
+    × (Runs may_fail g acts mid now × RunsUntil may_fail is_done acts n mid h later × (bytes ≡ now ++ later)))
+
+-- the first queued job is taken, run and handed in
+abbrev pub job_acts : List Act
+job_acts = take_job ∷ finish_job 0 ∷ []
 
 -- so many jobs, until none is left to run
-unfoldable pub Works : Bool → ℕ → Going → Going → Type 0
-Works may_fail zero g h = (has_run_all g ≡ true) × (h ≡ g)
-Works may_fail (suc n) g h = (has_run_all g ≡ false) × ((mid : Going) × RunsOne may_fail g mid × Works may_fail n mid h)
+abbrev pub Works : Bool → ℕ → Going → Going → Type 0
+Works may_fail jobs g h = RunsUntil may_fail has_run_all job_acts jobs g h []
 
--- the session once these entries, which are all that is kept, have left
-abbrev pub sent_all : Going → List Entry → Going
-sent_all g es = record g { journal = g.journal ++ map (λ e. Sent (ticket_of e)) es }
+-- so many replies, until none is left to send
+abbrev pub Replies : Bool → ℕ → Going → Going → List ℕ → Type 0
+Replies may_fail replies g h bytes = RunsUntil may_fail has_sent_all (send ∷ []) replies g h bytes
 
--- the bytes are the frames of what leaves for the entries, in their order
-unfoldable pub AreFramesFor : List Entry → List ℕ → Type 0
-AreFramesFor [] bytes = bytes ≡ []
-AreFramesFor (e ∷ es) bytes = (out : Out) × (body : List ℕ) × (later : List ℕ)
-    × (IsOutFor e out × (body_of out ≡ Some body) × AreFramesFor es later × (bytes ≡ frame_of body ++ later))
+-- some replies are all that is kept
+abbrev pub CanSendAll : Going → Type 0
+CanSendAll g = (replies : ℕ) × (left : Going) × (bytes : List ℕ) × Replies true replies g left bytes
+
+-- A message is heard, and the jobs that wait are run.
+pub record Hears (may_fail : Bool) (g : Going) (body : List ℕ) (h : Going) : Type 0 where
+  pub heard : Going
+  pub hears : Steps may_fail g (hear body) heard []
+  pub jobs : ℕ
+  pub works : Works may_fail jobs heard h
 
 -- What one message comes to.
 pub record Serves (may_fail : Bool) (g : Going) (body : List ℕ) (h : Going) (bytes : List ℕ) : Type 0 where
-  pub heard : Going
-  pub hears : Steps g (hear body) heard []
-  pub jobs : ℕ
   pub worked : Going
-  pub works : Works may_fail jobs heard worked
-  pub frames : AreFramesFor (state_at worked).unsent bytes
-  pub h_is : h ≡ sent_all worked (state_at worked).unsent
+  pub hears : Hears may_fail g body worked
+  pub replies : ℕ
+  pub sends : Replies may_fail replies worked h bytes
 
 -- What is said on messages, one after the other.
 unfoldable pub Says : Bool → Going → List (List ℕ) → Going → List ℕ → Type 0
 Says may_fail g [] h bytes = (h ≡ g) × (bytes ≡ [])
 Says may_fail g (body ∷ bodies) h bytes = (mid : Going) × (now : List ℕ) × (later : List ℕ)
     × (Serves may_fail g body mid now × Says may_fail mid bodies h later × (bytes ≡ now ++ later))
+
+-- acts, so many times
+abbrev pub times : ℕ → List Act → List Act
+times zero acts = []
+times (suc n) acts = acts ++ times n acts
+
+-- the acts of the schedule: each message is heard, so many jobs are taken and run, and so many replies sent
+unfoldable pub AreServing : List (List ℕ) → List Act → Type 0
+AreServing [] acts = acts ≡ []
+AreServing (body ∷ bodies) acts = (jobs : ℕ) × (replies : ℕ) × (later : List Act)
+    × (AreServing bodies later × (acts ≡ hear body ∷ times jobs job_acts ++ (times replies (send ∷ []) ++ later)))
 
 -- Nothing is left to run or to send, as between two messages.
 pub record IsSettled (g : Going) : Type 0 where

@@ -1,8 +1,8 @@
 -- The session of one client over a desk, step by step: what each step enters into the desk's journal, and the bytes that it writes.
-use Rattle.std.specs.Prelude.{◌≡◌, ℕ, List, [], ◌∷◌, ◌++◌, drop, remove, slice_get, find, is_none, is_some, Bool, true, false, Option, Some, None, Vec, if◌then◌else◌}
+use Rattle.std.specs.Prelude.{◌≡◌, ◌⊎◌, ℕ, List, [], ◌∷◌, ◌++◌, drop, remove, slice_get, find, is_none, is_some, Bool, true, false, Option, Some, None, Vec, if◌then◌else◌}
 use Rattle.std.specs.declared.alloc.Global.{Global}
 use Rattle.std.specs.Arc.{arc_value}
-use Rattle.std.specs.Str.{chars}
+use Rattle.std.specs.Str.{chars, encode_utf8_all}
 use Rattle.ls_frame.specs.Frames.{Stream, frame_of}
 use Rattle.ls_frame.specs.Faults.{fault_of}
 use Rattle.ls_frame.specs.declared.fault.FrameFault.{FrameFault}
@@ -10,6 +10,7 @@ use Rattle.ls_frame.specs.declared.fault.FrameFault.TheVariants.{Truncated}
 use Rattle.ls_rpc.specs.Message.{message_of}
 use Rattle.ls_rpc.specs.declared.message.Id.{Id}
 use Rattle.ls_text.specs.declared.position.Encoding.{Encoding}
+use Rattle.ls_answers.specs.Asks.{IsToNoName}
 use Rattle.ls_answers.specs.Told.{Told}
 use Rattle.ls_answers.specs.declared.ask.Ask.{Ask}
 use Rattle.ls_answers.specs.declared.answer.Answer.{Answer}
@@ -104,9 +105,9 @@ filled d = record { base = d.base; journal = d.journal; full = true }
 
 -- ---- a client's event
 
--- why the desk refuses it, if it does
+-- why the desk refuses it, if it does: a text that is opened is as long as its characters
 abbrev pub fault_at : Seen → ClientEvent → Option DeskFault
-fault_at d (DidOpen uri label text encoding) = open_fault d uri text
+fault_at d (DidOpen uri label text encoding) = open_fault d uri (encode_utf8_all (chars text))
 fault_at d (DidChange uri label edits) = end_fault d uri
 fault_at d (DidClose uri) = end_fault d uri
 fault_at d (Request id uri ask links) = request_fault d id uri
@@ -228,18 +229,24 @@ abbrev pub bytes_in : Option (Vec ℕ Global) → List ℕ
 bytes_in None = []
 bytes_in (Some frame) = frame.items
 
--- one act, and the bytes that it writes. A job that is run may fail for want of memory; all else is a function.
-unfoldable pub Steps : Going → Act → Going → List ℕ → Type 0
-Steps g (hear body) h bytes = (h ≡ while_open g.status g (heard g body)) × (bytes ≡ [])
-Steps g (break_off fault) h bytes = (h ≡ while_open g.status g (record g { status = Some (BadFrame fault) })) × (bytes ≡ [])
-Steps g take_job h bytes = (h ≡ unless_full g.status g (takes g (find is_queued (state_at g).waiting))) × (bytes ≡ [])
-Steps g (finish_job k) h bytes = (answer : Option Answer) × (h ≡ unless_full g.status g (runs g k answer (slice_get g.held k))) × (bytes ≡ [])
-Steps g send h bytes = IsSent g (state_at g).unsent h bytes
+-- the job, where there is one, is answered without memory: a rename to what is no name
+abbrev pub NeedsNoMemory : Option Held → Type 0
+NeedsNoMemory None = ⊥
+NeedsNoMemory (Some job) = IsToNoName job.ask
+
+-- One act, and the bytes that it writes. Where `may_fail` is true a job that is run may fail for want of memory, if it needs any; all else is
+-- a function.
+unfoldable pub Steps : Bool → Going → Act → Going → List ℕ → Type 0
+Steps may_fail g (hear body) h bytes = (h ≡ while_open g.status g (heard g body)) × (bytes ≡ [])
+Steps may_fail g (break_off fault) h bytes = (h ≡ while_open g.status g (record g { status = Some (BadFrame fault) })) × (bytes ≡ [])
+Steps may_fail g take_job h bytes = (h ≡ unless_full g.status g (takes g (find is_queued (state_at g).waiting))) × (bytes ≡ [])
+Steps may_fail g (finish_job k) h bytes = (answer : Option Answer) × ((may_fail ≡ false) ⊎ NeedsNoMemory (slice_get g.held k) → is_some answer ≡ true) × (h ≡ unless_full g.status g (runs g k answer (slice_get g.held k))) × (bytes ≡ [])
+Steps may_fail g send h bytes = IsSent g (state_at g).unsent h bytes
 
 -- acts, one after the other
-unfoldable pub Runs : Going → List Act → Going → List ℕ → Type 0
-Runs g [] h bytes = (h ≡ g) × (bytes ≡ [])
-Runs g (act ∷ acts) h bytes = (mid : Going) × (now : List ℕ) × (later : List ℕ) × (Steps g act mid now × Runs mid acts h later × (bytes ≡ now ++ later))
+unfoldable pub Runs : Bool → Going → List Act → Going → List ℕ → Type 0
+Runs may_fail g [] h bytes = (h ≡ g) × (bytes ≡ [])
+Runs may_fail g (act ∷ acts) h bytes = (mid : Going) × (now : List ℕ) × (later : List ℕ) × (Steps may_fail g act mid now × Runs may_fail mid acts h later × (bytes ≡ now ++ later))
 
 -- ---- a run on an input
 
@@ -268,4 +275,4 @@ pub record IsRun (input : List ℕ) (steps : List Step) (h : Going) (bytes : Lis
   pub contents : List (List ℕ)
   pub rest : List ℕ
   pub stream : Stream input contents rest
-  pub runs : Runs begun (acts_of contents (ends_wrong (fault_of rest) rest) steps) h bytes
+  pub runs : Runs true begun (acts_of contents (ends_wrong (fault_of rest) rest) steps) h bytes

@@ -1,7 +1,8 @@
 //! What the session's steps do at the desk.
 ghost use Rattle.std.specs.Prelude.{◌≡◌, ◌≢◌, IfOk, IfErr, OnOk};
 ghost use Rattle.ls_desk.specs.Stands.{IsSound, state_of};
-ghost use Rattle.ls_desk.specs.Faults.{Accepts, Refuses, cancel_fault, end_fault, open_fault, request_fault};
+ghost use Rattle.std.specs.Str.{chars, encode_utf8_all};
+ghost use Rattle.ls_desk.specs.Faults.{Accepts, Refuses, cancel_fault, end_fault, request_fault};
 ghost use Rattle.ls_steps.specs.Runs.{entry_at, fault_at, finishes, meets, refused};
 ghost use Rattle.ls_steps.specs.Leaves.{Leaves};
 ghost use Rattle.ls_machine.specs.Client.{IsAllowed};
@@ -14,6 +15,13 @@ use ls_session::{ClientEvent, refusal_body};
 use ls_text::{Edit, Encoding};
 use std::alloc::{AllocError as Memory, Global};
 
+/// A text is the UTF-8 of its characters.
+fn is_spelled(text: &Text)
+    ensures { encode_utf8_all (chars text.now) ≡ text.now }
+{
+    let _ = text.as_str();
+}
+
 /// Takes an open of a document to the desk.
 fn open(
     desk: &mut Desk,
@@ -22,9 +30,10 @@ fn open(
     text: Text,
     encoding: Encoding,
 ) -> Result<(), DeskFault>
-    ensures ok { OnOk result (Accepts (open_fault desk.old uri text) desk.old desk.new (entry_at (state_of desk.old) (ClientEvent.DidOpen uri label text encoding))) }
-    ensures err { IfErr result (λ fault. Refuses (open_fault desk.old uri text) desk.old desk.new fault) }
+    ensures ok { OnOk result (Accepts (fault_at desk.old (ClientEvent.DidOpen uri label text encoding)) desk.old desk.new (entry_at (state_of desk.old) (ClientEvent.DidOpen uri label text encoding))) }
+    ensures err { IfErr result (λ fault. Refuses (fault_at desk.old (ClientEvent.DidOpen uri label text encoding)) desk.old desk.new fault) }
 {
+    is_spelled(&text);
     desk.did_open(uri, label, text, encoding)?;
     Ok(())
 }

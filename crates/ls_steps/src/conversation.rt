@@ -106,7 +106,7 @@ impl Conversation {
     /// Hears a message of the client, by its body. After the end of the session nothing is heard.
     #[tactic(auto, unfolding(crate::specs::Runs::Steps))]
     pub fn hear(&mut self, body: &[u8]) -> Result<(), Memory>
-        ensures { OnOk result (Steps self.old (hear body.now) self.new []) }
+        ensures { OnOk result (Steps true self.old (hear body.now) self.new []) }
     {
         if self.status.is_some() {
             return Ok(());
@@ -126,7 +126,7 @@ impl Conversation {
     /// Ends the session where the client's bytes are no frames.
     #[tactic(auto, unfolding(crate::specs::Runs::Steps))]
     pub fn break_off(&mut self, fault: FrameFault)
-        ensures { Steps self.old (break_off fault) self.new [] }
+        ensures { Steps true self.old (break_off fault) self.new [] }
     {
         if self.status.is_none() {
             self.status = Some(Status::BadFrame(fault));
@@ -136,7 +136,7 @@ impl Conversation {
     /// Takes the queued job with the least ticket, if there is one, and answers whether a job was taken.
     #[tactic(auto, unfolding(crate::specs::Runs::Steps))]
     pub fn take(&mut self) -> Result<bool, Memory>
-        ensures steps { OnOk result (Steps self.old take_job self.new []) }
+        ensures steps { OnOk result (Steps true self.old take_job self.new []) }
         ensures taken { IfOk result (λ taken. taken ≡ not (has_run_all self.old) && not (is_filled self.new.status)) }
         ensures fits { OnOk result (total (counts_at self.new) ≤ self.new.max_events) }
     {
@@ -160,7 +160,7 @@ impl Conversation {
     /// Runs a job that was taken, from the first on that is held, and hands it in.
     #[tactic(auto, unfolding(crate::specs::Runs::Steps))]
     pub fn finish(&mut self, at: usize) -> Result<(), Memory>
-        ensures { OnOk result (Steps self.old (finish_job at) self.new []) }
+        ensures { OnOk result (Steps true self.old (finish_job at) self.new []) }
     {
         if self.is_full() || at >= self.held.len() {
             return Ok(());
@@ -173,9 +173,8 @@ impl Conversation {
     }
 
     /// The frame of what is to be said first, which counts as sent from now on.
-    #[tactic(auto, unfolding(crate::specs::Runs::Steps))]
     pub fn send(&mut self) -> Result<Option<Vec<u8>>, Memory>
-        ensures sent { IfOk result (λ frame. Steps self.old send self.new (bytes_in frame)) }
+        ensures sent { IfOk result (λ frame. Steps true self.old send self.new (bytes_in frame)) }
         ensures none { IfOk result (λ frame. IfNone frame ((state_at self.old).unsent ≡ [])) }
         ensures some { IfOk result (λ frame. IfSome frame (λ _. is_some (first_ticket (state_at self.old).unsent) ≡ true)) }
     {

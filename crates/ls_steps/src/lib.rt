@@ -11,5 +11,8 @@ mod plain;
 mod steps;
 
 pub use conversation::{Conversation, framed};
-pub use laws::{runs_have_events, sessions_are_unique, sessions_exist};
+pub use laws::{
+    runs_are_unique, runs_exist, runs_have_events, sessions_are_runs, sessions_are_unique,
+    sessions_exist,
+};
 pub use steps::{Run, Step, run_steps};

@@ -1,7 +1,6 @@
 //! One message after the other, each answered before the next.
 ghost use Rattle.std.specs.Prelude.{◌≡◌, ◌++◌, ℕ, true, IfOk, OnOk};
-ghost use Rattle.ls_steps.specs.Plain.{AreFramesFor, Serves, Works, sent_all};
-ghost use Rattle.ls_steps.specs.Runs.{state_at};
+ghost use Rattle.ls_steps.specs.Plain.{Hears, Replies, Serves, Works};
 
 use crate::conversation::Conversation;
 use std::alloc::{AllocError as Memory, Global};
@@ -18,12 +17,20 @@ fn behind(mut bytes: Vec<u8>, frame: Vec<u8>) -> Result<Vec<u8>, Memory>
 }
 
 impl Conversation {
+    /// Hears a message of the client, and runs the jobs that wait, one after the other. What is to be said then is given by
+    /// [`Conversation::send`].
+    pub fn meet(&mut self, body: &[u8]) -> Result<(), Memory>
+        ensures { OnOk result (Hears true self.old body.now self.new) }
+    {
+        self.hear(body)?;
+        self.work()
+    }
+
     /// Hears a message of the client, runs the jobs that wait, one after the other, and gives the frames of all that is to be said.
     pub fn serve(&mut self, alloc: Global, body: &[u8]) -> Result<Vec<u8>, Memory>
         ensures { IfOk result (λ bytes. Serves true self.old body.now self.new bytes.items) }
     {
-        self.hear(body)?;
-        self.work()?;
+        self.meet(body)?;
         self.send_all(alloc)
     }
 
@@ -39,8 +46,7 @@ impl Conversation {
 
     /// The frames of all that is to be said, which counts as sent from now on.
     fn send_all(&mut self, alloc: Global) -> Result<Vec<u8>, Memory>
-        ensures { IfOk result (λ bytes. AreFramesFor (state_at self.old).unsent bytes.items
-            × (self.new ≡ sent_all self.old (state_at self.old).unsent)) }
+        ensures { IfOk result (λ bytes. (replies : ℕ) × Replies true replies self.old self.new bytes.items) }
     {
         let mut bytes = Vec::new(alloc);
         'frames: while let Some(frame) = self.send()? {

@@ -1,4 +1,4 @@
-use Rattle.std.proofs.Common.{◌+◌, ◌++◌, List, ℕ, Some, Option, ap, subst, ◌∙◌, arith}
+use Rattle.std.proofs.Common.{true, ◌+◌, ◌++◌, List, ℕ, Some, Option, ap, subst, ◌∙◌, arith}
 use Rattle.std.specs.Prelude.{Vec}
 use Rattle.std.specs.declared.alloc.Global.{Global}
 use Rattle.std.proofs.lemmas.List.{length-map}
@@ -38,13 +38,13 @@ loop-step-preserved c =
           (unsent-on (contents_of c.in_ok-frames.frames.bodies.items) c.in_ok-frames.frames.fault c.args.steps.now c.loop-step.step-index c.loop-step.read c.loop-step.talk w.send.new.self c.loop-step.bytes.items _ c.loop-step-test.true w.in-Send.is w.in_default-2.is w.in_ok-frame-in-Send.ensures.sent c.loop-step.invariant)
     ]
 
-run : (c : After-drop-frames-2) → Runs begun (acts_of (contents_of c.in_ok-frames.frames.bodies.items) c.in_ok-frames.frames.fault c.args.steps.now) c.loop-step.talk c.loop-step.bytes.items
+run : (c : After-drop-frames-2) → Runs true begun (acts_of (contents_of c.in_ok-frames.frames.bodies.items) c.in_ok-frames.frames.fault c.args.steps.now) c.loop-step.talk c.loop-step.bytes.items
 run c = ends-on (contents_of c.in_ok-frames.frames.bodies.items) c.in_ok-frames.frames.fault c.args.steps.now c.loop-step.talk c.loop-step.bytes.items c.loop-step.read c.loop-step.step-index c.loop-step-test.false c.loop-step.invariant
 
 pub returns-clause-run : goal.returns-clause-run
 returns-clause-run c =
     let f = c.in_ok-frames.ensures in
-    let P : Option FrameFault → Type 0 = λ o. Runs begun (acts_of (contents_of c.in_ok-frames.frames.bodies.items) o c.args.steps.now) c.loop-step.talk c.loop-step.bytes.items in
+    let P : Option FrameFault → Type 0 = λ o. Runs true begun (acts_of (contents_of c.in_ok-frames.frames.bodies.items) o c.args.steps.now) c.loop-step.talk c.loop-step.bytes.items in
     (c.loop-step.talk, record { contents = contents_of c.in_ok-frames.frames.bodies.items; rest = f.0; stream = f.1; runs = subst P f.2 (run c) }, c.into_desk.ensures.base, c.into_desk.ensures.journal, c.status-status.ensures)
 
 pub returns-clause-sound : goal.returns-clause-sound

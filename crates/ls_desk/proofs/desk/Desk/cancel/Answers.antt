@@ -18,7 +18,7 @@ use Rattle.ls_desk.proofs.desk.Desk.cancel.Goals.{After-cancel, After-cancel_non
 
 pub invariant_of-self : goal.invariant_of-self
 invariant_of-self c =
-    let e = c.room_for_reply.ensures in
+    let e = c.room_for_replies.ensures in
     kept-room _ _ _ _ _ _ _ _ _ _ _ _ _ _ _ _ c.self.invariant refl refl e.outbox e.journal e.more
 
 pub invariant_of-self-in_err-room_for_event-in-None : goal.invariant_of-self-in_err-room_for_event-in-None
@@ -51,7 +51,7 @@ found_now : (c : After-cancel) → find (asks_with c.args.id.now) (state_of c.ar
 found_now c = let P : Seen → Type 0 = λ d. find (asks_with c.args.id.now) (state_of d).waiting ≡ Some c.remove_at-job.result in subst P c.self.view_is (found c)
 
 grown_by : (c : After-cancel) → c.cancel.new.outbox.items ≡ c.self.inside.outbox.items ++ failed request_cancelled c.remove_at-job.result
-grown_by c = c.cancel.ensures.outbox ∙ ap (λ (os : List Out). os ++ failed request_cancelled c.remove_at-job.result) c.room_for_reply.ensures.outbox
+grown_by c = c.cancel.ensures.outbox ∙ ap (λ (os : List Out). os ++ failed request_cancelled c.remove_at-job.result) c.room_for_replies.ensures.outbox
 
 longer : (c : After-cancel) → length c.cancel.new.outbox.items ≡ length c.self.inside.outbox.items + length (told_at request_cancelled (Some c.remove_at-job.result))
 longer c =
@@ -73,8 +73,8 @@ one_at_most ticket code (Some r) = omega arith
 
 roomy : (c : After-cancel) → length (journal_after c.in_ok-state.state c.self.inside.history.events.items) + 1 + length c.cancel.new.outbox.items ≤ vec_capacity c.cancel.new.history.events
 roomy c =
-    let r = c.in_ok-room_for_reply-in-Some.ensures.room in
-    let j = ap (λ (es : List Event). length (journal_after c.in_ok-state.state es)) c.room_for_reply.ensures.journal in
+    let r = c.in_ok-room_for_replies-in-Some.ensures.room in
+    let j = ap (λ (es : List Event). length (journal_after c.in_ok-state.state es)) c.room_for_replies.ensures.journal in
     let k = c.cancel.ensures.history.capacity in
     let o = one_at_most c.remove_at-job.result.ticket request_cancelled c.remove_at-job.result.request in
     let l = longer c in omega arith
@@ -87,7 +87,7 @@ went c =
     ((c.remove_at-job.ensures (asks_with c.args.id.now) (at_place c)).1)
     (grown_by c))
     c.cancel.ensures.history.base
-    (c.cancel.ensures.history.events ∙ (λ i. journal_after c.in_ok-state.state (c.room_for_reply.ensures.journal i) ++ Cancelled (c.in_ok-id.ensures.ok i) true ∷ []))
+    (c.cancel.ensures.history.events ∙ (λ i. journal_after c.in_ok-state.state (c.room_for_replies.ensures.journal i) ++ Cancelled (c.in_ok-id.ensures.ok i) true ∷ []))
     c.cancel.ensures.history.counts
     (fits c)
     (roomy c)
@@ -95,8 +95,8 @@ went c =
 pub invariant_of-self-in-Some : goal.invariant_of-self-in-Some
 invariant_of-self-in-Some c = (went c).kept
 
-pub returns-in_ok-room_for_reply-in-Some-clause-ok : goal.returns-in_ok-room_for_reply-in-Some-clause-ok
-returns-in_ok-room_for_reply-in-Some-clause-ok c =
+pub returns-in_ok-room_for_replies-in-Some-clause-ok : goal.returns-in_ok-room_for_replies-in-Some-clause-ok
+returns-in_ok-room_for_replies-in-Some-clause-ok c =
     let P : Seen → Type 0 = λ d. Enters d (seen c.cancel.new.history.base c.cancel.new.history.events.items c.cancel.new.outbox.items c.self.inside.max_journal c.self.inside.max_events) (Cancelled c.args.id.now true) in
     record { none = c.in_ok-at.ensures.free; enters = subst P c.self.view_is (enters _ _ _ _ _ _ _ _ _ _ _ c.in_ok-state.state _ _ _ _ _ _ _ _ _ _ c.self.invariant (state_is c) (went c)) }
 

@@ -1,11 +1,11 @@
-use Rattle.std.proofs.Common.{◌≡◌, ◌+◌, ◌≤◌, ◌++◌, ◌∷◌, [], true, List, length, sym, ap, ◌∙◌, subst, arith, length-append}
+use Rattle.std.proofs.Common.{◌≡◌, ◌+◌, ◌≤◌, ◌++◌, ◌∷◌, [], true, List, length, refl, sym, ap, ◌∙◌, subst, arith, length-append}
 use Rattle.std.specs.Prelude.{vec_capacity}
 use Rattle.ls_machine.specs.declared.event.Event.{Event}
 use Rattle.ls_machine.specs.declared.event.Event.TheVariants.{Closed}
 use Rattle.ls_machine.specs.declared.event.Out.{Out}
 use Rattle.ls_machine.specs.declared.state.State.{State}
 use Rattle.ls_machine.specs.Counts.{total}
-use Rattle.ls_machine.specs.Machine.{is_open, others, going_on}
+use Rattle.ls_machine.specs.Machine.{is_open}
 use Rattle.ls_machine.specs.Journal.{replay_from}
 use Rattle.ls_desk.specs.Anew.{journal_after}
 use Rattle.ls_desk.specs.Stands.{Seen, Enters, state_of, failures, fresh, fresh_for, used}
@@ -17,7 +17,7 @@ use Rattle.ls_desk.proofs.desk.Desk.did_close.Goals.{After-close}
 pub invariant_of-self : goal.invariant_of-self
 invariant_of-self c =
     let e = c.put_replies.ensures in
-    kept-room _ _ _ _ _ _ _ _ _ _ _ _ _ _ _ _ c.self.invariant e.documents e.waiting c.in_err-put_replies.ensures.same e.journal e.more
+    kept-room _ _ _ _ _ _ _ _ _ _ _ _ _ _ _ _ c.self.invariant refl refl c.in_err-put_replies.ensures.same e.journal e.more
 
 abbrev now : After-close → State
 now c = replay_from c.self.inside.history.base.state c.self.inside.history.events.items
@@ -53,8 +53,8 @@ went : (c : After-close) → Goes c.self.inside.history.base c.self.inside.histo
 went c =
     goes _ _ _ _ _ _ _ _ _ _ _ c.in_ok-state.state (Closed c.args.uri) _ _ _ _ _ _ _ _ _ c.self.invariant (state_is c)
     (closed _ _ _ _ _ _ c.args.uri _ _ _ (holds _ _ _ _ _ _ _ _ _ _ _ c.self.invariant) (open_there c)
-    (c.close.ensures.documents ∙ ap (others c.args.uri) c.put_replies.ensures.documents)
-    (c.close.ensures.waiting ∙ ap (going_on c.args.uri) c.put_replies.ensures.waiting)
+    c.close.ensures.documents
+    c.close.ensures.waiting
     (outbox_is c ∙ ap (λ (os : List Out). c.self.inside.outbox.items ++ os) (told c)))
     c.close.ensures.history.base
     (c.close.ensures.history.events ∙ ap (λ (es : List Event). journal_after c.in_ok-state.state es ++ Closed c.args.uri ∷ []) c.put_replies.ensures.journal)

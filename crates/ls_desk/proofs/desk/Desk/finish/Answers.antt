@@ -1,15 +1,13 @@
-use Rattle.std.proofs.Common.{◌≡◌, ◌+◌, ◌≤◌, ◌++◌, ◌∷◌, [], Bool, true, false, List, ℕ, length, sym, ap, ◌∙◌, subst, refl, arith, length-append}
-use Rattle.std.specs.Prelude.{ℤ, vec_capacity, Some, None, position, find, is_none, Option}
+use Rattle.std.proofs.Common.{◌≡◌, ◌+◌, ◌≤◌, ◌++◌, ◌∷◌, [], true, List, length, sym, ap, ◌∙◌, subst, refl, arith, length-append}
+use Rattle.std.specs.Prelude.{vec_capacity, Some, None, position, find, is_none, Option}
 use Rattle.ls_machine.specs.declared.event.Event.{Event}
 use Rattle.ls_machine.specs.declared.state.State.{State}
 use Rattle.ls_machine.specs.Counts.{total}
 use Rattle.ls_machine.specs.Journal.{replay_from}
-use Rattle.ls_desk.specs.Anew.{journal_after}
 use Rattle.ls_machine.specs.declared.event.Event.TheVariants.{Finished}
 use Rattle.ls_machine.specs.declared.event.Out.{Out}
-use Rattle.ls_machine.specs.declared.state.Request.{Request}
 use Rattle.ls_machine.specs.declared.state.Waiting.{Waiting}
-use Rattle.ls_machine.specs.Machine.{is_held, left_at, told_to, internal_error}
+use Rattle.ls_machine.specs.Machine.{is_held, left_at}
 use Rattle.ls_desk.specs.Stands.{Seen, Enters, state_of, finished, used}
 use Rattle.ls_machine.specs.Same.{is_for}
 use Rattle.ls_desk.specs.Faults.{kept_at}
@@ -20,16 +18,16 @@ use Rattle.ls_desk.proofs.desk.Desk.finish.Goals.{After-finish-kept}
 
 pub invariant_of-self : goal.invariant_of-self
 invariant_of-self c =
-    let e = c.room_for_reply.ensures in
+    let e = c.room_for_replies.ensures in
     kept-room _ _ _ _ _ _ _ _ _ _ _ _ _ _ _ _ c.self.invariant refl refl e.outbox e.journal e.more
 
 abbrev now : After-finish-kept → State
 now c = replay_from c.self.inside.history.base.state c.self.inside.history.events.items
 
 -- the job stands there
-at_place : (c : After-finish-kept) → position (is_held c.args.done.ticket) c.self.inside.waiting.items ≡ Some c.in-Ok.at
+at_place : (c : After-finish-kept) → position (is_held c.args.done.ticket) c.self.inside.waiting.items ≡ Some c.in-Ok.found.0
 at_place c =
-    let P : Seen → Type 0 = λ d. position (is_held c.args.done.ticket) (state_of d).waiting ≡ Some c.in-Ok.at in
+    let P : Seen → Type 0 = λ d. position (is_held c.args.done.ticket) (state_of d).waiting ≡ Some c.in-Ok.found.0 in
     ap (λ (ws : List Waiting). position (is_held c.args.done.ticket) ws) c.self.invariant.waiting_are ∙ subst P (sym c.self.view_is) c.in-Ok.ensures.at
 
 found : (c : After-finish-kept) → find (is_held c.args.done.ticket) (now c).waiting ≡ Some c.remove_at-job.result
@@ -44,7 +42,7 @@ for_it : (c : After-finish-kept) → is_for (Some c.remove_at-job.result) c.args
 for_it c = let P : Option Waiting → Type 0 = λ w. is_for w c.args.done ≡ true in subst P (found_now c) c.in-Ok.ensures.job
 
 grown_by : (c : After-finish-kept) → c.finish-kept.new.outbox.items ≡ c.self.inside.outbox.items ++ finished c.remove_at-job.result c.args.done
-grown_by c = c.finish-kept.ensures.outbox ∙ ap (λ (os : List Out). os ++ finished c.remove_at-job.result c.args.done) c.room_for_reply.ensures.outbox
+grown_by c = c.finish-kept.ensures.outbox ∙ ap (λ (os : List Out). os ++ finished c.remove_at-job.result c.args.done) c.room_for_replies.ensures.outbox
 
 longer : (c : After-finish-kept) → length c.finish-kept.new.outbox.items ≡ length c.self.inside.outbox.items + length (left_at (is_none c.args.done.answer) (Some c.remove_at-job.result))
 longer c =
@@ -59,20 +57,16 @@ fits c =
     let k = ap total c.self.invariant.counts_are in
     let l = longer c in omega arith
 
-told_at_most : (ticket : ℕ) (code : ℤ) (r : Option Request) → length (told_to ticket code r) ≤ 1
-told_at_most ticket code None = omega arith
-told_at_most ticket code (Some r) = omega arith
-
-one_at_most : (b : Bool) (w : Waiting) → length (left_at b (Some w)) ≤ 1
-one_at_most true w = told_at_most w.ticket internal_error w.request
-one_at_most false w = omega arith
+-- as many replies as there is room for
+replies_are : (c : After-finish-kept) → c.in-Ok.found.1 ≡ length (left_at (is_none c.args.done.answer) (Some c.remove_at-job.result))
+replies_are c = c.in-Ok.ensures.replies ∙ ap (λ (w : Option Waiting). length (left_at (is_none c.args.done.answer) w)) (found_now c)
 
 roomy : (c : After-finish-kept) → length c.self.inside.history.events.items + 1 + length c.finish-kept.new.outbox.items ≤ vec_capacity c.finish-kept.new.history.events
 roomy c =
-    let r = c.in-Ok-room_for_reply.ensures.room in
-    let j = ap length c.room_for_reply.ensures.journal in
+    let r = c.in-Ok-room_for_replies.ensures.room in
+    let j = ap length c.room_for_replies.ensures.journal in
     let k = c.finish-kept.ensures.history.capacity in
-    let o = one_at_most (is_none c.args.done.answer) c.remove_at-job.result in
+    let o = replies_are c in
     let l = longer c in omega arith
 
 went : (c : After-finish-kept) → Goes c.self.inside.history.base c.self.inside.history.events.items c.self.inside.history.counts None (Finished c.args.done.ticket (is_none c.args.done.answer)) c.finish-kept.new.history.base c.finish-kept.new.history.events.items c.finish-kept.new.history.counts
@@ -84,7 +78,7 @@ went c =
     ((c.remove_at-job.ensures (is_held c.args.done.ticket) (at_place c)).1)
     (grown_by c))
     c.finish-kept.ensures.history.base
-    (c.finish-kept.ensures.history.events ∙ ap (λ (es : List Event). es ++ Finished c.args.done.ticket (is_none c.args.done.answer) ∷ []) c.room_for_reply.ensures.journal)
+    (c.finish-kept.ensures.history.events ∙ ap (λ (es : List Event). es ++ Finished c.args.done.ticket (is_none c.args.done.answer) ∷ []) c.room_for_replies.ensures.journal)
     c.finish-kept.ensures.history.counts
     (fits c)
     (roomy c)
@@ -98,3 +92,16 @@ returns-clause-ok c =
       record { none = c.in-Ok.ensures.none; enters = subst P c.self.view_is (enters _ _ _ _ _ _ _ _ _ _ _ None _ _ _ _ _ _ _ _ _ _ c.self.invariant refl (went c)) },
       c.finish-kept.ensures.kept ∙ sym (ap (kept_at (is_none c.args.done.answer)) (found_now c)),
     )
+
+pub finish-kept-requires-clause-room : goal.finish-kept-requires-clause-room
+finish-kept-requires-clause-room c =
+    let P : Seen → Type 0 = λ d. position (is_held c.args.done.ticket) (state_of d).waiting ≡ Some c.in-Ok.found.0 in
+    let Q : Seen → Type 0 = λ d. find (is_held c.args.done.ticket) (state_of d).waiting ≡ Some c.remove_at-job.result in
+    let place = ap (λ (ws : List Waiting). position (is_held c.args.done.ticket) ws) c.self.invariant.waiting_are ∙ subst P (sym c.self.view_is) c.in-Ok.ensures.at in
+    let e = c.remove_at-job.ensures (is_held c.args.done.ticket) place in
+    let there = subst Q c.self.view_is (ap (λ (ws : List Waiting). find (is_held c.args.done.ticket) ws) (sym c.self.invariant.waiting_are) ∙ e.0) in
+    let n : c.in-Ok.found.1 ≡ length (left_at (is_none c.args.done.answer) (Some c.remove_at-job.result))
+    = c.in-Ok.ensures.replies ∙ ap (λ (w : Option Waiting). length (left_at (is_none c.args.done.answer) w)) there in
+    let l = finished-length c.remove_at-job.result c.args.done in
+    let r = c.in-Ok-room_for_replies.ensures.places in
+    omega arith

@@ -1,8 +1,6 @@
-use Rattle.std.proofs.Common.{◌≡◌, ◌+◌, ◌≤◌, ◌++◌, ◌∷◌, [], List, length, refl, ap, ◌∙◌, subst, arith}
+use Rattle.std.proofs.Common.{◌≡◌, ◌+◌, ◌≤◌, ◌++◌, ◌∷◌, [], length, refl, ap, ◌∙◌, subst, arith}
 use Rattle.std.specs.Prelude.{vec_capacity, None}
-use Rattle.ls_machine.specs.declared.event.Event.{Event}
 use Rattle.ls_machine.specs.declared.event.Event.TheVariants.{Sent}
-use Rattle.ls_machine.specs.declared.event.Out.{Out}
 use Rattle.ls_machine.specs.Counts.{total}
 use Rattle.ls_machine.specs.Journal.{replay_from}
 use Rattle.ls_desk.specs.Stands.{Seen, Sends, ticket_of_out}

@@ -1,8 +1,7 @@
-use Rattle.std.proofs.Common.{◌≡◌, ◌+◌, ◌≤◌, ◌<◌, ◌++◌, ◌∷◌, [], Bool, true, false, List, ℕ, length, sym, ap, ◌∙◌, subst, refl, arith, length-append}
-use Rattle.std.specs.Prelude.{vec_capacity, Option, Some, None, IfSome, position, find, is_some, is_none}
+use Rattle.std.proofs.Common.{◌≡◌, ◌+◌, ◌≤◌, ◌<◌, ◌++◌, ◌∷◌, [], false, List, ℕ, length, sym, ap, ◌∙◌, subst, refl, arith}
+use Rattle.std.specs.Prelude.{vec_capacity, Some}
 use Rattle.ls_machine.specs.declared.event.Event.{Event}
 use Rattle.ls_machine.specs.declared.event.Event.TheVariants.{Opened}
-use Rattle.ls_machine.specs.declared.event.Out.{Out}
 use Rattle.ls_machine.specs.declared.state.Document.{Document}
 use Rattle.ls_machine.specs.declared.state.Waiting.{Waiting}
 use Rattle.ls_machine.specs.declared.state.State.{State}

@@ -1,9 +1,7 @@
-use Rattle.std.proofs.Common.{◌≡◌, ◌+◌, ◌≤◌, ◌<◌, ◌++◌, ◌∷◌, [], Bool, true, false, List, ℕ, length, sym, ap, ◌∙◌, subst, refl, arith, length-append}
-use Rattle.std.specs.Prelude.{vec_capacity, Option, Some, None, IfSome, position, find, is_some, is_none}
+use Rattle.std.proofs.Common.{◌≡◌, ◌+◌, ◌≤◌, ◌<◌, ◌++◌, ◌∷◌, [], false, List, ℕ, length, sym, ap, ◌∙◌, subst, refl, arith}
+use Rattle.std.specs.Prelude.{vec_capacity, Some}
 use Rattle.ls_machine.specs.declared.event.Event.{Event}
 use Rattle.ls_machine.specs.declared.event.Event.TheVariants.{Asked}
-use Rattle.ls_machine.specs.declared.event.Out.{Out}
-use Rattle.ls_machine.specs.declared.state.Document.{Document}
 use Rattle.ls_machine.specs.declared.state.Waiting.{Waiting}
 use Rattle.ls_machine.specs.declared.state.State.{State}
 use Rattle.ls_machine.specs.Counts.{total}
@@ -19,8 +17,8 @@ use Rattle.ls_desk.proofs.desk.Desk.request.Goals.{After-ask-ticket}
 
 pub invariant_of-self : goal.invariant_of-self
 invariant_of-self c =
-    let e = c.room_for_text.ensures in
-    kept-room _ _ _ _ _ _ _ _ _ _ _ _ _ _ _ _ c.self.invariant e.documents e.waiting refl e.journal e.more
+    let e = c.room_for_job.ensures in
+    kept-room _ _ _ _ _ _ _ _ _ _ _ _ _ _ _ _ c.self.invariant refl e.waiting refl e.journal e.more
 
 abbrev now : After-ask-ticket → State
 now c = replay_from c.self.inside.history.base.state c.self.inside.history.events.items
@@ -42,20 +40,20 @@ fits c =
 
 roomy : (c : After-ask-ticket) → length (journal_after c.in_ok-state.state c.self.inside.history.events.items) + 1 + length c.self.inside.outbox.items ≤ vec_capacity c.ask-ticket.new.history.events
 roomy c =
-    let r = c.in_ok-room_for_text.ensures.room in
-    let j = ap (λ (es : List Event). length (journal_after c.in_ok-state.state es)) c.room_for_text.ensures.journal in
+    let r = c.in_ok-room_for_job.ensures.room in
+    let j = ap (λ (es : List Event). length (journal_after c.in_ok-state.state es)) c.room_for_job.ensures.journal in
     let k = c.ask-ticket.ensures.history.capacity in omega arith
 
 went : (c : After-ask-ticket) → Goes c.self.inside.history.base c.self.inside.history.events.items c.self.inside.history.counts c.in_ok-state.state (Asked c.args.id c.args.uri c.args.question c.args.links c.self.inside.next_ticket) c.ask-ticket.new.history.base c.ask-ticket.new.history.events.items c.ask-ticket.new.history.counts
-    c.room_for_text.new.documents.items c.ask-ticket.new.waiting.items c.self.inside.next_version c.ask-ticket.new.next_ticket c.self.inside.outbox.items c.self.inside.max_journal c.self.inside.max_events (vec_capacity c.ask-ticket.new.history.events)
+    c.self.inside.documents.items c.ask-ticket.new.waiting.items c.self.inside.next_version c.ask-ticket.new.next_ticket c.self.inside.outbox.items c.self.inside.max_journal c.self.inside.max_events (vec_capacity c.ask-ticket.new.history.events)
 went c =
     goes _ _ _ _ _ _ _ _ _ _ _ c.in_ok-state.state (Asked c.args.id c.args.uri c.args.question c.args.links c.self.inside.next_ticket) _ _ _ _ _ _ _ _ _ c.self.invariant (state_is c)
     (requested _ _ _ _ _ _ c.args.id c.args.uri c.args.question c.args.links c.in_ok-job.job _ _ _ (holds _ _ _ _ _ _ _ _ _ _ _ c.self.invariant) (job_is c) (can c).0 (can c).1
-    c.room_for_text.ensures.documents
-    (c.ask-ticket.ensures.waiting ∙ ap (λ (ws : List Waiting). ws ++ c.in_ok-job.job ∷ []) c.room_for_text.ensures.waiting)
+    refl
+    (c.ask-ticket.ensures.waiting ∙ ap (λ (ws : List Waiting). ws ++ c.in_ok-job.job ∷ []) c.room_for_job.ensures.waiting)
     c.ask-ticket.ensures.ticket)
     c.ask-ticket.ensures.history.base
-    (c.ask-ticket.ensures.history.events ∙ ap (λ (es : List Event). journal_after c.in_ok-state.state es ++ Asked c.args.id c.args.uri c.args.question c.args.links c.self.inside.next_ticket ∷ []) c.room_for_text.ensures.journal)
+    (c.ask-ticket.ensures.history.events ∙ ap (λ (es : List Event). journal_after c.in_ok-state.state es ++ Asked c.args.id c.args.uri c.args.question c.args.links c.self.inside.next_ticket ∷ []) c.room_for_job.ensures.journal)
     c.ask-ticket.ensures.history.counts
     (fits c)
     (roomy c)

@@ -1,15 +1,10 @@
-use Rattle.std.proofs.Common.{◌≡◌, ◌+◌, ◌≤◌, ◌<◌, ◌++◌, ◌∷◌, [], Bool, true, false, List, ℕ, length, sym, ap, ◌∙◌, subst, refl, arith, length-append}
-use Rattle.std.specs.Prelude.{vec_capacity, Option, Some, None, IfSome, position, find, is_some, is_none}
+use Rattle.std.proofs.Common.{◌≡◌, ◌+◌, ◌≤◌, ◌++◌, ◌∷◌, [], List, length, sym, ap, ◌∙◌, subst, refl, arith, length-append}
+use Rattle.std.specs.Prelude.{vec_capacity}
 use Rattle.ls_machine.specs.declared.event.Event.{Event}
 use Rattle.ls_machine.specs.declared.event.Event.TheVariants.{Said}
-use Rattle.ls_machine.specs.declared.event.Out.{Out}
-use Rattle.ls_machine.specs.declared.state.Document.{Document}
-use Rattle.ls_machine.specs.declared.state.Waiting.{Waiting}
-use Rattle.ls_machine.specs.declared.state.State.{State}
 use Rattle.ls_machine.specs.Counts.{total}
-use Rattle.ls_machine.specs.Journal.{replay_from}
 use Rattle.ls_desk.specs.Anew.{journal_after}
-use Rattle.ls_desk.specs.Stands.{Seen, Enters, state_of, fresh, fresh_for, used}
+use Rattle.ls_desk.specs.Stands.{Seen, Enters, fresh, fresh_for, used}
 use Rattle.ls_desk.proofs.Grows.{Goes, enters, goes, holds, kept-room, seen}
 use Rattle.ls_machine.specs.declared.event.Out.TheVariants as out
 use Rattle.ls_desk.proofs.Events.{said}
@@ -18,11 +13,11 @@ use Rattle.ls_desk.proofs.desk.Desk.say.Goals.{After-say}
 
 pub invariant_of-self : goal.invariant_of-self
 invariant_of-self c =
-    let e = c.room_for_reply.ensures in
+    let e = c.room_for_replies.ensures in
     kept-room _ _ _ _ _ _ _ _ _ _ _ _ _ _ _ _ c.self.invariant refl refl e.outbox e.journal e.more
 
 grown_by : (c : After-say) → c.say.new.outbox.items ≡ c.self.inside.outbox.items ++ out.Said c.args.body ∷ []
-grown_by c = c.say.ensures.outbox ∙ (λ i. c.room_for_reply.ensures.outbox i ++ out.Said (c.in_ok-copy.ensures.copy i) ∷ [])
+grown_by c = c.say.ensures.outbox ∙ (λ i. c.room_for_replies.ensures.outbox i ++ out.Said (c.in_ok-copy.ensures.copy i) ∷ [])
 
 longer : (c : After-say) → length c.say.new.outbox.items ≡ length c.self.inside.outbox.items + 1
 longer c = ap length (grown_by c) ∙ omega (arith, length-append c.self.inside.outbox.items (out.Said c.args.body ∷ []))
@@ -39,8 +34,8 @@ fits c =
 
 roomy : (c : After-say) → length (journal_after c.in_ok-state.state c.self.inside.history.events.items) + 1 + length c.say.new.outbox.items ≤ vec_capacity c.say.new.history.events
 roomy c =
-    let r = c.in_ok-room_for_reply.ensures.room in
-    let j = ap (λ (es : List Event). length (journal_after c.in_ok-state.state es)) c.room_for_reply.ensures.journal in
+    let r = c.in_ok-room_for_replies.ensures.room in
+    let j = ap (λ (es : List Event). length (journal_after c.in_ok-state.state es)) c.room_for_replies.ensures.journal in
     let k = c.say.ensures.history.capacity in
     let l = longer c in omega arith
 
@@ -50,7 +45,7 @@ went c =
     goes _ _ _ _ _ _ _ _ _ _ _ c.in_ok-state.state (Said c.args.body) _ _ _ _ _ _ _ _ _ c.self.invariant (state_is c)
     (said _ _ _ _ _ _ c.args.body _ (holds _ _ _ _ _ _ _ _ _ _ _ c.self.invariant) (grown_by c))
     c.say.ensures.history.base
-    (c.say.ensures.history.events ∙ ap (λ (es : List Event). journal_after c.in_ok-state.state es ++ Said c.args.body ∷ []) c.room_for_reply.ensures.journal)
+    (c.say.ensures.history.events ∙ ap (λ (es : List Event). journal_after c.in_ok-state.state es ++ Said c.args.body ∷ []) c.room_for_replies.ensures.journal)
     c.say.ensures.history.counts
     (fits c)
     (roomy c)

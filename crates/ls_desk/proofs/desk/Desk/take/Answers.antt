@@ -1,19 +1,17 @@
-use Rattle.std.proofs.Common.{◌≡◌, ◌+◌, ◌≤◌, ◌<◌, ◌++◌, ◌∷◌, [], Bool, true, false, List, ℕ, length, sym, ap, ◌∙◌, subst, refl, arith, length-append}
-use Rattle.std.specs.Prelude.{vec_capacity, Option, Some, None, IfSome, position, find, is_some, is_none}
+use Rattle.std.proofs.Common.{◌≡◌, ◌+◌, ◌≤◌, ◌++◌, ◌∷◌, [], true, List, ℕ, length, sym, ap, ◌∙◌, subst, refl, arith}
+use Rattle.std.specs.Prelude.{vec_capacity, Result, Ok, Err, OnErr, Some, None, IfSome, position, find, is_some}
 use Rattle.ls_machine.specs.declared.event.Event.{Event}
 use Rattle.ls_machine.specs.declared.event.Event.TheVariants.{Took}
-use Rattle.ls_machine.specs.declared.event.Out.{Out}
-use Rattle.ls_machine.specs.declared.state.Document.{Document}
 use Rattle.ls_machine.specs.declared.state.Waiting.{Waiting}
 use Rattle.ls_machine.specs.declared.state.State.{State}
 use Rattle.ls_machine.specs.Counts.{total}
 use Rattle.ls_machine.specs.Journal.{replay_from}
-use Rattle.ls_desk.specs.Anew.{journal_after}
-use Rattle.ls_desk.specs.Stands.{Seen, Enters, state_of, fresh, fresh_for, used}
+use Rattle.ls_desk.specs.Stands.{Seen, Enters, state_of, used}
 use Rattle.ls_desk.proofs.Grows.{Goes, enters, goes, holds, kept-room, seen}
 use Rattle.ls_machine.specs.Machine.{is_queued}
 use Rattle.ls_desk.specs.Faults.{IsJobOf}
 use Rattle.ls_desk.proofs.Jobs.{found-job}
+use Rattle.ls_machine.proofs.Places.{position-find}
 use Rattle.ls_desk.proofs.Events.{taken}
 use Rattle.ls_desk.proofs.desk.Desk.take.Goals as goal
 use Rattle.ls_desk.proofs.desk.Desk.take.Goals.{After-take}
@@ -36,6 +34,21 @@ job_now c = rw c.in-Some.is at c.in_ok-at.ensures.job
 
 job_found : (c : After-take) → (w : Waiting) × (find is_queued (state_of c.args.self.now).waiting ≡ Some w) × IsJobOf w c.in-Some.job
 job_found c = found-job is_queued (state_of c.args.self.now).waiting c.in-Some.at c.in-Some.job (at_now c) (job_now c)
+
+-- ---- a refusal, where one is queued
+
+on_err : {T E P : Type 0} (r : Result T E) → P → OnErr r P
+on_err (Ok x) p = tt
+on_err (Err e) p = p
+
+queued_there : (ws : List Waiting) (i : ℕ) → position is_queued ws ≡ Some i → is_some (find is_queued ws) ≡ true
+queued_there ws i h = sym (position-find is_queued ws) ∙ ap is_some h
+
+pub returns-in_err-room_for_event-clause-queued : goal.returns-in_err-room_for_event-clause-queued
+returns-in_err-room_for_event-clause-queued c =
+    on_err c.from_residual-in_err-room_for_event.result (queued_there (state_of c.args.self.now).waiting c.in-Some.at (rw c.in-Some.is at c.in_ok-at.ensures.at))
+
+-- ---- a job is taken
 
 abbrev now : After-take → State
 now c = replay_from c.self.inside.history.base.state c.self.inside.history.events.items

@@ -1,4 +1,4 @@
-use Rattle.std.proofs.Common.{◌≡◌, ◌≤◌, length, Option, None, Some, sym, subst}
+use Rattle.std.proofs.Common.{◌≡◌, ◌≤◌, Option, None, Some, sym, subst}
 use Rattle.ls_answers.specs.declared.job.Job.{Job}
 use Rattle.ls_machine.specs.Counts.{total}
 use Rattle.ls_desk.specs.Stands.{Seen, counts_of}

@@ -1,4 +1,4 @@
-use Rattle.std.proofs.Common.{ℕ, ◌-◌, true, length}
+use Rattle.std.proofs.Common.{ℕ, ◌-◌, true}
 use Rattle.ls_machine.specs.Counts.{total}
 use Rattle.ls_steps.specs.Runs.{Going, counts_at}
 use Rattle.ls_steps.specs.Plain.{Works}
