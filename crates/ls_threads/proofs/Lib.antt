@@ -1,1 +1,4 @@
 pub mod Spent
+pub mod Ends
+pub mod Hearing
+pub mod Told

@@ -1,10 +1,11 @@
 -- What the ends of the threads make of a run.
-use Rattle.std.specs.Prelude.{◌≡◌, ◌+◌, ◌==◌, ◌||◌, ℕ, Bool, true, false, not, Option, Some, None, Result, Ok, Err, if◌then◌else◌}
+use Rattle.std.specs.Prelude.{◌+◌, ◌==◌, ◌||◌, ℕ, List, [], ◌∷◌, Bool, true, false, not, nat_lt, Option, Some, None, Result, Ok, Err, if◌then◌else◌}
+use Rattle.ls_machine.specs.declared.event.DeskFault.{DeskFault}
+use Rattle.ls_machine.specs.declared.event.DeskFault.TheVariants as desk
 use Rattle.ls_server.specs.declared.serve.ServeFault.{ServeFault}
 use Rattle.ls_server.specs.declared.serve.ServeFault.TheVariants as fault
 use Rattle.ls_session.specs.declared.event.Status.{Status}
 use Rattle.ls_session.specs.declared.event.Status.TheVariants as status
-use Rattle.ls_threads.specs.declared.ending.Early.{Early}
 use Rattle.ls_threads.specs.declared.ending.Early.TheVariants as early
 use Rattle.ls_threads.specs.declared.ending.Heard.{Heard}
 use Rattle.ls_threads.specs.declared.ending.Heard.TheVariants as heard
@@ -43,29 +44,44 @@ abbrev pub status_of : Heard → Status
 status_of (heard.Ended s) = s
 status_of _ = status.Unclean
 
--- of several causes the fault that comes first, then Full, then the reader's status
+-- the causes that hold, in the order of this table: each with what it makes of the run
+abbrev pub causes : Heard → Wrote → Worked → Bool → List (Bool × Result Status ServeFault)
+causes h w k audited =
+    (is_read h, Err fault.Read)
+    ∷ (has_failed w, Err fault.Write)
+    ∷ (not audited || has_strayed k, Err fault.Strayed)
+    ∷ (lacked_memory h w k, Err fault.Memory)
+    ∷ (is_full h k, Ok status.Full)
+    ∷ []
+
+-- the first that holds, or else the last resort
+abbrev pub first_of : {A : Type 0} → List (Bool × A) → A → A
+first_of [] last = last
+first_of ((holds, x) ∷ rest) last = if holds then x else first_of rest last
+
+-- what a run answers, where all its threads could be made
 abbrev pub result_of : Heard → Wrote → Worked → Bool → Result Status ServeFault
-result_of h w k audited =
-    if is_read h then Err fault.Read else
-    if has_failed w then Err fault.Write else
-    if not audited || has_strayed k then Err fault.Strayed else
-    if lacked_memory h w k then Err fault.Memory else
-    if is_full h k then Ok status.Full else
-    Ok (status_of h)
+result_of h w k audited = first_of (causes h w k audited) (Ok (status_of h))
+
+-- how a worker ended, by the fault that ended its work
+abbrev pub ended_by : Option DeskFault → Worked
+ended_by None = worked.All
+ended_by (Some desk.SessionFull) = worked.Full
+ended_by (Some desk.Memory) = worked.Memory
+ended_by (Some _) = worked.Strayed
+
+-- how much the end of a worker counts
+abbrev pub weight : Worked → ℕ
+weight worked.All = 0
+weight worked.Full = 1
+weight worked.Memory = 2
+weight worked.Strayed = 3
+
+-- of the ends of two workers the one that counts for more
+abbrev pub worse : Worked → Worked → Worked
+worse j k = if nat_lt (weight j) (weight k) then k else j
 
 -- where reading failed, the source failed or was read as often as one session may
 abbrev pub has_cause : Heard → Bool → ℕ → Bool
 has_cause heard.Failed failed reads = failed || (reads + 1 == 1099511627776)
 has_cause _ failed reads = true
-
--- Read stands only where the source that is handed back is bad
-abbrev pub HasReadCause : {X : Type 0} → (X → Bool) → Option X → Result Status ServeFault → Type 0
-HasReadCause is_bad None (Err fault.Read) = ⊥
-HasReadCause is_bad (Some x) (Err fault.Read) = is_bad x ≡ true
-HasReadCause is_bad x answer = Unit {0}
-
--- Write stands only where the sink that is handed back is bad
-abbrev pub HasWriteCause : {X : Type 0} → (X → Bool) → Option X → Result Status ServeFault → Type 0
-HasWriteCause is_bad None (Err fault.Write) = ⊥
-HasWriteCause is_bad (Some x) (Err fault.Write) = is_bad x ≡ true
-HasWriteCause is_bad x answer = Unit {0}

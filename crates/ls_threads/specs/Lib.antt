@@ -1,1 +1,4 @@
+pub mod Audit
 pub mod Ends
+pub mod Reading
+pub mod Writing

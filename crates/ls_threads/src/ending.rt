@@ -1,7 +1,8 @@
 //! How the threads end, and what that makes of the run.
 ghost use Rattle.std.specs.Prelude.{◌≡◌};
-ghost use Rattle.ls_threads.specs.Ends.{result_of};
+ghost use Rattle.ls_threads.specs.Ends.{ended_by, is_full, result_of, worse};
 
+use ls_desk::DeskFault;
 use ls_server::{ServeFault, Status};
 use std::alloc::AllocError;
 
@@ -53,8 +54,53 @@ pub enum Worked {
     Strayed,
 }
 
-/// What the run answers: of several faults the one that comes first in [`ServeFault`], else `Full`, else the reader's status. `audited` says
-/// that the board was closed and gave its desk.
+impl Worked {
+    /// How a worker ended, by the fault that ended its work early, if one did.
+    pub fn by(fault: Option<DeskFault>) -> Worked
+        ensures { result ≡ ended_by fault }
+    {
+        match fault {
+            None => Worked::All,
+            Some(DeskFault::SessionFull) => Worked::Full,
+            Some(DeskFault::Memory) => Worked::Memory,
+            Some(
+                DeskFault::NotOpen
+                | DeskFault::AlreadyOpen
+                | DeskFault::TooManyDocuments
+                | DeskFault::TooManyWaiting
+                | DeskFault::IdInUse
+                | DeskFault::TooLarge
+                | DeskFault::UnknownTicket
+                | DeskFault::OtherText,
+            ) => Worked::Strayed,
+        }
+    }
+
+    /// How two workers ended, by the end that counts for more.
+    pub fn and(self, other: Worked) -> Worked
+        ensures { result ≡ worse self other }
+    {
+        match (self, other) {
+            (Worked::Strayed, _) | (_, Worked::Strayed) => Worked::Strayed,
+            (Worked::Memory, _) | (_, Worked::Memory) => Worked::Memory,
+            (Worked::Full, _) | (_, Worked::Full) => Worked::Full,
+            (Worked::All, Worked::All) => Worked::All,
+        }
+    }
+}
+
+/// Whether the reader or a worker found the session full. Then the desk may still have replies to send.
+pub fn is_full(heard: Heard, worked: Worked) -> bool
+    ensures { result ≡ is_full heard worked }
+{
+    match (heard, worked) {
+        (Heard::Broken(Early::Full), _) | (_, Worked::Full) => true,
+        _ => false,
+    }
+}
+
+/// What a run answers whose threads could all be made: of several faults the one that comes first in [`ServeFault`], else `Full`, else the
+/// reader's status. `audited` says that the board was closed and gave its desk.
 pub fn result_of(
     heard: Heard,
     wrote: Wrote,

@@ -1,7 +1,11 @@
 //! What the reader does.
-ghost use Rattle.std.specs.Prelude.{◌≡◌, false, true};
-ghost use Rattle.ls_threads.specs.Ends.{has_cause};
+ghost use Rattle.std.specs.Prelude.{◌≡◌, IfOk, OnErr, OnOk, None, false, true};
+ghost use Rattle.ls_frame.specs.Feeds.{contents_of};
+ghost use Rattle.ls_frame.specs.Faults.{fault_of};
 ghost use Rattle.ls_machine.specs.Client.{IsAllowed};
+ghost use Rattle.ls_server.specs.Runs.{end_status};
+ghost use Rattle.ls_threads.specs.Ends.{has_cause};
+ghost use Rattle.ls_threads.specs.Reading.{Hears, HearsAll, IsMet, IsTold, refusal_to};
 
 use crate::ending::{Early, Heard};
 use ls_desk::DeskFault;
@@ -24,7 +28,9 @@ pub struct Reader<C: Crew> {
 }
 
 /// The status where the input ends here.
-fn at_end(framer: &Framer) -> Status {
+fn at_end(framer: &Framer) -> Status
+    ensures { result ≡ end_status (fault_of framer.now) framer.now }
+{
     match framer.end() {
         Ok(()) => Status::Unclean,
         Err(fault) => Status::BadFrame(fault),
@@ -39,7 +45,11 @@ impl<C: Crew> Reader<C> {
         board: &Board<C>,
         id: Option<Id>,
         fault: DeskFault,
-    ) -> Result<(), Early> {
+    ) -> Result<(), Early>
+        ensures ok { OnOk result (IsTold (refusal_to id fault) (record { list = self.old.seat.list.items; checkpoints = self.old.seat.checkpoints; strayed = self.old.seat.strayed }) (record { list = self.new.seat.list.items; checkpoints = self.new.seat.checkpoints; strayed = self.new.seat.strayed })) }
+        ensures err { OnErr result ((self.new.seat.list.items ≡ self.old.seat.list.items) × (self.new.seat.checkpoints ≡ self.old.seat.checkpoints) × (self.new.seat.strayed ≡ self.old.seat.strayed)) }
+        ensures session { self.new.session ≡ self.old.session }
+    {
         let Some(id) = id else {
             return Ok(());
         };
@@ -56,6 +66,9 @@ impl<C: Crew> Reader<C> {
     /// Enters an event of the client. A refused request is told so.
     fn meet<R: Wait>(&mut self, rt: &R, board: &Board<C>, event: ClientEvent) -> Result<(), Early>
         requires { IsAllowed event }
+        ensures ok { OnOk result (IsMet event (record { list = self.old.seat.list.items; checkpoints = self.old.seat.checkpoints; strayed = self.old.seat.strayed }) (record { list = self.new.seat.list.items; checkpoints = self.new.seat.checkpoints; strayed = self.new.seat.strayed })) }
+        ensures err { OnErr result ((self.new.seat.list.items ≡ self.old.seat.list.items) × (self.new.seat.checkpoints ≡ self.old.seat.checkpoints) × (self.new.seat.strayed ≡ self.old.seat.strayed)) }
+        ensures session { self.new.session ≡ self.old.session }
     {
         let id = event.asker()?;
         match board.client(rt, &mut self.seat, event) {
@@ -72,7 +85,11 @@ impl<C: Crew> Reader<C> {
         rt: &R,
         board: &Board<C>,
         body: &[u8],
-    ) -> Result<Option<Status>, Early> {
+    ) -> Result<Option<Status>, Early>
+        ensures ok { IfOk result (λ status. Hears body.now self.old.session (record { list = self.old.seat.list.items; checkpoints = self.old.seat.checkpoints; strayed = self.old.seat.strayed })
+            status self.new.session (record { list = self.new.seat.list.items; checkpoints = self.new.seat.checkpoints; strayed = self.new.seat.strayed })) }
+        ensures err { OnErr result ((self.new.seat.list.items ≡ self.old.seat.list.items) × (self.new.seat.checkpoints ≡ self.old.seat.checkpoints) × (self.new.seat.strayed ≡ self.old.seat.strayed)) }
+    {
         match self.session.event(body)? {
             Turn::Nothing => Ok(None),
             Turn::Event(event) => {
@@ -90,7 +107,10 @@ impl<C: Crew> Reader<C> {
         board: &Board<C>,
         bodies: &[Vec<u8>],
         halted: &AtomicU64,
-    ) -> Result<Option<Status>, Early> {
+    ) -> Result<Option<Status>, Early>
+        ensures { IfOk result (λ status. HearsAll (contents_of bodies.now) self.old.session (record { list = self.old.seat.list.items; checkpoints = self.old.seat.checkpoints; strayed = self.old.seat.strayed })
+            status self.new.session (record { list = self.new.seat.list.items; checkpoints = self.new.seat.checkpoints; strayed = self.new.seat.strayed })) }
+    {
         for body in bodies {
             if halted.load(Ordering::SeqCst) != 0 {
                 return Err(Early::Halted);

@@ -1,19 +1,24 @@
 //! The run: the threads are made, joined, and their board is closed.
 ghost use denote.Param.Send.{IsSend};
-ghost use Rattle.std.specs.Prelude.{◌≡◌, ◌+◌, ◌<◌, ◌≤◌, ◌==◌, ◌||◌, Some, false, true};
-ghost use Rattle.ls_threads.specs.Ends.{HasReadCause, HasWriteCause, has_cause, has_failed};
+ghost use Rattle.std.specs.Prelude.{◌≡◌, ◌+◌, ◌<◌, ◌≤◌, ◌==◌, ◌||◌, Bool, OnOk, [], false, sum_by, true, vec_len};
+ghost use Rattle.ls_desk.specs.Stands.{Seen};
+ghost use Rattle.ls_workers.specs.Jobs.{HasLimits};
+ghost use Rattle.ls_threads.specs.Audit.{IsAudited};
+ghost use Rattle.ls_threads.specs.Ends.{has_cause, has_failed, is_full, result_of};
+ghost use Rattle.ls_threads.specs.Writing.{HasWritten, IsFinished, IsServed};
 
-use crate::ending::{Heard, Worked, Wrote, result_of};
+use crate::ending::{Early, Heard, Worked, Wrote, is_full, result_of};
 use crate::halt::halt;
 use crate::reading::Reader;
 use crate::working::work_on;
-use crate::writing::{Writer, Written, write_rest};
+use crate::writing::{Writer, Writes, Written, write_rest};
 use ls_desk::Desk;
 use ls_server::{ServeFault, Sink, Source, Status};
 use ls_session::Session;
 use ls_workers::{Blanks, Board, ClientSeat, Crew, Gate, Stop, WorkerSeat};
 use std::alloc::Global;
 use std::marker::Brand;
+use std::snapshot::Snapshot;
 use std::sync::Wait;
 use std::sync::atomic::AtomicU64;
 use std::thread;
@@ -32,10 +37,10 @@ const MARK: u64 = 1;
 #[derive(Drop)]
 pub struct Served<I: Source, W: Sink> {
     pub answer: Result<Status, ServeFault>,
-    /// The source as it was left, unless the threads couldn't be made.
-    pub source: Option<I>,
-    /// The sink as it was left, unless the threads couldn't be made.
-    pub sink: Option<W>,
+    /// The source as it was left.
+    pub source: I,
+    /// The sink as it was left.
+    pub sink: W,
 }
 
 /// What the reader leaves, and how it ended.
@@ -71,6 +76,17 @@ impl<C: Crew, I: Source> Unread<C, I> {
         let Reader { seat, .. } = reader;
         ReadUp { seat, source, end }
     }
+
+    /// Reads nothing, where memory for the threads was refused.
+    fn given_up(self) -> ReadUp<C, I> {
+        let Unread { reader, source } = self;
+        let Reader { seat, .. } = reader;
+        ReadUp {
+            seat,
+            source,
+            end: Heard::Broken(Early::Memory),
+        }
+    }
 }
 
 /// What the reader and the workers leave.
@@ -79,9 +95,24 @@ struct Done<C: Crew, I: Source> {
     read: ReadUp<C, I>,
     workers: Vec<WorkerSeat<C>>,
     worked: Worked,
+    /// Whether all threads could be made, and there was room for what they leave.
+    made: bool,
 }
 
-/// Reads here while the workers work, each in a thread of its own. `None`: a thread couldn't be made.
+impl<C: Crew, I: Source> Done<C, I> {
+    /// Nothing was read, and nobody has worked.
+    fn nothing(unread: Unread<C, I>, workers: Vec<WorkerSeat<C>>) -> Done<C, I> {
+        Done {
+            read: unread.given_up(),
+            workers,
+            worked: Worked::All,
+            made: false,
+        }
+    }
+}
+
+/// Reads here while the workers work, each in a thread of its own. Room for what they leave is made before the first starts. Where a thread
+/// can't be made the board is ended, and its worker, which then finds nothing to do, gives its seat back here.
 fn read_and_work<
     'a,
     C: Crew + Send + Sync,
@@ -96,35 +127,46 @@ fn read_and_work<
     seats: Vec<WorkerSeat<C>>,
     gate: &'a G,
     halted: &'a AtomicU64,
-) -> Option<Done<C, I>> {
+) -> Done<C, I> {
     thread::scope(thread::scope_env(), rt, |scope| {
-        let mut handles = Vec::new(alloc);
-        for seat in seats {
-            let Ok(handle) = scope.spawn(move || work_on(rt, alloc, board, seat, gate, halted))
-            else {
-                halt(rt, board, halted);
-                return None;
-            };
-            if handles.push(handle).is_err() {
-                halt(rt, board, halted);
-                return None;
-            }
-        }
-        let read = unread.read_up(rt, board, halted);
-        let mut workers = Vec::new(alloc);
+        let (Ok(mut handles), Ok(mut workers)) = (
+            Vec::with_capacity(alloc, seats.len()),
+            Vec::with_capacity(alloc, seats.len()),
+        ) else {
+            halt(rt, board, halted);
+            return Done::nothing(unread, seats);
+        };
+        let mut seats = seats;
         let mut worked = Worked::All;
-        for handle in handles {
-            let (seat, end) = handle.join(rt);
-            worked = worked.and(end);
-            if workers.push(seat).is_err() {
-                return None;
+        let mut made = true;
+        'seats: while let Some(seat) = seats.pop() {
+            match scope.spawn(move || work_on(rt, alloc, board, seat, gate, halted)) {
+                Ok(handle) => handles.push_reserved(handle),
+                Err(refused) => {
+                    halt(rt, board, halted);
+                    made = false;
+                    let (seat, fault) = (refused.value)();
+                    worked = worked.and(Worked::by(fault));
+                    workers.push_reserved(seat);
+                }
             }
         }
-        Some(Done {
+        let read = if made {
+            unread.read_up(rt, board, halted)
+        } else {
+            unread.given_up()
+        };
+        'handles: while let Some(handle) = handles.pop() {
+            let (seat, fault) = handle.join(rt);
+            worked = worked.and(Worked::by(fault));
+            workers.push_reserved(seat);
+        }
+        Done {
             read,
             workers,
             worked,
-        })
+            made,
+        }
     })
 }
 
@@ -135,7 +177,8 @@ struct Ran<C: Crew, I: Source, W: Sink> {
     written: Written<C, W>,
 }
 
-/// Reads and works while the writer writes in a thread of its own. `None`: a thread couldn't be made.
+/// Reads and works while the writer writes in a thread of its own. Where that can't be made the board is ended, and the writer, which then
+/// finds nothing to write, gives its seat and its sink back here.
 fn run_threads<
     'a,
     C: Crew + Send + Sync,
@@ -152,82 +195,120 @@ fn run_threads<
     seats: Vec<WorkerSeat<C>>,
     gate: &'a G,
     halted: &'a AtomicU64,
-) -> Option<Ran<C, I, W>> {
+) -> Ran<C, I, W>
+    requires none { (writer.seat.sent.share.amount ≡ 0) × (writer.seat.tickets.items ≡ []) }
+    ensures written { HasWritten (W.contents writer.sink) (W.contents result.written.sink) result.written.end result.written.seat.sent.share.amount result.written.seat.tickets.items }
+{
     thread::scope(
         thread::scope_env(),
         rt,
-        |scope| -> Option<Ran<C, I, W>>
-            requires { IsSend C.row }
+        |scope| -> Ran<C, I, W>
+            requires send { IsSend C.row }
+            requires none { (writer.seat.sent.share.amount ≡ 0) × (writer.seat.tickets.items ≡ []) }
+            ensures { HasWritten (W.contents writer.sink) (W.contents result.written.sink) result.written.end result.written.seat.sent.share.amount result.written.seat.tickets.items }
         {
-            let Ok(writing) = scope.spawn(move || writer.write_on(rt, alloc, board, halted)) else {
-                return None;
-            };
-            let done = read_and_work(rt, alloc, board, unread, seats, gate, halted);
-            let written = writing.join(rt);
-            Some(Ran {
-                done: done?,
-                written,
-            })
+            let promise = Writes(Snapshot::of(&writer.sink));
+            match scope.spawn_with(promise, move || writer.write_on(rt, alloc, board, halted)) {
+                Ok(writing) => {
+                    let done = read_and_work(rt, alloc, board, unread, seats, gate, halted);
+                    let written = writing.join(rt);
+                    Ran { done, written }
+                }
+                Err(refused) => {
+                    halt(rt, board, halted);
+                    let written = (refused.value)();
+                    let done = Done::nothing(unread, seats);
+                    Ran { done, written }
+                }
+            }
         },
     )
 }
 
-/// What is handed back.
-fn handed_back<I: Source, W: Sink>(
-    answer: Result<Status, ServeFault>,
-    source: I,
-    sink: W,
-) -> Served<I, W>
-    ensures answer { result.answer ≡ answer }
-    ensures source { result.source ≡ Some source }
-    ensures sink { result.sink ≡ Some sink }
+/// Writes what the desk of a full session still has unsent, unless the sink has failed. How that went is told with how the writer ended.
+fn finished<W: Sink>(alloc: Global, desk: Desk, sink: &mut W, full: bool, wrote: Wrote) -> Wrote
+    requires { W.failed sink.old ≡ has_failed wrote }
+    ensures failed { W.failed sink.new ≡ has_failed result }
+    ensures all { result ≡ Wrote.All → (wrote ≡ Wrote.All) × IsFinished full desk (W.contents sink.old) (W.contents sink.new) }
 {
-    Served {
-        answer,
-        source: Some(source),
-        sink: Some(sink),
+    let mut desk = desk;
+    let _sound = desk.journal();
+    if !full {
+        drop(desk);
+        return wrote;
+    }
+    match wrote {
+        Wrote::Failed => {
+            drop(desk);
+            return Wrote::Failed;
+        }
+        Wrote::All | Wrote::Memory => {}
+    }
+    let rest = write_rest(alloc, &mut desk, sink);
+    let _sound = desk.journal();
+    drop(desk);
+    match (wrote, rest) {
+        (_, Wrote::Failed) => Wrote::Failed,
+        (Wrote::All, Wrote::All) => Wrote::All,
+        _ => Wrote::Memory,
     }
 }
 
-/// Writes what the desk of a full session still has unsent.
-fn finished<W: Sink>(alloc: Global, mut desk: Desk, sink: &mut W) -> Wrote
-    requires { W.failed sink.old ≡ false }
-    ensures { W.failed sink.new ≡ has_failed result }
-{
-    let wrote = write_rest(alloc, &mut desk, sink);
-    drop(desk);
-    wrote
-}
-
-/// Closes the board, and answers for the run.
+/// Closes the board, and answers for the run. Once the session is full the desk's unsent replies are written, whatever else was met, unless the
+/// sink has failed.
 fn closed<C: Crew, I: Source + Drop, W: Sink + Drop>(
     alloc: Global,
     board: Board<C>,
+    begun: Snapshot<W>,
     ran: Ran<C, I, W>,
 ) -> Served<I, W>
-    requires { (C.workers ≡ C.parts) × (0 < C.parts) }
-    ensures read { HasReadCause (λ source. I.failed source || (I.reads source + 1 == 1099511627776)) result.source result.answer }
-    ensures write { HasWriteCause (λ sink. W.failed sink) result.sink result.answer }
+    requires parts { (C.workers ≡ C.parts) × (0 < C.parts) }
+    requires written { HasWritten (W.contents begun.value) (W.contents ran.written.sink) ran.written.end ran.written.seat.sent.share.amount ran.written.seat.tickets.items }
+    ensures read { result.answer ≡ Err ServeFault.Read → (I.failed result.source || (I.reads result.source + 1 == 1099511627776)) ≡ true }
+    ensures write { result.answer ≡ Err ServeFault.Write → W.failed result.sink ≡ true }
+    ensures not_made { ran.done.made ≡ false → result.answer ≡ Err ServeFault.Memory }
+    ensures causes { ran.done.made ≡ true → (wrote : Wrote) × (audited : Bool) × ((result.answer ≡ result_of ran.done.read.end wrote ran.done.worked audited) × (W.failed result.sink ≡ has_failed wrote)) }
+    ensures audited { OnOk result.answer ((desk : Seen) × HasLimits C.max_journal C.max_events desk × IsAudited ran.done.read.seat.asked.share.amount
+        (sum_by (λ seat. seat.took.share.amount) ran.done.workers.items) (sum_by (λ seat. seat.returned.share.amount) ran.done.workers.items)
+        (sum_by (λ seat. seat.finished.share.amount) ran.done.workers.items) ran.written.seat.sent.share.amount
+        ran.done.read.seat.list.items ran.written.seat.checkpoints ran.written.seat.tickets.items desk) }
+    ensures served { OnOk result.answer ((served : IsServed C.max_journal C.max_events (W.contents begun.value) (W.contents result.sink))
+        × (is_full ran.done.read.end ran.done.worked ≡ true → served.desk.outbox ≡ [])) }
 {
     let Ran { done, written } = ran;
     let Done {
         read,
         workers,
         worked,
+        made,
     } = done;
     let ReadUp { seat, source, end } = read;
     let Written {
         seat: writer,
         mut sink,
-        end: mut wrote,
+        end: wrote,
     } = written;
-    let Ok(desk) = board.close(seat, writer, workers) else {
-        return handed_back(result_of(end, wrote, worked, false), source, sink);
-    };
-    if let Ok(Status::Full) = result_of(end, wrote, worked, true) {
-        wrote = finished(alloc, desk, &mut sink);
+    if !made {
+        return Served {
+            answer: Err(ServeFault::Memory),
+            source,
+            sink,
+        };
     }
-    handed_back(result_of(end, wrote, worked, true), source, sink)
+    let Ok(desk) = board.close(seat, writer, workers) else {
+        return Served {
+            answer: result_of(end, wrote, worked, false),
+            source,
+            sink,
+        };
+    };
+    let _sound = desk.journal();
+    let wrote = finished(alloc, desk, &mut sink, is_full(end, worked), wrote);
+    Served {
+        answer: result_of(end, wrote, worked, true),
+        source,
+        sink,
+    }
 }
 
 /// Serves at a board whose ledgers are those of `C`.
@@ -251,17 +332,24 @@ fn serve<
     requires parts { (blanks.client.parts ≡ 1) × (blanks.took.parts ≡ C.parts) × (blanks.returned.parts ≡ C.parts) × (blanks.finished.parts ≡ C.parts) × (blanks.sent.parts ≡ 1) }
     requires workers { (workers ≡ C.workers) × (workers ≡ C.parts) × (0 < workers) × (workers ≤ 8) }
     requires journal { (0 < max_journal) × (max_journal ≤ 1000000) }
+    requires limits { (C.max_journal ≡ max_journal) × (C.max_events ≡ MOST_EVENTS) }
     requires none { I.reads source ≡ 0 }
     requires source { I.failed source ≡ false }
     requires sink { W.failed sink ≡ false }
-    ensures read { HasReadCause (λ source. I.failed source || (I.reads source + 1 == 1099511627776)) result.source result.answer }
-    ensures write { HasWriteCause (λ sink. W.failed sink) result.sink result.answer }
+    ensures read { result.answer ≡ Err ServeFault.Read → (I.failed result.source || (I.reads result.source + 1 == 1099511627776)) ≡ true }
+    ensures write { result.answer ≡ Err ServeFault.Write → W.failed result.sink ≡ true }
+    ensures served { OnOk result.answer (IsServed max_journal MOST_EVENTS (W.contents sink) (W.contents result.sink)) }
 {
     let desk = Desk::new(alloc, max_journal, MOST_EVENTS);
     let Ok((board, client, writer, seats)) = Board::<C>::new(alloc, blanks, MARK, desk, workers)
     else {
-        return handed_back(Err(ServeFault::Memory), source, sink);
+        return Served {
+            answer: Err(ServeFault::Memory),
+            source,
+            sink,
+        };
     };
+    let begun = Snapshot::of(&sink);
     let session = Session::new(alloc);
     let reader = Reader {
         alloc,
@@ -271,21 +359,15 @@ fn serve<
     let halted = AtomicU64::new(0);
     let unread = Unread { reader, source };
     let writer = Writer { seat: writer, sink };
-    match run_threads(rt, alloc, &board, unread, writer, seats, gate, &halted) {
-        Some(ran) => closed(alloc, board, ran),
-        None => Served {
-            answer: Err(ServeFault::Memory),
-            source: None,
-            sink: None,
-        },
-    }
+    let ran = run_threads(rt, alloc, &board, unread, writer, seats, gate, &halted);
+    closed(alloc, board, begun, ran)
 }
 
 /// Serves one client with 1 to 8 workers, each in a thread of its own, and gives the source and the sink back.
 ///
-/// The answer is `Ok` only where the board was closed, and its journal is what the seats were told. `Read`: the source failed, or was read one
-/// time less than [`ls_server::READS_END`]. `Write`: the sink failed. `Strayed`: the board wasn't closed, or the desk didn't know what ran. `Memory`: an
-/// allocation was refused, or a thread couldn't be made; then source and sink are gone with the threads.
+/// The answer is `Ok` only where the board was closed, and its journal is what the seats were told; what was written are then the frames of the
+/// replies that left. `Read`: the source failed, or was read one time less than [`ls_server::READS_END`]. `Write`: the sink failed. `Strayed`: the
+/// board wasn't closed, or the desk didn't know what ran. `Memory`: an allocation was refused, or a thread couldn't be made.
 ///
 /// Each worker passes the gate between the take of a job and its run.
 pub fn serve_threads<
@@ -298,8 +380,9 @@ pub fn serve_threads<
     requires none { I.reads source ≡ 0 }
     requires source { I.failed source ≡ false }
     requires sink { W.failed sink ≡ false }
-    ensures read { HasReadCause (λ source. I.failed source || (I.reads source + 1 == 1099511627776)) result.source result.answer }
-    ensures write { HasWriteCause (λ sink. W.failed sink) result.sink result.answer }
+    ensures read { result.answer ≡ Err ServeFault.Read → (I.failed result.source || (I.reads result.source + 1 == 1099511627776)) ≡ true }
+    ensures write { result.answer ≡ Err ServeFault.Write → W.failed result.sink ≡ true }
+    ensures served { OnOk result.answer (IsServed MOST_JOURNAL MOST_EVENTS (W.contents sink) (W.contents result.sink)) }
 {
     serve_with_journal(rt, alloc, source, sink, workers, gate, MOST_JOURNAL)
 }
@@ -324,8 +407,9 @@ pub fn serve_with_journal<
     requires none { I.reads source ≡ 0 }
     requires source { I.failed source ≡ false }
     requires sink { W.failed sink ≡ false }
-    ensures read { HasReadCause (λ source. I.failed source || (I.reads source + 1 == 1099511627776)) result.source result.answer }
-    ensures write { HasWriteCause (λ sink. W.failed sink) result.sink result.answer }
+    ensures read { result.answer ≡ Err ServeFault.Read → (I.failed result.source || (I.reads result.source + 1 == 1099511627776)) ≡ true }
+    ensures write { result.answer ≡ Err ServeFault.Write → W.failed result.sink ≡ true }
+    ensures served { OnOk result.answer (IsServed max_journal MOST_EVENTS (W.contents sink) (W.contents result.sink)) }
 {
     serve::<Brand, R, I, W, G>(
         rt,

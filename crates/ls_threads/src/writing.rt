@@ -1,6 +1,9 @@
 //! What the writer's thread does.
-ghost use Rattle.std.specs.Prelude.{◌≡◌, false};
+ghost use Rattle.std.specs.Prelude.{◌≡◌, [], false};
+ghost use Rattle.std.specs.Io.KnownBytes.{Appends};
+ghost use Rattle.ls_server.specs.Runs.{AppendsFront};
 ghost use Rattle.ls_threads.specs.Ends.{has_failed};
+ghost use Rattle.ls_threads.specs.Writing.{HasTold, HasWritten, frame_for};
 
 use crate::ending::Wrote;
 use crate::halt::halt;
@@ -9,8 +12,10 @@ use ls_server::{Sink, write_all};
 use ls_steps::framed;
 use ls_workers::{Board, Crew, WriterSeat};
 use std::alloc::Global;
+use std::snapshot::Snapshot;
 use std::sync::Wait;
 use std::sync::atomic::AtomicU64;
+use std::thread::Promise;
 
 /// The writer's seat, and its sink.
 #[derive(Drop)]
@@ -29,10 +34,20 @@ pub struct Written<C: Crew, W: Sink> {
     pub ghost failed: { W.failed sink ≡ has_failed end },
 }
 
-/// Writes the frame of a reply, and hands it on.
+/// What a writer's thread promises of a sink that it was given: what it wrote there are the frames of the replies that its seat was given.
+#[derive(Drop)]
+pub struct Writes<W>(pub Snapshot<W>);
+
+impl<C: Crew, W: Sink> Promise<Written<C, W>> for Writes<W> {
+    ghost kept_by = { λ promise left. HasWritten (W.contents promise.0.value) (W.contents left.sink) left.end left.seat.sent.share.amount left.seat.tickets.items };
+}
+
+/// Writes the frame of a reply, and hands it on. `All`: all of it was written and handed on. Else a front of it was written.
 pub fn put<W: Sink>(alloc: Global, sink: &mut W, out: Out) -> Wrote
     requires { W.failed sink.old ≡ false }
-    ensures { W.failed sink.new ≡ has_failed result }
+    ensures failed { W.failed sink.new ≡ has_failed result }
+    ensures all { result ≡ Wrote.All → Appends (W.contents sink.old) (W.contents sink.new) (frame_for out) }
+    ensures front { AppendsFront (W.contents sink.old) (W.contents sink.new) (frame_for out) }
 {
     let Ok(frame) = framed(alloc, out) else {
         return Wrote::Memory;
@@ -56,11 +71,14 @@ impl<C: Crew, W: Sink> Writer<C, W> {
         alloc: Global,
         board: &Board<C>,
         halted: &AtomicU64,
-    ) -> Written<C, W> {
+    ) -> Written<C, W>
+        requires none { (self.seat.sent.share.amount ≡ 0) × (self.seat.tickets.items ≡ []) }
+        ensures { HasWritten (W.contents self.sink) (W.contents result.sink) result.end result.seat.sent.share.amount result.seat.tickets.items }
+    {
         let Writer { mut seat, mut sink } = self;
         for _ in rt.forever() {
-            let end = match board.next_out(rt, &mut seat) {
-                Ok(Some(out)) => put(alloc, &mut sink, out),
+            let out = match board.next_out(rt, &mut seat) {
+                Ok(Some(out)) => out,
                 Ok(None) => {
                     return Written {
                         seat,
@@ -68,8 +86,16 @@ impl<C: Crew, W: Sink> Writer<C, W> {
                         end: Wrote::All,
                     };
                 }
-                Err(_) => Wrote::Memory,
+                Err(_) => {
+                    halt(rt, board, halted);
+                    return Written {
+                        seat,
+                        sink,
+                        end: Wrote::Memory,
+                    };
+                }
             };
+            let end = put(alloc, &mut sink, out);
             match end {
                 Wrote::All => {}
                 Wrote::Failed | Wrote::Memory => {
@@ -82,10 +108,11 @@ impl<C: Crew, W: Sink> Writer<C, W> {
     }
 }
 
-/// Writes what a closed board's desk still has unsent.
+/// Writes what a closed board's desk still has unsent. `All`: all of it was written.
 pub fn write_rest<W: Sink>(alloc: Global, desk: &mut Desk, sink: &mut W) -> Wrote
     requires { W.failed sink.old ≡ false }
-    ensures { W.failed sink.new ≡ has_failed result }
+    ensures failed { W.failed sink.new ≡ has_failed result }
+    ensures all { result ≡ Wrote.All → HasTold desk.old desk.new (W.contents sink.old) (W.contents sink.new) × (desk.new.outbox ≡ []) }
 {
     'replies: while let Some(out) = desk.next_out() {
         match put(alloc, sink, out) {

@@ -1,14 +1,18 @@
 //! What lies behind the lock.
-ghost use Rattle.std.specs.Prelude.{◌≡◌, ◌+◌, ◌++◌, ◌∷◌, ◌<◌, ◌⊎◌, [], IfOk, IfErr, OnOk, OnErr, IfNone, IfSome, OnSome, None, find, vec_len, vec_capacity, true, false};
+ghost use Rattle.std.specs.Prelude.{◌≡◌, ◌+◌, ◌++◌, ◌∷◌, ◌<◌, ◌⊎◌, [], IfOk, IfErr, OnOk, OnErr, IfNone, IfSome, OnSome, None, Some, find, vec_len, vec_capacity, true, false};
 ghost use Rattle.ls_machine.specs.Machine.{is_queued, waits};
 ghost use Rattle.ls_desk.specs.Stands.{Sends, state_of, ticket_of_out};
 ghost use Rattle.ls_workers.specs.Count.{Counts};
 ghost use Rattle.ls_machine.specs.Client.{HasSmallText, IsAllowed, note_of, is_too_long};
+ghost use Rattle.ls_desk.specs.Faults.{Refuses, Takes, take_fault, give_back_fault, finish_fault};
+ghost use Rattle.ls_workers.specs.Jobs.{Finishes, HasLimits, Returns};
+ghost use Rattle.ls_workers.specs.Refusals.{RefusesEvent, client_fault, is_shortage, may_refuse, may_refuse_return, may_refuse_run};
 ghost use Rattle.ls_workers.specs.Seats.{Heard, tickets_since};
 ghost use Rattle.ls_workers.specs.Ends.{is_over, ended_by, has_job, has_news};
 
 use crate::calls::{enter, finish, give_back, is_long, next_out, strays, take};
-use crate::ledgers::{Ledgers, OfClient, OfFinished, OfReturned, OfSent, OfTook};
+use crate::ledgers::{Crew, OfClient, OfFinished, OfReturned, OfSent, OfTook};
+use crate::lists::write_event;
 use crate::notes::filled;
 use crate::seats::{ClientSeat, WorkerSeat, WriterSeat};
 use ls_answers::{Done, Job};
@@ -34,9 +38,10 @@ pub enum SeatFault {
     Strayed(Desk),
 }
 
-/// The desk, a book for each kind of event, which has the number of that kind over the session, and how the board ends.
+/// The desk, which has the limits of the board's, a book for each kind of event, which has the number of that kind over the session, and how
+/// the board ends.
 #[derive(Drop)]
-pub struct Behind<C: Ledgers> {
+pub struct Behind<C: Crew> {
     pub desk: Desk,
     pub asked: Book<OfClient<C>>,
     pub took: Book<OfTook<C>>,
@@ -45,9 +50,10 @@ pub struct Behind<C: Ledgers> {
     pub sent: Book<OfSent<C>>,
     pub stop: Option<Stop>,
     pub ghost counts: { Counts asked.total took.total returned.total finished.total sent.total desk },
+    pub ghost limits: { HasLimits C.max_journal C.max_events desk },
 }
 
-impl<C: Ledgers> Behind<C> {
+impl<C: Crew> Behind<C> {
     /// Ends the board, unless it has ended at once.
     pub fn stop(&mut self, stop: Stop)
         ensures stop { self.new.stop ≡ ended_by self.old.stop stop }
@@ -113,6 +119,8 @@ impl<C: Ledgers> Behind<C> {
         ensures err { OnErr result ((seat.new.asked.share.amount ≡ seat.old.asked.share.amount) × (seat.new.list.items ≡ seat.old.list.items)
             × (seat.new.checkpoints ≡ seat.old.checkpoints) × (seat.new.strayed ≡ seat.old.strayed)) }
         ensures same { OnErr result ((self.new.desk ≡ self.old.desk) × (self.new.asked.total ≡ self.old.asked.total)) }
+        ensures cause { IfErr result (λ fault. RefusesEvent (client_fault self.old.desk event) self.old.desk self.new.desk fault) }
+        ensures refused { IfErr result (λ fault. may_refuse event fault ≡ true) }
         ensures mark { seat.new.mark ≡ seat.old.mark }
     {
         let Behind { desk, asked, .. } = self;
@@ -122,28 +130,27 @@ impl<C: Ledgers> Behind<C> {
         let _counts = desk.counts();
         let Some(note) = note else { unreachable!() };
         seat.asked.one_more(asked);
-        if long {
-            seat.list.clear();
-            seat.checkpoints = desk.checkpoints();
-            seat.strayed = seat.strayed || strays;
-        }
-        seat.list.push_reserved(filled(note, answer));
+        write_event(seat, long, desk.checkpoints(), strays, filled(note, answer));
         Ok(answer)
     }
 
-    /// Takes the first queued job. `None` where the board has ended at once, or where none is queued.
+    /// Takes the first queued job. `None` where the board has ended at once, or where none is queued, which takes no memory.
     pub fn take(&mut self, seat: &mut WorkerSeat<C>) -> Result<Option<Job>, DeskFault>
         ensures some { IfOk result (λ job. OnSome job (seat.new.took.share.amount ≡ seat.old.took.share.amount + 1)) }
+        ensures takes { IfOk result (λ job. IfSome job (λ taken. Takes seat.old.number self.old.desk self.new.desk (Some taken))) }
+        ensures free { ((is_over self.old.stop ≡ true) ⊎ (find is_queued (state_of self.old.desk).waiting ≡ None)) → result ≡ Ok None }
         ensures journal { IfOk result (λ job. OnSome job (self.new.desk.journal ≡ self.old.desk.journal ++ Event.Took seat.old.number ∷ [])) }
         ensures none { IfOk result (λ job. IfNone job (seat.new.took.share.amount ≡ seat.old.took.share.amount)) }
         ensures nothing { IfOk result (λ job. IfNone job ((self.new.desk ≡ self.old.desk) × (self.new.took.total ≡ self.old.took.total)
             × ((is_over self.old.stop ≡ true) ⊎ (find is_queued (state_of self.old.desk).waiting ≡ None)))) }
         ensures err { OnErr result (seat.new.took.share.amount ≡ seat.old.took.share.amount) }
         ensures same { OnErr result ((self.new.desk ≡ self.old.desk) × (self.new.took.total ≡ self.old.took.total)) }
+        ensures cause { IfErr result (λ fault. Refuses (take_fault self.old.desk) self.old.desk self.new.desk fault) }
+        ensures refused { IfErr result (λ fault. is_shortage fault ≡ true) }
         ensures others { (seat.new.returned.share.amount ≡ seat.old.returned.share.amount) × (seat.new.finished.share.amount ≡ seat.old.finished.share.amount) }
         ensures kept { (seat.new.mark ≡ seat.old.mark) × (seat.new.number ≡ seat.old.number) }
     {
-        if self.is_over() {
+        if self.is_over() || !self.desk.has_queued() {
             return Ok(None);
         }
         let Behind { desk, took, .. } = self;
@@ -158,9 +165,12 @@ impl<C: Ledgers> Behind<C> {
     /// Gives a job back that wasn't run.
     pub fn give_back(&mut self, seat: &mut WorkerSeat<C>, ticket: u64) -> Result<(), DeskFault>
         ensures ok { OnOk result (seat.new.returned.share.amount ≡ seat.old.returned.share.amount + 1) }
+        ensures returns { OnOk result (Returns ticket self.old.desk self.new.desk) }
         ensures journal { OnOk result (self.new.desk.journal ≡ self.old.desk.journal ++ Event.Returned ticket ∷ []) }
         ensures err { OnErr result (seat.new.returned.share.amount ≡ seat.old.returned.share.amount) }
         ensures same { OnErr result ((self.new.desk ≡ self.old.desk) × (self.new.returned.total ≡ self.old.returned.total)) }
+        ensures cause { IfErr result (λ fault. Refuses (give_back_fault self.old.desk ticket) self.old.desk self.new.desk fault) }
+        ensures refused { IfErr result (λ fault. may_refuse_return fault ≡ true) }
         ensures others { (seat.new.took.share.amount ≡ seat.old.took.share.amount) × (seat.new.finished.share.amount ≡ seat.old.finished.share.amount) }
         ensures kept { (seat.new.mark ≡ seat.old.mark) × (seat.new.number ≡ seat.old.number) }
     {
@@ -178,8 +188,11 @@ impl<C: Ledgers> Behind<C> {
         done: Done,
     ) -> Result<Kept, (DeskFault, Done)>
         ensures ok { OnOk result (seat.new.finished.share.amount ≡ seat.old.finished.share.amount + 1) }
+        ensures finishes { IfOk result (λ kept. Finishes done kept self.old.desk self.new.desk) }
         ensures err { IfErr result (λ refused. (seat.new.finished.share.amount ≡ seat.old.finished.share.amount) × (refused.1 ≡ done)) }
         ensures same { OnErr result ((self.new.desk ≡ self.old.desk) × (self.new.finished.total ≡ self.old.finished.total)) }
+        ensures cause { IfErr result (λ refused. Refuses (finish_fault self.old.desk done) self.old.desk self.new.desk refused.0) }
+        ensures refused { IfErr result (λ refused. may_refuse_run refused.0 ≡ true) }
         ensures others { (seat.new.took.share.amount ≡ seat.old.took.share.amount) × (seat.new.returned.share.amount ≡ seat.old.returned.share.amount) }
         ensures kept { (seat.new.mark ≡ seat.old.mark) × (seat.new.number ≡ seat.old.number) }
     {
@@ -229,7 +242,8 @@ impl<C: Ledgers> Behind<C> {
     ) -> Desk
         requires one { (asked.old.parts ≡ 1) × (sent.old.parts ≡ 1) }
         requires all { (took.old.parts ≡ C.parts) × (returned.old.parts ≡ C.parts) × (finished.old.parts ≡ C.parts) }
-        ensures { Counts asked.old.amount took.old.amount returned.old.amount finished.old.amount sent.old.amount result }
+        ensures counts { Counts asked.old.amount took.old.amount returned.old.amount finished.old.amount sent.old.amount result }
+        ensures limits { HasLimits C.max_journal C.max_events result }
     {
         self.asked.audit(asked);
         self.took.audit(took);

@@ -1,8 +1,10 @@
 //! The board, and the calls of its seats.
-ghost use Rattle.std.specs.Prelude.{◌≡◌, ◌+◌, ◌<◌, ◌≤◌, ◌++◌, ◌∷◌, [], IfOk, IfErr, OnOk, OnErr, IfNone, IfSome, OnSome, vec_len, sum_by, false};
+ghost use Rattle.std.specs.Prelude.{◌≡◌, ◌+◌, ◌<◌, ◌≤◌, ◌++◌, ◌∷◌, [], IfOk, IfErr, OnOk, OnErr, IfNone, IfSome, OnSome, vec_len, sum_by, false, true};
 ghost use Rattle.ls_desk.specs.Stands.{ticket_of_out};
 ghost use Rattle.ls_workers.specs.Count.{Counts};
 ghost use Rattle.ls_workers.specs.Ends.{Leaves};
+ghost use Rattle.ls_workers.specs.Jobs.{HasLimits, IsFinished, IsReturned, IsTaken};
+ghost use Rattle.ls_workers.specs.Refusals.{is_shortage, may_refuse, may_refuse_return, may_refuse_run};
 ghost use Rattle.ls_workers.specs.Seats.{Agrees, AreAll, HasCause, IsHeard, tickets_since};
 ghost use Rattle.ls_machine.specs.Client.{IsAllowed};
 
@@ -38,7 +40,7 @@ impl<C: Crew> Board<C> {
     /// A board over a desk on which nothing has happened, with its seats: the client's, the writer's, and those of 1 to 8 workers in the
     /// order of their numbers.
     ///
-    /// `Memory` says that an allocation was refused.
+    /// The limits of the desk are those of `C`. `Memory` says that an allocation was refused.
     pub fn new(
         alloc: Global,
         blanks: Blanks,
@@ -50,6 +52,7 @@ impl<C: Crew> Board<C> {
         requires parts { (blanks.client.parts ≡ 1) × (blanks.took.parts ≡ C.parts) × (blanks.returned.parts ≡ C.parts) × (blanks.finished.parts ≡ C.parts) × (blanks.sent.parts ≡ 1) }
         requires workers { (workers ≡ C.workers) × (workers ≡ C.parts) × (0 < workers) × (workers ≤ 8) }
         requires empty { desk.journal ≡ [] }
+        requires limits { HasLimits C.max_journal C.max_events desk }
         ensures client { IfOk result (λ made. (made.1.mark ≡ mark) × (made.1.asked.share.amount ≡ 0) × (made.1.list.items ≡ []) × (made.1.checkpoints ≡ 0) × (made.1.strayed ≡ false)) }
         ensures writer { IfOk result (λ made. (made.2.mark ≡ mark) × (made.2.sent.share.amount ≡ 0) × (made.2.tickets.items ≡ []) × (made.2.checkpoints ≡ 0)) }
         ensures workers { IfOk result (λ made. AreAll (λ seat. seat.mark) (λ seat. seat.number) mark workers made.3.items) }
@@ -95,7 +98,8 @@ impl<C: Crew> Board<C> {
     /// it, and the seat remembers whether its list wasn't the journal's. What it needs memory for in the seat it makes before it takes the
     /// lock, and the text of a document that is opened: the desk shares that text with the note.
     ///
-    /// It waits for the lock alone. The faults are those of the desk's call; after one the seat is as it was.
+    /// It waits for the lock alone. The faults are those of the event's own call at the desk, `SessionFull` and `Memory`; after one the seat
+    /// is as it was.
     pub fn client(
         &self,
         rt: &impl Wait,
@@ -109,6 +113,7 @@ impl<C: Crew> Board<C> {
             (record { list = seat.new.list.items; checkpoints = seat.new.checkpoints; strayed = seat.new.strayed })) }
         ensures err { OnErr result ((seat.new.asked.share.amount ≡ seat.old.asked.share.amount) × (seat.new.list.items ≡ seat.old.list.items)
             × (seat.new.checkpoints ≡ seat.old.checkpoints) × (seat.new.strayed ≡ seat.old.strayed)) }
+        ensures refused { IfErr result (λ fault. may_refuse event fault ≡ true) }
         ensures mark { seat.new.mark ≡ seat.old.mark }
     {
         let note = note_of(*seat.list.allocator(), &event)?;
@@ -124,8 +129,10 @@ impl<C: Crew> Board<C> {
     /// The faults are `SessionFull` and `Memory`; after one the seat is as it was.
     pub fn take(&self, rt: &impl Wait, seat: &mut WorkerSeat<C>) -> Result<Option<Job>, DeskFault>
         ensures some { IfOk result (λ job. OnSome job (seat.new.took.share.amount ≡ seat.old.took.share.amount + 1)) }
+        ensures own { IfOk result (λ job. IfSome job (λ taken. IsTaken seat.old.number taken)) }
         ensures none { IfOk result (λ job. IfNone job (seat.new.took.share.amount ≡ seat.old.took.share.amount)) }
         ensures err { OnErr result (seat.new.took.share.amount ≡ seat.old.took.share.amount) }
+        ensures refused { IfErr result (λ fault. is_shortage fault ≡ true) }
         ensures others { (seat.new.returned.share.amount ≡ seat.old.returned.share.amount) × (seat.new.finished.share.amount ≡ seat.old.finished.share.amount) }
         ensures kept { (seat.new.mark ≡ seat.old.mark) × (seat.new.number ≡ seat.old.number) }
     {
@@ -146,7 +153,9 @@ impl<C: Crew> Board<C> {
         ticket: u64,
     ) -> Result<(), DeskFault>
         ensures ok { OnOk result (seat.new.returned.share.amount ≡ seat.old.returned.share.amount + 1) }
+        ensures own { OnOk result (IsReturned ticket) }
         ensures err { OnErr result (seat.new.returned.share.amount ≡ seat.old.returned.share.amount) }
+        ensures refused { IfErr result (λ fault. may_refuse_return fault ≡ true) }
         ensures others { (seat.new.took.share.amount ≡ seat.old.took.share.amount) × (seat.new.finished.share.amount ≡ seat.old.finished.share.amount) }
         ensures kept { (seat.new.mark ≡ seat.old.mark) × (seat.new.number ≡ seat.old.number) }
     {
@@ -165,7 +174,9 @@ impl<C: Crew> Board<C> {
         done: Done,
     ) -> Result<Kept, (DeskFault, Done)>
         ensures ok { OnOk result (seat.new.finished.share.amount ≡ seat.old.finished.share.amount + 1) }
+        ensures own { IfOk result (λ kept. IsFinished done kept) }
         ensures err { IfErr result (λ refused. (seat.new.finished.share.amount ≡ seat.old.finished.share.amount) × (refused.1 ≡ done)) }
+        ensures refused { IfErr result (λ refused. may_refuse_run refused.0 ≡ true) }
         ensures others { (seat.new.took.share.amount ≡ seat.old.took.share.amount) × (seat.new.returned.share.amount ≡ seat.old.returned.share.amount) }
         ensures kept { (seat.new.mark ≡ seat.old.mark) × (seat.new.number ≡ seat.old.number) }
     {
@@ -210,7 +221,7 @@ impl<C: Crew> Board<C> {
         self.changed.notify_all();
     }
 
-    /// Takes all seats back, and gives the desk. There were as many events of each kind as the seats counted, and its journal has the client's
+    /// Takes all seats back, and gives the desk, which has the limits of the one that the board was made over. There were as many events of each kind as the seats counted, and its journal has the client's
     /// events since the last checkpoint with the answers that its seat was given, and the tickets that the writer's seat was given since.
     ///
     /// `SeatMissing`: a seat isn't of this board, or not all workers' are here. `Strayed`: the seats are all here, and the journal isn't what
@@ -229,11 +240,12 @@ impl<C: Crew> Board<C> {
             writer.sent.share.amount desk) }
         ensures agrees { IfOk result (λ desk. Agrees desk.journal client.list.items (tickets_since desk.base.checkpoints writer.checkpoints writer.tickets.items)) }
         ensures strayed { OnOk result (client.strayed ≡ false) }
+        ensures limits { IfOk result (λ desk. HasLimits C.max_journal C.max_events desk) }
         ensures err { IfErr result (λ fault. HasCause ((client.mark ≡ self.mark) × (writer.mark ≡ self.mark)
             × AreAll (λ seat. seat.mark) (λ seat. seat.number) self.mark self.workers workers.items)
             (λ desk. Counts client.asked.share.amount (sum_by (λ seat. seat.took.share.amount) workers.items)
             (sum_by (λ seat. seat.returned.share.amount) workers.items) (sum_by (λ seat. seat.finished.share.amount) workers.items)
-            writer.sent.share.amount desk)
+            writer.sent.share.amount desk × HasLimits C.max_journal C.max_events desk)
             (record { list = client.list.items; checkpoints = client.checkpoints; strayed = client.strayed }) writer.checkpoints writer.tickets.items fault) }
     {
         let own = client.mark == self.mark && writer.mark == self.mark;

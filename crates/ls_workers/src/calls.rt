@@ -1,7 +1,7 @@
 //! The desk's calls, by what they enter into its journal.
 //!
 //! What lies behind the lock counts the events of a session, and needs no more of a desk than this.
-ghost use Rattle.std.specs.Prelude.{◌≡◌, ◌↔◌, ◌++◌, ◌∷◌, [], IfOk, IfErr, IfNone, IfSome, OnOk, OnErr, OnSome, IsTrue, find, Some, None, false};
+ghost use Rattle.std.specs.Prelude.{◌≡◌, ◌↔◌, ◌++◌, ◌∷◌, [], IfOk, IfErr, IfNone, IfSome, OnOk, OnErr, OnSome, IsTrue, find, Some, None, false, true};
 ghost use Rattle.std.specs.Str.{chars};
 ghost use Rattle.ls_workers.specs.Count.{Adds};
 ghost use Rattle.ls_machine.specs.Client.{HasSmallText, Notes, IsAllowed, entry_of, filled, note_of, is_too_long};
@@ -9,6 +9,9 @@ ghost use Rattle.ls_machine.specs.Machine.{is_queued};
 ghost use Rattle.ls_machine.specs.Counts.{no_events};
 ghost use Rattle.ls_desk.specs.Anew.{base_after, journal_after};
 ghost use Rattle.ls_desk.specs.Stands.{Sends, counts_of, fresh, is_long, state_of};
+ghost use Rattle.ls_desk.specs.Faults.{Refuses, Takes, open_fault, take_fault, give_back_fault, finish_fault};
+ghost use Rattle.ls_workers.specs.Jobs.{Finishes, HasLimits, Returns};
+ghost use Rattle.ls_workers.specs.Refusals.{RefusesEvent, client_fault, is_shortage, may_refuse, may_refuse_return, may_refuse_run};
 ghost use Rattle.ls_workers.specs.Seats.{Strays};
 
 use crate::agree::same_events;
@@ -53,8 +56,10 @@ fn open(
     ensures ok { IfOk result (λ version. desk.new.journal ≡ journal_after (fresh desk.old) desk.old.journal ++ Event.Opened uri label (chars text) encoding version ∷ []) }
     ensures base { OnOk result (desk.new.base ≡ base_after (fresh desk.old) (counts_of desk.old) desk.old.base) }
     ensures counts { OnOk result (Adds 1 0 0 0 0 desk.old desk.new) }
+    ensures limits { OnOk result (HasLimits desk.old.max_journal desk.old.max_events desk.new) }
     ensures fits { OnOk result (is_too_long (ClientEvent.DidOpen uri label text encoding) ≡ false) }
     ensures err { OnErr result (desk.new ≡ desk.old) }
+    ensures cause { IfErr result (λ fault. RefusesEvent (open_fault desk.old uri text) desk.old desk.new fault) }
 {
     match note {
         Some(Event::Opened { text, .. }) => desk.open_shared(uri, label, text.again()?, encoding),
@@ -73,9 +78,12 @@ pub fn enter(
     ensures ok { IfOk result (λ answer. Notes event answer (journal_after (fresh desk.old) desk.old.journal) desk.new.journal) }
     ensures base { OnOk result (desk.new.base ≡ base_after (fresh desk.old) (counts_of desk.old) desk.old.base) }
     ensures counts { OnOk result (Adds 1 0 0 0 0 desk.old desk.new) }
+    ensures limits { OnOk result (HasLimits desk.old.max_journal desk.old.max_events desk.new) }
     ensures told { IfOk result (λ answer. entry_of event answer ≡ Some (filled (note_of event) answer)) }
     ensures fits { OnOk result (is_too_long event ≡ false) }
     ensures err { OnErr result (desk.new ≡ desk.old) }
+    ensures cause { IfErr result (λ fault. RefusesEvent (client_fault desk.old event) desk.old desk.new fault) }
+    ensures refused { IfErr result (λ fault. may_refuse event fault ≡ true) }
 {
     match event {
         ClientEvent::DidOpen(uri, label, text, encoding) => {
@@ -111,9 +119,13 @@ pub fn enter(
 /// Takes the first queued job.
 pub fn take(desk: &mut Desk, worker: u32) -> Result<Option<Job>, DeskFault>
     ensures some { IfOk result (λ job. OnSome job (desk.new.journal ≡ desk.old.journal ++ Event.Took worker ∷ [])) }
+    ensures takes { IfOk result (λ job. Takes worker desk.old desk.new job) }
     ensures counts { IfOk result (λ job. OnSome job (Adds 0 1 0 0 0 desk.old desk.new)) }
+    ensures limits { IfOk result (λ job. OnSome job (HasLimits desk.old.max_journal desk.old.max_events desk.new)) }
     ensures none { IfOk result (λ job. IfNone job ((desk.new ≡ desk.old) × (find is_queued (state_of desk.old).waiting ≡ None))) }
     ensures err { OnErr result (desk.new ≡ desk.old) }
+    ensures cause { IfErr result (λ fault. Refuses (take_fault desk.old) desk.old desk.new fault) }
+    ensures refused { IfErr result (λ fault. is_shortage fault ≡ true) }
 {
     desk.take(worker)
 }
@@ -121,17 +133,25 @@ pub fn take(desk: &mut Desk, worker: u32) -> Result<Option<Job>, DeskFault>
 /// Gives a job back that wasn't run.
 pub fn give_back(desk: &mut Desk, ticket: u64) -> Result<(), DeskFault>
     ensures ok { OnOk result (desk.new.journal ≡ desk.old.journal ++ Event.Returned ticket ∷ []) }
+    ensures returns { OnOk result (Returns ticket desk.old desk.new) }
     ensures counts { OnOk result (Adds 0 0 1 0 0 desk.old desk.new) }
+    ensures limits { OnOk result (HasLimits desk.old.max_journal desk.old.max_events desk.new) }
     ensures err { OnErr result (desk.new ≡ desk.old) }
+    ensures cause { IfErr result (λ fault. Refuses (give_back_fault desk.old ticket) desk.old desk.new fault) }
+    ensures refused { IfErr result (λ fault. may_refuse_return fault ≡ true) }
 {
     desk.give_back(ticket)
 }
 
 /// Brings a job back that has run.
 pub fn finish(desk: &mut Desk, done: Done) -> Result<Kept, (DeskFault, Done)>
-    ensures ok { OnOk result (Adds 0 0 0 1 0 desk.old desk.new) }
+    ensures finishes { IfOk result (λ kept. Finishes done kept desk.old desk.new) }
+    ensures counts { OnOk result (Adds 0 0 0 1 0 desk.old desk.new) }
+    ensures limits { OnOk result (HasLimits desk.old.max_journal desk.old.max_events desk.new) }
     ensures same { OnErr result (desk.new ≡ desk.old) }
     ensures done { IfErr result (λ refused. refused.1 ≡ done) }
+    ensures cause { IfErr result (λ refused. Refuses (finish_fault desk.old done) desk.old desk.new refused.0) }
+    ensures refused { IfErr result (λ refused. may_refuse_run refused.0 ≡ true) }
 {
     desk.finish(done)
 }
@@ -140,6 +160,7 @@ pub fn finish(desk: &mut Desk, done: Done) -> Result<Kept, (DeskFault, Done)>
 pub fn next_out(desk: &mut Desk) -> Option<Out>
     ensures some { IfSome result (λ out. Sends desk.old desk.new out) }
     ensures counts { OnSome result (Adds 0 0 0 0 1 desk.old desk.new) }
+    ensures limits { OnSome result (HasLimits desk.old.max_journal desk.old.max_events desk.new) }
     ensures base { OnSome result (desk.new.base ≡ desk.old.base) }
     ensures none { IfNone result ((desk.new ≡ desk.old) × (desk.old.outbox ≡ [])) }
 {

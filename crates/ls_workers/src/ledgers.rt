@@ -41,16 +41,26 @@ impl Ledgers for Brand {
     ghost parts = { 0 };
 }
 
-/// The ledgers of a board, and how many workers it has.
+/// The ledgers of a board, how many workers it has, and the limits of its desk.
 ///
-/// The number stands here once more beside `parts`, which no field beside a token of these ledgers can name.
+/// The number of workers stands here once more beside `parts`, which no field beside a token of these ledgers can name.
 pub trait Crew: Ledgers {
     /// How many workers the board has.
     ghost workers: { ℕ };
+
+    /// How many events the journal of its desk may have where a client's event comes to it.
+    ghost max_journal: { ℕ };
+
+    /// How many events and unsent replies its desk may have together.
+    ghost max_events: { ℕ };
 }
 
 impl Crew for Brand {
     ghost workers = { 0 };
+
+    ghost max_journal = { 0 };
+
+    ghost max_events = { 0 };
 }
 
 /// The ledger of the client's events. It is whole: one seat has all of it.

@@ -22,6 +22,7 @@ mod board;
 mod calls;
 mod crew;
 mod ledgers;
+mod lists;
 mod notes;
 mod same;
 mod seats;

@@ -1,5 +1,6 @@
 //! What a worker does.
-ghost use Rattle.std.specs.Prelude.{◌≡◌};
+ghost use Rattle.std.specs.Prelude.{◌≡◌, IfSome, true};
+ghost use Rattle.ls_workers.specs.Refusals.{ends_work};
 
 use crate::board::Board;
 use crate::ledgers::Crew;
@@ -27,7 +28,8 @@ pub fn work<C: Crew, R: Wait, G: Gate>(
     seat: WorkerSeat<C>,
     gate: &G,
 ) -> (WorkerSeat<C>, Option<DeskFault>)
-    ensures { (result.0.mark ≡ seat.mark) × (result.0.number ≡ seat.number) }
+    ensures seat { (result.0.mark ≡ seat.mark) × (result.0.number ≡ seat.number) }
+    ensures ended { IfSome result.1 (λ fault. ends_work fault ≡ true) }
 {
     let mut seat = seat;
     for _ in rt.forever() {

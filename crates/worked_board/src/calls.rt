@@ -1,6 +1,7 @@
 //! What the client, the workers and the writer do, with plain arguments. All are about one document.
-ghost use Rattle.std.specs.Prelude.{◌≡◌, ◌<◌, ◌≤◌, [], IfOk};
+ghost use Rattle.std.specs.Prelude.{◌≡◌, ◌+◌, ◌<◌, ◌≤◌, [], IfOk, nat_lt, if◌then◌else◌};
 ghost use Rattle.ls_machine.specs.Client.{IsAllowed};
+ghost use Rattle.ls_workers.specs.Jobs.{HasLimits};
 
 use abnf_least::Shortest;
 use ls_answers::{Answer, Ask, Done, run};
@@ -35,7 +36,8 @@ pub(crate) fn opening(alloc: Global) -> Result<ClientEvent, AllocError>
 
 // How many events a journal may have before it begins anew: 1 to 4, and then as many as it may have at all.
 fn longest(number: usize) -> usize
-    ensures { (0 < result) × (result ≤ 1000000) }
+    ensures within { (0 < result) × (result ≤ 1000000) }
+    ensures is { result ≡ (if nat_lt number 4 then number + 1 else 1000000) }
 {
     if number < 4 { number + 1 } else { 1_000_000 }
 }
@@ -48,7 +50,8 @@ pub(crate) const LAST: usize = 4;
 
 /// One of these desks, on which nothing has happened. They differ in how long their journals may be.
 pub(crate) fn nth_desk(alloc: Global, number: usize) -> Desk
-    ensures { result.journal ≡ [] }
+    ensures empty { result.journal ≡ [] }
+    ensures limits { HasLimits (if nat_lt number 4 then number + 1 else 1000000) 1000000 result }
 {
     Desk::new(alloc, longest(number), 1_000_000)
 }

@@ -1,6 +1,6 @@
 //! How a board ends, and that lists which aren't those of the journal are found out, also those of a journal that has begun anew since. It has
 //! one worker, and one document is opened.
-ghost use Rattle.std.specs.Prelude.{◌≡◌, ◌<◌};
+ghost use Rattle.std.specs.Prelude.{◌≡◌, ◌+◌, ◌<◌, nat_lt, if◌then◌else◌};
 
 use super::calls::{DESKS, counts, hover, next_ticket, nth_desk, opening, run_one};
 use ls_desk::DeskFault;
@@ -145,6 +145,7 @@ fn one_worker<C: Crew, R: Wait>(
     requires names { (blanks.client.name ≡ C.client) × (blanks.took.name ≡ C.took) × (blanks.returned.name ≡ C.returned) × (blanks.finished.name ≡ C.finished) × (blanks.sent.name ≡ C.sent) }
     requires parts { (blanks.client.parts ≡ 1) × (blanks.took.parts ≡ C.parts) × (blanks.returned.parts ≡ C.parts) × (blanks.finished.parts ≡ C.parts) × (blanks.sent.parts ≡ 1) }
     requires workers { (C.workers ≡ 1) × (C.parts ≡ 1) }
+    requires limits { (C.max_journal ≡ (if nat_lt number 4 then number + 1 else 1000000)) × (C.max_events ≡ 1000000) }
 {
     let desk = nth_desk(alloc, number);
     let (board, mut client, mut writer, mut workers) = Board::<C>::new(alloc, blanks, 1, desk, 1)?;

@@ -1,5 +1,5 @@
 //! Two hovers, the first of which is held back until the second has been answered by the other worker.
-ghost use Rattle.std.specs.Prelude.{◌≡◌, ◌<◌};
+ghost use Rattle.std.specs.Prelude.{◌≡◌, ◌+◌, ◌<◌, nat_lt, if◌then◌else◌};
 
 use super::calls::{DESKS, LAST, answers_hover, begin, counts, has_told, nth_desk, return_one};
 use ls_desk::{Desk, DeskFault};
@@ -30,6 +30,7 @@ impl<C: Crew> Gate for HoldsFirst<'_, C> {
             if !self.board.wanted(rt, 3) {
                 return;
             }
+            thread::yield_now();
         }
         self.gave_up.store(1, Ordering::SeqCst);
     }
@@ -181,6 +182,7 @@ fn two_hovers<C: Crew + Send + Sync, R: Threads + Wait + Sync>(
     requires names { (blanks.client.name ≡ C.client) × (blanks.took.name ≡ C.took) × (blanks.returned.name ≡ C.returned) × (blanks.finished.name ≡ C.finished) × (blanks.sent.name ≡ C.sent) }
     requires parts { (blanks.client.parts ≡ 1) × (blanks.took.parts ≡ C.parts) × (blanks.returned.parts ≡ C.parts) × (blanks.finished.parts ≡ C.parts) × (blanks.sent.parts ≡ 1) }
     requires workers { (C.workers ≡ 2) × (C.parts ≡ 2) }
+    requires limits { (C.max_journal ≡ (if nat_lt number 4 then number + 1 else 1000000)) × (C.max_events ≡ 1000000) }
 {
     let desk = nth_desk(alloc, number);
     let (board, mut client, mut writer, mut workers) = Board::<C>::new(alloc, blanks, 7, desk, 2)?;

@@ -1,8 +1,12 @@
 use Rattle.std.specs.Prelude.{◌≡◌, false, length}
+use Rattle.ls_threads.specs.Writing.{HasTold}
 use Rattle.ls_threads.proofs.writing.write_rest.Given as goal
 
 abbrev pub invariant-replies : goal.invariant-replies
-invariant-replies g l = g.W.Sink.failed l.sink ≡ false
+invariant-replies g l = record {
+  good : g.W.Sink.failed l.sink ≡ false;
+  told : HasTold l.initial.desk l.desk (g.W.Sink.contents l.initial.sink) (g.W.Sink.contents l.sink);
+}
 
 abbrev pub decreases-replies : goal.decreases-replies
 decreases-replies g l = length l.desk.outbox

@@ -1,5 +1,10 @@
 use Rattle.std.specs.Prelude.{◌≡◌, false}
+use Rattle.ls_threads.specs.Writing.{HasWritten}
+use Rattle.ls_threads.specs.declared.ending.Wrote.TheVariants.{All}
 use Rattle.ls_threads.proofs.writing.Writer.write_on.Given as goal
 
 abbrev pub invariant-loop : goal.invariant-loop
-invariant-loop g l = g.W.Sink.failed l.sink ≡ false
+invariant-loop g l = record {
+  good : g.W.Sink.failed l.sink ≡ false;
+  written : HasWritten (g.W.Sink.contents l.initial.sink) (g.W.Sink.contents l.sink) All l.seat.sent.share.amount l.seat.tickets.items;
+}

@@ -1,7 +1,8 @@
-use Rattle.std.proofs.Common.{◌≡◌, ◌∙◌, Bool, false, Option, sym, subst}
+use Rattle.std.proofs.Common.{◌≡◌, ◌∙◌, false, Option, sym, subst}
 use Rattle.std.specs.Prelude.{IfNone, Some, None, is_some}
 use Rattle.ls_desk.specs.Stands.{Seen}
 use Rattle.ls_workers.specs.Count.{Counts}
+use Rattle.ls_workers.specs.Jobs.{HasLimits}
 use Rattle.ls_workers.proofs.behind.Behind.take.Goals as goal
 
 of-none : {A P : Type 0} (o : Option A) → is_some o ≡ false → IfNone o P → P
@@ -12,4 +13,7 @@ pub invariant_of-self-else-is_some : goal.invariant_of-self-else-is_some
 invariant_of-self-else-is_some g c =
     let now = c.args.self.now in
     let same = (of-none c.in_ok-job.job (sym c.is_some.ensures ∙ c.if-is_some.false) c.in_ok-job.ensures.none).0 in
-    record { counts = subst (λ (d : Seen). Counts now.asked.total now.took.total now.returned.total now.finished.total now.sent.total d) (sym same) now.counts }
+    record {
+      counts = subst (λ (d : Seen). Counts now.asked.total now.took.total now.returned.total now.finished.total now.sent.total d) (sym same) now.counts;
+      limits = subst (λ (d : Seen). HasLimits g.C.Crew.max_journal g.C.Crew.max_events d) (sym same) now.limits;
+    }
