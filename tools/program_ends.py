@@ -1,6 +1,6 @@
 #!/usr/bin/env python3
-"""Runs the program that `rt ci` has built as a user would, and checks how it ends: its status, its line and what it wrote; and the session
-of `refused_memory` with each allocation refused.
+"""Runs the programs that `rt ci` has built as a user would, and checks how they end: status, line and what they wrote. The worked sessions run on
+one thread and on several; the program with its threads is refused memory, given broken input and cut off from its pipes, by seeded samples.
 
     tools/program_ends.py ['N passed, M failed' ..]
 
@@ -9,15 +9,19 @@ the form of that of `rt ci`, and counts what is handed in too; what is handed in
 """
 import os
 import re
-import subprocess
 import sys
 import tempfile
 
+import broken_input
 import command_rows
+import cut_pipes
 import random_texts
 import refused_memory
+import refused_sessions
 import refused_threads
 import session_rows
+import threaded_sessions
+from runs import ended, frame, frames
 
 TOP = os.path.dirname(os.path.dirname(os.path.abspath(__file__)))
 BUILT = os.path.join(TOP, "crates", "abnf_ls", "out", "abnf_ls")
@@ -28,23 +32,12 @@ PLAIN_PROGRAMS = (PLAIN, PLAIN + ".by-rattle")
 USAGE = b"usage: abnf_ls [example FILE RULE | check FILE CERT]\n"
 
 
-def frame(body):
-    return b"Content-Length: %d\r\n\r\n%b" % (len(body), body)
-
-
 INITIALIZE = frame(b'{"jsonrpc":"2.0","id":1,"method":"initialize","params":{"capabilities":{}}}')
 SHUTDOWN = frame(b'{"jsonrpc":"2.0","id":2,"method":"shutdown"}')
 EXIT = frame(b'{"jsonrpc":"2.0","method":"exit"}')
 IS_SHUT_DOWN = frame(b'{"id":2,"jsonrpc":"2.0","result":null}')
 NO_REQUEST = frame(b"{}")
 IS_NO_REQUEST = frame(b'{"error":{"code":-32600,"message":"invalid request"},"id":null,"jsonrpc":"2.0"}')
-
-
-def ended(program, given, arguments=(), stdin=subprocess.PIPE, stdout=subprocess.PIPE):
-    """The status of a run, its standard error and its standard output."""
-    ran = subprocess.Popen([program, *arguments], stdin=stdin, stdout=stdout, stderr=subprocess.PIPE)
-    wrote, said = ran.communicate(given, timeout=60)
-    return ran.returncode, said, wrote or b""
 
 
 def with_device(program, given, path, flags, arguments=(), **at):
@@ -84,29 +77,13 @@ def cases(program):
         yield f"the arguments {arguments}", ended(program, None, arguments), (5, USAGE, b"")
 
 
-def frames(bodies):
-    return b"".join(frame(body if isinstance(body, bytes) else body.encode()) for body in bodies)
-
-
-def replies(wrote):
-    """The bodies that are written, without what is published, and how many are."""
-    bodies = []
-    while wrote:
-        head, _, wrote = wrote.partition(b"\r\n\r\n")
-        size = int(head.removeprefix(b"Content-Length: "))
-        bodies.append(wrote[:size])
-        wrote = wrote[size:]
-    kept = [body for body in bodies if b'"method":"textDocument/publishDiagnostics"' not in body]
-    return frames(kept), len(bodies) - len(kept)
-
-
 def session_cases(program):
     """What is written in each session, and how it ends; and streams whose frames are broken behind a whole one."""
     for what, said, answered, status in session_rows.SESSIONS:
         yield what, ended(program, frames(said)), (status, b"", frames(answered))
     for what, said, answered, versions in session_rows.REPLIES:
         status, line, wrote = ended(program, frames(said))
-        yield what, (status, line, *replies(wrote)), (1, b"", frames(answered), versions)
+        yield what, (status, line, *threaded_sessions.split(wrote)), (1, b"", frames(answered), versions, b"")
     before, answered = frames([session_rows.INITIALIZE]), frames([session_rows.CAPABILITIES])
     for stream, fault in session_rows.FRAMES:
         line = f"framing fault {fault}\n".encode()
@@ -195,6 +172,9 @@ def plain_cases(program):
 def all_cases(program):
     yield from cases(program)
     yield from refused_threads.cases(program)
+    yield from threaded_sessions.cases(program)
+    for hostile in (refused_sessions, broken_input, cut_pipes):
+        yield from hostile.cases(program)
     with tempfile.TemporaryDirectory() as folder:
         files = Files(folder)
         for some in (example_cases, check_cases, file_cases):

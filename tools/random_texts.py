@@ -14,9 +14,12 @@ import json
 import os
 import random
 import re
-import subprocess
 import sys
 
+import runs
+
+# A session on many texts takes some ten seconds.
+SECONDS = 300
 TOP = os.path.dirname(os.path.dirname(os.path.abspath(__file__)))
 CORE_RULES = "alpha bit char cr crlf ctl digit dquote hexdig htab lf lwsp octet sp vchar wsp".split()
 BASES = (("bB", "01"), ("dD", "0-9"), ("xX", "0-9A-Fa-f"))
@@ -319,19 +322,15 @@ def action(uri, line, hover):
     return [{"edit": {"changes": {uri: [edit]}}, "kind": "refactor", "title": "Insert shortest example"}]
 
 
-def frame(message):
-    body = json.dumps({"jsonrpc": "2.0", **message}).encode()
-    return b"Content-Length: %d\r\n\r\n%b" % (len(body), body)
-
-
 def answers_of(program, messages):
-    """What is answered to each request: its result, or the text of its error."""
-    said = subprocess.run([program], input=b"".join(map(frame, messages)), stdout=subprocess.PIPE, check=False).stdout
+    """What is answered to each request: its result, or the text of its error. Nothing is where the program doesn't end as it must."""
+    said = runs.frames(json.dumps({"jsonrpc": "2.0", **message}) for message in messages)
+    status, line, wrote = runs.ended(program, said, seconds=SECONDS)
+    if (status, line) != (1, b""):
+        print(f"it ended with {status} {line}")
+        return {}
     answers = {}
-    while said:
-        header, _, rest = said.partition(b"\r\n\r\n")
-        length = int(header.rpartition(b" ")[2])
-        message, said = json.loads(rest[:length]), rest[length:]
+    for message in map(json.loads, runs.bodies_of(wrote)[0]):
         if "id" in message:
             answers[message["id"]] = message["error"]["message"] if "error" in message else message["result"]
     return answers
@@ -344,6 +343,8 @@ def compared(program, seed, count, encoding):
         text = "".join(session.choose.choices(FRAGMENTS, k=session.choose.choice((1, 3, 6, 10, 20, 40))))
         session.about(f"file:///{number}", text)
     answers = answers_of(program, session.messages)
+    if not answers:
+        return session, [*session.wanted]
     wrong = [number for number, want in session.wanted.items() if want and answers.get(number) != want(answers)]
     for number in wrong[:5]:
         print(f"request {number}: {answers.get(number)!r} in place of {session.wanted[number](answers)!r}")

@@ -7,11 +7,11 @@ It must print the same in each run, and end by itself: a call at the desk that i
 goes through when it is made once more. A small library in front of the C library's refuses the allocation with the number that it is told.
 """
 import os
-import subprocess
 import sys
 import tempfile
 
 import preload
+import runs
 
 TOP = os.path.dirname(os.path.dirname(os.path.abspath(__file__)))
 CRATE = os.path.join(TOP, "crates", "refused_memory")
@@ -45,13 +45,12 @@ void *realloc(void *block, unsigned long size) { return is_refused() ? 0 : __lib
 """
 
 
-def runs(program, made):
+def all_runs(program, made):
     """The status, the output and the standard error of a run with each allocation refused, and at last with none."""
     for number in range(1, MOST):
-        ran = subprocess.run([program], env={"LD_PRELOAD": made, "REFUSED_ALLOCATION": str(number)}, stdin=subprocess.DEVNULL,
-                             stdout=subprocess.PIPE, stderr=subprocess.PIPE, timeout=60, check=False)
-        yield ran.returncode, ran.stdout, ran.stderr
-        if not ran.stderr:
+        status, said, wrote = runs.ended(program, b"", env={"LD_PRELOAD": made, "REFUSED_ALLOCATION": str(number)})
+        yield status, wrote, said
+        if not said or status == runs.HUNG:
             return
 
 
@@ -60,7 +59,7 @@ def cases(program):
     with open(os.path.join(CRATE, "stdout"), "rb") as file:
         wanted = file.read()
     with tempfile.TemporaryDirectory() as folder:
-        found = list(runs(program, preload.library(folder, "refuses", LIBRARY)))
+        found = list(all_runs(program, preload.library(folder, "refuses", LIBRARY)))
     refused = len(found) - 1
     kinds = sorted(set(found[:-1]))
     yield f"{refused} allocations refused in turn", (refused > 100, kinds), (True, [(0, wanted, REFUSED)])

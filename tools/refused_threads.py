@@ -7,11 +7,11 @@ It must end by itself as it does where memory is refused, and write nothing. A s
 with the number that it is told.
 """
 import os
-import subprocess
 import sys
 import tempfile
 
 import preload
+import runs
 
 TOP = os.path.dirname(os.path.dirname(os.path.abspath(__file__)))
 BUILT = os.path.join(TOP, "crates", "abnf_ls", "out", "abnf_ls")
@@ -37,10 +37,8 @@ int pthread_create(void *thread, const void *attributes, void *(*start)(void *),
 
 def ended(program, made, number):
     """The status, the standard error and the output of a run in which this thread is refused."""
-    environment = {"LD_PRELOAD": made, "REFUSED_THREAD": str(number)}
-    ran = subprocess.run([program], env=environment, input=NO_REQUEST, stdout=subprocess.PIPE, stderr=subprocess.PIPE, timeout=60,
-                         check=False)
-    return ran.returncode, ran.stderr, len(ran.stdout)
+    status, said, wrote = runs.ended(program, NO_REQUEST, env={"LD_PRELOAD": made, "REFUSED_THREAD": str(number)})
+    return status, said, len(wrote)
 
 
 def cases(program):

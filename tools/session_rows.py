@@ -91,6 +91,10 @@ OPEN = opened('a = "x"')
 CLEAN = published()  # 118 bytes
 assert (len(CAPABILITIES), len(OUTLINE), len(NOT_OPEN), len(INVALID_REQUEST), len(CLEAN)) == (480, 215, 78, 79, 118)
 
+# What is no id, and ids that are some: integers of 64 bits and texts
+NO_IDS = ("true", "false", "null", "[]", "{}", "1.0", "1.5", "1e2", "-0", "9223372036854775808", "-9223372036854775809")
+IDS = ("0", "9223372036854775807", "-9223372036854775808", '""', '"9223372036854775808"', '"null"')
+
 LIVES = (
     ("no exit", [INITIALIZE, INITIALIZED, OPEN, SYMBOLS], [CAPABILITIES, CLEAN, OUTLINE], 1),
     ("an exit", [INITIALIZE, INITIALIZED, OPEN, SYMBOLS, SHUTDOWN, EXIT, SYMBOLS], [CAPABILITIES, CLEAN, OUTLINE, DOWN], 0),
@@ -129,6 +133,18 @@ LIVES = (
         1,
     ),
     ("a method that isn't UTF-8", [INITIALIZE, b'{"id":1,"method":"\xff"}'], [CAPABILITIES, PARSE_ERROR], 1),
+    (
+        "what is no id",
+        [INITIALIZE, *(f'{{"id":{said},"method":"shutdown"}}' for said in NO_IDS), SHUTDOWN, EXIT],
+        [CAPABILITIES, *[INVALID_REQUEST] * len(NO_IDS), DOWN],
+        0,
+    ),
+    (
+        "the last ids that are some",
+        [INITIALIZE, *(f'{{"id":{said},"method":"$/unknown"}}' for said in IDS)],
+        [CAPABILITIES, *(refused(-32601, "method not found", said) for said in IDS)],
+        1,
+    ),
     ("a response", [INITIALIZE, '{"id":1,"error":{}}', '{"id":1,"result":null}'], [CAPABILITIES], 1),
     (
         "the 257th document",

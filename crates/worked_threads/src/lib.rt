@@ -15,3 +15,7 @@ mod many;
 mod overtaking;
 #[cfg(test)]
 mod sessions;
+#[cfg(test)]
+mod std_devices;
+#[cfg(test)]
+mod stepping;

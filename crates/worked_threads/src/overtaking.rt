@@ -10,6 +10,7 @@ use std::alloc::Global;
 use std::sync::atomic::{AtomicU64, Ordering};
 use std::sync::{Arc, Mutex, Wait};
 use std::test::Fail;
+use std::thread;
 use std::thread::Threads;
 
 const FIRST_HOVER: &str =
@@ -44,6 +45,8 @@ impl Gate for HoldsFirst {
             }
             let mut turns = self.turns.lock(rt);
             *turns = turns.saturating_add(1);
+            drop(turns);
+            thread::yield_now();
         }
         self.gave_up.store(1, Ordering::SeqCst);
     }
@@ -74,9 +77,6 @@ fn overtakes<R: Threads + Wait + Sync>(rt: &R, alloc: Global, workers: u32) -> R
         source: _,
         sink,
     } = serve_threads(rt, alloc, Bytes::new(input, 0), sink, workers, &gate);
-    let Some(sink) = sink else {
-        return Ok(false);
-    };
     let mut bodies = Vec::new(alloc);
     Framer::new(alloc).feed(&sink.into_bytes(), &mut bodies)?;
     let first = place_of(&bodies, FIRST_HOVERED);

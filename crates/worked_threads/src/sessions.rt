@@ -46,11 +46,10 @@ pub fn serves_anew<R: Threads + Wait + Sync>(
         source: _,
         sink,
     } = serve_with_journal(rt, alloc, source, sink, 2, &Open, max_journal);
-    let bytes = match sink {
-        Some(sink) => sink.into_bytes(),
-        None => Vec::new(alloc),
-    };
-    Ok(Left { answer, bytes })
+    Ok(Left {
+        answer,
+        bytes: sink.into_bytes(),
+    })
 }
 
 /// Serves the input with this many workers. The numbers are those of the read that fails and of the write or flush that does, 0 for none.
@@ -72,11 +71,10 @@ pub fn serves<R: Threads + Wait + Sync, G: Gate + Sync>(
         source: _,
         sink,
     } = serve_threads(rt, alloc, source, sink, workers, gate);
-    let bytes = match sink {
-        Some(sink) => sink.into_bytes(),
-        None => Vec::new(alloc),
-    };
-    Ok(Left { answer, bytes })
+    Ok(Left {
+        answer,
+        bytes: sink.into_bytes(),
+    })
 }
 
 const FIRST: [&str; 5] = [INITIALIZE, OPEN, SYMBOLS, SHUTDOWN, EXIT];
