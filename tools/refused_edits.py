@@ -18,12 +18,12 @@ and tried again. What no copy shows to be refused is tried alone and from nothin
 Without names all edits are tried, and with them this tool: the edits in tools/same_meaning/, which mean the same as before, stand in one
 copy of abnf_token among its own, and must be found not refused.
 
-With --beside it works beside an `rt ci` in this checkout, which runs as long as FILE is there: the edits of a crate are tried once the
-libraries below it are proved. With --kept the first check of a crate begins with what `rt check` kept of it, and not from nothing. With
+With --beside it works beside an `rt ci` in this checkout, which runs as long as FILE is there, and writes to it: the edits of a crate are
+tried once the libraries below it are proved. With --kept the first check of a crate begins with what `rt check` kept of it, and not from nothing. With
 --alone each edit is tried by `rt must-fail` itself.
 
 What an edit came to is kept as `rt ci` keeps such, outside the checkout, by a sum over this tool, the edit, the crate and the libraries
-below it, and isn't sought again. The last line is 'N passed, M failed'.
+below it, and isn't sought again. Where the kit's `rt` keeps nothing, nothing is kept. The last line is 'N passed, M failed'.
 """
 import argparse
 import collections
@@ -52,13 +52,15 @@ NAME = re.compile(r"[A-Za-z0-9_-][A-Za-z0-9_.-]*\.edit")
 BAD_NAME = "BAD EDIT: its name is of letters, digits, _, - and . and ends in .edit (or .md, if it is only to be read)"
 
 # All that is taken of the toolchain's own `rt`: the crates below a folder, the texts that an edit makes of a crate's files, a check of a
-# crate over what earlier checks kept in a folder, the try of one edit from nothing, and the store of what earlier runs passed.
+# crate over what earlier checks kept in a folder, the try of one edit from nothing, and, where it has one, the store of what earlier runs
+# passed.
 sys.dont_write_bytecode = True
 LOADER = importlib.machinery.SourceFileLoader("rt", os.path.realpath(shutil.which("rt") or sys.exit("there is no command rt")))
 RT = importlib.util.module_from_spec(importlib.util.spec_from_loader("rt", LOADER))
 LOADER.exec_module(RT)
+DOES_KEEP = hasattr(RT, "Kept")
 ONE_JOB = ["--jobs", "1"]
-REFUSED, SAME = (RT.REFUSED, RT.AT_LIMIT), "same"
+REFUSED, SAME = (RT.REFUSED, RT.AT_LIMIT) if DOES_KEEP else (True,), "same"
 
 # A function with a body, as rt fmt lays it out: what stands above it, how far in it stands, its name and its body.
 FUNCTION = re.compile(
@@ -224,14 +226,12 @@ class Store:
         except (OSError, ValueError, KeyError):
             return False
 
-    def need(self, crate, running):
-        """Sees that the crate's library is there, as soon as an `rt ci` has proved it that runs as long as a file is there, or builds it. Those
-        below it have been seen to."""
-        while running and os.path.exists(running) and not self.is_proved(crate):
+    def need(self, crate, gate):
+        """Sees that the crate's library is there, as soon as the gate has proved it, or builds it. Those below it have been seen to."""
+        while gate.is_running() and not self.is_proved(crate):
             time.sleep(1)
-        if not self.is_proved(crate) and not crate.is_built():
-            if subprocess.run(["rt", "lib"], cwd=crate.folder).returncode:
-                sys.exit(f"{crate.name} isn't proved")
+        if not self.is_proved(crate):
+            build(crate)
         self.kept.is_built(crate)
 
     def name(self, crate, edit):
@@ -252,6 +252,57 @@ class Store:
         if libraries_stand and self.kept.is_untouched(crate) and self.name(crate, edit) == name:
             with self.lock:
                 self.kept.keep_tried(name, SAME if edit.is_same else RT.REFUSED, text)
+
+
+class NoStore:
+    """The libraries that checks stand on, where `rt` keeps nothing of what its runs came to."""
+
+    def need(self, crate, gate):
+        """As a store's."""
+        while gate.is_running() and not gate.has_proved(crate):
+            time.sleep(1)
+        if not gate.has_proved(crate):
+            build(crate)
+
+    def name(self, crate, edit):
+        return None
+
+    def told(self, name):
+        return None
+
+    def keep(self, crate, edit, name, text):
+        pass
+
+
+class Gate:
+    """An `rt ci` that runs as long as a file is there, to which it writes what it says; without a file none."""
+
+    def __init__(self, path):
+        self.path, self.said = path, open(path, encoding="utf-8", errors="replace") if path else None
+
+    def is_running(self):
+        return bool(self.path) and os.path.exists(self.path)
+
+    def has_proved(self, crate):
+        """Whether it said so of the crate, by now or before it ended."""
+        if not self.said:
+            return False
+        self.said.seek(0)
+        return f"\nrt: {crate.name} proved\n" in f"\n{self.said.read()}"
+
+
+def build(crate):
+    """Builds the crate's library where it isn't there."""
+    if not crate.is_built() and subprocess.run(["rt", "lib"], cwd=crate.folder).returncode:
+        sys.exit(f"{crate.name} isn't proved")
+
+
+def crates_of(top):
+    """The crates of a checkout, lowest first."""
+    if DOES_KEEP:
+        return RT.crates_of(top)
+    RT.rtlib.Crate = RT.Crate
+    return sorted(RT.rtlib.crates_below(top), key=lambda it: len(it.below()))
 
 
 class Memory:
@@ -450,13 +501,15 @@ def alone(names):
         return good, [f"{folder}/{it}" for it in names if not NAME.fullmatch(it) and not it.endswith(".md")]
 
     RT.edits_of = edits_of
+    if not DOES_KEEP:
+        return RT.edits_alone(names)
     RT.share_work(False)
     return RT.where_disk_lasts(RT.edits_alone, names)
 
 
 def tried(trials, crates, given, store):
     """Tries the edits of each crate, those first whose libraries are there first, and gives whether each came to what it must."""
-    wells, running, there = [], {}, set()
+    wells, running, there, gate = [], {}, set(), Gate(given.beside)
     needed = {below for trial in trials for below in trial.crate.below()}
     trials.sort(key=lambda it: -it.crate.count(rb"\n") * len(it.edits))
     with concurrent.futures.ThreadPoolExecutor(given.jobs) as pool:
@@ -468,7 +521,7 @@ def tried(trials, crates, given, store):
 
         begin()
         for crate in (it for it in crates if it in needed):
-            store.need(crate, given.beside)
+            store.need(crate, gate)
             there.add(crate)
             begin()
         for it in concurrent.futures.as_completed(running):
@@ -492,8 +545,8 @@ def main():
     RT.rtlib.guarded()
     # (the sums by which `rt ci` keeps what it proved rest on the handles too)
     RT.Crate.allowed = RT.handles_of(TOP)
-    began, crates = time.time(), RT.crates_of(TOP)
-    store = Store(crates)
+    began, crates = time.time(), crates_of(TOP)
+    store = Store(crates) if DOES_KEEP else NoStore()
     trials = [it for it in (Trial(crate, given, store) for crate in crates) if it.edits or it.results]
     wells = tried(trials, crates, given, store)
     print(f"{(time.time() - began) / 60:.1f} minutes")
