@@ -15,6 +15,7 @@ import random
 import re
 import sys
 
+import encoding_rows
 import runs
 import session_rows
 from plain_messages import Plain
@@ -75,9 +76,8 @@ def wrong(program, stream):
 
 
 # Messages, as they stand in the worked sessions; of the many documents of one of these a few
-MESSAGES = sorted(
-    {runs.as_bytes(it) for row in session_rows.SESSIONS + session_rows.REPLIES for it in row[1][:20] if len(it) < 2000}
-)
+ROWS = (it for rows in (session_rows, encoding_rows) for it in rows.SESSIONS + rows.REPLIES)
+MESSAGES = sorted({runs.as_bytes(it) for row in ROWS for it in row[1][:20] if len(it) < 2000})
 VALUES = (
     *("true", "false", "null", "0", "-0", "1", "-1", "1.5", "1e2", "1e400", "4294967295", "4294967296", "9223372036854775807", "9223372036854775808"),
     *("-9223372036854775808", "-9223372036854775809", "18446744073709551616", '""', '"utf-8"', '"\\ud83d\\ude00"', '"\\ud83d"', '"\\u0000"', "[]", "{}"),

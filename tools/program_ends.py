@@ -15,6 +15,7 @@ import tempfile
 import broken_input
 import command_rows
 import cut_pipes
+import encoding_rows
 import random_texts
 import refused_memory
 import refused_sessions
@@ -79,9 +80,9 @@ def cases(program):
 
 def session_cases(program):
     """What is written in each session, and how it ends; and streams whose frames are broken behind a whole one."""
-    for what, said, answered, status in session_rows.SESSIONS:
+    for what, said, answered, status in session_rows.SESSIONS + encoding_rows.SESSIONS:
         yield what, ended(program, frames(said)), (status, b"", frames(answered))
-    for what, said, answered, versions in session_rows.REPLIES:
+    for what, said, answered, versions in session_rows.REPLIES + encoding_rows.REPLIES:
         status, line, wrote = ended(program, frames(said))
         yield what, (status, line, *threaded_sessions.split(wrote)), (1, b"", frames(answered), versions, b"")
     before, answered = frames([session_rows.INITIALIZE]), frames([session_rows.CAPABILITIES])

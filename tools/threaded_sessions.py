@@ -11,6 +11,7 @@ import json
 import os
 import sys
 
+import encoding_rows
 import runs
 import session_rows
 from plain_messages import id_of
@@ -73,9 +74,9 @@ def split(wrote):
 
 def turn_cases(program):
     """What is written in each session, and how it ends, message by message."""
-    for what, said, answered, status in session_rows.SESSIONS:
+    for what, said, answered, status in session_rows.SESSIONS + encoding_rows.SESSIONS:
         yield what, runs.by_turns(program, turns(said, answered)), (status, b"", runs.frames(answered))
-    for what, said, answered, versions in session_rows.REPLIES:
+    for what, said, answered, versions in session_rows.REPLIES + encoding_rows.REPLIES:
         status, line, wrote = runs.by_turns(program, turns(said, answered, versions))
         yield what, (status, line, *split(wrote)), (1, b"", runs.frames(answered), versions, b"")
     begun, answered = [(session_rows.INITIALIZE, 1)], runs.frames([session_rows.CAPABILITIES])
@@ -122,7 +123,7 @@ def at_once(program, first, answer, group):
 
 def free_cases(program):
     """Many rows at once."""
-    for first, answer, group in together((said, answered) for _, said, answered, _ in session_rows.REPLIES):
+    for first, answer, group in together((said, answered) for _, said, answered, _ in session_rows.REPLIES + encoding_rows.REPLIES):
         ends, bodies, wanted = at_once(program, first, answer, group)
         found = [body for body in bodies if PUBLISHED not in body]
         yield f"{len(group)} rows at once, behind {first[:90]}", (ends, found), ((1, b"", b""), wanted)

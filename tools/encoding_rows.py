@@ -1,0 +1,165 @@
+"""Worked sessions in which the client says what positions count: bytes, units of UTF-16 or characters.
+
+They have the form of those of `session_rows`.
+"""
+from session_rows import (
+    CAPABILITIES, COMMENT, DEFINES, NAME, NOTHING, OPERATOR, PROSE, QUOTED, USE, WITH, WITHOUT, action, answered, at, changed, edit, edits,
+    inserted, length, named, opened, outline_after, places, published, ranged, refused, replied, shown_at, symbol, undefined,
+    workspace_edit,
+)
+
+
+def offers(said):
+    """An initialize whose client says this, which is JSON, of the encodings that it knows."""
+    return f'{{"id":1,"method":"initialize","params":{{"capabilities":{{"general":{{"positionEncodings":{said}}}}}}}}}'
+
+
+def agreed(encoding):
+    """The answer to an initialize by which this encoding is agreed."""
+    return CAPABILITIES.replace('"utf-16"', f'"{encoding}"')
+
+
+# What a client says of the encodings that it knows, and the one that is agreed
+OFFERS = (
+    *((said, "utf-16") for said in ("null", "[]", "{}", '"utf-8"', "true", '["x"]', '["UTF-8"]', '["utf8"]', '[["utf-8"]]', '[{"utf-8":1}]')),
+    *((f'["{encoding}"]', encoding) for encoding in ("utf-8", "utf-16", "utf-32")),
+    ('["x","utf-32","utf-8"]', "utf-32"),
+    ('["utf-16","utf-8"]', "utf-16"),
+    ('[8,null,"utf-8","utf-16"]', "utf-8"),
+)
+
+
+def in_encoding(encoding, text, answers, *messages):
+    """What a client says of a text, where this encoding is agreed, and what it is answered."""
+    said = [offers(f'["{encoding}"]'), opened(text), *messages]
+    return f"{encoding}: {messages[:1]} of {text!r}", said, [agreed(encoding), *answers], 1
+
+
+AGREED = (
+    *((f"an offer of {said}", [offers(said), offers('["utf-8"]')], [agreed(known), refused(-32600, "invalid request", "1")], 1) for said, known in OFFERS),
+    in_encoding("utf-8", "a = <\u00e9> / b", [published(undefined(0, 11, 12, "b"))]),
+    in_encoding("utf-16", "a = <\u00e9> / b", [published(undefined(0, 10, 11, "b"))]),
+    in_encoding("utf-32", "a = <\u00e9> / b", [published(undefined(0, 10, 11, "b"))]),
+    in_encoding("utf-8", "a = <\U0001f600> / b", [published(undefined(0, 13, 14, "b"))]),
+    in_encoding("utf-32", "a = <\U0001f600> / b", [published(undefined(0, 10, 11, "b"))]),
+)
+
+
+def replied_in(encoding, method, text, beside, answer):
+    """A request about a text that is opened, where this encoding is agreed, and its answer."""
+    name, said, wanted, versions = replied(method, text, beside, answer, offers(f'["{encoding}"]'))
+    return f"{encoding}: {name}", said, [agreed(encoding), *wanted[1:]], versions
+
+
+def edited_in(encoding, text, changes, *symbols):
+    """The outline of a text after changes, where this encoding is agreed."""
+    name, said, wanted, versions = outline_after(text, changes, symbols)
+    return f"{encoding}: {name}", [offers(f'["{encoding}"]'), *said[1:]], [agreed(encoding), *wanted[1:]], versions
+
+
+# In the line `a="..." a` the second name stands behind a string with two characters outside the first plane.
+WIDE = 'a="\U0001f004\U0001f004" a'
+
+ASKED = (
+    # inside the bytes of a character is before it, behind its last byte is behind it
+    edited_in("utf-8", ";\U0001f600z", f"[{edit((0, 4), (0, 4), chr(10) + 'q =')}]", symbol("q", 1, 8)),
+    edited_in("utf-8", ";\U0001f600z", f"[{edit((0, 5), (0, 5), chr(10) + 'q =')}]", symbol("q", 1, 4)),
+    edited_in("utf-32", ";\U0001f600z", f"[{edit((0, 1), (0, 1), chr(10) + 'q =')}]", symbol("q", 1, 5)),
+    edited_in("utf-32", ";\U0001f600z", f"[{edit((0, 2), (0, 2), chr(10) + 'q =')}]", symbol("q", 1, 4)),
+    # each edit of a list is read in the encoding
+    edited_in("utf-32", "\U0001f600", f"[{edit((0, 1), (0, 1), 'a')},{edit((0, 2), (0, 2), chr(10) + 'q =')}]", symbol("q", 1, 3)),
+    replied_in("utf-8", "definition", WIDE, at(0, 13), answered(places((0, 0, 1)))),
+    replied_in("utf-32", "definition", WIDE, at(0, 7), answered(places((0, 0, 1)))),
+    replied_in("utf-8", "references", WIDE, at(0, 0) + WITHOUT, answered(places((0, 13, 14)))),
+    replied_in("utf-16", "references", WIDE, at(0, 0) + WITHOUT, answered(places((0, 9, 10)))),
+    replied_in("utf-32", "references", WIDE, at(0, 0) + WITHOUT, answered(places((0, 7, 8)))),
+    replied_in("utf-8", "rename", WIDE, at(0, 14) + named('"b"'), answered(workspace_edit(edits("b", (0, 0, 1), (0, 13, 14))))),
+    replied_in("utf-32", "rename", WIDE, at(0, 8) + named('"b"'), answered(workspace_edit(edits("b", (0, 0, 1), (0, 7, 8))))),
+    replied_in("utf-32", "hover", WIDE, at(0, 7), shown_at("not known", (0, 7, 8))),
+)
+
+# The units of a text in each encoding
+UNITS = {"utf-8": lambda text: len(text.encode()), "utf-16": lambda text: len(text.encode("utf-16-le")) // 2, "utf-32": len}
+# Lines that end in CRLF, with characters of one to four bytes before what is asked about and behind it
+WIDE_LINES = ("a = <\u00e9\u20ac\U0001f600> / b ; \U0001f600\u00e9", 'b = "x"', "c = <\u20ac> nope ; \u00e9", "c =/ b")
+WIDE_LINE_ENDS = "\r\n".join(WIDE_LINES)
+# Their tokens
+WIDE_TOKENS = (
+    (("a", NAME, DEFINES), ("=", OPERATOR, 0), ("<\u00e9\u20ac\U0001f600>", PROSE, 0), ("/", OPERATOR, 0), ("b", NAME, USE), ("; \U0001f600\u00e9", COMMENT, 0)),
+    (("b", NAME, DEFINES), ("=", OPERATOR, 0), ('"x"', QUOTED, 0)),
+    (("c", NAME, DEFINES), ("=", OPERATOR, 0), ("<\u20ac>", PROSE, 0), ("nope", NAME, USE), ("; \u00e9", COMMENT, 0)),
+    (("c", NAME, DEFINES), ("=/", OPERATOR, 0), ("b", NAME, USE)),
+)
+
+
+def wide_place(encoding, line, word):
+    """A word that stands once in its line: the line, the units before the word, and those up to its end."""
+    units, before = UNITS[encoding], WIDE_LINES[line].partition(word)[0]
+    return line, units(before), units(before + word)
+
+
+def wide_numbers(encoding):
+    """The numbers of the tokens of these lines."""
+    for line, tokens in enumerate(WIDE_TOKENS):
+        last = None
+        for word, kind, modifiers in tokens:
+            start = wide_place(encoding, line, word)[1]
+            yield from (int(line > 0 and last is None), start - (last or 0), UNITS[encoding](word), kind, modifiers)
+            last = start
+
+
+def outlined(*symbols):
+    """An outline: of each symbol the name, the line where it stands at the start, and the end of the last item."""
+    return answered(f'[{",".join(symbol(*it) for it in symbols)}]')
+
+
+def wide_rows(encoding):
+    """A question of each kind about these lines, where this encoding is agreed."""
+    use, last_use = wide_place(encoding, 0, "b"), wide_place(encoding, 3, "b")
+    prose, nope = wide_place(encoding, 0, WIDE_TOKENS[0][2][0]), wide_place(encoding, 2, "nope")
+    numbers = ",".join(map(str, wide_numbers(encoding)))
+    example = answered(action(workspace_edit(inserted(1, "x"))))
+    for method, beside, answer in (
+        ("definition", at(*use[:2]), answered(places((1, 0, 1)))),
+        # past the end of the line, where no name ends, and where one does
+        ("definition", at(0, 99), answered(places())),
+        ("references", at(3, 99) + WITHOUT, answered(places(use, last_use))),
+        ("references", at(1, 0) + WITH, answered(places(use, (1, 0, 1), last_use))),
+        ("rename", at(*use[::2]) + named('"bb"'), answered(workspace_edit(edits("bb", use, (1, 0, 1), last_use)))),
+        ("rename", at(*prose[:2]) + named('"bb"'), refused(-32803, NOTHING)),
+        ("hover", at(*use[:2]), shown_at(length(1, "x"), use)),
+        ("hover", at(*nope[:2]), shown_at("undefined", nope)),
+        ("hover", at(*prose[::2]), answered("null")),
+        ("codeAction", ranged(use[:2], (9, 9)), example),
+        ("codeAction", ranged((9, 9), use[::2]), example),
+        ("documentSymbol", "", outlined(("a", 0, use[2]), ("b", 1, 7), ("c", 2, nope[2]), ("c", 3, 6))),
+        ("semanticTokens/full", "", answered(f'{{"data":[{numbers}]}}')),
+    ):
+        yield replied_in(encoding, method, WIDE_LINE_ENDS, beside, answer)
+
+
+def inside_rows(encoding):
+    """A position inside a character's units is before it: where a name ends, and where a text is inserted."""
+    for character in "\u00e9\u20ac\U0001f600":
+        many = UNITS[encoding](character)
+        for behind in range(many + 1):
+            before = behind < many
+            found = places((1, 0, 1)) if before else places()
+            yield replied_in(encoding, "definition", f'a = b{character}\r\nb = "x"', at(0, 5 + behind), answered(found))
+            inserted_there = edit((0, 1 + behind), (0, 1 + behind), "\r\nq =")
+            yield edited_in(encoding, f";{character}z", f"[{inserted_there}]", symbol("q", 1, 4 + (many if before else 0)))
+
+
+def wide_findings(encoding):
+    """What is found in these lines, and again once `b` is another name and the first wide character of the comment ends its line."""
+    use, nope = wide_place(encoding, 0, "b"), wide_place(encoding, 2, "nope")
+    behind = use[2] + UNITS[encoding](" ; \U0001f600")
+    made = f"[{edit(use[:2], use[::2], 'd')},{edit((0, behind), (0, behind), chr(13) + chr(10) + ';')}]"
+    found = published(undefined(*nope, "nope"))
+    found_then = published(undefined(*use, "d"), undefined(3, *nope[1:], "nope"), label=2)
+    return in_encoding(encoding, WIDE_LINE_ENDS, [found, found_then], changed(made))
+
+
+SESSIONS = AGREED + tuple(wide_findings(encoding) for encoding in UNITS)
+# What these are answered with beside what is published; the last number counts the versions of the document
+REPLIES = ASKED + tuple(row for encoding in UNITS for rows in (wide_rows, inside_rows) for row in rows(encoding))
