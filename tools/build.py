@@ -1,5 +1,6 @@
 #!/usr/bin/env python3
-"""Proves and links the program where it isn't built; ./build calls this so, and ./run with --and-run and the program's arguments.
+"""Proves and links a program where it isn't built. ./build calls this with the program's name, or with none for the server; ./run with
+--and-run and the server's arguments.
 
 Standard output stays free, since under ./run it is the client's. Of crates that don't depend on each other several are
 proved at once. A build that is ended ends what it has started, however it is ended.
@@ -18,11 +19,8 @@ import time
 TOP = os.path.dirname(os.path.dirname(os.path.realpath(__file__)))
 OUT = os.path.join(TOP, "out")
 CRATES = os.path.join(TOP, "crates.txt")
-NAME = "abnf_ls"
-PROGRAM = os.path.join(OUT, NAME)
-# What the toolchain builds, and the sum of the sources that the program beside it was built from.
-LINKED = os.path.join(TOP, "crates", NAME, "out", NAME)
-BUILT_FROM = PROGRAM + ".sources"
+SERVER = "abnf_ls"
+PROGRAMS = (SERVER, "abnf_findings")
 LOG = os.path.join(OUT, "build.log")
 GIGABYTE = 10**9
 # The memory that a check takes, and what each further job of it takes.
@@ -32,7 +30,7 @@ LIBC = ctypes.CDLL(None)
 
 
 def say(text):
-    print(f"{NAME}: {text}", file=sys.stderr, flush=True)
+    print(f"{SERVER}: {text}", file=sys.stderr, flush=True)
 
 
 def stop(status, text):
@@ -40,7 +38,7 @@ def stop(status, text):
     sys.exit(status)
 
 
-def crates_below():
+def crates_below(program):
     """The program's crate and each that it needs, lowest first, each with all crates below it. Crates of tests aren't among them."""
     with open(CRATES, encoding="utf-8") as file:
         lines = [line.partition("#")[0].partition(":") for line in file]
@@ -54,35 +52,58 @@ def crates_below():
                 visit(it)
             below[name] = set(own).union(*(below[it] for it in own))
 
-    visit(NAME)
+    visit(program)
     return below
 
 
-def sources():
-    yield CRATES
-    for name in sorted(crates_below()):
-        for part in ("proofs", "specs", "src"):
-            for folder, folders, files in os.walk(os.path.join(TOP, "crates", name, part)):
-                folders.sort()
-                yield from (os.path.join(folder, it) for it in sorted(files))
+class Program:
+    """A program: where it is to lie, what the toolchain builds, and where the sum of the sources lies that it was built from."""
 
+    def __init__(self, name):
+        self.name, self.path = name, os.path.join(OUT, name)
+        self.linked = os.path.join(TOP, "crates", name, "out", name)
+        self.built_from = f"{self.path}.sources"
 
-def source_sum():
-    """A sum over all sources of the program: an edit changes it, and so does a file that is new, deleted or renamed."""
-    total = hashlib.sha256()
-    for path in sources():
-        with open(path, "rb") as file:
-            total.update(hashlib.sha256(file.read()).digest())
-        total.update(os.fsencode(os.path.relpath(path, TOP)) + b"\0")
-    return total.hexdigest()
+    def sources(self):
+        yield CRATES
+        for name in sorted(crates_below(self.name)):
+            for part in ("proofs", "specs", "src"):
+                for folder, folders, files in os.walk(os.path.join(TOP, "crates", name, part)):
+                    folders.sort()
+                    yield from (os.path.join(folder, it) for it in sorted(files))
 
+    def source_sum(self):
+        """A sum over all sources of the program: an edit changes it, and so does a file that is new, deleted or renamed."""
+        total = hashlib.sha256()
+        for path in self.sources():
+            with open(path, "rb") as file:
+                total.update(hashlib.sha256(file.read()).digest())
+            total.update(os.fsencode(os.path.relpath(path, TOP)) + b"\0")
+        return total.hexdigest()
 
-def is_built():
-    try:
-        with open(BUILT_FROM, encoding="utf-8") as file:
-            return os.access(PROGRAM, os.X_OK) and file.read() == source_sum()
-    except OSError:
-        return False
+    def is_built(self):
+        try:
+            with open(self.built_from, encoding="utf-8") as file:
+                return os.access(self.path, os.X_OK) and file.read() == self.source_sum()
+        except OSError:
+            return False
+
+    def prove(self):
+        say(f"proving and building {self.name}, which takes some minutes the first time; the toolchain's words go to {LOG}")
+        if os.path.lexists(self.linked):
+            os.remove(self.linked)
+        with open(LOG, "wb") as log:
+            Proofs(self, log).run()
+
+    def install(self, built_from):
+        """Moves the program in place. Its sum goes first and comes last, so that it never stands beside another program."""
+        if os.path.lexists(self.built_from):
+            os.remove(self.built_from)
+        shutil.copy(self.linked, self.path + ".new")
+        os.replace(self.path + ".new", self.path)
+        with open(self.built_from + ".new", "w", encoding="utf-8") as file:
+            file.write(built_from)
+        os.replace(self.built_from + ".new", self.built_from)
 
 
 def free_bytes():
@@ -98,8 +119,8 @@ def end_with_parent():
 class Proofs:
     """The crates that are proved, those that are being proved, and those that are still to be."""
 
-    def __init__(self, log):
-        self.below, self.log = crates_below(), log
+    def __init__(self, program, log):
+        self.program, self.below, self.log = program, crates_below(program.name), log
         self.above = {it: sum(it in below for below in self.below.values()) for it in self.below}
         self.left = sorted(self.below, key=lambda it: -self.above[it])
         self.running, self.done = {}, set()
@@ -124,8 +145,8 @@ class Proofs:
                 self.start(name)
 
     def start(self, name):
-        # The toolchain has no command that links a program and doesn't run it: on no input the program ends at once.
-        verb = "run" if name == NAME else "lib"
+        # The toolchain has no command that links a program and doesn't run it: on no input a program ends at once.
+        verb = "run" if name == self.program.name else "lib"
         said = tempfile.TemporaryFile()
         command = ["rt", verb, "--jobs", str(self.jobs(name))]
         self.left.remove(name)
@@ -140,7 +161,7 @@ class Proofs:
             said.seek(0)
             self.log.write(b"== %b\n%b\n" % (name.encode(), said.read()))
             self.log.flush()
-        is_good = os.path.isfile(LINKED) if name == NAME else process.returncode == 0
+        is_good = os.path.isfile(self.program.linked) if name == self.program.name else process.returncode == 0
         if not is_good:
             stop(126, f"the build failed at the crate {name}: see {LOG}")
         self.done.add(name)
@@ -166,32 +187,13 @@ class Proofs:
                 process.wait()
 
 
-def prove():
-    say(f"proving and building, which takes some minutes the first time; the toolchain's words go to {LOG}")
-    if os.path.lexists(LINKED):
-        os.remove(LINKED)
-    with open(LOG, "wb") as log:
-        Proofs(log).run()
-
-
-def install(built_from):
-    """Moves the program in place. Its sum goes first and comes last, so that it never stands beside another program."""
-    if os.path.lexists(BUILT_FROM):
-        os.remove(BUILT_FROM)
-    shutil.copy(LINKED, PROGRAM + ".new")
-    os.replace(PROGRAM + ".new", PROGRAM)
-    with open(BUILT_FROM + ".new", "w", encoding="utf-8") as file:
-        file.write(built_from)
-    os.replace(BUILT_FROM + ".new", BUILT_FROM)
-
-
 def end(number, _frame):
     sys.exit(128 + number)
 
 
-def build():
+def build(program):
     """Builds until the program is that of the sources as they are: an edit that comes while it works is built too."""
-    if is_built():
+    if program.is_built():
         return
     if not shutil.which("rt"):
         stop(127, "the Rattle toolchain is missing: no command 'rt' on the PATH")
@@ -205,19 +207,24 @@ def build():
         except BlockingIOError:
             say("waiting for another build to end")
             fcntl.flock(lock, fcntl.LOCK_EX)
-        while not is_built():
+        while not program.is_built():
             # (taken first: what is edited from here on makes another sum)
-            built_from = source_sum()
-            prove()
-            install(built_from)
+            built_from = program.source_sum()
+            program.prove()
+            program.install(built_from)
 
 
 def main(words):
-    build()
     if words[:1] == ["--and-run"]:
+        server = Program(SERVER)
+        build(server)
         # Python ignores this signal, and the program would inherit that.
         signal.signal(signal.SIGPIPE, signal.SIG_DFL)
-        os.execv(PROGRAM, [PROGRAM, *words[1:]])
+        os.execv(server.path, [server.path, *words[1:]])
+    name, *more = words or [SERVER]
+    if more or name not in PROGRAMS:
+        stop(5, f"usage: ./build [{' | '.join(PROGRAMS)}]")
+    build(Program(name))
 
 
 if __name__ == "__main__":

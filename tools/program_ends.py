@@ -16,6 +16,7 @@ import broken_input
 import command_rows
 import cut_pipes
 import encoding_rows
+import findings_rows
 import random_texts
 import refused_memory
 import refused_sessions
@@ -187,15 +188,16 @@ def programs_and_cases():
         yield from ((program, *case) for case in all_cases(program))
     for program in filter(os.path.isfile, PLAIN_PROGRAMS):
         yield from ((program, *case) for case in plain_cases(program))
-    for program in filter(os.path.isfile, refused_memory.PROGRAMS):
-        yield from ((program, *case) for case in refused_memory.cases(program))
+    for rows in (refused_memory, findings_rows):
+        for program in filter(os.path.isfile, rows.PROGRAMS):
+            yield from ((program, *case) for case in rows.cases(program))
 
 
 def main(words):
     counts = [re.fullmatch(r"(\d+) passed, (\d+) failed", it) for it in words]
     passed = sum(int(it[1]) for it in counts if it)
     failed = sum(int(it[2]) if it else 1 for it in counts)
-    for built in (BUILT, PLAIN, refused_memory.BUILT):
+    for built in (BUILT, PLAIN, refused_memory.BUILT, findings_rows.BUILT):
         if not os.path.isfile(built):
             print(f"program_ends: there is no program {built}", file=sys.stderr)
             failed += 1

@@ -1,0 +1,16 @@
+use Rattle.std.proofs.Common.{◌∙◌, ap}
+use Rattle.std.specs.Prelude.{string_bytes}
+use Rattle.findings_text.specs.Print.{severity_text}
+use Rattle.findings_text.proofs.Grown.{begin_by, line_grown}
+use Rattle.findings_text.proofs.line.push_line.Goals as goal
+
+pub returns-clause-line : goal.returns-clause-line
+returns-clause-line c =
+    line_grown c.args.file.now c.args.ruler.now.text c.args.finding.now c.range_of.result.start
+    (ap (λ r. r.start) c.range_of.ensures.range ∙ ap (λ e. begin_by e c.args.ruler.now.text c.args.finding.now) c.requires)
+    (string_bytes c.args.lines.now) c.as_str.result.now c.severity_text.result.now c.as_str-2.result.now c.text.result.now
+    (c.as_str.ensures.value ∙ c.in_ok-place.ensures) (c.severity_text.ensures ∙ ap severity_text c.severity.ensures) (c.as_str-2.ensures ∙ c.in_ok-message.ensures) c.text.ensures
+    (string_bytes c.push_str.new.self) (string_bytes c.push_str-2.new.self) (string_bytes c.push_str-3.new.self) (string_bytes c.push_str-4.new.self)
+    (string_bytes c.push_str-5.new.self) (string_bytes c.push_str-6.new.self) (string_bytes c.push_str-7.new.self) (string_bytes c.push_str-8.new.self)
+    c.in_ok-push_str.ensures.bytes c.in_ok-push_str-2.ensures.bytes c.in_ok-push_str-3.ensures.bytes c.in_ok-push_str-4.ensures.bytes
+    c.in_ok-push_str-5.ensures.bytes c.in_ok-push_str-6.ensures.bytes c.in_ok-push_str-7.ensures.bytes c.in_ok-push_str-8.ensures.bytes

@@ -1,0 +1,3 @@
+pub mod Outcomes
+pub mod Print
+pub mod Endings

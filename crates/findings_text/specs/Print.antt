@@ -1,0 +1,43 @@
+-- What is printed of the findings in a text: a line for each, in the form that compilers use.
+use Rattle.std.specs.Prelude.{◌≡◌, ℕ, ◌+◌, List, [], ◌∷◌, ◌++◌, codes, flat_map}
+use Rattle.std.specs.Fmt.{decimal}
+use Rattle.ls_text.specs.Lines.{units}
+use Rattle.ls_text.specs.Positions.{place_start, position_of}
+use Rattle.ls_text.specs.declared.position.Encoding.TheVariants.{Utf32}
+use Rattle.ls_text.specs.declared.position.Position.{Position}
+use Rattle.abnf_lint.specs.declared.finding.Finding.{Finding}
+use Rattle.abnf_lint.specs.declared.message.Severity.{Severity}
+use Rattle.abnf_lint.specs.declared.message.Severity.TheVariants.{Error, Warning}
+use Rattle.abnf_lint.specs.Findings.{AreFindings}
+use Rattle.abnf_lint.specs.Messages.{code_text, message_of, severity_of}
+use Rattle.findings_text.specs.declared.print.Printed.{Printed}
+use Rattle.findings_text.specs.Outcomes.{outcome_of}
+
+abbrev pub severity_text : Severity → List ℕ
+severity_text Error = codes "error"
+severity_text Warning = codes "warning"
+
+-- where a finding begins: its line, and the characters of that line before it
+abbrev pub begin_of : List ℕ → Finding → Position
+begin_of text finding = position_of (units Utf32) text (place_start text finding.place)
+
+-- what is counted from 0, told from 1 behind a colon
+abbrev pub counted_text : ℕ → List ℕ
+counted_text n = codes ":" ++ decimal (n + 1)
+
+-- the line and the column of a position
+abbrev pub place_text : Position → List ℕ
+place_text at = counted_text at.line ++ counted_text at.character ++ codes ": "
+
+-- FILE:LINE:COLUMN: severity: message [code], and LF
+abbrev pub finding_line : List ℕ → List ℕ → Finding → List ℕ
+finding_line file text finding =
+    file ++ place_text (begin_of text finding) ++ severity_text (severity_of finding.code) ++ codes ": "
+    ++ message_of finding.code finding.name ++ codes " [" ++ code_text finding.code ++ (codes "]" ++ 10 ∷ [])
+
+-- This is printed of a text in a file with this name: the lines of its findings, in their order.
+pub record IsPrinted (file text : List ℕ) (printed : Printed) : Type 0 where
+  pub found : List Finding
+  pub of_text : AreFindings text found
+  pub lines_are : printed.lines ≡ flat_map (finding_line file text) found
+  pub outcome_is : printed.outcome ≡ outcome_of found

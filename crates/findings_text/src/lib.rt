@@ -1,0 +1,18 @@
+//! What is printed of the findings in a grammar's text: a line for each, in the form of compilers.
+//!
+//! [`print_findings`] gives the lines of a text, which are defined in specs/Print, and says how the file went by an [`Outcome`]. The
+//! [`Ending`] of a run follows from the outcomes of its files.
+#![tactic(auto)]
+
+mod ending;
+mod laws;
+mod line;
+mod outcome;
+mod print;
+
+pub use ending::{Ending, fault_line, is_option};
+pub use laws::{printed_texts_are_unique, printed_texts_exist};
+pub use ls_text::Snapshot;
+pub use outcome::{Outcome, ending_of};
+pub use print::{Printed, print_findings};
+pub use text_files::{FileFault, read_text};

@@ -1,0 +1,64 @@
+//! The line of a finding.
+
+ghost use Rattle.std.specs.Prelude.{◌≡◌, ◌++◌, IfOk, OnOk, string_bytes};
+ghost use Rattle.ls_text.specs.declared.position.Encoding.TheVariants.{Utf32};
+ghost use Rattle.findings_text.specs.Print.{counted_text, finding_line, place_text, severity_text};
+
+use abnf_lint::{Finding, Severity};
+use ls_text::{Position, Ruler};
+use std::alloc::{AllocError as Memory, Global};
+
+/// How grave a finding is, in a word.
+fn severity_text(severity: Severity) -> &'static str
+    ensures { result.now ≡ severity_text severity }
+{
+    match severity {
+        Severity::Error => "error",
+        Severity::Warning => "warning",
+    }
+}
+
+/// What is counted from 0, told from 1 behind a colon.
+fn counted_text(alloc: Global, before: u32) -> Result<String, Memory>
+    ensures { IfOk result (λ text. string_bytes text ≡ counted_text before) }
+{
+    let number = u64::from(before) + 1;
+    format!(in alloc; ":{number}")
+}
+
+/// The line and the column of a position.
+fn place_text(alloc: Global, at: Position) -> Result<String, Memory>
+    ensures { IfOk result (λ text. string_bytes text ≡ place_text at) }
+{
+    let mut text = counted_text(alloc, at.line)?;
+    let column = counted_text(alloc, at.character)?;
+    text.push_str(column.as_str())?;
+    text.push_str(": ")?;
+    Ok(text)
+}
+
+/// Appends the line of a finding in a file with this name. The ruler counts characters.
+pub fn push_line(
+    lines: &mut String,
+    alloc: Global,
+    file: &str,
+    ruler: &mut Ruler<'_>,
+    finding: &Finding,
+) -> Result<(), Memory>
+    requires { ruler.old.encoding ≡ Utf32 }
+    ensures text { ruler.new ≡ ruler.old }
+    ensures line { OnOk result (string_bytes lines.new ≡ string_bytes lines.old ++ finding_line file.now ruler.old.text finding.now) }
+{
+    let begin = ruler.range_of(&finding.place).start;
+    let place = place_text(alloc, begin)?;
+    let message = finding.message(alloc)?;
+    lines.push_str(file)?;
+    lines.push_str(place.as_str())?;
+    lines.push_str(severity_text(finding.code.severity()))?;
+    lines.push_str(": ")?;
+    lines.push_str(message.as_str())?;
+    lines.push_str(" [")?;
+    lines.push_str(finding.code.text())?;
+    lines.push_str("]\n")?;
+    Ok(())
+}

@@ -1,0 +1,58 @@
+//! What is printed of a text.
+
+ghost use Rattle.std.specs.Prelude.{◌≡◌, IfOk, flat_map, string_bytes};
+ghost use Rattle.abnf_lint.specs.Findings.{AreFindings};
+ghost use Rattle.findings_text.specs.Print.{IsPrinted, finding_line};
+
+use crate::line::push_line;
+use crate::outcome::{Outcome, outcome_of};
+use abnf_least::least;
+use abnf_lint::{Finding, findings};
+use abnf_names::Grammar;
+use ls_lists::{List, Text};
+use ls_text::{Encoding, Ruler, Snapshot};
+use std::alloc::{AllocError as Memory, Global};
+
+/// What is printed of a text, and how the file went.
+#[derive(Drop)]
+pub struct Printed {
+    /// A line for each finding, `FILE:LINE:COLUMN: severity: message [code]`.
+    pub lines: Text,
+    pub outcome: Outcome,
+}
+
+/// The findings of a text.
+fn found_in(alloc: Global, text: &Snapshot) -> Result<List<Finding>, Memory>
+    ensures { IfOk result (λ found. AreFindings text.now found) }
+{
+    let grammar = Grammar::of(alloc, text)?;
+    let cert = least(alloc, &grammar)?;
+    findings(alloc, &grammar, &cert)
+}
+
+/// The lines of findings in a text.
+fn lines_of(alloc: Global, file: &str, text: &Snapshot, found: &[Finding]) -> Result<String, Memory>
+    ensures { IfOk result (λ lines. string_bytes lines ≡ flat_map (finding_line file.now text.now) found.now) }
+{
+    let mut ruler = Ruler::new(text, Encoding::Utf32);
+    let mut lines = String::new(alloc);
+    for finding in found {
+        push_line(&mut lines, alloc, file, &mut ruler, finding)?;
+    }
+    Ok(lines)
+}
+
+/// What is printed of a text in a file with this name: each finding in a line, in the order of the text. Lines and columns count from 1,
+/// and columns count characters.
+///
+/// `Memory` says that an allocation was refused.
+pub fn print_findings(alloc: Global, file: &str, text: &Snapshot) -> Result<Printed, Memory>
+    ensures { IfOk result (λ printed. IsPrinted file.now text.now printed) }
+{
+    let found = found_in(alloc, text)?;
+    let lines = lines_of(alloc, file, text, found.as_slice())?;
+    Ok(Printed {
+        lines: Text::new(lines),
+        outcome: outcome_of(found.as_slice()),
+    })
+}

@@ -1,0 +1,180 @@
+#!/usr/bin/env python3
+"""Worked rows of `abnf_findings`: what it prints of texts, and how it ends. The values are by hand, from RFC 5234 and the table of findings.
+
+    tools/findings_rows.py [PROGRAM]
+
+runs a program that is built. Each row is a text and its lines without the name of the file; the severity in a line tells how the run ends.
+"""
+import os
+import sys
+import tempfile
+
+import preload
+import refused_memory
+from runs import HUNG, ended
+
+TOP = os.path.dirname(os.path.dirname(os.path.abspath(__file__)))
+BUILT = os.path.join(TOP, "crates", "abnf_findings", "out", "abnf_findings")
+PROGRAMS = (BUILT, BUILT + ".by-rattle")
+USAGE = b"usage: abnf_findings [--strict] FILE..\n"
+DEEP = "a = " + 65 * "("
+
+ROWS = (
+    # nothing is found: the core rules are there (RFC 5234 appendix B.1), in either case, and equal bounds and ends are not empty
+    ("", ()),
+    ('a = "x"\n', ()),
+    ("a = B digit\r\nb = 2*2%x30-30\r\n", ()),
+    ('a = <text> / "x"\nb = "y"', ()),
+    ("a = b\nb = <text>", ()),
+    # faults of syntax (RFC 5234 section 4)
+    ('= "x"', ("1:1: error: rule name expected [syntax]",)),
+    ('a "x"', ('1:3: error: "=" or "=/" expected [syntax]',)),
+    ("a = ?", ("1:5: error: bad character [syntax]",)),
+    ("a =", ("1:4: error: element expected [syntax]",)),
+    ('a = 2 "x"', ("1:5: error: element expected [syntax]",)),
+    ('a = "x""y"', ("1:8: error: blank expected [syntax]",)),
+    ("a = (b", ("1:5: error: bracket not closed [syntax]",)),
+    # limits
+    ("a = %x100000000", ("1:5: error: number too large [number-too-large]",)),
+    (DEEP, ("1:69: error: brackets nested too deep [too-deep]",)),
+    # names that stand for nothing; an optional use generates the empty string (RFC 5234 sections 3.6 and 3.8)
+    ('a = 0nope *nope [nope] "k"', tuple(f"1:{column}: error: undefined rule nope [undefined]" for column in (6, 12, 18))),
+    # second definitions, in either case (RFC 5234 section 2.1), and additions without a first (section 3.3)
+    ('A = "yy"\na = "z"\na =/ "x"', ("2:1: error: rule a is already defined [duplicate]",)),
+    ('a =/ "x"\na = "y"\na =/ "z"', ("1:1: warning: no earlier definition of a [no-base]",)),
+    # repeats and ranges that are empty (RFC 5234 sections 3.6 and 3.4)
+    ('a = 3*2"x" / "y"', ("1:5: warning: repeat with minimum above maximum [empty-repeat]",)),
+    ('a = %x39-30 / "y"', ("1:5: warning: range with low above high [empty-range]",)),
+    # rules that generate nothing
+    ('a = b "x"\nb = a', ("1:1: warning: rule a generates nothing [unproductive]", "2:1: warning: rule b generates nothing [unproductive]")),
+    # several of one line, and of one place by the rows of the table
+    (
+        'a = 3*2"x" / %x39-30',
+        (
+            "1:1: warning: rule a generates nothing [unproductive]",
+            "1:5: warning: repeat with minimum above maximum [empty-repeat]",
+            "1:14: warning: range with low above high [empty-range]",
+        ),
+    ),
+    ("b =/ b", ("1:1: warning: no earlier definition of b [no-base]", "1:1: warning: rule b generates nothing [unproductive]")),
+    ("a = b", ("1:1: warning: rule a generates nothing [unproductive]", "1:5: error: undefined rule b [undefined]")),
+    # what columns count: characters, whatever bytes or UTF-16 units they have; a tab is one
+    ('a = <\u00e9\u20ac\U0001f600> nope', ("1:11: error: undefined rule nope [undefined]",)),
+    ("a = <\u00e9> nope nope", ("1:9: error: undefined rule nope [undefined]", "1:14: error: undefined rule nope [undefined]")),
+    ("a =\tnope", ("1:1: warning: rule a generates nothing [unproductive]", "1:5: error: undefined rule nope [undefined]")),
+    # lines, by each line end (LSP 3.17), and past nine
+    ('a = "x"\r\nb = ?\rc = ?\nd = ?', tuple(f"{line}:5: error: bad character [syntax]" for line in (2, 3, 4))),
+    ('a = "x"\n' + 9 * "\n" + "b = ?", ("11:5: error: bad character [syntax]",)),
+)
+
+
+def status_of(found, strict):
+    if any(": error: " in line for line in found):
+        return 1
+    return 1 if found and strict else 0
+
+
+def printed(name, found):
+    return "".join(f"{name}:{line}\n" for line in found).encode()
+
+
+class Folder:
+    def __init__(self, path):
+        self.path = path
+
+    def at(self, name):
+        return os.path.join(self.path, name)
+
+    def written(self, name, text):
+        with open(self.at(name), "wb") as file:
+            file.write(text if isinstance(text, bytes) else text.encode())
+        return self.at(name)
+
+    def sparse(self, name, size):
+        os.truncate(self.written(name, b""), size)
+        return self.at(name)
+
+
+def row_cases(program, folder):
+    """Each row, from a file and from standard input, and where warnings don't pass."""
+    for text, found in ROWS:
+        what, file = f"findings of {text[:40]!r}", folder.written("g.abnf", text)
+        yield what, ended(program, None, [file]), (status_of(found, False), b"", printed(file, found))
+        yield f"strict {what}", ended(program, None, ["--strict", file]), (status_of(found, True), b"", printed(file, found))
+        yield f"{what}, from standard input", ended(program, text.encode(), ["-"]), (status_of(found, False), b"", printed("-", found))
+
+
+def example_cases(program):
+    """Nothing is found in the grammars of standards, all in one run and each in its own."""
+    examples = os.path.join(TOP, "examples")
+    files = sorted(os.path.join(examples, it) for it in os.listdir(examples) if it.endswith(".abnf"))
+    for some in (files, *([it] for it in files)):
+        yield f"examples, {len(some)} of them", ended(program, None, ["--strict", *some]), (0, b"", b"")
+
+
+def file_cases(program, folder):
+    """Files that can't be read or are no texts, beside others, which are told all the same."""
+    bad, good = folder.written("bad.abnf", "a = ?"), folder.written("good.abnf", 'a = "x"')
+    doubtful = folder.written("doubtful.abnf", 'a =/ "x"')
+    no_text, large = folder.written("no_text", b'a = "\xff"'), folder.sparse("large", 4_194_305)
+    widest, none = folder.written("widest.abnf", b" " * 4_194_304), folder.at("none")
+    is_bad = printed(bad, ("1:5: error: bad character [syntax]",))
+    is_doubtful = printed(doubtful, ("1:1: warning: no earlier definition of a [no-base]",))
+    yield "a text of the greatest size", ended(program, None, [widest]), (0, b"", b"")
+    yield "several files, in their order", ended(program, None, [doubtful, good, bad, doubtful]), (1, b"", is_doubtful + is_bad + is_doubtful)
+    yield "warnings alone", ended(program, None, [good, doubtful]), (0, b"", is_doubtful)
+    yield "warnings alone, strict", ended(program, None, ["--strict", good, doubtful]), (1, b"", is_doubtful)
+    for what, file, line in (
+        ("no file", none, f"cannot read {none}"),
+        ("a folder", folder.path, f"cannot read {folder.path}"),
+        ("a file that isn't UTF-8", no_text, f"not a text: {no_text}"),
+        ("a file that is too large", large, f"not a text: {large}"),
+        ("a file without an end", "/dev/zero", "not a text: /dev/zero"),
+    ):
+        yield what, ended(program, None, [file]), (2, f"{line}\n".encode(), b"")
+        yield f"{what}, between others", ended(program, None, [bad, file, doubtful]), (2, f"{line}\n".encode(), is_bad + is_doubtful)
+    full = os.open("/dev/full", os.O_WRONLY)
+    yield "an output that is full", ended(program, None, [bad], stdout=full), (2, b"write failed\n", b"")
+    yield "an output that is full and not needed", ended(program, None, [good], stdout=full), (0, b"", b"")
+    os.close(full)
+    for arguments in ([], ["--strict"], ["--help"], [good, "--strict"], ["--strict", "--strict", good], ["-x"], [good, b"\xff"]):
+        yield f"the arguments {arguments}", ended(program, None, arguments), (5, USAGE, b"")
+
+
+def memory_cases(program, folder):
+    """Each allocation refused in turn: it ends with `out of memory`, and with no file half told, or as it does where nothing is refused."""
+    made = preload.library(folder.path, "refuses", refused_memory.LIBRARY)
+    doubtful, bad = folder.written("doubtful.abnf", 'a =/ "x"'), folder.written("bad.abnf", "a = b ?")
+    before = printed(doubtful, ("1:1: warning: no earlier definition of a [no-base]",))
+    behind = printed(bad, ("1:7: error: bad character [syntax]",))
+    found = []
+    for number in range(1, refused_memory.MOST):
+        env = {"LD_PRELOAD": made, "REFUSED_ALLOCATION": str(number)}
+        found.append(ended(program, None, [doubtful, bad], env=env))
+        if not found[-1][1] or found[-1][0] == HUNG:
+            break
+    said, whole = refused_memory.REFUSED + b"out of memory\n", before + behind
+    others = {*found[:-1]} - {(6, said, b""), (6, said, before), (1, refused_memory.REFUSED, whole)}
+    yield f"{len(found) - 1} allocations refused in turn", (len(found) > 60, sorted(others)), (True, [])
+    yield "no allocation refused", found[-1], (1, b"", whole)
+
+
+def cases(program):
+    """What each case is, how the program ended in it, and how it must end."""
+    yield from example_cases(program)
+    with tempfile.TemporaryDirectory() as path:
+        folder = Folder(path)
+        for some in (row_cases, file_cases, memory_cases):
+            yield from some(program, folder)
+
+
+def main(words):
+    failed = 0
+    for what, found, wanted in cases(words[0] if words else BUILT):
+        print(f"{what}: {'ended as it must' if found == wanted else f'FAILED: {found}, and not {wanted}'}")
+        failed += found != wanted
+    return 1 if failed else 0
+
+
+if __name__ == "__main__":
+    sys.exit(main(sys.argv[1:]))
