@@ -1,7 +1,6 @@
 -- What the commands of the program say of a text.
-use Rattle.std.specs.Prelude.{◌≡◌, ◌≤◌, ◌<◌, ◌^◌, ◌↔◌, ℕ, ◌++◌, ◌∷◌, Bool, ◌&&◌, ◌==◌, IsTrue, List, [], Option, Some, None, length, if◌then◌else◌}
+use Rattle.std.specs.Prelude.{◌≡◌, ◌<◌, ◌^◌, ◌↔◌, ℕ, ◌++◌, ◌∷◌, Bool, ◌&&◌, ◌==◌, IsTrue, List, [], Option, Some, None, length, if◌then◌else◌}
 use Rattle.std.specs.Option.{unwrap_or}
-use Rattle.std.specs.Str.{IsUtf8}
 use Rattle.abnf_token.specs.Folded.{lowercase}
 use Rattle.abnf_parts.specs.Names.{rule_number}
 use Rattle.abnf_names.specs.Rules.{Grammar, IsGrammar}
@@ -48,11 +47,6 @@ pub record IsChecked (text bytes : List ℕ) (yes : Bool) : Type 0 where
   pub read : cert_part bytes ≡ cert_text entries
   pub answer : IsTrue yes ↔ IsAccepted grammar.rules entries
   pub sound : IsTrue yes → EachSays grammar.rules entries
-
--- the bytes of a grammar's file: a text in UTF-8 of at most 4,194,304 bytes
-pub record IsTextFile (bytes : List ℕ) : Type 0 where
-  pub utf8 : IsUtf8 bytes
-  pub small : length bytes ≤ 4194304
 
 -- each text of fewer than 2^62 characters has an example for each name
 abbrev pub ExampleTextsExist : Type 0

@@ -8,8 +8,8 @@ use Rattle.ls_session.specs.declared.event.Status.{Status}
 use Rattle.ls_session.specs.declared.event.Status.TheVariants as status
 use Rattle.ls_server.specs.declared.serve.ServeFault.{ServeFault}
 use Rattle.ls_server.specs.declared.serve.ServeFault.TheVariants.{Read, Write, Strayed, Memory}
-use Rattle.ls_server.specs.declared.file.FileFault.{FileFault}
-use Rattle.ls_server.specs.declared.file.FileFault.TheVariants as file
+use Rattle.text_files.specs.declared.file.FileFault.{FileFault}
+use Rattle.text_files.specs.declared.file.FileFault.TheVariants as file
 use Rattle.ls_server.specs.declared.ending.Ending.{Ending}
 use Rattle.ls_server.specs.declared.ending.Ending.TheVariants.{Good, Not, Framing, Full, ReadFailed, WriteFailed, CannotRead, NotText, Certificate, HasStrayed, Usage, OutOfMemory}
 

@@ -1,95 +1,13 @@
-//! The files that the commands read.
+//! The file of a certificate.
 
-ghost use Rattle.std.specs.Prelude.{◌≡◌, ◌≤◌, ◌<◌, ◌⊎◌, ◌↔◌, IfErr, IfOk, IfSome, length};
-ghost use Rattle.std.specs.IoError.{error_kind};
-ghost use Rattle.std.specs.Str.{chars};
-ghost use Rattle.ls_server.specs.Commands.{IsTextFile};
+ghost use Rattle.std.specs.Prelude.{◌≡◌, ◌≤◌, ◌<◌, IfOk, IfSome, length};
 
-use ls_text::{MAX_BYTES, Snapshot, TextFault};
 use std::alloc::Global;
-use std::io;
-use std::io::{ErrorKind, Read};
-use thiserror::Error;
+use std::io::Read;
+use text_files::{FileFault, read_bytes};
 
 /// The largest file of a certificate, in bytes.
 pub const MAX_CERT_BYTES: u32 = 268_435_456;
-
-/// Why a command can't use a file.
-#[derive(Clone, Copy, Debug, Drop, PartialEq, Eq, Error)]
-pub enum FileFault {
-    /// It can't be opened, or a read fails.
-    #[error("the file can't be read")]
-    CannotRead,
-    /// It is too large, or the grammar in it isn't UTF-8.
-    #[error("the file is not a text")]
-    NotText,
-    #[error("out of memory")]
-    Memory,
-}
-
-impl FileFault {
-    /// What a file's error means: `Memory` where its kind says so, else `CannotRead`.
-    pub fn of(error: &io::Error) -> FileFault
-        ensures one { (result ≡ FileFault.CannotRead) ⊎ (result ≡ FileFault.Memory) }
-        ensures memory { (result ≡ FileFault.Memory) ↔ (error_kind error.now ≡ ErrorKind.OutOfMemory) }
-    {
-        if error.kind() == ErrorKind::OutOfMemory {
-            FileFault::Memory
-        } else {
-            FileFault::CannotRead
-        }
-    }
-}
-
-/// The bytes of a file. Of a larger one no more than one byte above the most is read.
-///
-/// # Errors
-///
-/// `NotText` exactly where there are more bytes, `CannotRead` where a read fails, and `Memory`.
-fn read_bytes<R: Read + Drop>(alloc: Global, file: R, most: u32) -> Result<Vec<u8>, FileFault>
-    ensures few { IfOk result (λ bytes. length bytes.items ≤ most) }
-    ensures all { IfSome (R.remaining file) (λ all. IfOk result (λ bytes. bytes.items ≡ all)) }
-    ensures fault { IfSome (R.remaining file) (λ all. result ≡ Err FileFault.NotText → most < length all) }
-{
-    let mut bytes = Vec::new(alloc);
-    match file.take(u64::from(most) + 1).read_to_end(&mut bytes) {
-        Ok(_) => {
-            if bytes.len() > most as usize {
-                return Err(FileFault::NotText);
-            }
-            Ok(bytes)
-        }
-        Err(error) => Err(FileFault::of(&error)),
-    }
-}
-
-/// The text of a grammar's file: UTF-8 of at most [`MAX_BYTES`] bytes.
-///
-/// # Errors
-///
-/// `NotText` exactly where it is another, `CannotRead` where a read fails, and `Memory`.
-pub fn read_text<R: Read + Drop>(alloc: Global, file: R) -> Result<Snapshot, FileFault>
-    ensures text { IfSome (R.remaining file) (λ all. IfOk result (λ text. IsTextFile all × (text ≡ chars all))) }
-    ensures fault { IfSome (R.remaining file) (λ all. result ≡ Err FileFault.NotText → ¬ (IsTextFile all)) }
-{
-    let bytes = read_bytes(alloc, file, MAX_BYTES as u32)?;
-    text_of(alloc, bytes)
-}
-
-/// The text that these bytes are.
-fn text_of(alloc: Global, bytes: Vec<u8>) -> Result<Snapshot, FileFault>
-    ensures text { IfOk result (λ text. IsTextFile bytes.items × (text ≡ chars bytes.items)) }
-    ensures fault { (result ≡ Err FileFault.NotText) ↔ ¬ (IsTextFile bytes.items) }
-{
-    let Ok(text) = String::from_utf8(bytes) else {
-        return Err(FileFault::NotText);
-    };
-    match Snapshot::of_text(alloc, text) {
-        Ok(snapshot) => Ok(snapshot),
-        Err(TextFault::TooLarge) => Err(FileFault::NotText),
-        Err(TextFault::Memory) => Err(FileFault::Memory),
-    }
-}
 
 /// The bytes of a certificate's file, at most [`MAX_CERT_BYTES`].
 ///
