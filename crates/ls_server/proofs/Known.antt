@@ -1,6 +1,5 @@
 -- Known bytes that grow.
-use Rattle.std.proofs.Common.{ℕ, suc, ◌≡◌, ◌==◌, true, length, List, [], ◌∷◌, ◌++◌, Option, None, Some, refl, sym, ◌∙◌, ap, append_assoc}
-use Rattle.std.proofs.lemmas.Bool.{eqb-true}
+use Rattle.std.proofs.Common.{ℕ, ◌≡◌, List, [], ◌∷◌, ◌++◌, Option, None, Some, refl, sym, ◌∙◌, ap, append_assoc}
 use Rattle.std.specs.Io.KnownBytes.{Appends, Keeps}
 use Rattle.ls_server.specs.Runs.{AppendsFront}
 
@@ -29,8 +28,3 @@ front-keeps a b c x f k = (f.0, f.1, (f.2.0, appends-keeps a b c f.0 f.2.1 k))
 
 pub as-front : (a b : Option (List ℕ)) (bytes : List ℕ) → Appends a b bytes → AppendsFront a b bytes
 as-front a b bytes w = (bytes, [], (sym (append-nil bytes), w))
-
--- a list of no length
-pub no-bytes : (xs : List ℕ) (n : ℕ) → n ≡ length xs → (n == 0) ≡ true → xs ≡ []
-no-bytes [] n e z = refl
-no-bytes (x ∷ xs) n e z = let bad : suc (length xs) ≡ 0 = sym e ∙ eqb-true n 0 z in absurd (cc)

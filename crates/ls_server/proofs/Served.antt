@@ -9,14 +9,14 @@ use Rattle.ls_frame.specs.declared.fault.FrameFault.TheVariants.{Truncated}
 use Rattle.ls_frame.specs.Feeds.{EndIs}
 use Rattle.ls_steps.specs.Runs.{Going, begun}
 use Rattle.ls_server.specs.Runs.{end_status}
-use Rattle.ls_server.specs.Runs.{GoesOn, Stops, PieceIs, ServedIs, Written, is_write}
+use Rattle.ls_server.specs.Runs.{AnswersIs, GoesOn, Stops, PieceIs, ServedIs, WasServed, Written, is_write}
 use Rattle.ls_server.specs.declared.serve.ServeFault.{ServeFault}
 use Rattle.ls_server.specs.declared.serve.ServeFault.TheVariants.{Read, Write, Strayed, Memory}
 use Rattle.ls_session.specs.declared.event.Status.{Status}
 use Rattle.ls_session.specs.declared.event.Status.TheVariants.{Unclean, BadFrame}
 use Rattle.ls_server.proofs.Known.{append-nil}
 use Rattle.ls_steps.specs.Plain.{IsSettled}
-use Rattle.ls_steps.proofs.Settled.{settled-begun, settled-said}
+use Rattle.ls_steps.proofs.Settled.{says-more, settled-begun, settled-said}
 use Rattle.ls_server.proofs.Writing.{answers-more, front-append, front-none, written-append, written-none}
 use Rattle.ls_server.proofs.Pieces.{no-stream}
 
@@ -183,9 +183,17 @@ not-write Write e = e
 not-write Strayed e = refl
 not-write Memory e = refl
 
--- where a run goes on it has nothing left to run or to send, and hasn't ended
-pub still-settled : (read rest : List ℕ) (state : Going) (a b : Option (List ℕ)) → GoesOn [] read begun a rest state b → IsSettled state
-still-settled read rest state a b g = settled-said true begun state g.contents g.answered.1.bytes settled-begun g.answered.1.said
+-- a session that has come by messages has nothing left to run or to send
+pub settled-by : (state : Going) → WasServed state → IsSettled state
+settled-by state w = settled-said true begun state w.0 w.1 settled-begun w.2
+
+-- and after more messages it has come by messages too
+pub served-more : (state now : Going) (contents : List (List ℕ)) (a b : Option (List ℕ)) → WasServed state → AnswersIs state contents a (Ok None) now b → WasServed now
+served-more state now contents a b w h = (w.0 ++ contents, w.1 ++ h.1.bytes, says-more true begun state now w.0 contents w.1 h.1.bytes w.2 h.1.said)
+
+-- where a run goes on it has come by messages, and hasn't ended
+pub still-served : (read rest : List ℕ) (state : Going) (a b : Option (List ℕ)) → GoesOn [] read begun a rest state b → WasServed state
+still-served read rest state a b g = (g.contents, g.answered.1.bytes, g.answered.1.said)
 
 pub still-open : (read rest : List ℕ) (state : Going) (a b : Option (List ℕ)) → GoesOn [] read begun a rest state b → state.status ≡ None
 still-open read rest state a b g = g.answered.0

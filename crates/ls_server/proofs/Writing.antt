@@ -3,16 +3,16 @@ use Rattle.std.proofs.Common.{ℕ, ◌+◌, ◌<◌, length, get_or, ◌≡◌, 
 use Rattle.std.specs.Prelude.{is_some, Vec, Result, Ok, Err}
 use Rattle.std.specs.declared.alloc.Global.{Global}
 use Rattle.std.proofs.lemmas.List.{take_more, take-append-drop, map-append}
-use Rattle.std.specs.Io.KnownBytes.{Appends, Keeps}
 use Rattle.ls_frame.specs.Feeds.{contents_of}
 use Rattle.ls_steps.specs.Runs.{Going}
-use Rattle.ls_steps.specs.Plain.{IsSettled, Says, Serves}
+use Rattle.ls_steps.specs.Plain.{CanSendAll, Hears, IsSettled, Says, Serves}
 use Rattle.ls_steps.proofs.Settled.{says-more, says-one, says-stays}
-use Rattle.ls_server.specs.Runs.{AppendsFront, AnswersIs, Written, WrittenFront}
+use Rattle.ls_server.specs.Runs.{AppendsFront, AnswersIs, SendsIs, Written, WrittenFront}
 use Rattle.ls_server.specs.declared.serve.ServeFault.{ServeFault}
 use Rattle.ls_server.specs.declared.serve.ServeFault.TheVariants.{Read, Write, Strayed, Memory}
 use Rattle.ls_session.specs.declared.event.Status.{Status}
-use Rattle.ls_server.proofs.Known.{appends-appends, appends-keeps, appends-none, as-front}
+use Rattle.ls_server.proofs.Known.{appends-appends, appends-none, as-front}
+use Rattle.ls_server.proofs.Sending.{FrontOfAll, front-of-all, some-of-all}
 
 pub lists-nil : (xs : List (List ℕ)) → xs ++ [] ≡ xs
 lists-nil [] = refl
@@ -69,21 +69,37 @@ front-longer state xs ys a b f = record {
   written = f.written;
 }
 
--- one body is answered
-pub one-answer : (state now : Going) (body bytes : List ℕ) (status : Option Status) (a b c : Option (List ℕ)) → Serves true state body now bytes → status ≡ now.status
-    → Appends a b bytes → Keeps b c → AnswersIs state (body ∷ []) a (Ok status) now c
-one-answer state now body bytes status a b c s e w k = (sym e, record { bytes = bytes; said = says-one true state now body bytes s; written = appends-keeps a b c bytes w k })
-
--- one body to which nothing is said
-pub one-silent : (state now : Going) (body bytes : List ℕ) (status : Option Status) (a : Option (List ℕ)) → Serves true state body now bytes → status ≡ now.status → bytes ≡ []
-    → AnswersIs state (body ∷ []) a (Ok status) now a
-one-silent state now body bytes status a s e none =
-    (sym e, record { bytes = bytes; said = says-one true state now body bytes s; written = subst (Appends a a) (sym none) (appends-none a) })
-
 -- an answer that was written in part
 pub one-front : (state now : Going) (body bytes : List ℕ) (a b : Option (List ℕ)) → Serves true state body now bytes → AppendsFront a b bytes → WrittenFront state (body ∷ []) a b
 one-front state now body bytes a b s w =
     record { answered = body ∷ []; left = []; contents_are = refl; after = now; bytes = bytes; said = says-one true state now body bytes s; written = w }
+
+-- one body is answered
+pub one-answer : (state worked now : Going) (body : List ℕ) (status : Option Status) (a b : Option (List ℕ)) → Hears true state body worked → SendsIs worked a (Ok tt) now b → status ≡ now.status
+    → AnswersIs state (body ∷ []) a (Ok status) now b
+one-answer state worked now body status a b h s e =
+    (sym e, record { bytes = s.1; said = says-one true state now body s.1 (record { worked = worked; hears = h; replies = s.0; sends = s.2 }); written = s.3 })
+
+front-sent : (state worked : Going) (body : List ℕ) (a b : Option (List ℕ)) → Hears true state body worked → FrontOfAll worked a b → WrittenFront state (body ∷ []) a b
+front-sent state worked body a b h s = one-front state s.1 body s.2 a b (record { worked = worked; hears = h; replies = s.0; sends = s.3 }) s.4
+
+-- the answer to one body was broken off
+one-fault : (state worked now : Going) (body : List ℕ) (fault : ServeFault) (a b : Option (List ℕ)) → Hears true state body worked → CanSendAll worked → SendsIs worked a (Err fault) now b
+    → AnswersIs state (body ∷ []) a (Err fault) now b
+one-fault state worked now body Read a b h can s = absurd s
+one-fault state worked now body Write a b h can s = front-sent state worked body a b h (front-of-all worked now a b can s)
+one-fault state worked now body Strayed a b h can s = absurd s
+one-fault state worked now body Memory a b h can s = front-sent state worked body a b h (some-of-all worked s.0 a b can s.1)
+
+pub fault-answered : (state worked now : Going) (body : List ℕ) (r : Result (Option Status) ServeFault) (e fault : ServeFault) (a b : Option (List ℕ)) → r ≡ Err e → e ≡ fault
+    → Hears true state body worked → CanSendAll worked → SendsIs worked a (Err fault) now b → AnswersIs state (body ∷ []) a r now b
+fault-answered state worked now body r e fault a b is same h can s =
+    subst (λ x. AnswersIs state (body ∷ []) a x now b) (sym (is ∙ ap Err same)) (one-fault state worked now body fault a b h can s)
+
+-- no memory was left for one body
+pub none-answered : (state now : Going) (body : List ℕ) (r : Result (Option Status) ServeFault) (e : ServeFault) (a : Option (List ℕ)) → r ≡ Err e → e ≡ Memory
+    → AnswersIs state (body ∷ []) a r now a
+none-answered state now body r e a is memory = subst (λ x. AnswersIs state (body ∷ []) a x now a) (sym (is ∙ ap Err memory)) (front-none state (body ∷ []) a)
 
 -- more bodies are answered after those that have been
 pub answers-more : (state now : Going) (xs ys : List (List ℕ)) (r : Result (Option Status) ServeFault) (after_it : Going) (first old new : Option (List ℕ))

@@ -5,8 +5,8 @@ use Rattle.ls_frame.specs.Frames.{Stream}
 use Rattle.ls_frame.specs.Faults.{fault_of}
 use Rattle.ls_frame.specs.declared.fault.FrameFault.{FrameFault}
 use Rattle.ls_frame.specs.declared.fault.FrameFault.TheVariants.{Truncated, Memory as NoMemory}
-use Rattle.ls_steps.specs.Runs.{Going, begun}
-use Rattle.ls_steps.specs.Plain.{Says}
+use Rattle.ls_steps.specs.Runs.{Going, Runs, Steps, begun, send}
+use Rattle.ls_steps.specs.Plain.{Replies, Says, times}
 use Rattle.ls_session.specs.declared.event.Status.{Status}
 use Rattle.ls_session.specs.declared.event.Status.TheVariants.{BadFrame, Unclean}
 use Rattle.ls_server.specs.declared.serve.ServeFault.{ServeFault}
@@ -37,6 +37,34 @@ pub record WrittenFront (state : Going) (contents : List (List ℕ)) (old new : 
   pub bytes : List ℕ
   pub said : Says true state answered after bytes
   pub written : AppendsFront old new bytes
+
+-- the session has come here by messages
+abbrev pub WasServed : Going → Type 0
+WasServed state = (bodies : List (List ℕ)) × (bytes : List ℕ) × Says true begun bodies state bytes
+
+-- Some replies have left, one after the other, and are written.
+pub record SomeSent (state now : Going) (old new : Option (List ℕ)) : Type 0 where
+  pub replies : ℕ
+  pub bytes : List ℕ
+  pub sent : Runs true state (times replies (send ∷ [])) now bytes
+  pub written : Appends old new bytes
+
+-- Behind them one more has left, and a front of it is written.
+pub record SentFront (state after : Going) (old new : Option (List ℕ)) : Type 0 where
+  pub before : Going
+  pub between : Option (List ℕ)
+  pub earlier : SomeSent state before old between
+  pub frame : List ℕ
+  pub last : Steps true before send after frame
+  pub front : AppendsFront between new frame
+
+-- All that is kept is sent: what r says, what the state is then, and what is written.
+abbrev pub SendsIs : Going → Option (List ℕ) → Result Unit ServeFault → Going → Option (List ℕ) → Type 0
+SendsIs state old (Ok sent) after new = (replies : ℕ) × (bytes : List ℕ) × Replies true replies state after bytes × Appends old new bytes
+SendsIs state old (Err Read) after new = ⊥
+SendsIs state old (Err Write) after new = SentFront state after old new
+SendsIs state old (Err Strayed) after new = ⊥
+SendsIs state old (Err Memory) after new = (now : Going) × SomeSent state now old new
 
 abbrev pub or_else : Option Status → Option FrameFault → Option Status
 or_else (Some status) fault = Some status

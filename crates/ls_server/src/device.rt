@@ -1,16 +1,34 @@
 //! Where bytes come from and go to.
-ghost use Rattle.std.specs.Prelude.{◌≡◌, ◌≢◌, ℕ, ◌+◌, ◌≤◌, ◌<◌, ◌||◌, ◌&&◌, ◌^◌, Bool, true, false, List, length, take, Option, None, Some, Result, IfOk, IfErr, OnOk, OnErr};
+ghost use Rattle.std.specs.Prelude.{◌≡◌, ◌≢◌, ◌↔◌, ℕ, ◌+◌, ◌≤◌, ◌<◌, ◌||◌, ◌&&◌, ◌^◌, Bool, true, false, List, length, take, Option, None, Some, Result, IfOk, IfErr, OnOk, OnErr};
 ghost use Rattle.std.specs.Io.KnownBytes.{Keeps, ReadConsumes, WriteAppends};
 ghost use Rattle.ls_server.specs.Devices.{is_failed, took_bytes};
+ghost use Rattle.std.specs.IoError.{error_kind};
 
+use std::io;
 use std::io::{ErrorKind, Read, Write};
+use thiserror::Error;
 
 /// Why a call on a device gave nothing.
-#[derive(Clone, Copy, Debug, Drop, PartialEq, Eq)]
+#[derive(Clone, Copy, Debug, Drop, PartialEq, Eq, Error)]
 pub enum DeviceFault {
     /// The call may be made again.
+    #[error("the call was interrupted")]
     Interrupted,
+    #[error("the device failed")]
     Failed,
+}
+
+impl DeviceFault {
+    /// What an error of std's reader means: `Interrupted` where it is of that kind, else `Failed`.
+    pub fn of(error: &io::Error) -> DeviceFault
+        ensures { (result ≡ DeviceFault.Interrupted) ↔ (error_kind error.now ≡ ErrorKind.Interrupted) }
+    {
+        if error.kind() == ErrorKind::Interrupted {
+            DeviceFault::Interrupted
+        } else {
+            DeviceFault::Failed
+        }
+    }
 }
 
 /// Gives bytes.
@@ -98,14 +116,13 @@ impl<R: Read> Source for ReadFrom<R> {
         self.reads += 1;
         match self.reader.read(buf) {
             Ok(count) => Ok(count),
-            Err(error) => {
-                if error.kind() == ErrorKind::Interrupted {
-                    Err(DeviceFault::Interrupted)
-                } else {
+            Err(error) => match DeviceFault::of(&error) {
+                DeviceFault::Interrupted => Err(DeviceFault::Interrupted),
+                DeviceFault::Failed => {
                     self.failed = true;
                     Err(DeviceFault::Failed)
                 }
-            }
+            },
         }
     }
 }

@@ -5,8 +5,8 @@ ghost use Rattle.ls_frame.specs.Frames.{HasNoFrame};
 ghost use Rattle.ls_frame.specs.Faults.{fault_of};
 ghost use Rattle.ls_frame.specs.Feeds.{contents_of};
 ghost use Rattle.ls_server.specs.Devices.{is_failed};
-ghost use Rattle.ls_server.specs.Runs.{AnswersIs, AppendsFront, IsOutput, PieceIs, RunIs, ServedIs, is_write, outcome};
-ghost use Rattle.ls_steps.specs.Plain.{IsSettled};
+ghost use Rattle.ls_server.specs.Runs.{AnswersIs, AppendsFront, IsOutput, PieceIs, RunIs, SendsIs, ServedIs, WasServed, is_write, outcome};
+ghost use Rattle.ls_steps.specs.Plain.{CanSendAll};
 ghost use Rattle.ls_steps.specs.Runs.{begun};
 ghost use Rattle.ls_session.specs.declared.event.Status.{Status};
 
@@ -14,7 +14,7 @@ use crate::device::{DeviceFault, Sink, Source};
 use ls_frame::{FrameFault, Framer};
 use ls_session::Status;
 use ls_steps::Conversation;
-use std::alloc::Global;
+use std::alloc::{AllocError, Global};
 use thiserror::Error;
 
 /// The most bytes that one read takes.
@@ -37,6 +37,17 @@ pub enum ServeFault {
     Memory,
 }
 
+impl From<AllocError> for ServeFault {
+    ghost use Rattle.std.specs.Prelude.{◌≡◌};
+    ghost use Rattle.ls_server.specs.declared.serve.ServeFault.TheVariants.{Memory};
+
+    ghost from_gives = { λ e f. f ≡ Memory };
+
+    fn from(_: AllocError) -> ServeFault {
+        ServeFault::Memory
+    }
+}
+
 /// Writes all the bytes, unless the sink fails. Its one fault is `Failed`; a front of the bytes has been written then.
 pub fn write_all<W: Sink>(writer: &mut W, bytes: &[u8]) -> Result<(), DeviceFault>
     ensures ok { OnOk result (Appends (W.contents writer.old) (W.contents writer.new) bytes.now) }
@@ -51,41 +62,60 @@ pub fn write_all<W: Sink>(writer: &mut W, bytes: &[u8]) -> Result<(), DeviceFaul
     Ok(())
 }
 
-/// Answers one body.
-fn answer<W: Sink>(
-    alloc: Global,
-    talk: &mut Conversation,
-    body: &[u8],
-    writer: &mut W,
-) -> Result<Option<Status>, ServeFault>
-    ensures answers { AnswersIs talk.old (body.now ∷ []) (W.contents writer.old) result talk.new
-        (W.contents writer.new) }
+/// Writes a frame and flushes it.
+fn send_frame<W: Sink>(writer: &mut W, frame: &[u8]) -> Result<(), ServeFault>
+    ensures ok { OnOk result (Appends (W.contents writer.old) (W.contents writer.new) frame.now) }
+    ensures front { AppendsFront (W.contents writer.old) (W.contents writer.new) frame.now }
     ensures failed { W.failed writer.new ≡ (W.failed writer.old || is_write result) }
-    ensures flushed { is_write result ≡ false → W.unflushed writer.old ≡ false → W.unflushed writer.new ≡ false }
+    ensures flushed { OnOk result (W.unflushed writer.new ≡ false) }
+    ensures fault { IfErr result (λ e. e ≡ ServeFault.Write) }
 {
-    let Ok(bytes) = talk.serve(alloc, body) else {
-        return Err(ServeFault::Memory);
-    };
-    if bytes.is_empty() {
-        return Ok(talk.status());
-    }
-    if write_all(writer, &bytes).is_err() {
+    if write_all(writer, frame).is_err() {
         return Err(ServeFault::Write);
     }
     if writer.flush().is_err() {
         return Err(ServeFault::Write);
     }
+    Ok(())
+}
+
+/// Sends all that is to be said. The frame of each reply is written and flushed before the next reply is taken.
+fn send_all<W: Sink>(talk: &mut Conversation, writer: &mut W) -> Result<(), ServeFault>
+    requires { CanSendAll talk.old }
+    ensures sends { SendsIs talk.old (W.contents writer.old) result talk.new (W.contents writer.new) }
+    ensures failed { W.failed writer.new ≡ (W.failed writer.old || is_write result) }
+    ensures flushed { is_write result ≡ false → W.unflushed writer.old ≡ false → W.unflushed writer.new ≡ false }
+{
+    'replies: while let Some(frame) = talk.send()? {
+        send_frame(writer, &frame)?;
+    }
+    Ok(())
+}
+
+/// Answers one body.
+fn answer<W: Sink>(
+    talk: &mut Conversation,
+    body: &[u8],
+    writer: &mut W,
+) -> Result<Option<Status>, ServeFault>
+    requires { WasServed talk.old }
+    ensures answers { AnswersIs talk.old (body.now ∷ []) (W.contents writer.old) result talk.new
+        (W.contents writer.new) }
+    ensures failed { W.failed writer.new ≡ (W.failed writer.old || is_write result) }
+    ensures flushed { is_write result ≡ false → W.unflushed writer.old ≡ false → W.unflushed writer.new ≡ false }
+{
+    talk.meet(body)?;
+    send_all(talk, writer)?;
     Ok(talk.status())
 }
 
 /// Answers the bodies in order, up to the end of the session.
 fn answer_all<W: Sink>(
-    alloc: Global,
     talk: &mut Conversation,
     bodies: &[Vec<u8>],
     writer: &mut W,
 ) -> Result<Option<Status>, ServeFault>
-    requires settled { IsSettled talk.old }
+    requires served { WasServed talk.old }
     requires open { talk.old.status ≡ None }
     ensures answers { AnswersIs talk.old (contents_of bodies.now) (W.contents writer.old) result talk.new
         (W.contents writer.new) }
@@ -93,7 +123,7 @@ fn answer_all<W: Sink>(
     ensures flushed { is_write result ≡ false → W.unflushed writer.old ≡ false → W.unflushed writer.new ≡ false }
 {
     for body in bodies {
-        match answer(alloc, talk, body, writer) {
+        match answer(talk, body, writer) {
             Ok(None) => {}
             Ok(Some(status)) => return Ok(Some(status)),
             Err(fault) => return Err(fault),
@@ -123,7 +153,7 @@ fn serve_piece<W: Sink>(
 ) -> Result<Option<Status>, ServeFault>
     requires partial { HasNoFrame framer.old }
     requires fault { fault_of framer.old ≡ None }
-    requires settled { IsSettled talk.old }
+    requires served { WasServed talk.old }
     requires open { talk.old.status ≡ None }
     ensures piece { PieceIs framer.old piece.now talk.old (W.contents writer.old) result framer.new talk.new
         (W.contents writer.new) }
@@ -132,7 +162,7 @@ fn serve_piece<W: Sink>(
 {
     let mut bodies = Vec::new(alloc);
     let fed = framer.feed(piece, &mut bodies);
-    match answer_all(alloc, talk, &bodies, writer) {
+    match answer_all(talk, &bodies, writer) {
         Ok(None) => status_of(fed),
         Ok(Some(status)) => Ok(Some(status)),
         Err(fault) => Err(fault),

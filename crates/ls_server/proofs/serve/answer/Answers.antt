@@ -1,25 +1,23 @@
-use Rattle.std.proofs.Common.{rules, sym}
-use Rattle.ls_server.proofs.Known.{front-keeps, no-bytes}
-use Rattle.ls_server.proofs.Writing.{front-none, one-answer, one-front, one-silent}
+use Rattle.std.proofs.Common.{true}
+use Rattle.std.proofs.lemmas.Result.{err_from_is_err_and}
+use Rattle.ls_steps.proofs.Settled.{can-send}
+use Rattle.ls_server.proofs.Writing.{fault-answered, none-answered, one-answer}
 use Rattle.ls_server.proofs.serve.answer.Goals as goal
 
-pub returns-in_default-clause-answers : goal.returns-in_default-clause-answers
-returns-in_default-clause-answers g c = front-none _ _ _
+pub returns-in_err-meet-clause-answers : goal.returns-in_err-meet-clause-answers
+returns-in_err-meet-clause-answers g c =
+    let p = err_from_is_err_and c.from_residual.result c.from_residual.ensures.1 in none-answered _ c.meet.new.self c.args.body.now c.from_residual.result p.0 _ p.1 p.2
 
-pub returns-then-is_empty-clause-answers : goal.returns-then-is_empty-clause-answers
-returns-then-is_empty-clause-answers g c =
-    one-silent c.args.talk.now c.serve.new.self c.args.body.now c.in-Ok.bytes.items c.status.result (g.W.Sink.contents c.args.writer.now) c.in-Ok.ensures c.status.ensures
-    (no-bytes c.in-Ok.bytes.items c.in-Ok.bytes.len c.in-Ok.bytes.ok.0 (sym c.if-is_empty.ensures))
+pub send_all-requires : goal.send_all-requires
+send_all-requires g c = can-send true c.args.talk.now c.meet.new.self c.requires.0 c.requires.1 c.args.body.now c.requires.2 c.in_ok-meet.ensures
 
-pub returns-then-is_err-clause-answers : goal.returns-then-is_err-clause-answers
-returns-then-is_err-clause-answers g c =
-    one-front c.args.talk.now c.serve.new.self c.args.body.now c.in-Ok.bytes.items _ _ c.in-Ok.ensures (rw c.deref.ensures.value at c.write_all.ensures.front)
-
-pub returns-then-is_err-2-clause-answers : goal.returns-then-is_err-2-clause-answers
-returns-then-is_err-2-clause-answers g c =
-    one-front c.args.talk.now c.serve.new.self c.args.body.now c.in-Ok.bytes.items _ _ c.in-Ok.ensures
-    (front-keeps _ _ _ _ (rw c.deref.ensures.value at c.write_all.ensures.front) c.flush.ensures.bytes)
+pub returns-in_err-send_all-clause-answers : goal.returns-in_err-send_all-clause-answers
+returns-in_err-send_all-clause-answers g c =
+    let p = err_from_is_err_and c.from_residual-in_err-send_all.result c.from_residual-in_err-send_all.ensures.1 in
+    let can = can-send true c.args.talk.now c.meet.new.self c.requires.0 c.requires.1 c.args.body.now c.requires.2 c.in_ok-meet.ensures in
+    fault-answered _ c.meet.new.self c.send_all.new.talk c.args.body.now c.from_residual-in_err-send_all.result p.0 c.in_err-send_all.field-0.0 _ _ p.1 p.2
+    c.in_ok-meet.ensures can c.in_err-send_all.ensures.sends
 
 pub returns-clause-answers : goal.returns-clause-answers
 returns-clause-answers g c =
-    one-answer c.args.talk.now c.serve.new.self c.args.body.now c.in-Ok.bytes.items c.status-2.result _ _ _ c.in-Ok.ensures c.status-2.ensures (search rules) c.flush.ensures.bytes
+    one-answer _ c.meet.new.self c.send_all.new.talk c.args.body.now _ _ _ c.in_ok-meet.ensures c.in_ok-send_all.ensures.sends c.status.ensures

@@ -1,4 +1,5 @@
 use Rattle.std.proofs.Common.{rules, refl, Ok, Err, Some, None}
+use Rattle.ls_server.proofs.Served.{served-more, settled-by}
 use Rattle.ls_server.proofs.Writing.{answers-next, answers-stop, written-none}
 use Rattle.ls_server.proofs.serve.answer_all.Goals as goal
 
@@ -6,12 +7,12 @@ pub returns-in-Ok-Some-clause-answers : goal.returns-in-Ok-Some-clause-answers
 returns-in-Ok-Some-clause-answers g c =
     let before = c.loop-body.invariant.answered in
     answers-stop _ c.loop-body.talk c.answer.new.talk c.args.bodies.now c.loop-body.body-index c.body-item.result c.deref.result.now (Ok (Some c.in-Ok-Some.status)) _ _ _
-    c.requires.settled c.loop-body-test.true c.body-item.is c.deref.ensures.value tt before (rw c.in-Ok-Some.field-0-is at c.in-Ok-Some.ensures.answers)
+    (settled-by _ c.requires.served) c.loop-body-test.true c.body-item.is c.deref.ensures.value tt before (rw c.in-Ok-Some.field-0-is at c.in-Ok-Some.ensures.answers)
 
 pub returns-in-Err-clause-answers : goal.returns-in-Err-clause-answers
 returns-in-Err-clause-answers g c =
     answers-stop _ c.loop-body.talk _ c.args.bodies.now c.loop-body.body-index c.body-item.result c.deref.result.now (Err c.in-Err.fault) _ _ _
-    c.requires.settled c.loop-body-test.true c.body-item.is c.deref.ensures.value tt c.loop-body.invariant.answered c.in-Err.ensures.answers
+    (settled-by _ c.requires.served) c.loop-body-test.true c.body-item.is c.deref.ensures.value tt c.loop-body.invariant.answered c.in-Err.ensures.answers
 
 pub loop-body-preserved : goal.loop-body-preserved
 loop-body-preserved g c = record {
@@ -23,3 +24,6 @@ loop-body-preserved g c = record {
 
 pub loop-body-init : goal.loop-body-init
 loop-body-init g c = record { answered = (c.requires.open, written-none _ _); failed = refl; flushed = λ p. p }
+
+pub answer-requires : goal.answer-requires
+answer-requires g c = served-more _ c.loop-body.talk _ _ _ c.requires.served c.loop-body.invariant.answered

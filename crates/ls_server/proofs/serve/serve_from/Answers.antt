@@ -1,5 +1,5 @@
 use Rattle.std.proofs.Common.{rules, arith, Ok, None, [], inl, inr, take, refl, length-take}
-use Rattle.ls_server.proofs.Served.{begins, consumes-none, consumes-keeps, consumes-consumes, finished, end-ok, end-err, served-status, served-fault, still-open, still-settled, piece-more, or-true, or-false, write-failed, not-write}
+use Rattle.ls_server.proofs.Served.{begins, consumes-none, consumes-keeps, consumes-consumes, finished, end-ok, end-err, served-status, served-fault, still-open, still-served, piece-more, or-true, or-false, write-failed, not-write}
 use Rattle.ls_server.proofs.serve.serve_from.Goals as goal
 
 pub loop-i-init : goal.loop-i-init
@@ -51,8 +51,8 @@ serve_piece-requires-clause-partial g c = c.loop-i.invariant.read.2.stream.parti
 pub serve_piece-requires-clause-fault : goal.serve_piece-requires-clause-fault
 serve_piece-requires-clause-fault g c = c.loop-i.invariant.read.2.fault
 
-pub serve_piece-requires-clause-settled : goal.serve_piece-requires-clause-settled
-serve_piece-requires-clause-settled g c = still-settled c.loop-i.invariant.read.0 c.loop-i.framer c.loop-i.talk _ _ c.loop-i.invariant.read.2
+pub serve_piece-requires-clause-served : goal.serve_piece-requires-clause-served
+serve_piece-requires-clause-served g c = still-served c.loop-i.invariant.read.0 c.loop-i.framer c.loop-i.talk _ _ c.loop-i.invariant.read.2
 
 pub serve_piece-requires-clause-open : goal.serve_piece-requires-clause-open
 serve_piece-requires-clause-open g c = still-open c.loop-i.invariant.read.0 c.loop-i.framer c.loop-i.talk _ _ c.loop-i.invariant.read.2
