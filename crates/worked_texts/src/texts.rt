@@ -487,6 +487,35 @@ fn push_part(to: &mut String, text: &str, from: usize, end: usize) -> Result<(),
     Ok(())
 }
 
+/// How many units a character counts.
+fn units_of(c: char, encoding: Encoding) -> usize {
+    match encoding {
+        Encoding::Utf8 => c.len_utf8(),
+        Encoding::Utf16 => c.len_utf16(),
+        Encoding::Utf32 => 1,
+    }
+}
+
+/// How many characters of a text are before a position, counted by hand. A line begins behind LF, and behind a CR that no LF follows.
+fn plain_offset(text: &str, at: (u32, u32), encoding: Encoding) -> usize {
+    let mut line = 0_u32;
+    let mut units = 0_usize;
+    let mut before = 'a';
+    for (offset, c) in text.chars().enumerate() {
+        if before == '\n' || (before == '\r' && c != '\n') {
+            line = line.saturating_add(1);
+        }
+        if line == at.0 {
+            units = units.saturating_add(units_of(c, encoding));
+            if c == '\r' || c == '\n' || units > at.1 as usize {
+                return offset;
+            }
+        }
+        before = c;
+    }
+    text.chars().count()
+}
+
 /// A text, by a plain cut, and edits that have made it of another, by positions that count this.
 #[derive(Drop)]
 struct Plain {
@@ -505,11 +534,10 @@ impl Plain {
     }
 
     /// Where a range starts and ends in the text, in characters.
-    fn offsets(&self, alloc: Global, span: Span) -> Result<(usize, usize), TextFault> {
-        let text = snapshot(alloc, self.text.as_str())?;
-        let from = text.offset_of(position(span.0), self.encoding);
-        let to = text.offset_of(position(span.1), self.encoding);
-        Ok((from.min(to), from.max(to)))
+    fn offsets(&self, span: Span) -> (usize, usize) {
+        let from = plain_offset(self.text.as_str(), span.0, self.encoding);
+        let to = plain_offset(self.text.as_str(), span.1, self.encoding);
+        (from.min(to), from.max(to))
     }
 
     /// Replaces the characters between two offsets.
@@ -531,7 +559,7 @@ impl Plain {
     fn edit(&mut self, alloc: Global, dice: &mut Dice) -> Result<(), TextFault> {
         let span = (random_position(dice), random_position(dice));
         let new = random_text(alloc, dice)?;
-        let ends = self.offsets(alloc, span)?;
+        let ends = self.offsets(span);
         push_edit(alloc, &mut self.edits, Some(span), new.as_str())?;
         Ok(self.replace(alloc, ends, new.as_str())?)
     }
