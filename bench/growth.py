@@ -69,6 +69,61 @@ def twice_defined(count):
     return "".join(f'r{number % (count // 2)} = "x"\n' for number in range(count))
 
 
+def names_on_one_line(count):
+    """One line of one name again and again, in a row."""
+    return "a =" + " a" * count + "\n"
+
+
+def brackets_on_one_line(count):
+    """One line of brackets as deep as a rule may nest, again and again."""
+    return "a =" + f" {'(' * 64}a{')' * 64}" * count + "\n"
+
+
+def comment_on_one_line(count):
+    """One line that is a comment of signs which begin another one."""
+    return "a = b ;" + ";" * count + "\n"
+
+
+def one_undefined_name(count):
+    """Rules that all use one name that no rule defines."""
+    return "".join(f"r{number} = u\n" for number in range(count))
+
+
+def one_name_defined(count):
+    """Definitions of one name."""
+    return 'a = "x"\n' * count
+
+
+def one_name_added_to(count):
+    """One rule, and additions to it."""
+    return 'a = "x"\n' + 'a =/ "x"\n' * count
+
+
+def nothing_to_add_to(count):
+    """Additions to names that have no rule."""
+    return "".join(f'r{number} =/ "x"\n' for number in range(count))
+
+
+def unproductive_chain(count):
+    """Each rule is the next one, and the last is itself: none generates anything."""
+    return "".join(f"r{number} = r{number + 1}\n" for number in range(count)) + f"r{count} = r{count}\n"
+
+
+def alternatives_of_one_character(count):
+    """One rule of alternatives of one character on one line."""
+    return "a = a" + "/a" * count + "\n"
+
+
+def repeats_of_repeats(count):
+    """Rules of repeats of repeats, as deep as a rule may nest."""
+    return "".join(f"r{number} = {'2(' * 63}2a{')' * 63}\n" for number in range(count))
+
+
+def chain_of_repeats(count):
+    """Each rule is many times a bracket of many times the next one."""
+    return "".join(f"r{number} = 3*(2*r{number + 1})\n" for number in range(count)) + f'r{count} = "x"\n'
+
+
 def wide_characters(count):
     """Comments of characters that are two UTF-16 units each."""
     return "a = b\n" + f"; {chr(0x1F600) * 20}\n" * count
@@ -87,6 +142,17 @@ FORMS = (
     ("undefined names", undefined, 200_000),
     ("each rule twice", twice_defined, 240_000),
     ("characters of two units", wide_characters, 48_000),
+    ("one name on one line", names_on_one_line, 2_000_000),
+    ("brackets on one line", brackets_on_one_line, 32_000),
+    ("a comment on one line", comment_on_one_line, 4_190_000),
+    ("one undefined name", one_undefined_name, 100_000),
+    ("one name defined", one_name_defined, 100_000),
+    ("one name added to", one_name_added_to, 100_000),
+    ("nothing to add to", nothing_to_add_to, 100_000),
+    ("an unproductive chain", unproductive_chain, 100_000),
+    ("letters and slashes", alternatives_of_one_character, 2_000_000),
+    ("repeats of repeats", repeats_of_repeats, 20_000),
+    ("a chain of repeats", chain_of_repeats, 100_000),
 )
 
 

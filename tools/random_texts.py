@@ -4,9 +4,8 @@
     tools/random_texts.py [PROGRAM [SEED [COUNT [ENCODING]]]]
 
 PROGRAM is out/abnf_ls, SEED 1, COUNT 600 and ENCODING each of the three where they aren't given. For each text the tokens are asked for, and
-at random positions references, renames and code actions. The plain reading below knows tokens, blocks and places of names; what it doesn't
-know is which string is the shortest, so a code action is compared with the program's own hover. Then the edits of a rename that is granted
-are made in the text: its tokens are the same but at the places of the name, and at each place the same is shown as before. At last random
+at random positions references, renames, hovers and code actions. The plain reading below knows tokens, blocks and places of names, and that of
+plain_rules which string of a rule is the shortest. Then the edits of a rename that is granted are made in the text: its tokens are the same but at the places of the name, and at each place the same is shown as before. At last random
 edits are made, at positions inside characters and past the ends too, and tokens and references are asked for again. All positions count
 what the session agreed on. It ends nonzero where an answer differs. The gate asks about 1,600 texts (tools/program_ends.py).
 """
@@ -16,7 +15,9 @@ import random
 import re
 import sys
 
+import plain_rules
 import runs
+import session_rows
 
 # A session on many texts takes some ten seconds.
 SECONDS = 300
@@ -82,7 +83,16 @@ class Reading:
         self.lines = re.split("\r\n|\n|\r", text)
         self.ends = re.findall("\r\n|\n|\r", text) + [""]
         self.tokens = [tokens_of(line) for line in self.lines]
-        self.places = [place for block in self.blocks() for place in self.places_in(block)]
+        self.items = [[*self.items_in(block)] for block in self.blocks()]
+        self.places = [place for items in self.items for place in self.places_in(items)]
+        self._rules = None
+
+    @property
+    def rules(self):
+        """The rules, which are read where they are asked for first."""
+        if self._rules is None:
+            self._rules = plain_rules.Rules([[(kind, said, apart) for kind, said, *_, apart in items] for items in self.items], tokens_of)
+        return self._rules
 
     def blocks(self):
         indents = [indent(line) for line in self.lines]
@@ -90,14 +100,17 @@ class Reading:
         starts = [at for at, depth in enumerate(indents) if depth is not None and depth <= base]
         return [range(start, end) for start, end in zip(starts, starts[1:] + [len(self.lines)])]
 
-    def places_in(self, block):
-        items, apart = [], False
+    def items_in(self, block):
+        """The kind, the text, the line and the start of each token that counts, and whether it stands apart."""
+        apart = False
         for line in block:
             for kind, text, start in self.tokens[line]:
                 if kind not in ("blank", "comment"):
-                    items.append((kind, text, line, start, apart))
+                    yield kind, text, line, start, apart
                 apart = kind in ("blank", "comment")
             apart = True
+
+    def places_in(self, items):
         has_head = len(items) > 1 and items[0][0] == "name" and items[1][0] == "defines"
         before = [None] + [item[0] for item in items]
         for at, (kind, text, line, start, apart) in enumerate(items):
@@ -197,6 +210,17 @@ class Reading:
         place = self.place_at(position)
         return next((it.line for it in self.named(place.text) if it.defines), None) if place else None
 
+    def example(self, position):
+        place = self.place_at(position)
+        return self.rules.example(place.text) if place else None
+
+    def hover(self, position):
+        """What is shown at a position."""
+        place = self.place_at(position)
+        if place is None:
+            return None
+        return {"contents": {"kind": "plaintext", "value": self.rules.shown(place.text)}, "range": self.range_of(place)}
+
 
 FRAGMENTS = (
     *("a", "b", "A", "item", "ITEM", "DIGIT", "digit", "HEXDIG", "CRLF", "x41", "c-1", " ", "  ", "\t"),
@@ -217,7 +241,7 @@ class Session:
         self.renames = []
         # where nothing is offered it is UTF-16
         offered = {} if encoding == "utf-16" else {"general": {"positionEncodings": ["x", encoding, "utf-16"]}}
-        self.request("initialize", {"capabilities": offered}, lambda answers: agreed(answers[0], encoding))
+        self.request("initialize", {"capabilities": offered}, lambda answers: json.loads(session_rows.agreed(encoding))["result"])
 
     def request(self, method, params, want):
         number = len(self.wanted)
@@ -297,28 +321,21 @@ class Session:
     def ask_action(self, uri, reading):
         ends = [self.position(reading) for _ in range(2)]
         start = min(ends, key=lambda end: (reading.point(*end), end))
-        hover = self.hover(uri, start)
-        line = reading.head_line(start)
-        params = {"textDocument": {"uri": uri}, "range": dict(zip(("start", "end"), map(as_json, ends)))}
-        self.request("textDocument/codeAction", params, lambda answers: action(uri, line, answers[hover]))
-
-
-def agreed(answer, encoding):
-    """An answer to initialize by which this encoding is agreed."""
-    return {**answer, "capabilities": {**answer["capabilities"], "positionEncoding": encoding}}
+        self.ask(uri, "hover", reading.hover(start), position=as_json(start))
+        want = actions(uri, reading.head_line(start), reading.example(start))
+        self.ask(uri, "codeAction", want, range=dict(zip(("start", "end"), map(as_json, ends))))
 
 
 def as_json(position):
     return dict(zip(("line", "character"), position))
 
 
-def action(uri, line, hover):
-    """The actions where the name is first defined in this line, by what a hover on the name says."""
-    shown = re.fullmatch("shortest length ([0-9]+)\nexample (.*)", hover["contents"]["value"] if hover else "", re.DOTALL)
-    if line is None or not shown or int(shown.group(1)) > 4096:
+def actions(uri, line, example):
+    """The actions where a name with this example is first defined in this line."""
+    if line is None or example is None:
         return []
     at = as_json((line, 0))
-    edit = {"newText": f"; example {shown.group(2)}\n", "range": {"start": at, "end": at}}
+    edit = {"newText": f"; example {example}\n", "range": {"start": at, "end": at}}
     return [{"edit": {"changes": {uri: [edit]}}, "kind": "refactor", "title": "Insert shortest example"}]
 
 
