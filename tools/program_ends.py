@@ -18,6 +18,7 @@ import cut_pipes
 import encoding_rows
 import findings_rows
 import random_texts
+import refused_commands
 import refused_memory
 import refused_sessions
 import refused_threads
@@ -50,6 +51,12 @@ def with_device(program, given, path, flags, arguments=(), **at):
         os.close(device)
 
 
+def long_cases(program):
+    """Each of these messages is an event when it is answered, and one more when the answer is written."""
+    status, said, wrote = ended(program, NO_REQUEST * 500_001)
+    yield "more events than a journal has", (status, said, wrote == IS_NO_REQUEST * 500_001), (1, b"", True)
+
+
 def cases(program):
     """What each case is, how the program ended in it, and how it must end."""
     for argument in ("--stdio", b"\xff"):
@@ -72,9 +79,7 @@ def cases(program):
     os.close(folder)
     status, said, wrote = ended(program, INITIALIZE + SHUTDOWN + EXIT)
     yield "shutdown and exit", (status, said, wrote[-len(IS_SHUT_DOWN):]), (0, b"", IS_SHUT_DOWN)
-    # each of these is an event when it is answered, and one more when the answer is written
-    status, said, wrote = ended(program, NO_REQUEST * 500_001)
-    yield "more events than a journal has", (status, said, wrote == IS_NO_REQUEST * 500_001), (1, b"", True)
+    yield from long_cases(program)
     for arguments in (["example", "x"], ["example", "x", "a", "a"], ["Example", "x", "a"], ["example", "x", b"\xff"]):
         yield f"the arguments {arguments}", ended(program, None, arguments), (5, USAGE, b"")
 
@@ -167,13 +172,14 @@ def random_cases(program):
 
 
 def plain_cases(program):
-    yield from session_cases(program)
-    yield from random_cases(program)
+    for some in (session_cases, long_cases, refused_commands.session_cases, random_cases):
+        yield from some(program)
 
 
 def all_cases(program):
     yield from cases(program)
     yield from refused_threads.cases(program)
+    yield from refused_commands.command_cases(program)
     yield from threaded_sessions.cases(program)
     for hostile in (refused_sessions, broken_input, cut_pipes):
         yield from hostile.cases(program)

@@ -31,7 +31,8 @@ OUT_OF_MEMORY = b"out of memory\n"
 # What the library says in a run in which nothing is refused
 COUNTED = re.compile(rb"(\d+) allocations\n")
 
-# The threads of the program ask for memory at the same time, so the count is one that all of them step. The program ends by _exit.
+# The threads of the program ask for memory at the same time, so the count is one that all of them step. The program ends by _exit, and one that
+# has no threads by exit.
 LIBRARY = r"""
 extern void *__libc_malloc(unsigned long size);
 extern void *__libc_calloc(unsigned long count, unsigned long size);
@@ -64,8 +65,12 @@ void *malloc(unsigned long size) { return is_refused() ? 0 : __libc_malloc(size)
 void *calloc(unsigned long count, unsigned long size) { return is_refused() ? 0 : __libc_calloc(count, size); }
 void *realloc(void *block, unsigned long size) { return is_refused() ? 0 : __libc_realloc(block, size); }
 
-void _exit(int status) {
+static void __attribute__((destructor)) ends(void) {
   if (first == 0) dprintf(2, "%ld allocations\n", made);
+}
+
+void _exit(int status) {
+  ends();
   for (;;) syscall(231, status);
 }
 """
