@@ -1,11 +1,15 @@
 #!/usr/bin/env python3
-"""Runs the session of the crate refused_memory with one allocation refused, for each allocation that it makes.
+"""Runs the calls and sessions of the crate refused_memory with one allocation refused, for each allocation that they make.
 
     tools/refused_memory.py [PROGRAM]
 
-It must print the same in each run, and end by itself: a call at the desk that is refused memory leaves the desk as it was, and
-goes through when it is made once more. A small library in front of the C library's refuses the allocation with the number that it is told.
+It must print the same in each run, and end by itself: a call that is refused memory leaves what it was given as it was, and
+goes through when it is made once more. A job that is refused memory is handed in: then its request is told of an internal error in place of
+its answer, and of findings nothing is told. Each job of the two sessions must have come to that. A small library in front of the C library's
+refuses the allocation with the number that it is told.
 """
+import concurrent.futures
+import json
 import os
 import sys
 import tempfile
@@ -17,9 +21,20 @@ TOP = os.path.dirname(os.path.dirname(os.path.abspath(__file__)))
 CRATE = os.path.join(TOP, "crates", "refused_memory")
 BUILT = os.path.join(CRATE, "out", "refused_memory")
 PROGRAMS = (BUILT, BUILT + ".by-rattle")
-# More than the session makes.
-MOST = 20_000
+# More than it makes, and how many of these are tried at a time.
+MOST = 100_000
+TOGETHER = 64
 REFUSED = b"an allocation is refused\n"
+
+# An event by which a call begins, whether it is a client's, and what the desk does not count
+CLIENT = (b"did_open", b"did_change", b"did_close", b"request", b"cancel", b"say")
+NO_EVENTS = (b"Refused", b"Nothing")
+MOST_JOURNAL = 4
+# What replies tell of the jobs that run, in the order in which these are handed in
+REPLIES = (b"Findings(1)", b"Replied(1)", b"Findings(3)", b"Replied(3)")
+# How many bodies the session by steps writes, and which of them are what a job gave: findings, a hover, findings twice and a rename.
+BODIES = 7
+ANSWERS = (1, 2, 3, 5, 6)
 
 # It writes a line where it refuses one, since the program writes none to the standard error.
 LIBRARY = r"""
@@ -47,11 +62,63 @@ void *realloc(void *block, unsigned long size) { return is_refused() ? 0 : __lib
 
 def all_runs(program, made):
     """The status, the output and the standard error of a run with each allocation refused, and at last with none."""
-    for number in range(1, MOST):
+
+    def run(number):
         status, said, wrote = runs.ended(program, b"", env={"LD_PRELOAD": made, "REFUSED_ALLOCATION": str(number)})
-        yield status, wrote, said
-        if not said or status == runs.HUNG:
-            return
+        return status, wrote, said
+
+    with concurrent.futures.ThreadPoolExecutor(len(os.sched_getaffinity(0))) as pool:
+        for first in range(1, MOST, TOGETHER):
+            for ended in pool.map(run, range(first, first + TOGETHER)):
+                yield ended
+                if not ended[2] or ended[0] == runs.HUNG:
+                    return
+
+
+def counted(calls):
+    """The last line of a session at the desk with these lines: a client's event begins the journal anew where it is as long as it may be."""
+    events = checkpoints = 0
+    for call, _, answer in (line.partition(b": ") for line in calls):
+        if answer.startswith(NO_EVENTS):
+            continue
+        if call in CLIENT and events >= MOST_JOURNAL:
+            events, checkpoints = 0, checkpoints + 1
+        events += 1
+    return b"%d events after %d checkpoints, 0 unsent" % (events, checkpoints)
+
+
+def with_failure(calls, number):
+    """The lines of that session where the job with this number, of those that are handed in, is refused memory."""
+    calls, is_asked = list(calls), REPLIES[number].startswith(b"Replied")
+    handed_in = [at for at, line in enumerate(calls) if line == b"finish: Held(Reply)"]
+    calls[handed_in[number]] = b"finish: Held(Failure)" if is_asked else b"finish: Held(Nothing)"
+    at = calls.index(b"next_out: " + REPLIES[number])
+    if is_asked:
+        calls[at] = b"next_out: Failed(-32603)"
+        return calls
+    # nothing is told: the replies behind it that are asked for in a row come one call earlier
+    end = next((it for it in range(at, len(calls)) if not calls[it].startswith(b"next_out")), len(calls))
+    return calls[:at] + calls[at + 1 : end] + [b"next_out: Nothing"] + calls[end:]
+
+
+def without_answer(bodies, at):
+    """The bodies of the session by steps where a job is refused memory, whose answer stands at this place."""
+    told = json.loads(bodies[at])
+    error = '{"error":{"code":-32603,"message":"internal error"},"id":%d,"jsonrpc":"2.0"}'
+    return [*bodies[:at], *([(error % told["id"]).encode()] if "id" in told else []), *bodies[at + 1 :]]
+
+
+def with_failures(wanted):
+    """The outputs in which one job is refused memory. The whole output must have the desk's last line by the same count, and as many bodies."""
+    desk, last, others = wanted.partition(b" unsent\n")
+    *calls, count = (desk + last).splitlines()
+    lines, frames = others[: others.index(b"Content-Length")], others[others.index(b"Content-Length") :]
+    bodies, rest = runs.bodies_of(frames)
+    if counted(calls) != count or (len(bodies), rest) != (BODIES, b"\n"):
+        return []
+    failing = [with_failure(calls, number) for number in range(len(REPLIES))]
+    at_desk = [b"\n".join([*it, counted(it), others]) for it in failing]
+    return at_desk + [desk + last + lines + runs.frames(without_answer(bodies, at)) + b"\n" for at in ANSWERS]
 
 
 def cases(program):
@@ -60,9 +127,11 @@ def cases(program):
         wanted = file.read()
     with tempfile.TemporaryDirectory() as folder:
         found = list(all_runs(program, preload.library(folder, "refuses", LIBRARY)))
-    refused = len(found) - 1
-    kinds = sorted(set(found[:-1]))
-    yield f"{refused} allocations refused in turn", (refused > 100, kinds), (True, [(0, wanted, REFUSED)])
+    refused, failures = len(found) - 1, with_failures(wanted)
+    others = sorted({it for it in found[:-1] if it[1] not in failures})
+    yield f"{refused} allocations refused in turn", (refused > 100, others), (True, [(0, wanted, REFUSED)])
+    failed = sorted({it for it in found[:-1] if it[1] in failures})
+    yield f"each of {len(failures)} jobs refused memory", failed, sorted((0, it, REFUSED) for it in failures)
     yield "no allocation refused", found[-1], (0, wanted, b"")
 
 

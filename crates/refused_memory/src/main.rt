@@ -1,39 +1,73 @@
-//! One session at a desk, call by call, that goes on where memory is refused once.
+//! Calls, a session at a desk, call by call, and a session by steps, which go on where memory is refused once.
 //!
-//! It prints what each call answers. A call that is refused memory must leave the desk as it was; it is made once more, and the session goes
-//! on. So it prints the same whichever allocation is refused, and says so where a refused call has left a trace. `tools/refused_memory.py` has
-//! each allocation refused in turn.
+//! It prints what they answer. A call that is refused memory must leave what it was given as it was, a desk by the whole of its journal and of
+//! the state from which that began; it is made once more, and the session goes on. A job that is refused memory is handed in as it is. So it
+//! prints the same whichever allocation is refused, but for what such a job leaves: a failure, or nothing where nobody asked. It says so where
+//! a refused call has left a trace. `tools/refused_memory.py` has each allocation refused in turn.
 #![tactic(auto)]
 
 mod call;
+mod same;
 mod script;
+mod single;
+mod steps;
 mod worker;
 
 use call::{Answer, Call};
 use ls_desk::{Desk, DeskFault};
+use same::is_same_desk;
 use script::SCRIPT;
 use std::alloc::Global;
 use std::io;
 use worker::Worker;
 
-/// How often the journal of a desk has begun anew, how much has happened since, and how much waits to be sent.
-fn seen(desk: &Desk) -> (u64, usize, usize) {
-    (desk.checkpoints(), desk.journal().len(), desk.unsent())
+/// A desk and its worker.
+#[derive(Drop)]
+struct Office {
+    desk: Desk,
+    worker: Worker,
 }
 
-/// What a call answers, made once more where memory is refused. None where it has left a trace then, or is refused memory twice.
-fn answered(desk: &mut Desk, worker: &mut Worker, alloc: Global, call: &Call) -> Option<Answer> {
-    let before = seen(desk);
-    match call.made(desk, worker, alloc) {
+/// A short journal, so that some calls make a checkpoint.
+const MOST_JOURNAL: usize = 4;
+
+impl Office {
+    fn new(alloc: Global) -> Office {
+        Office {
+            desk: Desk::new(alloc, MOST_JOURNAL, 1_000_000),
+            worker: Worker::new(alloc),
+        }
+    }
+
+    fn answer(&mut self, alloc: Global, call: &Call) -> Answer {
+        call.made(&mut self.desk, &mut self.worker, alloc)
+    }
+
+    fn is_same(&self, other: &Office) -> bool {
+        is_same_desk(&self.desk, &other.desk) && self.worker.count() == other.worker.count()
+    }
+}
+
+/// What a call answers, made once more where memory is refused. None where it isn't as its twin then, at which the call hasn't been made, or is
+/// refused memory twice.
+fn answered(office: &mut Office, twin: &Office, alloc: Global, call: &Call) -> Option<Answer> {
+    match office.answer(alloc, call) {
         Answer::Refused(DeskFault::Memory) => {}
         answer => return Some(answer),
     }
-    if seen(desk) != before {
+    if !office.is_same(twin) {
         return None;
     }
-    match call.made(desk, worker, alloc) {
+    match office.answer(alloc, call) {
         Answer::Refused(DeskFault::Memory) => None,
         answer => Some(answer),
+    }
+}
+
+/// Makes the call at the twin too.
+fn follow(twin: &mut Office, alloc: Global, call: &Call) {
+    if matches!(twin.answer(alloc, call), Answer::Refused(DeskFault::Memory)) {
+        twin.answer(alloc, call);
     }
 }
 
@@ -45,23 +79,24 @@ fn told(rt: &HostRuntime, call: &Call, answer: Option<Answer>) -> io::Result<()>
     }
 }
 
-fn played(rt: &HostRuntime, desk: &mut Desk, worker: &mut Worker) -> io::Result<()> {
+fn played(rt: &HostRuntime, office: &mut Office, twin: &mut Office) -> io::Result<()> {
     for call in &SCRIPT {
-        let answer = answered(desk, worker, rt.alloc(), call);
+        let answer = answered(office, twin, rt.alloc(), call);
+        follow(twin, rt.alloc(), call);
         told(rt, call, answer)?;
     }
-    let (checkpoints, events, unsent) = seen(desk);
+    let desk = &office.desk;
+    let (checkpoints, events, unsent) = (desk.checkpoints(), desk.journal().len(), desk.unsent());
     println!(rt; "{events} events after {checkpoints} checkpoints, {unsent} unsent")
 }
 
-/// A short journal, so that some calls make a checkpoint.
-const MOST_JOURNAL: usize = 4;
-
 fn main(rt: HostRuntime) -> io::Result<()> {
-    let mut desk = Desk::new(rt.alloc(), MOST_JOURNAL, 1_000_000);
-    let mut worker = Worker::new(rt.alloc());
-    let played = played(&rt, &mut desk, &mut worker);
-    drop(worker);
-    drop(desk);
-    played
+    let mut office = Office::new(rt.alloc());
+    let mut twin = Office::new(rt.alloc());
+    let played = played(&rt, &mut office, &mut twin);
+    drop(office);
+    drop(twin);
+    played?;
+    single::made(&rt)?;
+    steps::run(&rt)
 }

@@ -19,11 +19,8 @@ fn copied(job: &Job) -> Result<Job, AllocError> {
     })
 }
 
-// Hands in a job that has run. `Memory` also where it is refused in the job.
+// Hands in a job that has run, also one in which memory was refused.
 fn handed_in(desk: &mut Desk, done: Done) -> Result<Kept, DeskFault> {
-    if done.answer().is_err() {
-        return Err(DeskFault::Memory);
-    }
     match desk.finish(done) {
         Ok(kept) => Ok(kept),
         Err((fault, _)) => Err(fault),
@@ -35,6 +32,11 @@ impl Worker {
         Worker {
             held: Vec::new(alloc),
         }
+    }
+
+    /// How many jobs it holds.
+    pub fn count(&self) -> usize {
+        self.held.len()
     }
 
     /// Takes a job, and gives its ticket, 0 where none is queued.
