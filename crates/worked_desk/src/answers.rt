@@ -37,8 +37,8 @@ fn is_one_letter(shortest: &Shortest, letter: u32) -> bool {
     }
 }
 
-// Whether the example of a hover is this letter alone.
-fn shows(done: &Done, letter: u32) -> bool {
+/// Whether the example of a hover is this letter alone.
+pub(crate) fn shows(done: &Done, letter: u32) -> bool {
     match done.answer() {
         Ok(Answer::Hover(Some(hover))) => match &hover.example {
             Some((shortest, _)) => is_one_letter(shortest, letter),
@@ -57,8 +57,8 @@ pub(crate) fn sends_hover(desk: &mut Desk, want: u64, letter: u32) -> bool {
     right && leaves(desk)
 }
 
-// A hover is taken, the text is changed, and only then the hover is finished.
-fn hovers_over_a_change(desk: &mut Desk, alloc: Global) -> Result<bool, DeskFault> {
+/// A hover is taken, the text is changed, and only then the hover is finished.
+pub(crate) fn hovers_over_a_change(desk: &mut Desk, alloc: Global) -> Result<bool, DeskFault> {
     let begun = opened(desk, alloc)? && hover(desk, alloc, 2)? == 2;
     let job = take(desk)?;
     let changed = change(desk, alloc, "a = \"yy\"");

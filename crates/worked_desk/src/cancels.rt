@@ -7,8 +7,8 @@ use ls_rpc::Id;
 use std::alloc::Global;
 use std::test::Fail;
 
-// A taken request is cancelled: its run isn't wanted any more, and its client is told once.
-fn cancels(desk: &mut Desk, alloc: Global) -> Result<bool, DeskFault> {
+/// A taken request is cancelled: its run isn't wanted any more, and its client is told once.
+pub(crate) fn cancels(desk: &mut Desk, alloc: Global) -> Result<bool, DeskFault> {
     let begun = opened(desk, alloc)? && symbols(desk, alloc, 2)? == 2;
     let job = take(desk)?;
     let found = desk.cancel(&Id::Number(2));
@@ -17,8 +17,8 @@ fn cancels(desk: &mut Desk, alloc: Global) -> Result<bool, DeskFault> {
     Ok(begun && found? && kept == Err(DeskFault::UnknownTicket) && told)
 }
 
-// It doesn't wait any more, and its id is free again.
-fn is_over(desk: &mut Desk, alloc: Global) -> Result<bool, DeskFault> {
+/// It doesn't wait any more, and its id is free again.
+pub(crate) fn is_over(desk: &mut Desk, alloc: Global) -> Result<bool, DeskFault> {
     let found = desk.cancel(&Id::Number(2))?;
     Ok(!found && symbols(desk, alloc, 2)? == 3)
 }
@@ -35,8 +35,8 @@ fn a_cancel_is_told_once(rt: HostRuntime) -> Result<(), Fail> {
     Ok(())
 }
 
-// The ticket of the first queued job.
-fn taken(desk: &mut Desk) -> Result<u64, DeskFault> {
+/// The ticket of the first queued job, which is taken.
+pub(crate) fn taken(desk: &mut Desk) -> Result<u64, DeskFault> {
     let job = take(desk)?;
     Ok(job.ticket)
 }

@@ -17,3 +17,7 @@ mod limits;
 mod refusals;
 #[cfg(test)]
 mod steps;
+#[cfg(test)]
+mod strange;
+#[cfg(test)]
+mod whole;
