@@ -170,25 +170,45 @@ fn failures(rt: HostRuntime) -> Result<(), Fail> {
     Ok(())
 }
 
+/// Whether a refusal of the request with id 2 for this fault has this body, which is none where it is empty.
+fn refuses(alloc: Global, fault: DeskFault, wanted: &str) -> Result<bool, Memory> {
+    match &refusal_body(alloc, &Id::Number(2), fault)? {
+        Some(body) => Ok(body.as_slice() == wanted.as_bytes()),
+        None => Ok(wanted.is_empty()),
+    }
+}
+
 #[test]
 fn refusals(rt: HostRuntime) -> Result<(), Fail> {
     let alloc = rt.alloc();
-    match &refusal_body(alloc, &Id::Number(2), DeskFault::NotOpen)? {
-        Some(body) => {
-            assert_eq!(rt; body.len(), 78);
-            assert!(rt;
-                body.as_slice()
-                    == b"{\"error\":{\"code\":-32602,\"message\":\"document not open\"},\"id\":2,\"jsonrpc\":\"2.0\"}".as_slice()
-            );
-        }
-        None => panic!(rt; "no body"),
-    }
-    assert!(rt; refusal_body(alloc, &Id::Number(2), DeskFault::TooLarge)?.is_none());
-    assert!(rt; refusal_body(alloc, &Id::Number(2), DeskFault::IdInUse)?.is_some());
-    assert!(rt; refusal_body(alloc, &Id::Number(2), DeskFault::TooManyWaiting)?.is_some());
     assert!(rt;
-        Refusal::NotInitialized.code() == -32002
-            && Refusal::NotInitialized.text() == "not initialized"
+        refuses(
+            alloc,
+            DeskFault::NotOpen,
+            "{\"error\":{\"code\":-32602,\"message\":\"document not open\"},\"id\":2,\"jsonrpc\":\"2.0\"}"
+        )?
     );
+    assert!(rt;
+        refuses(
+            alloc,
+            DeskFault::IdInUse,
+            "{\"error\":{\"code\":-32600,\"message\":\"id in use\"},\"id\":2,\"jsonrpc\":\"2.0\"}"
+        )?
+    );
+    assert!(rt;
+        refuses(
+            alloc,
+            DeskFault::TooManyWaiting,
+            "{\"error\":{\"code\":-32803,\"message\":\"too many requests waiting\"},\"id\":2,\"jsonrpc\":\"2.0\"}"
+        )?
+    );
+    assert!(rt; refuses(alloc, DeskFault::TooLarge, "")?);
+    Ok(())
+}
+
+#[test]
+fn a_refusal_before_initialize(rt: HostRuntime) -> Result<(), Fail> {
+    assert_eq!(rt; Refusal::NotInitialized.code(), -32002);
+    assert_eq!(rt; Refusal::NotInitialized.text(), "not initialized");
     Ok(())
 }

@@ -51,36 +51,70 @@ fn each_other_read_is_interrupted(rt: HostRuntime) -> Result<(), Fail> {
     Ok(())
 }
 
-#[test]
-fn a_read_fails(rt: HostRuntime) -> Result<(), Fail> {
-    let input = sent(rt.alloc())?;
-    let wanted = frames(rt.alloc(), &[CAPABILITIES])?;
-    let mut source = FailingSource::new(&input, 100, 2, false);
-    let mut sink = FailingSink::new(rt.alloc(), 1000, 0);
-    let ending = Ending::of(serve_plain(rt.alloc(), &mut source, &mut sink));
-    assert!(rt; sink.bytes() == wanted.as_slice());
-    assert_eq!(rt; ending.line().0, "read failed");
-    Ok(())
+/// What the server answers to so many bytes of it.
+fn answered_to(alloc: Global, heard: usize) -> Result<Vec<u8>, AllocError> {
+    let first = frames(alloc, &[INITIALIZE])?.len();
+    let second = frames(alloc, &[INITIALIZE, SHUTDOWN])?.len();
+    if heard < first {
+        return frames(alloc, &[]);
+    }
+    if heard < second {
+        return frames(alloc, &[CAPABILITIES]);
+    }
+    answered(alloc)
+}
+
+/// How many bytes a read gives: what is sent, 201 bytes, takes 21 reads.
+const STEP: usize = 10;
+
+/// Whether the server says of a read that it failed, and has answered to just what came before it.
+fn is_told_of_read(alloc: Global, read: u64, heard: usize) -> Result<bool, AllocError> {
+    let input = sent(alloc)?;
+    let wanted = answered_to(alloc, heard)?;
+    let mut source = FailingSource::new(&input, STEP, read, false);
+    let mut sink = FailingSink::new(alloc, 1000, 0);
+    let ending = Ending::of(serve_plain(alloc, &mut source, &mut sink));
+    let told = ending.line().0 == "read failed" && ending.status() == 2;
+    Ok(told && sink.bytes() == wanted.as_slice())
 }
 
 #[test]
-fn a_write_fails(rt: HostRuntime) -> Result<(), Fail> {
-    let input = sent(rt.alloc())?;
-    let wanted = answered(rt.alloc())?;
+fn each_read_fails_in_turn(rt: HostRuntime) -> Result<(), Fail> {
+    assert_eq!(rt; sent(rt.alloc())?.len(), 201);
+    let mut heard = 0_usize;
+    for read in 1..22 {
+        assert!(rt; is_told_of_read(rt.alloc(), read, heard)?);
+        heard = heard.saturating_add(STEP);
+    }
+    Ok(())
+}
+
+/// Whether the server says of a write or a flush that it failed, and so many bytes of what it answers were taken.
+fn is_told_of_write(alloc: Global, call: u64, taken: usize) -> Result<bool, AllocError> {
+    let input = sent(alloc)?;
+    let wanted = answered(alloc)?;
     let mut source = FailingSource::new(&input, 1000, 0, false);
-    let mut sink = FailingSink::new(rt.alloc(), 100, 2);
-    let ending = Ending::of(serve_plain(rt.alloc(), &mut source, &mut sink));
-    assert_eq!(rt; sink.bytes().len(), 100);
-    assert!(rt; wanted.starts_with(sink.bytes()));
-    assert_eq!(rt; ending.line().0, "write failed");
-    assert_eq!(rt; ending.status(), 2);
+    let mut sink = FailingSink::new(alloc, 100, call);
+    let ending = Ending::of(serve_plain(alloc, &mut source, &mut sink));
+    let told = ending.line().0 == "write failed" && ending.status() == 2;
+    Ok(told && sink.bytes().len() == taken && wanted.starts_with(sink.bytes()))
+}
+
+/// Frames of 503 and 60 bytes, each of which is flushed.
+#[test]
+fn each_write_fails_in_turn(rt: HostRuntime) -> Result<(), Fail> {
+    let mut call = 0_u64;
+    for taken in [0, 100, 200, 300, 400, 500, 503, 503, 563] {
+        call = call.saturating_add(1);
+        assert!(rt; is_told_of_write(rt.alloc(), call, taken)?);
+    }
     Ok(())
 }
 
 #[test]
 fn no_read_is_allowed(rt: HostRuntime) -> Result<(), Fail> {
-    let input = sent(rt.alloc())?;
-    let mut source = FailingSource::new(&input, 1000, 0, false);
+    let input: &[u8] = b"Content-Length: 2\r\n\r\n{}";
+    let mut source = FailingSource::new(input, 1000, 0, false);
     let mut sink = FailingSink::new(rt.alloc(), 1000, 0);
     let ending = Ending::of(serve_limited(rt.alloc(), &mut source, &mut sink, 1));
     assert!(rt; sink.bytes().is_empty());

@@ -11,3 +11,5 @@ mod calls;
 mod ends;
 #[cfg(test)]
 mod overtaking;
+#[cfg(test)]
+mod strangers;

@@ -19,3 +19,5 @@ mod sessions;
 mod std_devices;
 #[cfg(test)]
 mod stepping;
+#[cfg(test)]
+mod written;
