@@ -1,12 +1,14 @@
 -- Messages that are heard one after the other.
-use Rattle.std.proofs.Common.{◌≡◌, ◌∙◌, ℕ, ◌+◌, ◌<◌, List, [], ◌∷◌, ◌++◌, length, take, drop, get_or, Vec, Some, None, refl, sym, ap, subst, append_assoc}
+use Rattle.std.proofs.Common.{◌≡◌, ◌∙◌, ℕ, ◌+◌, ◌<◌, List, [], ◌∷◌, ◌++◌, length, take, drop, get_or, Vec, Bool, Option, Some, None, OnErr, Result, Ok, Err, refl, sym, ap, subst, append_assoc}
 use Rattle.std.specs.declared.alloc.Global.{Global}
 use Rattle.std.proofs.lemmas.List.{take_more, take-append-drop, map-append}
 use Rattle.ls_frame.specs.Feeds.{contents_of}
+use Rattle.ls_machine.specs.declared.event.Event.{Event}
 use Rattle.ls_session.specs.declared.event.Status.{Status}
 use Rattle.ls_session.specs.declared.session.Stage.{Stage}
 use Rattle.ls_workers.specs.Seats.{ToldClient}
-use Rattle.ls_threads.specs.Reading.{Hears, HearsAll, HearsOn}
+use Rattle.ls_threads.specs.Reading.{Hears, HearsAll, HearsFront, HearsOn}
+use Rattle.ls_threads.specs.declared.ending.Early.{Early}
 
 pub hears-none : (stage : Stage) (told : ToldClient) → HearsOn [] stage told stage told
 hears-none stage told = (refl, refl)
@@ -40,3 +42,19 @@ hears-last bodies i body text stage next after old told new status l at e h one 
     let here : contents_of bodies ≡ contents_of (take i bodies) ++ text ∷ left
     = all ∙ (ap (λ l. l ++ left) (take-next bodies i body text l at e) ∙ append_assoc (contents_of (take i bodies)) (text ∷ []) left) in
     (contents_of (take i bodies), text, left, next, told, (here, h, one))
+
+-- a front of the messages was heard
+pub hears-front : (bodies : List (Vec ℕ Global)) (i : ℕ) (stage next : Stage) (old told : ToldClient) → HearsOn (contents_of (take i bodies)) stage old next told → HearsFront (contents_of bodies) stage old told
+hears-front bodies i stage next old told h =
+    let all : contents_of bodies ≡ contents_of (take i bodies) ++ contents_of (drop i bodies)
+    = ap contents_of (sym (take-append-drop i bodies)) ∙ map-append (λ content. content.items) (take i bodies) (drop i bodies) in
+    (contents_of (take i bodies), contents_of (drop i bodies), next, (all, h))
+
+-- where the seat was left as it was
+pub front-same : (bodies : List (List ℕ)) (stage : Stage) (old : ToldClient) (list later : List Event) (seen after : ℕ) (strayed strays : Bool) → later ≡ list → after ≡ seen → strays ≡ strayed
+    → HearsFront bodies stage old (record { list = list; checkpoints = seen; strayed = strayed }) → HearsFront bodies stage old (record { list = later; checkpoints = after; strayed = strays })
+front-same bodies stage old list later seen after strayed strays e f g h = rw (e, f, g) h
+
+pub on-err : {P : Type 0} (r : Result (Option Status) Early) → P → OnErr r P
+on-err (Ok status) p = tt
+on-err (Err early) p = p

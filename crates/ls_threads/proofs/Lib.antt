@@ -1,4 +1,6 @@
 pub mod Spent
 pub mod Ends
 pub mod Hearing
+pub mod Pieces
+pub mod Input
 pub mod Told

@@ -19,7 +19,10 @@ use Rattle.ls_server.specs.Runs.{AppendsFront}
 use Rattle.ls_server.proofs.Known.{append-nil, appends-appends, appends-none, as-front}
 use Rattle.ls_workers.specs.Ends.{Leaves}
 use Rattle.ls_workers.specs.Jobs.{HasLimits}
-use Rattle.ls_threads.specs.Writing.{HasTold, HasWritten, IsFinished, IsServed, frame_for, frames_for}
+use Rattle.ls_workers.specs.Sent.{noted_of, sent_by}
+use Rattle.ls_workers.specs.declared.replies.Noted.{Noted}
+use Rattle.ls_workers.proofs.SentLaws.{sends_noted}
+use Rattle.ls_threads.specs.Writing.{HasTold, HasWritten, IsFinished, IsServed, LastAre, frame_for, frames_for}
 use Rattle.ls_threads.specs.declared.ending.Wrote.{Wrote}
 use Rattle.ls_threads.specs.declared.ending.Wrote.TheVariants.{All}
 
@@ -38,58 +41,51 @@ all-both [] later h l = l
 all-both (o ∷ outs) later h l = (h.0, all-both outs later h.1 l)
 
 -- nothing was given, and nothing written
-pub has-begun : (a : Option (List ℕ)) (count : ℕ) (tickets : List ℕ) → count ≡ 0 → tickets ≡ [] → HasWritten a a All count tickets
-has-begun a count tickets c t = record {
+pub has-begun : (a : Option (List ℕ)) (count : ℕ) (tickets : List ℕ) (notes : List Noted) → count ≡ 0 → tickets ≡ [] → notes ≡ [] → HasWritten a a All count tickets notes
+has-begun a count tickets notes c t n = record {
   outs = [];
   leave = tt;
   count_is = sym c;
-  before = [];
-  tickets_are = sym t;
+  tickets_are = ([], sym t);
+  notes_are = ([], sym n);
   front = as-front a a [] (appends-none a);
   whole = λ e. appends-none a;
 }
 
--- the writer ends where all was written
-pub ends-as : (a b : Option (List ℕ)) (end : Wrote) (count after : ℕ) (tickets later : List ℕ) → after ≡ count → later ≡ tickets → HasWritten a b All count tickets → HasWritten a b end after later
-ends-as a b end count after tickets later c t h = record {
-  outs = h.outs;
-  leave = h.leave;
-  count_is = h.count_is ∙ sym c;
-  before = h.before;
-  tickets_are = h.tickets_are ∙ ap (λ l. h.before ++ l) (sym t);
-  front = h.front;
-  whole = λ e. h.whole refl;
-}
+-- a reply more, and its word
+last-more : {X : Type 0} (word : Out → X) (outs : List Out) (out : Out) (last : List X) → LastAre word outs last → LastAre word (outs ++ out ∷ []) (last ++ word out ∷ [])
+last-more word outs out last n =
+    (n.0, map-append word outs (out ∷ []) ∙ (ap (λ l. l ++ word out ∷ []) n.1 ∙ append_assoc n.0 last (word out ∷ [])))
 
--- the tickets that the seat had noted, and none where there was a checkpoint since
-abbrev Noted : List Out → List ℕ → Type 0
-Noted outs tickets = (before : List ℕ) × (map ticket_of_out outs ≡ before ++ tickets)
+with-none : {X : Type 0} (xs : List X) → xs ++ [] ≡ xs
+with-none [] = refl
+with-none (x ∷ xs) = ap (λ ys. x ∷ ys) (with-none xs)
 
-noted-more : (outs : List Out) (out : Out) (tickets : List ℕ) → Noted outs tickets → Noted (outs ++ out ∷ []) (tickets ++ ticket_of_out out ∷ [])
-noted-more outs out tickets n =
-    (n.0, map-append ticket_of_out outs (out ∷ []) ∙ (ap (λ l. l ++ ticket_of_out out ∷ []) n.1 ∙ append_assoc n.0 tickets (ticket_of_out out ∷ [])))
+-- those that the seat had noted, and none where there was a checkpoint since
+last-anew : {X : Type 0} (word : Out → X) (outs : List Out) (last : List X) (kept : Bool) → LastAre word outs last → LastAre word outs (if kept then last else [])
+last-anew word outs last true n = n
+last-anew word outs last false n = (map word outs, sym (with-none (map word outs)))
 
-noted-anew : (outs : List Out) (tickets : List ℕ) (kept : Bool) → Noted outs tickets → Noted outs (if kept then tickets else [])
-noted-anew outs tickets true n = n
-noted-anew outs tickets false n = (map ticket_of_out outs, sym (append-nil (map ticket_of_out outs)))
+last-noted : {X : Type 0} (word : Out → X) (outs : List Out) (out : Out) (last later : List X) (kept : Bool) → LastAre word outs last → later ≡ (if kept then last else []) ++ word out ∷ []
+    → LastAre word (outs ++ out ∷ []) later
+last-noted {X = X} word outs out last later kept n e =
+    subst (LastAre word (outs ++ out ∷ [])) (sym e) (last-more word outs out (if kept then last else []) (last-anew word outs last kept n))
 
 front-more : (a b c : Option (List ℕ)) (xs ys : List ℕ) → Appends a b xs → AppendsFront b c ys → AppendsFront a c (xs ++ ys)
 front-more a b c xs ys w f = (xs ++ f.0, f.1, (ap (λ l. xs ++ l) f.2.0 ∙ sym (append_assoc xs f.0 f.1), appends-appends a b c xs f.0 w f.2.1))
 
 -- a reply more was given, and its frame written, or a front of it
-pub writes-on : (a b c : Option (List ℕ)) (end : Wrote) (count after : ℕ) (tickets later : List ℕ) (kept : Bool) (out : Out) → HasWritten a b All count tickets → Leaves out → after ≡ count + 1
-    → later ≡ (if kept then tickets else []) ++ ticket_of_out out ∷ [] → (end ≡ All → Appends b c (frame_for out)) → AppendsFront b c (frame_for out)
-    → HasWritten a c end after later
-writes-on a b c end count after tickets later kept out h l m t whole front =
-    let noted : Noted (h.outs ++ out ∷ []) ((if kept then tickets else []) ++ ticket_of_out out ∷ [])
-    = noted-more h.outs out (if kept then tickets else []) (noted-anew h.outs tickets kept (h.before, h.tickets_are)) in
+pub writes-on : (a b c : Option (List ℕ)) (end : Wrote) (count after : ℕ) (tickets later : List ℕ) (notes newer : List Noted) (kept : Bool) (out : Out) → HasWritten a b All count tickets notes → Leaves out
+    → after ≡ count + 1 → later ≡ (if kept then tickets else []) ++ ticket_of_out out ∷ [] → newer ≡ (if kept then notes else []) ++ noted_of out ∷ [] → (end ≡ All → Appends b c (frame_for out))
+    → AppendsFront b c (frame_for out) → HasWritten a c end after later newer
+writes-on a b c end count after tickets later notes newer kept out h l m t noted whole front =
     let n = length-append h.outs (out ∷ []) in
     record {
       outs = h.outs ++ out ∷ [];
       leave = all-more h.outs out h.leave l;
       count_is = omega (arith, n, m, h.count_is);
-      before = noted.0;
-      tickets_are = noted.1 ∙ ap (λ l. noted.0 ++ l) (sym t);
+      tickets_are = last-noted ticket_of_out h.outs out tickets later kept h.tickets_are t;
+      notes_are = last-noted noted_of h.outs out notes newer kept h.notes_are noted;
       front = subst (AppendsFront a c) (sym (frames-more h.outs out)) (front-more a b c (frames_for h.outs) (frame_for out) (h.whole refl) front);
       whole = λ e. subst (Appends a c) (sym (frames-more h.outs out)) (appends-appends a b c (frames_for h.outs) (frame_for out) (h.whole refl) (whole e));
     }
@@ -101,6 +97,7 @@ told-none d a = record {
   leave = tt;
   count_is = omega arith;
   tickets_are = sym (append-nil (sent_tickets d.journal));
+  notes_are = sym (with-none (sent_by d));
   limits = record { journal_is = refl; events_is = refl };
   written = appends-none a;
 }
@@ -120,20 +117,24 @@ told-more d e f a b c out h s w =
       leave = all-more h.outs out h.leave (e, f, s);
       count_is = omega (arith, n, counted, h.count_is);
       tickets_are = sent ∙ (ap (λ l. l ++ t ∷ []) h.tickets_are ∙ (append_assoc (sent_tickets d.journal) (map ticket_of_out h.outs) (t ∷ []) ∙ ap (λ l. sent_tickets d.journal ++ l) (sym (map-append ticket_of_out h.outs (out ∷ [])))));
+      notes_are = sends_noted e f out s ∙ (ap (λ l. l ++ noted_of out ∷ []) h.notes_are ∙ (append_assoc (sent_by d) (map noted_of h.outs) (noted_of out ∷ []) ∙ ap (λ l. sent_by d ++ l) (sym (map-append noted_of h.outs (out ∷ [])))));
       limits = record { journal_is = s.enters.most_journal ∙ h.limits.journal_is; events_is = s.enters.most ∙ h.limits.events_is };
       written = subst (Appends a c) (sym (frames-more h.outs out)) (appends-appends a b c (frames_for h.outs) (frame_for out) h.written w);
     }
 
--- what the seats were told since the last checkpoint is what the journal of the desk sent
-tickets-last : (outs : List Out) (tickets sent : List ℕ) (kept : Bool) → Noted outs tickets → sent ≡ (if kept then tickets else []) → Noted outs sent
-tickets-last outs tickets sent kept n e = subst (Noted outs) (sym e) (noted-anew outs tickets kept n)
+-- what the seat noted since the last checkpoint is what the journal of the desk sent, and then it sent more
+last-told : {X : Type 0} (word : Out → X) (outs later : List Out) (last sent all : List X) (kept : Bool) → LastAre word outs last → sent ≡ (if kept then last else []) → all ≡ sent ++ map word later
+    → LastAre word (outs ++ later) all
+last-told word outs later last sent all kept n e more =
+    let k = last-anew word outs last kept n in
+    (k.0, map-append word outs later ∙ (ap (λ l. l ++ map word later) (k.1 ∙ ap (λ l. k.0 ++ l) (sym e)) ∙ (append_assoc k.0 sent (map word later) ∙ ap (λ l. k.0 ++ l) (sym more))))
 
 -- The writer wrote all that it was given, and what the desk of a full session still had to say was written too.
-pub is-served : (journal events : ℕ) (a b c : Option (List ℕ)) (end : Wrote) (count : ℕ) (tickets : List ℕ) (kept full : Bool) (d : Seen) → HasWritten a b end count tickets → end ≡ All → HasLimits journal events d
-    → count ≡ (counts_of d).sent → sent_tickets d.journal ≡ (if kept then tickets else []) → IsFinished full d b c → (served : IsServed journal events a c) × (full ≡ true → served.desk.outbox ≡ [])
-is-served journal events a b c end count tickets kept full d h all limits counted sent f =
+pub is-served : (journal events : ℕ) (a b c : Option (List ℕ)) (end : Wrote) (count : ℕ) (tickets : List ℕ) (notes : List Noted) (kept full : Bool) (d : Seen) → HasWritten a b end count tickets notes → end ≡ All
+    → HasLimits journal events d → count ≡ (counts_of d).sent → sent_tickets d.journal ≡ (if kept then tickets else []) → sent_by d ≡ (if kept then notes else []) → IsFinished full d b c
+    → (served : IsServed journal events a c) × (full ≡ true → served.desk.outbox ≡ [])
+is-served journal events a b c end count tickets notes kept full d h all limits counted sent noted f =
     let told = f.told in
-    let last = tickets-last h.outs tickets (sent_tickets d.journal) kept (h.before, h.tickets_are) sent in
     let n = length-append h.outs told.outs in
     let frames : frames_for (h.outs ++ told.outs) ≡ frames_for h.outs ++ frames_for told.outs = flat_map-append frame_for h.outs told.outs in (
       record {
@@ -143,9 +144,8 @@ is-served journal events a b c end count tickets kept full d h all limits counte
         outs = h.outs ++ told.outs;
         leave = all-both h.outs told.outs h.leave told.leave;
         count_is = omega (arith, n, h.count_is, counted, told.count_is);
-        before = last.0;
-        tickets_are = map-append ticket_of_out h.outs told.outs ∙ (ap (λ l. l ++ map ticket_of_out told.outs) last.1
-            ∙ (append_assoc last.0 (sent_tickets d.journal) (map ticket_of_out told.outs) ∙ ap (λ l. last.0 ++ l) (sym told.tickets_are)));
+        tickets_are = last-told ticket_of_out h.outs told.outs tickets (sent_tickets d.journal) (sent_tickets f.after.journal) kept h.tickets_are sent told.tickets_are;
+        notes_are = last-told noted_of h.outs told.outs notes (sent_by d) (sent_by f.after) kept h.notes_are noted told.notes_are;
         written = subst (Appends a c) (sym frames) (appends-appends a b c (frames_for h.outs) (frames_for told.outs) (h.whole all) told.written);
       },
       f.rest,

@@ -34,10 +34,10 @@ lacked_memory h w worked.Memory = true
 lacked_memory h w k = false
 
 -- the reader or a worker found the session full
-abbrev pub is_full : Heard → Worked → Bool
-is_full (heard.Broken early.Full) k = true
-is_full h worked.Full = true
-is_full h k = false
+abbrev pub has_met_full_session : Heard → Worked → Bool
+has_met_full_session (heard.Broken early.Full) k = true
+has_met_full_session h worked.Full = true
+has_met_full_session h k = false
 
 -- the reader's own status
 abbrev pub status_of : Heard → Status
@@ -51,7 +51,7 @@ causes h w k audited =
     ∷ (has_failed w, Err fault.Write)
     ∷ (not audited || has_strayed k, Err fault.Strayed)
     ∷ (lacked_memory h w k, Err fault.Memory)
-    ∷ (is_full h k, Ok status.Full)
+    ∷ (has_met_full_session h k, Ok status.Full)
     ∷ []
 
 -- the first that holds, or else the last resort

@@ -1,4 +1,5 @@
 pub mod Audit
 pub mod Ends
+pub mod Input
 pub mod Reading
 pub mod Writing

@@ -55,3 +55,7 @@ abbrev pub HearsAll : List (List ℕ) → Stage → ToldClient → Option Status
 HearsAll bodies stage old None after new = HearsOn bodies stage old after new
 HearsAll bodies stage old (Some status) after new = (before : List (List ℕ)) × (last : List ℕ) × (unheard : List (List ℕ)) × (next : Stage) × (told : ToldClient)
     × ((bodies ≡ before ++ last ∷ unheard) × HearsOn before stage old next told × Hears last next told (Some status) after new)
+
+-- Where the reader breaks off, a front of the messages has been heard at the seat.
+abbrev pub HearsFront : List (List ℕ) → Stage → ToldClient → ToldClient → Type 0
+HearsFront bodies stage old new = (front : List (List ℕ)) × (left : List (List ℕ)) × (after : Stage) × ((bodies ≡ front ++ left) × HearsOn front stage old after new)

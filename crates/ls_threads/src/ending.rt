@@ -1,6 +1,6 @@
 //! How the threads end, and what that makes of the run.
 ghost use Rattle.std.specs.Prelude.{◌≡◌};
-ghost use Rattle.ls_threads.specs.Ends.{ended_by, is_full, result_of, worse};
+ghost use Rattle.ls_threads.specs.Ends.{ended_by, has_met_full_session, result_of, worse};
 
 use ls_desk::DeskFault;
 use ls_server::{ServeFault, Status};
@@ -90,8 +90,8 @@ impl Worked {
 }
 
 /// Whether the reader or a worker found the session full. Then the desk may still have replies to send.
-pub fn is_full(heard: Heard, worked: Worked) -> bool
-    ensures { result ≡ is_full heard worked }
+pub fn has_met_full_session(heard: Heard, worked: Worked) -> bool
+    ensures { result ≡ has_met_full_session heard worked }
 {
     match (heard, worked) {
         (Heard::Broken(Early::Full), _) | (_, Worked::Full) => true,

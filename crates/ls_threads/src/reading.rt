@@ -1,11 +1,13 @@
 //! What the reader does.
-ghost use Rattle.std.specs.Prelude.{◌≡◌, IfOk, OnErr, OnOk, None, false, true};
+ghost use Rattle.std.specs.Prelude.{◌≡◌, ◌<◌, length, IfOk, OnErr, OnOk, None, false, true};
 ghost use Rattle.ls_frame.specs.Feeds.{contents_of};
 ghost use Rattle.ls_frame.specs.Faults.{fault_of};
+ghost use Rattle.ls_frame.specs.Frames.{HasNoFrame};
 ghost use Rattle.ls_machine.specs.Client.{IsAllowed};
 ghost use Rattle.ls_server.specs.Runs.{end_status};
 ghost use Rattle.ls_threads.specs.Ends.{has_cause};
-ghost use Rattle.ls_threads.specs.Reading.{Hears, HearsAll, IsMet, IsTold, refusal_to};
+ghost use Rattle.ls_threads.specs.Input.{HearsInput, HearsPiece, end_of_piece};
+ghost use Rattle.ls_threads.specs.Reading.{Hears, HearsAll, HearsFront, IsMet, IsTold, refusal_to};
 
 use crate::ending::{Early, Heard};
 use ls_desk::DeskFault;
@@ -34,6 +36,17 @@ fn at_end(framer: &Framer) -> Status
     match framer.end() {
         Ok(()) => Status::Unclean,
         Err(fault) => Status::BadFrame(fault),
+    }
+}
+
+/// What a fed piece means for the reader, once its messages have been heard.
+fn end_of_piece(fed: Result<usize, FrameFault>) -> Result<Option<Status>, Early>
+    ensures { result ≡ end_of_piece fed }
+{
+    match fed {
+        Ok(_) => Ok(None),
+        Err(FrameFault::Memory) => Err(Early::Memory),
+        Err(fault) => Ok(Some(Status::BadFrame(fault))),
     }
 }
 
@@ -108,8 +121,10 @@ impl<C: Crew> Reader<C> {
         bodies: &[Vec<u8>],
         halted: &AtomicU64,
     ) -> Result<Option<Status>, Early>
-        ensures { IfOk result (λ status. HearsAll (contents_of bodies.now) self.old.session (record { list = self.old.seat.list.items; checkpoints = self.old.seat.checkpoints; strayed = self.old.seat.strayed })
+        ensures ok { IfOk result (λ status. HearsAll (contents_of bodies.now) self.old.session (record { list = self.old.seat.list.items; checkpoints = self.old.seat.checkpoints; strayed = self.old.seat.strayed })
             status self.new.session (record { list = self.new.seat.list.items; checkpoints = self.new.seat.checkpoints; strayed = self.new.seat.strayed })) }
+        ensures err { OnErr result (HearsFront (contents_of bodies.now) self.old.session (record { list = self.old.seat.list.items; checkpoints = self.old.seat.checkpoints; strayed = self.old.seat.strayed })
+            (record { list = self.new.seat.list.items; checkpoints = self.new.seat.checkpoints; strayed = self.new.seat.strayed })) }
     {
         for body in bodies {
             if halted.load(Ordering::SeqCst) != 0 {
@@ -122,7 +137,7 @@ impl<C: Crew> Reader<C> {
         Ok(None)
     }
 
-    /// Takes a piece of the input and hears what it completes. An exit and a framing fault have a status.
+    /// Takes a piece of the input and hears the messages that it completes. An exit and a framing fault have a status.
     fn take_piece<R: Wait>(
         &mut self,
         rt: &R,
@@ -130,16 +145,16 @@ impl<C: Crew> Reader<C> {
         framer: &mut Framer,
         piece: &[u8],
         halted: &AtomicU64,
-    ) -> Result<Option<Status>, Early> {
+    ) -> Result<Option<Status>, Early>
+        ensures { HasNoFrame framer.old → fault_of framer.old ≡ None → HearsPiece framer.old piece.now self.old.session (record { list = self.old.seat.list.items; checkpoints = self.old.seat.checkpoints; strayed = self.old.seat.strayed })
+            result framer.new self.new.session (record { list = self.new.seat.list.items; checkpoints = self.new.seat.checkpoints; strayed = self.new.seat.strayed }) }
+    {
         let mut bodies = Vec::new(self.alloc);
         let fed = framer.feed(piece, &mut bodies);
-        if let Some(status) = self.hear_all(rt, board, &bodies, halted)? {
-            return Ok(Some(status));
-        }
-        match fed {
-            Ok(_) => Ok(None),
-            Err(FrameFault::Memory) => Err(Early::Memory),
-            Err(fault) => Ok(Some(Status::BadFrame(fault))),
+        match self.hear_all(rt, board, &bodies, halted) {
+            Ok(None) => end_of_piece(fed),
+            Ok(Some(status)) => Ok(Some(status)),
+            Err(early) => Err(early),
         }
     }
 
@@ -155,15 +170,37 @@ impl<C: Crew> Reader<C> {
     ) -> Heard
         requires none { I.reads source.old ≡ 0 }
         requires good { I.failed source.old ≡ false }
-        ensures { has_cause result (I.failed source.new) (I.reads source.new) ≡ true }
+        ensures cause { has_cause result (I.failed source.new) (I.reads source.new) ≡ true }
+        ensures heard { HearsInput (I.remaining source.old) (I.remaining source.new) self.old.session (record { list = self.old.seat.list.items; checkpoints = self.old.seat.checkpoints; strayed = self.old.seat.strayed })
+            result self.new.session (record { list = self.new.seat.list.items; checkpoints = self.new.seat.checkpoints; strayed = self.new.seat.strayed }) }
     {
         let Ok(mut buffer) = vec![in self.alloc; 0u8; READ_MOST] else {
             return Heard::Broken(Early::Memory);
         };
+        self.read_with(rt, board, source, &mut buffer, halted)
+    }
+
+    /// Reads and hears by this buffer.
+    #[tactic(none)]
+    fn read_with<R: Wait, I: Source>(
+        &mut self,
+        rt: &R,
+        board: &Board<C>,
+        source: &mut I,
+        buffer: &mut [u8],
+        halted: &AtomicU64,
+    ) -> Heard
+        requires none { I.reads source.old ≡ 0 }
+        requires good { I.failed source.old ≡ false }
+        requires room { 0 < length buffer.old }
+        ensures cause { has_cause result (I.failed source.new) (I.reads source.new) ≡ true }
+        ensures heard { HearsInput (I.remaining source.old) (I.remaining source.new) self.old.session (record { list = self.old.seat.list.items; checkpoints = self.old.seat.checkpoints; strayed = self.old.seat.strayed })
+            result self.new.session (record { list = self.new.seat.list.items; checkpoints = self.new.seat.checkpoints; strayed = self.new.seat.strayed }) }
+    {
         let mut framer = Framer::new(self.alloc);
         for i in 1..READS_END {
             let _ = i;
-            let count = match source.read(&mut buffer) {
+            let count = match source.read(buffer) {
                 Ok(count) => count,
                 Err(DeviceFault::Interrupted) => continue,
                 Err(DeviceFault::Failed) => return Heard::Failed,

@@ -2,12 +2,15 @@
 ghost use denote.Param.Send.{IsSend};
 ghost use Rattle.std.specs.Prelude.{◌≡◌, ◌+◌, ◌<◌, ◌≤◌, ◌==◌, ◌||◌, Bool, OnOk, [], false, sum_by, true, vec_len};
 ghost use Rattle.ls_desk.specs.Stands.{Seen};
+ghost use Rattle.ls_workers.specs.Count.{Counts};
 ghost use Rattle.ls_workers.specs.Jobs.{HasLimits};
+ghost use Rattle.ls_workers.specs.Seats.{AreAll, HasCause};
+ghost use Rattle.ls_workers.specs.declared.behind.SeatFault.{SeatFault};
 ghost use Rattle.ls_threads.specs.Audit.{IsAudited};
-ghost use Rattle.ls_threads.specs.Ends.{has_cause, has_failed, is_full, result_of};
+ghost use Rattle.ls_threads.specs.Ends.{has_cause, has_failed, has_met_full_session, result_of};
 ghost use Rattle.ls_threads.specs.Writing.{HasWritten, IsFinished, IsServed};
 
-use crate::ending::{Early, Heard, Worked, Wrote, is_full, result_of};
+use crate::ending::{Early, Heard, Worked, Wrote, has_met_full_session, result_of};
 use crate::halt::halt;
 use crate::reading::Reader;
 use crate::working::work_on;
@@ -196,16 +199,16 @@ fn run_threads<
     gate: &'a G,
     halted: &'a AtomicU64,
 ) -> Ran<C, I, W>
-    requires none { (writer.seat.sent.share.amount ≡ 0) × (writer.seat.tickets.items ≡ []) }
-    ensures written { HasWritten (W.contents writer.sink) (W.contents result.written.sink) result.written.end result.written.seat.sent.share.amount result.written.seat.tickets.items }
+    requires none { (writer.seat.sent.share.amount ≡ 0) × (writer.seat.tickets.items ≡ []) × (writer.seat.notes.items ≡ []) }
+    ensures written { HasWritten (W.contents writer.sink) (W.contents result.written.sink) result.written.end result.written.seat.sent.share.amount result.written.seat.tickets.items result.written.seat.notes.items }
 {
     thread::scope(
         thread::scope_env(),
         rt,
         |scope| -> Ran<C, I, W>
             requires send { IsSend C.row }
-            requires none { (writer.seat.sent.share.amount ≡ 0) × (writer.seat.tickets.items ≡ []) }
-            ensures { HasWritten (W.contents writer.sink) (W.contents result.written.sink) result.written.end result.written.seat.sent.share.amount result.written.seat.tickets.items }
+            requires none { (writer.seat.sent.share.amount ≡ 0) × (writer.seat.tickets.items ≡ []) × (writer.seat.notes.items ≡ []) }
+            ensures { HasWritten (W.contents writer.sink) (W.contents result.written.sink) result.written.end result.written.seat.sent.share.amount result.written.seat.tickets.items result.written.seat.notes.items }
         {
             let promise = Writes(Snapshot::of(&writer.sink));
             match scope.spawn_with(promise, move || writer.write_on(rt, alloc, board, halted)) {
@@ -230,6 +233,7 @@ fn finished<W: Sink>(alloc: Global, desk: Desk, sink: &mut W, full: bool, wrote:
     requires { W.failed sink.old ≡ has_failed wrote }
     ensures failed { W.failed sink.new ≡ has_failed result }
     ensures all { result ≡ Wrote.All → (wrote ≡ Wrote.All) × IsFinished full desk (W.contents sink.old) (W.contents sink.new) }
+    ensures kept { full ≡ false → result ≡ wrote }
 {
     let mut desk = desk;
     let _sound = desk.journal();
@@ -254,8 +258,8 @@ fn finished<W: Sink>(alloc: Global, desk: Desk, sink: &mut W, full: bool, wrote:
     }
 }
 
-/// Closes the board, and answers for the run. Once the session is full the desk's unsent replies are written, whatever else was met, unless the
-/// sink has failed.
+/// Closes the board, and answers for the run: `Strayed` only where the board can't be closed with these seats, or a worker has strayed. Once the
+/// session is full the desk's unsent replies are written, whatever else was met, unless the sink has failed.
 fn closed<C: Crew, I: Source + Drop, W: Sink + Drop>(
     alloc: Global,
     board: Board<C>,
@@ -263,17 +267,25 @@ fn closed<C: Crew, I: Source + Drop, W: Sink + Drop>(
     ran: Ran<C, I, W>,
 ) -> Served<I, W>
     requires parts { (C.workers ≡ C.parts) × (0 < C.parts) }
-    requires written { HasWritten (W.contents begun.value) (W.contents ran.written.sink) ran.written.end ran.written.seat.sent.share.amount ran.written.seat.tickets.items }
+    requires written { HasWritten (W.contents begun.value) (W.contents ran.written.sink) ran.written.end ran.written.seat.sent.share.amount ran.written.seat.tickets.items ran.written.seat.notes.items }
     ensures read { result.answer ≡ Err ServeFault.Read → (I.failed result.source || (I.reads result.source + 1 == 1099511627776)) ≡ true }
     ensures write { result.answer ≡ Err ServeFault.Write → W.failed result.sink ≡ true }
     ensures not_made { ran.done.made ≡ false → result.answer ≡ Err ServeFault.Memory }
-    ensures causes { ran.done.made ≡ true → (wrote : Wrote) × (audited : Bool) × ((result.answer ≡ result_of ran.done.read.end wrote ran.done.worked audited) × (W.failed result.sink ≡ has_failed wrote)) }
+    ensures causes { ran.done.made ≡ true → (wrote : Wrote) × (audited : Bool) × ((result.answer ≡ result_of ran.done.read.end wrote ran.done.worked audited) × (W.failed result.sink ≡ has_failed wrote)
+        × (has_met_full_session ran.done.read.end ran.done.worked ≡ false → wrote ≡ ran.written.end)
+        × (audited ≡ false → (fault : SeatFault) × HasCause ((ran.done.read.seat.mark ≡ board.mark) × (ran.written.seat.mark ≡ board.mark)
+        × AreAll (λ seat. seat.mark) (λ seat. seat.number) board.mark board.workers ran.done.workers.items)
+        (λ desk. Counts ran.done.read.seat.asked.share.amount (sum_by (λ seat. seat.took.share.amount) ran.done.workers.items)
+        (sum_by (λ seat. seat.returned.share.amount) ran.done.workers.items) (sum_by (λ seat. seat.finished.share.amount) ran.done.workers.items)
+        ran.written.seat.sent.share.amount desk × HasLimits C.max_journal C.max_events desk)
+        (record { list = ran.done.read.seat.list.items; checkpoints = ran.done.read.seat.checkpoints; strayed = ran.done.read.seat.strayed })
+        ran.written.seat.checkpoints ran.written.seat.tickets.items ran.written.seat.notes.items fault)) }
     ensures audited { OnOk result.answer ((desk : Seen) × HasLimits C.max_journal C.max_events desk × IsAudited ran.done.read.seat.asked.share.amount
         (sum_by (λ seat. seat.took.share.amount) ran.done.workers.items) (sum_by (λ seat. seat.returned.share.amount) ran.done.workers.items)
         (sum_by (λ seat. seat.finished.share.amount) ran.done.workers.items) ran.written.seat.sent.share.amount
         ran.done.read.seat.list.items ran.written.seat.checkpoints ran.written.seat.tickets.items desk) }
     ensures served { OnOk result.answer ((served : IsServed C.max_journal C.max_events (W.contents begun.value) (W.contents result.sink))
-        × (is_full ran.done.read.end ran.done.worked ≡ true → served.desk.outbox ≡ [])) }
+        × (has_met_full_session ran.done.read.end ran.done.worked ≡ true → served.desk.outbox ≡ [])) }
 {
     let Ran { done, written } = ran;
     let Done {
@@ -303,7 +315,13 @@ fn closed<C: Crew, I: Source + Drop, W: Sink + Drop>(
         };
     };
     let _sound = desk.journal();
-    let wrote = finished(alloc, desk, &mut sink, is_full(end, worked), wrote);
+    let wrote = finished(
+        alloc,
+        desk,
+        &mut sink,
+        has_met_full_session(end, worked),
+        wrote,
+    );
     Served {
         answer: result_of(end, wrote, worked, true),
         source,

@@ -39,7 +39,7 @@ pub struct Written<C: Crew, W: Sink> {
 pub struct Writes<W>(pub Snapshot<W>);
 
 impl<C: Crew, W: Sink> Promise<Written<C, W>> for Writes<W> {
-    ghost kept_by = { λ promise left. HasWritten (W.contents promise.0.value) (W.contents left.sink) left.end left.seat.sent.share.amount left.seat.tickets.items };
+    ghost kept_by = { λ promise left. HasWritten (W.contents promise.0.value) (W.contents left.sink) left.end left.seat.sent.share.amount left.seat.tickets.items left.seat.notes.items };
 }
 
 /// Writes the frame of a reply, and hands it on. `All`: all of it was written and handed on. Else a front of it was written.
@@ -72,8 +72,8 @@ impl<C: Crew, W: Sink> Writer<C, W> {
         board: &Board<C>,
         halted: &AtomicU64,
     ) -> Written<C, W>
-        requires none { (self.seat.sent.share.amount ≡ 0) × (self.seat.tickets.items ≡ []) }
-        ensures { HasWritten (W.contents self.sink) (W.contents result.sink) result.end result.seat.sent.share.amount result.seat.tickets.items }
+        requires none { (self.seat.sent.share.amount ≡ 0) × (self.seat.tickets.items ≡ []) × (self.seat.notes.items ≡ []) }
+        ensures { HasWritten (W.contents self.sink) (W.contents result.sink) result.end result.seat.sent.share.amount result.seat.tickets.items result.seat.notes.items }
     {
         let Writer { mut seat, mut sink } = self;
         for _ in rt.forever() {

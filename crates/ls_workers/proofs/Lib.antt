@@ -1,3 +1,4 @@
 pub mod Beside
 pub mod Numbers
 pub mod Refused
+pub mod SentLaws

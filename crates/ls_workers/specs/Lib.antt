@@ -3,3 +3,4 @@ pub mod Ends
 pub mod Jobs
 pub mod Refusals
 pub mod Seats
+pub mod Sent

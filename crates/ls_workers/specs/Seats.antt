@@ -7,6 +7,8 @@ use Rattle.ls_desk.specs.Stands.{Seen, counts_of, fresh, is_long}
 use Rattle.ls_machine.specs.Client.{Notes, client_events, sent_tickets}
 use Rattle.ls_machine.specs.declared.client.ClientEvent.{ClientEvent}
 use Rattle.ls_machine.specs.declared.client.ClientAnswer.{ClientAnswer}
+use Rattle.ls_workers.specs.Sent.{sent_by}
+use Rattle.ls_workers.specs.declared.replies.Noted.{Noted}
 use Rattle.ls_workers.specs.declared.behind.SeatFault.{SeatFault}
 use Rattle.ls_workers.specs.declared.behind.SeatFault.TheVariants.{SeatMissing, Strayed}
 
@@ -21,9 +23,9 @@ pub record AreAll {X : Type 0} (mark_of : X → ℕ) (number_of : X → ℕ) (ma
 abbrev pub Agrees : List Event → List Event → List ℕ → Type 0
 Agrees journal list tickets = (client_events journal ≡ list) × (sent_tickets journal ≡ tickets)
 
--- the tickets since the last checkpoint: none where the seat was given no reply since
-abbrev pub tickets_since : ℕ → ℕ → List ℕ → List ℕ
-tickets_since checkpoints seen tickets = if seen == checkpoints then tickets else []
+-- what the writer's seat has of the replies since the last checkpoint: nothing where it was given none since
+abbrev pub since : {X : Type 0} → ℕ → ℕ → List X → List X
+since checkpoints seen list = if seen == checkpoints then list else []
 
 -- the list is compared where the journal is as long as it may be, and isn't the journal's
 abbrev pub Strays : Seen → List Event → Type 0
@@ -49,8 +51,12 @@ pub record Heard (e : ClientEvent) (answer : ClientAnswer) (before after : Seen)
 abbrev pub IsHeard : ClientEvent → ClientAnswer → ToldClient → ToldClient → Type 0
 IsHeard e answer old new = (before after : Seen) × Heard e answer before after old new
 
+-- what the seats were told is what the desk's journal has, and what it sent
+abbrev pub AgreesAll : Seen → List Event → ℕ → List ℕ → List Noted → Type 0
+AgreesAll desk list seen tickets notes =
+    Agrees desk.journal list (since desk.base.checkpoints seen tickets) × (sent_by desk ≡ since desk.base.checkpoints seen notes)
+
 -- Why a board isn't closed: the seats aren't all its own; or they are, with these counts, and a list wasn't the journal's, at a checkpoint or now.
-abbrev pub HasCause : Type 0 → (Seen → Type 0) → ToldClient → ℕ → List ℕ → SeatFault → Type 0
-HasCause AreOwn HasCounts client seen tickets SeatMissing = AreOwn → ⊥
-HasCause AreOwn HasCounts client seen tickets (Strayed desk) =
-    AreOwn × HasCounts desk × (IsTrue client.strayed ⊎ (Agrees desk.journal client.list (tickets_since desk.base.checkpoints seen tickets) → ⊥))
+abbrev pub HasCause : Type 0 → (Seen → Type 0) → ToldClient → ℕ → List ℕ → List Noted → SeatFault → Type 0
+HasCause AreOwn HasCounts client seen tickets notes SeatMissing = AreOwn → ⊥
+HasCause AreOwn HasCounts client seen tickets notes (Strayed desk) = AreOwn × HasCounts desk × (IsTrue client.strayed ⊎ (AgreesAll desk client.list seen tickets notes → ⊥))

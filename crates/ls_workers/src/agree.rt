@@ -2,8 +2,10 @@
 ghost use Rattle.std.specs.Prelude.{◌≡◌, ◌↔◌, IsTrue};
 ghost use Rattle.std.specs.Option.{option_map};
 ghost use Rattle.ls_machine.specs.Client.{client_event, client_events, sent_ticket, sent_tickets};
-ghost use Rattle.ls_workers.specs.Seats.{Agrees, tickets_since};
+ghost use Rattle.ls_workers.specs.Seats.{Agrees, AgreesAll, since};
+ghost use Rattle.ls_workers.specs.Sent.{sent_by};
 
+use crate::replies::{Noted, same_notes};
 use crate::same::same_event;
 use ls_desk::{Desk, Event};
 
@@ -71,20 +73,37 @@ fn same_tickets(journal: &[Event], tickets: &[u64]) -> bool
     count == tickets.len()
 }
 
-/// Whether these are the client's events of a journal, and the tickets of what it sent.
-pub fn agrees(journal: &[Event], list: &[Event], tickets: &[u64]) -> bool
+// Whether these are the client's events of a journal, and the tickets of what it sent.
+fn agrees(journal: &[Event], list: &[Event], tickets: &[u64]) -> bool
     ensures { IsTrue result ↔ Agrees journal.now list.now tickets.now }
 {
     same_events(journal, list) && same_tickets(journal, tickets)
 }
 
-/// The tickets since the last checkpoint of a desk, by how many the seat had seen that was given them.
-pub fn tickets_since<'t>(desk: &Desk, seen: u64, tickets: &'t [u64]) -> &'t [u64]
-    ensures { result.now ≡ tickets_since desk.now.base.checkpoints seen tickets.now }
+// What a list has since the last checkpoint of a desk, by how many the seat had seen whose list it is.
+fn since<'t, T>(desk: &Desk, seen: u64, list: &'t [T]) -> &'t [T]
+    ensures { result.now ≡ since desk.now.base.checkpoints seen list.now }
 {
     if seen == desk.checkpoints() {
-        tickets
+        list
     } else {
-        &tickets[..0]
+        &list[..0]
     }
+}
+
+/// Whether the seats' lists are what the journal of a desk has, and what it sent, of which these are the notes.
+pub fn agrees_all(
+    desk: &Desk,
+    left: &[Noted],
+    list: &[Event],
+    seen: u64,
+    tickets: &[u64],
+    notes: &[Noted],
+) -> bool
+    requires { left.now ≡ sent_by desk.now }
+    ensures { IsTrue result ↔ AgreesAll desk.now list.now seen tickets.now notes.now }
+{
+    let tickets = since(desk, seen, tickets);
+    let notes = since(desk, seen, notes);
+    agrees(desk.journal(), list, tickets) && same_notes(left, notes)
 }

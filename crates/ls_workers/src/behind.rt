@@ -7,17 +7,20 @@ ghost use Rattle.ls_machine.specs.Client.{HasSmallText, IsAllowed, note_of, is_t
 ghost use Rattle.ls_desk.specs.Faults.{Refuses, Takes, take_fault, give_back_fault, finish_fault};
 ghost use Rattle.ls_workers.specs.Jobs.{Finishes, HasLimits, Returns};
 ghost use Rattle.ls_workers.specs.Refusals.{RefusesEvent, client_fault, is_shortage, may_refuse, may_refuse_return, may_refuse_run};
-ghost use Rattle.ls_workers.specs.Seats.{Heard, tickets_since};
+ghost use Rattle.ls_workers.specs.Seats.{Heard, since};
+ghost use Rattle.ls_workers.specs.Sent.{noted_of, sent_by};
 ghost use Rattle.ls_workers.specs.Ends.{is_over, ended_by, has_job, has_news};
 
 use crate::calls::{enter, finish, give_back, is_long, next_out, strays, take};
 use crate::ledgers::{Crew, OfClient, OfFinished, OfReturned, OfSent, OfTook};
-use crate::lists::write_event;
+use crate::lists::{write_event, write_reply};
 use crate::notes::filled;
+use crate::replies::{Noted, begin_anew, first_notes};
 use crate::seats::{ClientSeat, WorkerSeat, WriterSeat};
 use ls_answers::{Done, Job};
 use ls_desk::{Desk, DeskFault, Event, Kept, Out, ticket_of};
 use ls_machine::{ClientAnswer, ClientEvent};
+use std::alloc::AllocError as Memory;
 use std::sync::ledger::{Book, Share};
 
 /// How a board ends.
@@ -38,8 +41,8 @@ pub enum SeatFault {
     Strayed(Desk),
 }
 
-/// The desk, which has the limits of the board's, a book for each kind of event, which has the number of that kind over the session, and how
-/// the board ends.
+/// The desk, which has the limits of the board's, a book for each kind of event, which has the number of that kind over the session, the notes
+/// of the replies that its journal sent, and how the board ends.
 #[derive(Drop)]
 pub struct Behind<C: Crew> {
     pub desk: Desk,
@@ -48,9 +51,11 @@ pub struct Behind<C: Crew> {
     pub returned: Book<OfReturned<C>>,
     pub finished: Book<OfFinished<C>>,
     pub sent: Book<OfSent<C>>,
+    pub left: Vec<Noted>,
     pub stop: Option<Stop>,
     pub ghost counts: { Counts asked.total took.total returned.total finished.total sent.total desk },
     pub ghost limits: { HasLimits C.max_journal C.max_events desk },
+    pub ghost replies: { left.items ≡ sent_by desk },
 }
 
 impl<C: Crew> Behind<C> {
@@ -123,13 +128,19 @@ impl<C: Crew> Behind<C> {
         ensures refused { IfErr result (λ fault. may_refuse event fault ≡ true) }
         ensures mark { seat.new.mark ≡ seat.old.mark }
     {
-        let Behind { desk, asked, .. } = self;
+        let Behind {
+            desk,
+            asked,
+            left,
+            ..
+        } = self;
         let long = is_long(desk);
         let strays = strays(desk, &seat.list);
         let answer = enter(desk, event, note.as_ref())?;
         let _counts = desk.counts();
         let Some(note) = note else { unreachable!() };
         seat.asked.one_more(asked);
+        begin_anew(left, long);
         write_event(seat, long, desk.checkpoints(), strays, filled(note, answer));
         Ok(answer)
     }
@@ -203,35 +214,47 @@ impl<C: Crew> Behind<C> {
         Ok(kept)
     }
 
-    /// The oldest reply, which leaves. `None` where the board has ended at once, or where none is unsent. The seat has room for one ticket
-    /// more.
-    pub fn next_out(&mut self, seat: &mut WriterSeat<C>) -> Option<Out>
-        requires { vec_len seat.old.tickets < vec_capacity seat.old.tickets }
-        ensures some { OnSome result (seat.new.sent.share.amount ≡ seat.old.sent.share.amount + 1) }
-        ensures tickets { IfSome result (λ out. seat.new.tickets.items ≡ tickets_since self.old.desk.base.checkpoints seat.old.checkpoints seat.old.tickets.items ++ ticket_of_out out ∷ []) }
-        ensures seen { OnSome result (seat.new.checkpoints ≡ self.new.desk.base.checkpoints) }
-        ensures leaves { IfSome result (λ out. Sends self.old.desk self.new.desk out) }
-        ensures none { IfNone result ((seat.new.sent.share.amount ≡ seat.old.sent.share.amount) × (seat.new.tickets.items ≡ seat.old.tickets.items) × (seat.new.checkpoints ≡ seat.old.checkpoints)) }
-        ensures nothing { IfNone result ((self.new.desk ≡ self.old.desk) × (self.new.sent.total ≡ self.old.sent.total) × ((is_over self.old.stop ≡ true) ⊎ (self.old.desk.outbox ≡ []))) }
+    /// The oldest reply, which leaves, with its note, the desk's and the seat's. `None` where the board has ended at once, or where none is
+    /// unsent. The seat has room for one ticket and one note more.
+    #[tactic(auto, using(crate::proofs::SentLaws::first_note_is))]
+    pub fn next_out(&mut self, seat: &mut WriterSeat<C>) -> Result<Option<Out>, Memory>
+        requires tickets { vec_len seat.old.tickets < vec_capacity seat.old.tickets }
+        requires notes { vec_len seat.old.notes < vec_capacity seat.old.notes }
+        ensures some { IfOk result (λ next. OnSome next (seat.new.sent.share.amount ≡ seat.old.sent.share.amount + 1)) }
+        ensures tickets { IfOk result (λ next. IfSome next (λ out. seat.new.tickets.items ≡ since self.old.desk.base.checkpoints seat.old.checkpoints seat.old.tickets.items ++ ticket_of_out out ∷ [])) }
+        ensures notes { IfOk result (λ next. IfSome next (λ out. seat.new.notes.items ≡ since self.old.desk.base.checkpoints seat.old.checkpoints seat.old.notes.items ++ noted_of out ∷ [])) }
+        ensures seen { IfOk result (λ next. OnSome next (seat.new.checkpoints ≡ self.new.desk.base.checkpoints)) }
+        ensures leaves { IfOk result (λ next. IfSome next (λ out. Sends self.old.desk self.new.desk out)) }
+        ensures none { IfOk result (λ next. IfNone next ((seat.new.sent.share.amount ≡ seat.old.sent.share.amount) × (seat.new.tickets.items ≡ seat.old.tickets.items) × (seat.new.notes.items ≡ seat.old.notes.items)
+            × (seat.new.checkpoints ≡ seat.old.checkpoints))) }
+        ensures err { OnErr result ((seat.new.sent.share.amount ≡ seat.old.sent.share.amount) × (seat.new.tickets.items ≡ seat.old.tickets.items) × (seat.new.notes.items ≡ seat.old.notes.items)
+            × (seat.new.checkpoints ≡ seat.old.checkpoints)) }
+        ensures same { OnErr result ((self.new.desk ≡ self.old.desk) × (self.new.sent.total ≡ self.old.sent.total)) }
+        ensures nothing { IfOk result (λ next. IfNone next ((self.new.desk ≡ self.old.desk) × (self.new.sent.total ≡ self.old.sent.total) × ((is_over self.old.stop ≡ true) ⊎ (self.old.desk.outbox ≡ [])))) }
         ensures mark { seat.new.mark ≡ seat.old.mark }
     {
-        if self.is_over() {
-            return None;
+        if self.is_over() || self.desk.unsent() == 0 {
+            return Ok(None);
         }
-        let Behind { desk, sent, .. } = self;
-        let out = next_out(desk)?;
+        let Behind {
+            desk,
+            sent,
+            left,
+            ..
+        } = self;
+        let (note, own) = first_notes(desk)?;
+        left.reserve(1)?;
+        let Some(out) = next_out(desk) else {
+            unreachable!()
+        };
         let _counts = desk.counts();
         seat.sent.one_more(sent);
-        let checkpoints = desk.checkpoints();
-        if seat.checkpoints != checkpoints {
-            seat.tickets.clear();
-            seat.checkpoints = checkpoints;
-        }
-        seat.tickets.push_reserved(ticket_of(&out));
-        Some(out)
+        left.push_reserved(note);
+        write_reply(seat, desk.checkpoints(), ticket_of(&out), own);
+        Ok(Some(out))
     }
 
-    /// The desk, where there were as many events of each kind as the gathered shares.
+    /// The desk, where there were as many events of each kind as the gathered shares, and the notes of what its journal sent.
     pub fn audited(
         mut self,
         asked: &mut Share<OfClient<C>>,
@@ -239,18 +262,19 @@ impl<C: Crew> Behind<C> {
         returned: &mut Share<OfReturned<C>>,
         finished: &mut Share<OfFinished<C>>,
         sent: &mut Share<OfSent<C>>,
-    ) -> Desk
+    ) -> (Desk, Vec<Noted>)
         requires one { (asked.old.parts ≡ 1) × (sent.old.parts ≡ 1) }
         requires all { (took.old.parts ≡ C.parts) × (returned.old.parts ≡ C.parts) × (finished.old.parts ≡ C.parts) }
-        ensures counts { Counts asked.old.amount took.old.amount returned.old.amount finished.old.amount sent.old.amount result }
-        ensures limits { HasLimits C.max_journal C.max_events result }
+        ensures counts { Counts asked.old.amount took.old.amount returned.old.amount finished.old.amount sent.old.amount result.0 }
+        ensures limits { HasLimits C.max_journal C.max_events result.0 }
+        ensures replies { result.1.items ≡ sent_by result.0 }
     {
         self.asked.audit(asked);
         self.took.audit(took);
         self.returned.audit(returned);
         self.finished.audit(finished);
         self.sent.audit(sent);
-        let Behind { desk, .. } = self;
-        desk
+        let Behind { desk, left, .. } = self;
+        (desk, left)
     }
 }

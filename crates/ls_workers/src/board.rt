@@ -5,10 +5,11 @@ ghost use Rattle.ls_workers.specs.Count.{Counts};
 ghost use Rattle.ls_workers.specs.Ends.{Leaves};
 ghost use Rattle.ls_workers.specs.Jobs.{HasLimits, IsFinished, IsReturned, IsTaken};
 ghost use Rattle.ls_workers.specs.Refusals.{is_shortage, may_refuse, may_refuse_return, may_refuse_run};
-ghost use Rattle.ls_workers.specs.Seats.{Agrees, AreAll, HasCause, IsHeard, tickets_since};
+ghost use Rattle.ls_workers.specs.Sent.{noted_of, sent_by};
+ghost use Rattle.ls_workers.specs.Seats.{Agrees, AreAll, HasCause, IsHeard, since};
 ghost use Rattle.ls_machine.specs.Client.{IsAllowed};
 
-use crate::agree::{agrees, tickets_since};
+use crate::agree::agrees_all;
 use crate::behind::{Behind, SeatFault, Stop};
 use crate::calls::count_none;
 use crate::crew::{are_all, gathered, seats_of};
@@ -54,7 +55,7 @@ impl<C: Crew> Board<C> {
         requires empty { desk.journal ≡ [] }
         requires limits { HasLimits C.max_journal C.max_events desk }
         ensures client { IfOk result (λ made. (made.1.mark ≡ mark) × (made.1.asked.share.amount ≡ 0) × (made.1.list.items ≡ []) × (made.1.checkpoints ≡ 0) × (made.1.strayed ≡ false)) }
-        ensures writer { IfOk result (λ made. (made.2.mark ≡ mark) × (made.2.sent.share.amount ≡ 0) × (made.2.tickets.items ≡ []) × (made.2.checkpoints ≡ 0)) }
+        ensures writer { IfOk result (λ made. (made.2.mark ≡ mark) × (made.2.sent.share.amount ≡ 0) × (made.2.tickets.items ≡ []) × (made.2.notes.items ≡ []) × (made.2.checkpoints ≡ 0)) }
         ensures workers { IfOk result (λ made. AreAll (λ seat. seat.mark) (λ seat. seat.number) mark workers made.3.items) }
         ensures none { IfOk result (λ made. (sum_by (λ seat. seat.took.share.amount) made.3.items ≡ 0) × (sum_by (λ seat. seat.returned.share.amount) made.3.items ≡ 0)
             × (sum_by (λ seat. seat.finished.share.amount) made.3.items ≡ 0)) }
@@ -81,6 +82,7 @@ impl<C: Crew> Board<C> {
             returned: returned_book,
             finished: finished_book,
             sent: sent_book,
+            left: Vec::new(alloc),
             stop: None,
         };
         let board = Board {
@@ -192,18 +194,22 @@ impl<C: Crew> Board<C> {
     /// `Memory` says that an allocation was refused; after it the seat is as it was, and no reply has left.
     pub fn next_out(&self, rt: &impl Wait, seat: &mut WriterSeat<C>) -> Result<Option<Out>, Memory>
         ensures some { IfOk result (λ next. OnSome next (seat.new.sent.share.amount ≡ seat.old.sent.share.amount + 1)) }
-        ensures tickets { IfOk result (λ next. IfSome next (λ out. seat.new.tickets.items ≡ tickets_since seat.new.checkpoints seat.old.checkpoints seat.old.tickets.items ++ ticket_of_out out ∷ [])) }
+        ensures tickets { IfOk result (λ next. IfSome next (λ out. seat.new.tickets.items ≡ since seat.new.checkpoints seat.old.checkpoints seat.old.tickets.items ++ ticket_of_out out ∷ [])) }
+        ensures notes { IfOk result (λ next. IfSome next (λ out. seat.new.notes.items ≡ since seat.new.checkpoints seat.old.checkpoints seat.old.notes.items ++ noted_of out ∷ [])) }
         ensures leaves { IfOk result (λ next. IfSome next Leaves) }
-        ensures none { IfOk result (λ next. IfNone next ((seat.new.sent.share.amount ≡ seat.old.sent.share.amount) × (seat.new.tickets.items ≡ seat.old.tickets.items) × (seat.new.checkpoints ≡ seat.old.checkpoints))) }
-        ensures err { OnErr result ((seat.new.sent.share.amount ≡ seat.old.sent.share.amount) × (seat.new.tickets.items ≡ seat.old.tickets.items) × (seat.new.checkpoints ≡ seat.old.checkpoints)) }
+        ensures none { IfOk result (λ next. IfNone next ((seat.new.sent.share.amount ≡ seat.old.sent.share.amount) × (seat.new.tickets.items ≡ seat.old.tickets.items) × (seat.new.notes.items ≡ seat.old.notes.items)
+            × (seat.new.checkpoints ≡ seat.old.checkpoints))) }
+        ensures err { OnErr result ((seat.new.sent.share.amount ≡ seat.old.sent.share.amount) × (seat.new.tickets.items ≡ seat.old.tickets.items) × (seat.new.notes.items ≡ seat.old.notes.items)
+            × (seat.new.checkpoints ≡ seat.old.checkpoints)) }
         ensures mark { seat.new.mark ≡ seat.old.mark }
     {
         seat.tickets.reserve(1)?;
+        seat.notes.reserve(1)?;
         let behind = self.behind.lock(rt);
         let mut behind = self
             .changed
             .wait_while(rt, behind, |behind| !behind.has_news());
-        Ok(behind.next_out(seat))
+        behind.next_out(seat)
     }
 
     /// Whether a ticket waits now, queued or taken.
@@ -238,7 +244,8 @@ impl<C: Crew> Board<C> {
         ensures counts { IfOk result (λ desk. Counts client.asked.share.amount (sum_by (λ seat. seat.took.share.amount) workers.items)
             (sum_by (λ seat. seat.returned.share.amount) workers.items) (sum_by (λ seat. seat.finished.share.amount) workers.items)
             writer.sent.share.amount desk) }
-        ensures agrees { IfOk result (λ desk. Agrees desk.journal client.list.items (tickets_since desk.base.checkpoints writer.checkpoints writer.tickets.items)) }
+        ensures agrees { IfOk result (λ desk. Agrees desk.journal client.list.items (since desk.base.checkpoints writer.checkpoints writer.tickets.items)) }
+        ensures replies { IfOk result (λ desk. sent_by desk ≡ since desk.base.checkpoints writer.checkpoints writer.notes.items) }
         ensures strayed { OnOk result (client.strayed ≡ false) }
         ensures limits { IfOk result (λ desk. HasLimits C.max_journal C.max_events desk) }
         ensures err { IfErr result (λ fault. HasCause ((client.mark ≡ self.mark) × (writer.mark ≡ self.mark)
@@ -246,7 +253,7 @@ impl<C: Crew> Board<C> {
             (λ desk. Counts client.asked.share.amount (sum_by (λ seat. seat.took.share.amount) workers.items)
             (sum_by (λ seat. seat.returned.share.amount) workers.items) (sum_by (λ seat. seat.finished.share.amount) workers.items)
             writer.sent.share.amount desk × HasLimits C.max_journal C.max_events desk)
-            (record { list = client.list.items; checkpoints = client.checkpoints; strayed = client.strayed }) writer.checkpoints writer.tickets.items fault) }
+            (record { list = client.list.items; checkpoints = client.checkpoints; strayed = client.strayed }) writer.checkpoints writer.tickets.items writer.notes.items fault) }
     {
         let own = client.mark == self.mark && writer.mark == self.mark;
         if !own || !are_all(&workers, self.mark, self.workers) {
@@ -263,6 +270,7 @@ impl<C: Crew> Board<C> {
             mark: _,
             sent,
             tickets,
+            notes,
             checkpoints,
         } = writer;
         let mut asked = asked.share;
@@ -270,15 +278,14 @@ impl<C: Crew> Board<C> {
         let (mut took, mut returned, mut finished) = gathered(workers);
         let Board { behind, .. } = self;
         let behind = behind.into_inner();
-        let desk = behind.audited(
+        let (desk, left) = behind.audited(
             &mut asked,
             &mut took,
             &mut returned,
             &mut finished,
             &mut sent,
         );
-        let since = tickets_since(&desk, checkpoints, &tickets);
-        if strayed || !agrees(desk.journal(), &list, since) {
+        if strayed || !agrees_all(&desk, &left, &list, checkpoints, &tickets, &notes) {
             return Err(SeatFault::Strayed(desk));
         }
         Ok(desk)

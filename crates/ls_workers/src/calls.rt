@@ -13,6 +13,7 @@ ghost use Rattle.ls_desk.specs.Faults.{Refuses, Takes, open_fault, take_fault, g
 ghost use Rattle.ls_workers.specs.Jobs.{Finishes, HasLimits, Returns};
 ghost use Rattle.ls_workers.specs.Refusals.{RefusesEvent, client_fault, is_shortage, may_refuse, may_refuse_return, may_refuse_run};
 ghost use Rattle.ls_workers.specs.Seats.{Strays};
+ghost use Rattle.ls_workers.specs.Sent.{noted_of, sent_by};
 
 use crate::agree::same_events;
 use ls_answers::{Done, Job};
@@ -24,7 +25,8 @@ use ls_text::Encoding;
 /// Says of an empty journal that nothing has happened at its desk.
 pub fn count_none(desk: &Desk)
     requires { desk.now.journal ≡ [] }
-    ensures { counts_of desk.now ≡ no_events }
+    ensures counts { counts_of desk.now ≡ no_events }
+    ensures sent { sent_by desk.now ≡ [] }
 {
     let _counts = desk.counts();
 }
@@ -117,11 +119,13 @@ pub fn enter(
 }
 
 /// Takes the first queued job.
+#[tactic(auto, using(crate::proofs::SentLaws::took_sends_nothing))]
 pub fn take(desk: &mut Desk, worker: u32) -> Result<Option<Job>, DeskFault>
     ensures some { IfOk result (λ job. OnSome job (desk.new.journal ≡ desk.old.journal ++ Event.Took worker ∷ [])) }
     ensures takes { IfOk result (λ job. Takes worker desk.old desk.new job) }
     ensures counts { IfOk result (λ job. OnSome job (Adds 0 1 0 0 0 desk.old desk.new)) }
     ensures limits { IfOk result (λ job. OnSome job (HasLimits desk.old.max_journal desk.old.max_events desk.new)) }
+    ensures sent { IfOk result (λ job. OnSome job (sent_by desk.new ≡ sent_by desk.old)) }
     ensures none { IfOk result (λ job. IfNone job ((desk.new ≡ desk.old) × (find is_queued (state_of desk.old).waiting ≡ None))) }
     ensures err { OnErr result (desk.new ≡ desk.old) }
     ensures cause { IfErr result (λ fault. Refuses (take_fault desk.old) desk.old desk.new fault) }
@@ -131,11 +135,13 @@ pub fn take(desk: &mut Desk, worker: u32) -> Result<Option<Job>, DeskFault>
 }
 
 /// Gives a job back that wasn't run.
+#[tactic(auto, using(crate::proofs::SentLaws::returned_sends_nothing))]
 pub fn give_back(desk: &mut Desk, ticket: u64) -> Result<(), DeskFault>
     ensures ok { OnOk result (desk.new.journal ≡ desk.old.journal ++ Event.Returned ticket ∷ []) }
     ensures returns { OnOk result (Returns ticket desk.old desk.new) }
     ensures counts { OnOk result (Adds 0 0 1 0 0 desk.old desk.new) }
     ensures limits { OnOk result (HasLimits desk.old.max_journal desk.old.max_events desk.new) }
+    ensures sent { OnOk result (sent_by desk.new ≡ sent_by desk.old) }
     ensures err { OnErr result (desk.new ≡ desk.old) }
     ensures cause { IfErr result (λ fault. Refuses (give_back_fault desk.old ticket) desk.old desk.new fault) }
     ensures refused { IfErr result (λ fault. may_refuse_return fault ≡ true) }
@@ -144,10 +150,12 @@ pub fn give_back(desk: &mut Desk, ticket: u64) -> Result<(), DeskFault>
 }
 
 /// Brings a job back that has run.
+#[tactic(auto, using(crate::proofs::SentLaws::finished_sends_nothing))]
 pub fn finish(desk: &mut Desk, done: Done) -> Result<Kept, (DeskFault, Done)>
     ensures finishes { IfOk result (λ kept. Finishes done kept desk.old desk.new) }
     ensures counts { OnOk result (Adds 0 0 0 1 0 desk.old desk.new) }
     ensures limits { OnOk result (HasLimits desk.old.max_journal desk.old.max_events desk.new) }
+    ensures sent { OnOk result (sent_by desk.new ≡ sent_by desk.old) }
     ensures same { OnErr result (desk.new ≡ desk.old) }
     ensures done { IfErr result (λ refused. refused.1 ≡ done) }
     ensures cause { IfErr result (λ refused. Refuses (finish_fault desk.old done) desk.old desk.new refused.0) }
@@ -157,10 +165,12 @@ pub fn finish(desk: &mut Desk, done: Done) -> Result<Kept, (DeskFault, Done)>
 }
 
 /// The oldest reply, which leaves.
+#[tactic(auto, using(crate::proofs::SentLaws::sends_noted))]
 pub fn next_out(desk: &mut Desk) -> Option<Out>
     ensures some { IfSome result (λ out. Sends desk.old desk.new out) }
     ensures counts { OnSome result (Adds 0 0 0 0 1 desk.old desk.new) }
     ensures limits { OnSome result (HasLimits desk.old.max_journal desk.old.max_events desk.new) }
+    ensures sent { IfSome result (λ out. sent_by desk.new ≡ sent_by desk.old ++ noted_of out ∷ []) }
     ensures base { OnSome result (desk.new.base ≡ desk.old.base) }
     ensures none { IfNone result ((desk.new ≡ desk.old) × (desk.old.outbox ≡ [])) }
 {

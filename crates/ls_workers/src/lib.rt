@@ -7,13 +7,17 @@
 //! - Each kind of event (the client's events, `Took`, `Returned`, `Finished`, `Sent`) has a ledger. Its book lies behind the lock and always
 //!   has the number of events of that kind at the desk, over the session. Its shares are in the seats, and a share rises by one with each call
 //!   through its seat that wrote such an event, and with no other.
-//! - The client's seat also lists each event that it entered since the last checkpoint, with the answer that it got, and the writer's seat the
-//!   ticket of each reply that it was given since. At a checkpoint the client's list is compared with the journal, and begins anew.
-//! - [`Board::close`] takes all seats back and tests their lists against the journal. It gives the desk only where both agree, as the client's
-//!   did at each checkpoint, and then there were as many events of each kind as the seats counted.
+//! - The client's seat also lists each event that it entered since the last checkpoint, with the answer that it got. At a checkpoint that list
+//!   is compared with the journal, and begins anew.
+//! - The writer's seat lists the ticket and a note ([`Noted`]) of each reply that it was given since the last checkpoint that it has seen. The
+//!   notes of what the journal sent stand behind the lock too, and begin anew at a checkpoint: until then a reply costs two notes.
+//! - [`Board::close`] takes all seats back and tests their lists against the journal, and the notes against those behind the lock. It gives the
+//!   desk only where all agree, as the client's list did at each checkpoint, and then there were as many events of each kind as the seats
+//!   counted.
 //!
 //! Nothing is computed under the lock: [`work`] passes its gate and runs its job while the lock is free, and the text of a document that is
-//! opened is made before the lock is taken, as all that a call needs memory for in its seat. A thread that waits for a job or a reply sleeps until something has changed.
+//! opened is made before the lock is taken, as all that a call needs memory for in its seat, but for the notes of a reply, which is known there
+//! alone. A thread that waits for a job or a reply sleeps until something has changed.
 #![tactic(auto)]
 
 mod agree;
@@ -24,6 +28,7 @@ mod crew;
 mod ledgers;
 mod lists;
 mod notes;
+mod replies;
 mod same;
 mod seats;
 mod worker;
@@ -32,5 +37,6 @@ pub use behind::{SeatFault, Stop};
 pub use board::Board;
 pub use ledgers::{Blanks, Crew, Ledgers, OfClient, OfFinished, OfReturned, OfSent, OfTook};
 pub use ls_machine::{ClientAnswer, ClientEvent};
+pub use replies::Noted;
 pub use seats::{ClientSeat, Count, WorkerSeat, WriterSeat};
 pub use worker::{Gate, work};

@@ -1,8 +1,10 @@
 //! What the seats write down of what they are told.
 ghost use Rattle.std.specs.Prelude.{◌≡◌, ◌↔◌, ◌⊎◌, ◌<◌, ◌++◌, ◌∷◌, [], IsTrue, vec_len, vec_capacity, if◌then◌else◌};
+ghost use Rattle.ls_workers.specs.Seats.{since};
 
 use crate::ledgers::Ledgers;
-use crate::seats::ClientSeat;
+use crate::replies::Noted;
+use crate::seats::{ClientSeat, WriterSeat};
 use ls_desk::Event;
 
 /// Writes an event down in the client's seat, whose list begins anew with it where it made a checkpoint. The seat remembers whether its list
@@ -26,4 +28,22 @@ pub fn write_event<C: Ledgers>(
     }
     seat.strayed = seat.strayed || strays;
     seat.list.push_reserved(entry);
+}
+
+/// Writes a reply down in the writer's seat, whose lists begin anew with it where there was a checkpoint since the last one.
+pub fn write_reply<C: Ledgers>(seat: &mut WriterSeat<C>, checkpoints: u64, ticket: u64, note: Noted)
+    requires tickets { vec_len seat.old.tickets < vec_capacity seat.old.tickets }
+    requires notes { vec_len seat.old.notes < vec_capacity seat.old.notes }
+    ensures tickets { seat.new.tickets.items ≡ since checkpoints seat.old.checkpoints seat.old.tickets.items ++ ticket ∷ [] }
+    ensures notes { seat.new.notes.items ≡ since checkpoints seat.old.checkpoints seat.old.notes.items ++ note ∷ [] }
+    ensures seen { seat.new.checkpoints ≡ checkpoints }
+    ensures kept { (seat.new.sent.share.amount ≡ seat.old.sent.share.amount) × (seat.new.mark ≡ seat.old.mark) }
+{
+    if seat.checkpoints != checkpoints {
+        seat.tickets.clear();
+        seat.notes.clear();
+        seat.checkpoints = checkpoints;
+    }
+    seat.tickets.push_reserved(ticket);
+    seat.notes.push_reserved(note);
 }

@@ -7,7 +7,8 @@ use ls_lists::Text;
 use ls_rpc::Id;
 use ls_text::{Edit, Encoding, Position, Range};
 
-fn same_text(a: &Text, b: &Text) -> bool
+/// Whether two texts are the same.
+pub fn same_text(a: &Text, b: &Text) -> bool
     ensures { IsTrue result ↔ (a.now ≡ b.now) }
 {
     a.as_str() == b.as_str()
@@ -52,7 +53,8 @@ fn same_edit(a: &Edit, b: &Edit) -> bool
     same_ranges(&a.range, &b.range) && same_text(&a.text, &b.text)
 }
 
-fn same_id(a: &Id, b: &Id) -> bool
+/// Whether two ids are the same.
+pub fn same_id(a: &Id, b: &Id) -> bool
     ensures { IsTrue result ↔ (a.now ≡ b.now) }
 {
     match (a, b) {

@@ -2,6 +2,7 @@
 ghost use Rattle.std.specs.Prelude.{◌≡◌, ◌+◌, ◌<◌, ◌^◌, [], false};
 
 use crate::ledgers::{Ledgers, OfClient, OfFinished, OfReturned, OfSent, OfTook};
+use crate::replies::Noted;
 use ls_desk::Event;
 use std::alloc::Global;
 use std::sync::ledger::{Book, Ledger, Share};
@@ -86,6 +87,8 @@ pub struct WriterSeat<C: Ledgers> {
     pub sent: Count<OfSent<C>>,
     /// The tickets of the replies that it was given since the last checkpoint that it has seen, 0 for a body.
     pub tickets: Vec<u64>,
+    /// The notes of these replies.
+    pub notes: Vec<Noted>,
     /// How many checkpoints there had been when it was given the last reply.
     pub checkpoints: u64,
     pub ghost whole: { sent.share.parts ≡ 1 },
@@ -95,12 +98,13 @@ impl<C: Ledgers> WriterSeat<C> {
     /// A seat that was given nothing.
     pub fn new(alloc: Global, mark: u64, share: Share<OfSent<C>>) -> WriterSeat<C>
         requires { (share.parts ≡ 1) × (share.amount ≡ 0) }
-        ensures { (result.mark ≡ mark) × (result.sent.share.amount ≡ 0) × (result.tickets.items ≡ []) × (result.checkpoints ≡ 0) }
+        ensures { (result.mark ≡ mark) × (result.sent.share.amount ≡ 0) × (result.tickets.items ≡ []) × (result.notes.items ≡ []) × (result.checkpoints ≡ 0) }
     {
         WriterSeat {
             mark,
             sent: Count::new(share),
             tickets: Vec::new(alloc),
+            notes: Vec::new(alloc),
             checkpoints: 0,
         }
     }

@@ -4,8 +4,9 @@ ghost use Rattle.std.specs.Prelude.{◌≡◌, ◌+◌, ◌<◌, nat_lt, if◌th
 
 use super::calls::{DESKS, counts, hover, next_ticket, nth_desk, opening, run_one};
 use ls_desk::DeskFault;
+use ls_rpc::Id;
 use ls_workers::{
-    Blanks, Board, ClientAnswer, ClientSeat, Crew, SeatFault, Stop, WorkerSeat, WriterSeat,
+    Blanks, Board, ClientAnswer, ClientSeat, Crew, Noted, SeatFault, Stop, WorkerSeat, WriterSeat,
 };
 use std::alloc::{AllocError, Global};
 use std::marker::Brand;
@@ -23,6 +24,8 @@ enum Session {
     Forgotten,
     // It ends once all is done, and the writer forgets what it was given.
     Unsent,
+    // It ends once all is done, and the writer's last note has another id then.
+    Renoted,
     // The client forgets what it entered before it enters more, which may begin the journal anew. It ends once all is done.
     Altered,
     // The findings are sent, and then the client enters more. It ends at once.
@@ -104,6 +107,13 @@ fn stops<C: Crew, R: Wait>(
     no_job && no_reply && board.wanted(rt, 1) && !board.wanted(rt, 2)
 }
 
+// The note of the last reply, the hover's with the id 1, has the id 2.
+fn renotes<C: Crew>(writer: &mut WriterSeat<C>) {
+    if let Some(Noted::Replied { id, .. }) = writer.notes.last_mut() {
+        *id = Id::Number(2);
+    }
+}
+
 // Closes the board, and says whether it answers as it must.
 fn closes<C: Crew>(
     board: Board<C>,
@@ -117,6 +127,7 @@ fn closes<C: Crew>(
     match session {
         Session::Forgotten => drop(client.list.pop()),
         Session::Unsent => drop(writer.tickets.pop()),
+        Session::Renoted => renotes(&mut writer),
         Session::Drained | Session::Stopped | Session::Altered | Session::Unheard => {}
     }
     let (desk, strayed) = match board.close(client, writer, workers) {
@@ -128,7 +139,9 @@ fn closes<C: Crew>(
     drop(desk);
     match session {
         Session::Drained => !strayed && counts == (2, 2, 0, 2, 2),
-        Session::Unsent | Session::Altered => strayed && counts == (2, 2, 0, 2, 2),
+        Session::Unsent | Session::Renoted | Session::Altered => {
+            strayed && counts == (2, 2, 0, 2, 2)
+        }
         Session::Stopped => !strayed && counts == (1, 0, 0, 0, 0),
         Session::Forgotten => strayed && counts == (1, 0, 0, 0, 0),
         Session::Unheard => !strayed && counts == (2, 1, 0, 1, 1),
@@ -153,7 +166,7 @@ fn one_worker<C: Crew, R: Wait>(
     forgets(&mut client, session);
     let worker = &mut workers[0];
     let ended = match session {
-        Session::Drained | Session::Unsent | Session::Altered => {
+        Session::Drained | Session::Unsent | Session::Renoted | Session::Altered => {
             drains(rt, alloc, &board, &mut client, worker, &mut writer) == Ok(true)
         }
         Session::Stopped | Session::Forgotten => stops(rt, &board, worker, &mut writer),
@@ -196,6 +209,12 @@ fn an_event_is_forgotten(rt: HostRuntime) -> Result<(), Fail> {
 #[test]
 fn a_ticket_is_forgotten(rt: HostRuntime) -> Result<(), Fail> {
     assert!(rt; holds(&rt, rt.alloc(), Session::Unsent)?);
+    Ok(())
+}
+
+#[test]
+fn a_note_is_altered(rt: HostRuntime) -> Result<(), Fail> {
+    assert!(rt; holds(&rt, rt.alloc(), Session::Renoted)?);
     Ok(())
 }
 

@@ -2,7 +2,7 @@
 //!
 //! They stand above the crate that they test, since a crate with tests is proved twice. No clause says that two threads ran, that one that
 //! waits wakes, or that a call that is refused had to be: here the first hover can only be answered after the second, by another worker, and
-//! each call succeeds once.
+//! each call succeeds once, and is refused where the session is full or a run isn't the job's.
 #![tactic(auto)]
 
 #[cfg(test)]
@@ -11,5 +11,7 @@ mod calls;
 mod ends;
 #[cfg(test)]
 mod overtaking;
+#[cfg(test)]
+mod refusals;
 #[cfg(test)]
 mod strangers;

@@ -1,6 +1,7 @@
-use Rattle.std.proofs.Common.{arith}
-use Rattle.ls_threads.proofs.Spent.{spent}
+use Rattle.std.proofs.Common.{[]}
+use Rattle.ls_server.proofs.Served.{consumes-none}
+use Rattle.ls_threads.proofs.Input.{some-begun}
 use Rattle.ls_threads.proofs.reading.Reader.read_on.Goals as goal
 
-pub returns : goal.returns
-returns g c = spent (g.I.Source.failed c.loop-i.source) (g.I.Source.reads c.loop-i.source) (omega (arith, c.loop-i.invariant.reads, c.loop-i-test.false, c.loop-i.auto.i-end))
+pub returns-in_default-clause-heard : goal.returns-in_default-clause-heard
+returns-in_default-clause-heard g c = ([], consumes-none _, some-begun _ _)

@@ -3,6 +3,7 @@ use Rattle.std.specs.Prelude.{IfNone, Some, None, is_some}
 use Rattle.ls_desk.specs.Stands.{Seen}
 use Rattle.ls_workers.specs.Count.{Counts}
 use Rattle.ls_workers.specs.Jobs.{HasLimits}
+use Rattle.ls_workers.specs.Sent.{sent_by}
 use Rattle.ls_workers.proofs.behind.Behind.take.Goals as goal
 
 of-none : {A P : Type 0} (o : Option A) → is_some o ≡ false → IfNone o P → P
@@ -16,4 +17,5 @@ invariant_of-self-else-is_some g c =
     record {
       counts = subst (λ (d : Seen). Counts now.asked.total now.took.total now.returned.total now.finished.total now.sent.total d) (sym same) now.counts;
       limits = subst (λ (d : Seen). HasLimits g.C.Crew.max_journal g.C.Crew.max_events d) (sym same) now.limits;
+      replies = subst (λ (d : Seen). now.left.items ≡ sent_by d) (sym same) now.replies;
     }

@@ -1,0 +1,64 @@
+-- What the reader makes of the bytes that it reads.
+use Rattle.std.specs.Prelude.{◌≡◌, ◌⊎◌, ◌++◌, ℕ, List, [], Option, None, Some, Result, Ok, Err}
+use Rattle.std.specs.Io.KnownBytes.{Consumes, IsAtEnd}
+use Rattle.ls_frame.specs.Frames.{Stream}
+use Rattle.ls_frame.specs.Faults.{fault_of}
+use Rattle.ls_frame.specs.declared.fault.FrameFault.{FrameFault}
+use Rattle.ls_frame.specs.declared.fault.FrameFault.TheVariants.{Memory as NoMemory}
+use Rattle.ls_server.specs.Runs.{end_status, or_else}
+use Rattle.ls_session.specs.declared.event.Status.{Status}
+use Rattle.ls_session.specs.declared.event.Status.TheVariants.{BadFrame}
+use Rattle.ls_session.specs.declared.session.Stage.{Stage}
+use Rattle.ls_workers.specs.Seats.{ToldClient}
+use Rattle.ls_threads.specs.Reading.{HearsAll, HearsFront, HearsOn}
+use Rattle.ls_threads.specs.declared.ending.Early.{Early}
+use Rattle.ls_threads.specs.declared.ending.Early.TheVariants as early
+use Rattle.ls_threads.specs.declared.ending.Heard.{Heard}
+use Rattle.ls_threads.specs.declared.ending.Heard.TheVariants as heard
+
+-- Bytes come after a rest. Their messages were heard, none of which is an exit, and the input goes on with this rest.
+pub record HearsMore (rest bytes : List ℕ) (stage : Stage) (old : ToldClient) (after_rest : List ℕ) (after : Stage) (new : ToldClient) : Type 0 where
+  pub contents : List (List ℕ)
+  pub stream : Stream (rest ++ bytes) contents after_rest
+  pub fault : fault_of after_rest ≡ None
+  pub heard : HearsOn contents stage old after new
+
+-- Bytes come after a rest. Their messages were heard, and an exit among them or a fault behind them gives this status.
+pub record HearsLast (rest bytes : List ℕ) (stage : Stage) (old : ToldClient) (status : Status) (after : Stage) (new : ToldClient) : Type 0 where
+  pub contents : List (List ℕ)
+  pub last : List ℕ
+  pub exit : Option Status
+  pub stream : Stream (rest ++ bytes) contents last
+  pub heard : HearsAll contents stage old exit after new
+  pub status_is : or_else exit (fault_of last) ≡ Some status
+
+-- Bytes come after a rest, and of the messages of a front of them a front was heard.
+pub record HearsSome (rest bytes : List ℕ) (stage : Stage) (old new : ToldClient) : Type 0 where
+  pub part : List ℕ
+  pub more : List ℕ
+  pub bytes_are : rest ++ bytes ≡ part ++ more
+  pub contents : List (List ℕ)
+  pub last : List ℕ
+  pub stream : Stream part contents last
+  pub heard : HearsFront contents stage old new
+
+-- A piece is taken after a rest, and the messages that it completes are heard.
+abbrev pub HearsPiece : List ℕ → List ℕ → Stage → ToldClient → Result (Option Status) Early → List ℕ → Stage → ToldClient → Type 0
+HearsPiece rest piece stage old (Ok None) after_rest after new = HearsMore rest piece stage old after_rest after new
+HearsPiece rest piece stage old (Ok (Some status)) after_rest after new = HearsLast rest piece stage old status after new
+HearsPiece rest piece stage old (Err early) after_rest after new = HearsSome rest piece stage old new
+
+-- what a fed piece means for the reader, where all its messages were heard
+abbrev pub end_of_piece : Result ℕ FrameFault → Result (Option Status) Early
+end_of_piece (Ok n) = Ok None
+end_of_piece (Err NoMemory) = Err early.Memory
+end_of_piece (Err fault) = Ok (Some (BadFrame fault))
+
+-- What the reader has read of the input, and heard of it, by how it ended: the messages up to an exit or a fault; or all, where the input has
+-- ended; or all that came before a read failed; or a front of them, where it broke off.
+abbrev pub HearsInput : Option (List ℕ) → Option (List ℕ) → Stage → ToldClient → Heard → Stage → ToldClient → Type 0
+HearsInput input left stage old (heard.Ended status) after new = (read : List ℕ) × Consumes input left read
+    × (HearsLast [] read stage old status after new
+    ⊎ (IsAtEnd left × ((rest : List ℕ) × HearsMore [] read stage old rest after new × (status ≡ end_status None rest))))
+HearsInput input left stage old heard.Failed after new = (read : List ℕ) × (rest : List ℕ) × Consumes input left read × HearsMore [] read stage old rest after new
+HearsInput input left stage old (heard.Broken early) after new = (read : List ℕ) × Consumes input left read × HearsSome [] read stage old new
