@@ -15,9 +15,9 @@ import random
 import re
 import sys
 
+import encoding_rows
 import plain_rules
 import runs
-import session_rows
 
 # A session on many texts takes some ten seconds.
 SECONDS = 300
@@ -241,7 +241,7 @@ class Session:
         self.renames = []
         # where nothing is offered it is UTF-16
         offered = {} if encoding == "utf-16" else {"general": {"positionEncodings": ["x", encoding, "utf-16"]}}
-        self.request("initialize", {"capabilities": offered}, lambda answers: json.loads(session_rows.agreed(encoding))["result"])
+        self.request("initialize", {"capabilities": offered}, lambda answers: json.loads(encoding_rows.agreed(encoding))["result"])
 
     def request(self, method, params, want):
         number = len(self.wanted)
