@@ -132,10 +132,15 @@ class Server:
                 if body.startswith(b'{"error":'):
                     sys.exit(f"refused: {body.decode()}")
 
-    def memory(self):
-        """The most kibibytes of memory that the program has had."""
+    def memory(self, field="VmHWM"):
+        """The most kibibytes of memory that the program has had, or what another line of its status says."""
         with open(f"/proc/{self.process.pid}/status", encoding="ascii") as status:
-            return next(int(line.split()[1]) for line in status if line.startswith("VmHWM"))
+            return next(int(line.split()[1]) for line in status if line.startswith(field))
+
+    def faults(self):
+        """How many pages the program has been given so far (its minor page faults)."""
+        with open(f"/proc/{self.process.pid}/stat", encoding="ascii") as stat:
+            return int(stat.read().rpartition(")")[2].split()[7])
 
     def end(self):
         self.process.stdin.write(END)
@@ -160,6 +165,23 @@ def edited(text, name, line, character, count):
     more = server.memory() - before
     server.end()
     print(f"{f'{count} edits {name}':<46} {seconds * 1e3:9.1f} ms   {seconds * 1e3 / count:9.2f} ms an edit   {more} KiB more memory in all")
+
+
+def pages(name, text):
+    """Opens a grammar, types 5 characters, then 20 more, each a message of its own, and closes it: how many pages each of the 20 keystrokes asks
+    the system for, and what the program keeps at the end."""
+    server = Server()
+    server.until_answered(INITIALIZE)
+    before = server.memory("VmRSS")
+    server.until_answered(opened(text) + typed(0, 0) * 5)
+    faults = server.faults()
+    server.until_answered(typed(0, 0) * 20)
+    faults = server.faults() - faults
+    most = server.memory() - before
+    server.until_answered(notice("textDocument/didClose", textDocument={"uri": "file:///g"}))
+    kept = server.memory("VmRSS") - before
+    server.end()
+    print(f"{f'pages at {name}':<46} {faults / 20:9.1f} a keystroke   most {most} KiB, {kept} KiB once the text is closed")
 
 
 def about(number, method, **params):
@@ -223,6 +245,8 @@ def main():
     asked("open of 10,000 rules", grammar(10_000))
     asked("open of 100,000 rules", grammar(100_000))
     asked("open of 4 MB, 4,000 rules with 85 names each", grammar(4_000, 85))
+    for count in (1_000, 10_000, 50_000, 100_000):
+        pages(f"{count:,} rules", grammar(count))
     written_anew("a name with 2 places in 1,000 rules", grammar(1_000))
     written_anew("a name with 2 places in 100,000 rules", grammar(100_000))
     written_anew("a name with a place in each of 1,000 rules", naming_one(1_000))
