@@ -88,6 +88,15 @@ pub(crate) fn push_places<'t>(
     Ok(())
 }
 
+/// The same spots in no more memory than they need.
+fn fitted(spots: List<Spot<'_>>) -> List<Spot<'_>>
+    ensures { result ≡ spots.entry }
+{
+    let mut spots = spots.into_vec();
+    spots.shrink_to_fit();
+    List::from_vec(spots)
+}
+
 /// The places in a text.
 pub(crate) fn places_of<'t>(
     alloc: Global,
@@ -99,7 +108,7 @@ pub(crate) fn places_of<'t>(
     for section in sections {
         push_places(&mut spots, &section.block)?;
     }
-    Ok(spots)
+    Ok(fitted(spots))
 }
 
 /// The places of a name in a text, in its order. Each is found when it is asked for, so that none needs memory.

@@ -186,6 +186,8 @@ fn numbered_rules<'s, 't>(
     let mut nodes = Vec::new(alloc);
     let mut roots = List::new(alloc);
     push_rules(alloc, names, own, needed, &mut nodes, &mut roots)?;
+    // What looks through the nodes needs memory of its own beside them.
+    nodes.shrink_to_fit();
     Ok((nodes, roots.into_vec()))
 }
 

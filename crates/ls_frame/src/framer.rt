@@ -8,6 +8,9 @@ use crate::fault::FrameFault;
 use std::alloc::Global;
 use std::marker::Model;
 
+/// The bytes for which a framer keeps room while it waits for a frame: as many as one read brings.
+const KEPT_ROOM: usize = 65_536;
+
 /// Takes a stream of bytes in pieces, and gives the contents of its frames (LSP 3.17, "Base Protocol").
 ///
 /// Contracts see the rest of the stream: the bytes that have come behind the last whole frame.
@@ -29,13 +32,14 @@ impl Model for Framer {
     ghost invariant = { λ f. RestIs f.pending.items f.rest };
 }
 
-/// Drops the first bytes.
+/// Drops the first bytes. The room that a large frame took isn't kept for small ones.
 fn drop_front(bytes: &mut Vec<u8>, count: usize)
     requires { count ≤ length bytes.old.items }
     ensures { bytes.new.items ≡ drop count bytes.old.items }
 {
     if count > 0 {
         bytes.drain(..count);
+        bytes.shrink_to(KEPT_ROOM);
     }
 }
 

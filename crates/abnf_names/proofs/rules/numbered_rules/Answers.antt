@@ -7,7 +7,8 @@ use Rattle.abnf_names.proofs.rules.numbered_rules.Goals as goal
 pub returns : goal.returns
 returns c blocks own are needed =
     let trees = rules_of blocks in
-    subst (λ (roots : List ℕ). AddsTrees trees [] c.push_rules.new.nodes.items [] roots) (sym c.into_vec.ensures)
+    subst (λ (nodes : List Node). AddsTrees trees [] nodes [] c.into_vec.result.items) (sym c.shrink_to_fit.ensures.items)
+    (subst (λ (roots : List ℕ). AddsTrees trees [] c.push_rules.new.nodes.items [] roots) (sym c.into_vec.ensures)
     (subst (λ (roots : List ℕ). AddsTrees trees [] c.push_rules.new.nodes.items roots c.push_rules.new.roots) c.new-roots.ensures
     (subst (λ (nodes : List Node). AddsTrees trees nodes c.push_rules.new.nodes.items c.new-roots.result c.push_rules.new.roots) c.new-nodes.ensures.items
-    (c.in_ok-push_rules.ensures blocks own are needed)))
+    (c.in_ok-push_rules.ensures blocks own are needed))))
