@@ -159,25 +159,28 @@ other_passes q r k other =
     (λ (ne : q ≡ k → ⊥). let isnt : nat_eq q k ≡ false = ne_eqb q k ne in (λ i. not (isnt i) && nat_eq r k))
     (cases_eq q k)
 
+abbrev first_head : ℕ → Option Named → List (Named × ℕ)
+first_head r first = option_map_or (λ n. (n, r) ∷ []) first []
+
 -- behind the first place that defines rule q
-first_some : (r q : ℕ) (n : Named) (left : List (Named × ℕ)) (first : Option Named) → filter (λ head. nat_eq r head.1) left ≡ option_map_or (λ (n : Named). (n, r) ∷ []) first []
-    → filter (λ head. nat_eq r head.1) ((n, q) ∷ filter (λ head. not (nat_eq q head.1)) left) ≡ option_map_or (λ (n : Named). (n, r) ∷ []) (cond (nat_eq r q) (Some n) first) []
+first_some : (r q : ℕ) (n : Named) (left : List (Named × ℕ)) (first : Option Named) → filter (λ head. nat_eq r head.1) left ≡ first_head r first
+    → filter (λ head. nat_eq r head.1) ((n, q) ∷ filter (λ head. not (nat_eq q head.1)) left) ≡ first_head r (cond (nat_eq r q) (Some n) first)
 first_some r q n left first rest =
     ⊎_elim
     (λ (e : r ≡ q).
     let is : nat_eq r q ≡ true = eq-eqb r q e in
     let none : filter (λ (head : Named × ℕ). nat_eq r head.1) (filter (λ head. not (nat_eq q head.1)) left) ≡ [] =
     filter_both (λ head. nat_eq r head.1) (λ head. not (nat_eq q head.1)) (λ head. false) (λ head. same_not_both q r head.1 e) left ∙ filter_none (λ head. false) (λ head. refl) left in
-    (λ i. cond (is i) ((n, sym e i) ∷ none i) (none i)) ∙ (λ i. option_map_or (λ (n : Named). (n, r) ∷ []) (cond (sym is i) (Some n) first) []))
+    (λ i. cond (is i) ((n, sym e i) ∷ none i) (none i)) ∙ (λ i. first_head r (cond (sym is i) (Some n) first)))
     (λ (ne : r ≡ q → ⊥).
     let isnt : nat_eq r q ≡ false = ne_eqb r q ne in
-    let left_is : filter (λ (head : Named × ℕ). nat_eq r head.1) (filter (λ head. not (nat_eq q head.1)) left) ≡ option_map_or (λ (n : Named). (n, r) ∷ []) first [] =
+    let left_is : filter (λ (head : Named × ℕ). nat_eq r head.1) (filter (λ head. not (nat_eq q head.1)) left) ≡ first_head r first =
     filter_both (λ head. nat_eq r head.1) (λ head. not (nat_eq q head.1)) (λ head. nat_eq r head.1) (λ head. other_passes q r head.1 ne) left ∙ rest in
-    (λ i. cond (isnt i) ((n, q) ∷ left_is i) (left_is i)) ∙ (λ i. option_map_or (λ (n : Named). (n, r) ∷ []) (cond (sym isnt i) (Some n) first) []))
+    (λ i. cond (isnt i) ((n, q) ∷ left_is i) (left_is i)) ∙ (λ i. first_head r (cond (sym isnt i) (Some n) first)))
     (cases_eq r q)
 
-first_ahead : (r : ℕ) (n : Named) (rule : Option ℕ) (left : List (Named × ℕ)) (first : Option Named) → filter (λ head. nat_eq r head.1) left ≡ option_map_or (λ (n : Named). (n, r) ∷ []) first []
-    → filter (λ head. nat_eq r head.1) (ahead n rule left) ≡ option_map_or (λ (n : Named). (n, r) ∷ []) (cond (option_map_or (nat_eq r) rule false) (Some n) first) []
+first_ahead : (r : ℕ) (n : Named) (rule : Option ℕ) (left : List (Named × ℕ)) (first : Option Named) → filter (λ head. nat_eq r head.1) left ≡ first_head r first
+    → filter (λ head. nat_eq r head.1) (ahead n rule left) ≡ first_head r (cond (option_map_or (nat_eq r) rule false) (Some n) first)
 first_ahead r n None left first rest = rest
 first_ahead r n (Some q) left first rest = first_some r q n left first rest
 
