@@ -74,6 +74,7 @@ RULE_ROWS = (
     ('a = "x"', ("1:1: a: shortest length 1: x",)),
     # names are read without case, and what is added counts (RFC 5234 sections 2.1 and 3.3)
     ('A = b\na =/ "y"\nb = 2"xy"\n', ("1:1: A: shortest length 1: y", "3:1: b: shortest length 4: xyxy")),
+    ('a = "xx"\na = "y"\nDIGIT = a', ("1:1: a: shortest length 2: xx", "3:1: DIGIT: shortest length 2: xx")),
     ('a =/ "xx"\nb = a\na = "y"', ("1:1: a: shortest length 1: y", "2:1: b: shortest length 1: y")),
     ('a = DIGIT\nb = *"x"', ("1:1: a: shortest length 1: 0", "2:1: b: shortest length 0: ")),
     ("a = %x20.e9\r\n\r\nb = %x5c", ("1:1: a: shortest length 2:  \\x{E9}", "3:1: b: shortest length 1: \\\\")),
