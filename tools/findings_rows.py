@@ -16,7 +16,7 @@ from runs import HUNG, ended
 TOP = os.path.dirname(os.path.dirname(os.path.abspath(__file__)))
 BUILT = os.path.join(TOP, "crates", "abnf_findings", "out", "abnf_findings")
 PROGRAMS = (BUILT, BUILT + ".by-rattle")
-USAGE = b"usage: abnf_findings [--strict] FILE..\n"
+USAGE = b"usage: abnf_findings [--strict | --rules] FILE..\n"
 DEEP = "a = " + 65 * "("
 
 ROWS = (
@@ -67,6 +67,30 @@ ROWS = (
     ('a = "x"\n' + 9 * "\n" + "b = ?", ("11:5: error: bad character [syntax]",)),
 )
 
+# What is printed of rules: each at the first place that defines it.
+RULE_ROWS = (
+    ("", ()),
+    ("; nothing\n", ()),
+    ('a = "x"', ("1:1: a: shortest length 1: x",)),
+    # names are read without case, and what is added counts (RFC 5234 sections 2.1 and 3.3)
+    ('A = b\na =/ "y"\nb = 2"xy"\n', ("1:1: A: shortest length 1: y", "3:1: b: shortest length 4: xyxy")),
+    ('a = "xx"\na = "y"\nDIGIT = a', ("1:1: a: shortest length 2: xx", "3:1: DIGIT: shortest length 2: xx")),
+    ('a =/ "xx"\nb = a\na = "y"', ("1:1: a: shortest length 1: y", "2:1: b: shortest length 1: y")),
+    ('a = DIGIT\nb = *"x"', ("1:1: a: shortest length 1: 0", "2:1: b: shortest length 0: ")),
+    ("a = %x20.e9\r\n\r\nb = %x5c", ("1:1: a: shortest length 2:  \\x{E9}", "3:1: b: shortest length 1: \\\\")),
+    ("a = <text>\nb = a\nc = ?", ("1:1: a: not known", "2:1: b: not known", "3:1: c: not known")),
+    ('a = a "x"\nb = nope', ("1:1: a: generates nothing", "2:1: b: generates nothing")),
+    ('  a = 4096"x"\n  b = 4097"x"', (f"1:3: a: shortest length 4096: {4096 * 'x'}", "2:3: b: shortest length 4097, example not shown")),
+    (
+        'c = 4294967295"x"\nb = 4294967295c\na = 4294967295b',
+        (
+            "1:1: c: shortest length 4294967295, example not shown",
+            "2:1: b: shortest length 18446744065119617025, example not shown",
+            "3:1: a: shortest length 18446744073709551615 or more",
+        ),
+    ),
+)
+
 
 def status_of(found, strict):
     if any(": error: " in line for line in found):
@@ -102,6 +126,19 @@ def row_cases(program, folder):
         yield what, ended(program, None, [file]), (status_of(found, False), b"", printed(file, found))
         yield f"strict {what}", ended(program, None, ["--strict", file]), (status_of(found, True), b"", printed(file, found))
         yield f"{what}, from standard input", ended(program, text.encode(), ["-"]), (status_of(found, False), b"", printed("-", found))
+
+
+def rule_cases(program, folder):
+    """The rules of each text, and of texts beside a file that can't be read."""
+    for text, found in RULE_ROWS:
+        what, file = f"rules of {text[:40]!r}", folder.written("g.abnf", text)
+        yield what, ended(program, None, ["--rules", file]), (0, b"", printed(file, found))
+        yield f"{what}, from standard input", ended(program, text.encode(), ["--rules", "-"]), (0, b"", printed("-", found))
+    good, none = folder.written("good.abnf", 'a = "x"'), folder.at("none")
+    is_good = printed(good, ("1:1: a: shortest length 1: x",))
+    yield "rules, and no file", ended(program, None, ["--rules", none, good]), (2, f"cannot read {none}\n".encode(), is_good)
+    for arguments in (["--rules"], [good, "--rules"], ["--rules", "--strict", good]):
+        yield f"the arguments {arguments}", ended(program, None, arguments), (5, USAGE, b"")
 
 
 def example_cases(program):
@@ -141,22 +178,31 @@ def file_cases(program, folder):
         yield f"the arguments {arguments}", ended(program, None, arguments), (5, USAGE, b"")
 
 
+def refusals(program, made, words):
+    """How it ends with each allocation refused in turn, and last with none refused."""
+    found = []
+    for number in range(1, refused_memory.MOST):
+        env = {"LD_PRELOAD": made, "REFUSED_ALLOCATION": str(number)}
+        found.append(ended(program, None, words, env=env))
+        if not found[-1][1] or found[-1][0] == HUNG:
+            break
+    return found
+
+
 def memory_cases(program, folder):
     """Each allocation refused in turn: it ends with `out of memory`, and with no file half told, or as it does where nothing is refused."""
     made = preload.library(folder.path, "refuses", refused_memory.LIBRARY)
     doubtful, bad = folder.written("doubtful.abnf", 'a =/ "x"'), folder.written("bad.abnf", "a = b ?")
-    before = printed(doubtful, ("1:1: warning: no earlier definition of a [no-base]",))
-    behind = printed(bad, ("1:7: error: bad character [syntax]",))
-    found = []
-    for number in range(1, refused_memory.MOST):
-        env = {"LD_PRELOAD": made, "REFUSED_ALLOCATION": str(number)}
-        found.append(ended(program, None, [doubtful, bad], env=env))
-        if not found[-1][1] or found[-1][0] == HUNG:
-            break
-    said, whole = refused_memory.REFUSED + b"out of memory\n", before + behind
-    others = {*found[:-1]} - {(6, said, b""), (6, said, before), (1, refused_memory.REFUSED, whole)}
-    yield f"{len(found) - 1} allocations refused in turn", (len(found) > 60, sorted(others)), (True, [])
-    yield "no allocation refused", found[-1], (1, b"", whole)
+    said = refused_memory.REFUSED + b"out of memory\n"
+    for what, words, status, first, second in (
+        ("findings", [doubtful, bad], 1, "1:1: warning: no earlier definition of a [no-base]", "1:7: error: bad character [syntax]"),
+        ("rules", ["--rules", doubtful, bad], 0, "1:1: a: shortest length 1: x", "1:1: a: not known"),
+    ):
+        before, found = printed(doubtful, (first,)), refusals(program, made, words)
+        whole = before + printed(bad, (second,))
+        others = {*found[:-1]} - {(6, said, b""), (6, said, before), (status, refused_memory.REFUSED, whole)}
+        yield f"{what}, {len(found) - 1} allocations refused in turn", (len(found) > 60, sorted(others)), (True, [])
+        yield f"{what}, no allocation refused", found[-1], (status, b"", whole)
 
 
 def cases(program):
@@ -164,7 +210,7 @@ def cases(program):
     yield from example_cases(program)
     with tempfile.TemporaryDirectory() as path:
         folder = Folder(path)
-        for some in (row_cases, file_cases, memory_cases):
+        for some in (row_cases, rule_cases, file_cases, memory_cases):
             yield from some(program, folder)
 
 

@@ -1,3 +1,6 @@
 pub mod Findings
 pub mod Grown
 pub mod PrintLaws
+pub mod HeadLaws
+pub mod RuleLines
+pub mod RuleLaws

@@ -1,3 +1,4 @@
 pub mod Outcomes
 pub mod Print
 pub mod Endings
+pub mod Rules

@@ -40,7 +40,7 @@ impl Ending {
         match self {
             Ending::Good | Ending::Found | Ending::NotRead => "",
             Ending::WriteFailed => "write failed",
-            Ending::Usage => "usage: abnf_findings [--strict] FILE..",
+            Ending::Usage => "usage: abnf_findings [--strict | --rules] FILE..",
             Ending::OutOfMemory => "out of memory",
         }
     }

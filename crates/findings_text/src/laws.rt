@@ -1,7 +1,11 @@
 //! Laws of what is printed. The functions do nothing.
 
-ghost use Rattle.std.specs.Prelude.{◌≡◌, ◌<◌, ◌^◌, List, ℕ, length};
+ghost use Rattle.std.specs.Prelude.{◌≡◌, ◌<◌, ◌^◌, [], ◌∷◌, List, ℕ, filter, find, length, nat_eq};
+ghost use Rattle.std.specs.Option.{option_map_or};
+ghost use Rattle.abnf_parts.specs.Names.{Name};
+ghost use Rattle.abnf_names.specs.Places.{Named};
 ghost use Rattle.findings_text.specs.Print.{IsPrinted};
+ghost use Rattle.findings_text.specs.Rules.{ArePrintedRules, defines, heads};
 ghost use Rattle.findings_text.specs.declared.print.Printed.{Printed};
 
 /// For each file name there is a print-out of each text of fewer than 2^62 characters, and so of each text of a file, which has at most
@@ -13,4 +17,20 @@ pub fn printed_texts_exist()
 /// A text has at most one print-out, whatever certificate its findings were found by.
 pub fn printed_texts_are_unique()
     ensures { (file text : List ℕ) (a b : Printed) → IsPrinted file text a → IsPrinted file text b → a ≡ b }
+{}
+
+/// For each file name there is a print-out of the rules of each text of fewer than 2^62 characters.
+pub fn printed_rules_exist()
+    ensures { (file text : List ℕ) → length text < 2 ^ 62 → (lines : List ℕ) × ArePrintedRules file text lines }
+{}
+
+/// A text has at most one print-out of its rules, whatever certificate it is told by.
+pub fn printed_rules_are_unique()
+    ensures { (file text a b : List ℕ) → ArePrintedRules file text a → ArePrintedRules file text b → a ≡ b }
+{}
+
+/// Of the places of names each rule has one head, the first that defines it, and none where no place does.
+pub fn heads_are_first()
+    ensures { (names : List Name) (places : List Named) (r : ℕ)
+        → filter (λ head. nat_eq r head.1) (heads names places) ≡ option_map_or (λ n. (n, r) ∷ []) (find (defines names r) places) [] }
 {}

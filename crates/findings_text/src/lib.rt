@@ -1,7 +1,7 @@
 //! What is printed of the findings in a grammar's text: a line for each, in the form of compilers.
 //!
 //! [`print_findings`] gives the lines of a text, which are defined in specs/Print, and says how the file went by an [`Outcome`]. The
-//! [`Ending`] of a run follows from the outcomes of its files.
+//! [`Ending`] of a run follows from the outcomes of its files. [`print_rules`] gives a line for each rule instead, as specs/Rules has it.
 #![tactic(auto)]
 
 mod ending;
@@ -9,10 +9,17 @@ mod laws;
 mod line;
 mod outcome;
 mod print;
+mod rule_line;
+mod rules;
 
 pub use ending::{Ending, fault_line, is_option};
-pub use laws::{printed_texts_are_unique, printed_texts_exist};
+pub use laws::{
+    heads_are_first, printed_rules_are_unique, printed_rules_exist, printed_texts_are_unique,
+    printed_texts_exist,
+};
+pub use ls_lists::Text;
 pub use ls_text::Snapshot;
 pub use outcome::{Outcome, ending_of};
 pub use print::{Printed, print_findings};
+pub use rules::print_rules;
 pub use text_files::{FileFault, read_text};

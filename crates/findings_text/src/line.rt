@@ -27,7 +27,7 @@ fn counted_text(alloc: Global, before: u32) -> Result<String, Memory>
 }
 
 /// The line and the column of a position.
-fn place_text(alloc: Global, at: Position) -> Result<String, Memory>
+pub(crate) fn place_text(alloc: Global, at: Position) -> Result<String, Memory>
     ensures { IfOk result (λ text. string_bytes text ≡ place_text at) }
 {
     let mut text = counted_text(alloc, at.line)?;

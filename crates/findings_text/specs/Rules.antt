@@ -1,0 +1,80 @@
+-- What is printed of the rules of a text: a line for each, with what is known of its shortest strings.
+use Rattle.std.specs.Prelude.{◌≡◌, ℕ, Bool, false, true, not, List, [], ◌∷◌, ◌++◌, Option, Some, None, codes, filter, if◌then◌else◌, nat_eq, slice_index_or, slice_set}
+use Rattle.std.specs.Option.{option_map_or}
+use Rattle.std.specs.Fmt.{decimal}
+use Rattle.abnf_token.specs.Folded.{lowercase}
+use Rattle.ls_text.specs.Lines.{units}
+use Rattle.ls_text.specs.Positions.{place_start, position_of}
+use Rattle.ls_text.specs.declared.position.Encoding.TheVariants.{Utf32}
+use Rattle.abnf_parts.specs.Names.{Name, rule_number}
+use Rattle.abnf_names.specs.Places.{Named, named_at}
+use Rattle.abnf_names.specs.Rules.{Grammar, IsGrammar}
+use Rattle.abnf_least.specs.Rendered.{rendered_text}
+use Rattle.abnf_least.specs.Shown.{IsShown}
+use Rattle.abnf_least.specs.declared.shortest.Shortest.{Shortest}
+use Rattle.abnf_least.specs.declared.shortest.Shortest.TheVariants.{Shown, Long, Huge, Nothing, NotKnown}
+use Rattle.findings_text.specs.declared.rules.Head.{Head}
+use Rattle.findings_text.specs.Print.{place_text}
+
+-- what is known of the shortest strings of a rule
+abbrev pub known_text : Shortest → List ℕ
+known_text (Shown n example) = codes "shortest length " ++ decimal n ++ codes ": " ++ rendered_text example
+known_text (Long n) = codes "shortest length " ++ decimal n ++ codes ", example not shown"
+known_text Huge = codes "shortest length 18446744073709551615 or more"
+known_text Nothing = codes "generates nothing"
+known_text NotKnown = codes "not known"
+
+-- FILE:LINE:COLUMN: NAME: what is known, and LF
+abbrev pub rule_line : List ℕ → List ℕ → Named → Shortest → List ℕ
+rule_line file text head shown =
+    file ++ place_text (position_of (units Utf32) text (place_start text head.place)) ++ head.text ++ codes ": " ++ known_text shown ++ 10 ∷ []
+
+-- the number of the rule that a place defines, if it does
+abbrev pub defined_at : List Name → Named → Option ℕ
+defined_at names n = if n.defines then rule_number names (lowercase n.text) else None
+
+-- the place defines rule r
+abbrev pub defines : List Name → ℕ → Named → Bool
+defines names r n = option_map_or (nat_eq r) (defined_at names n) false
+
+-- a place that defines this rule, ahead of the heads of other rules
+abbrev pub ahead : Named → Option ℕ → List (Named × ℕ) → List (Named × ℕ)
+ahead n None heads = heads
+ahead n (Some r) heads = (n, r) ∷ filter (λ head. not (nat_eq r head.1)) heads
+
+-- the heads among these places: of each rule the first that defines it, with the rule's number
+abbrev pub heads : List Name → List Named → List (Named × ℕ)
+heads names [] = []
+heads names (n ∷ ns) = ahead n (defined_at names n) (heads names ns)
+
+-- the line of the rule of a head, by what is shown of the rule
+abbrev pub IsRuleLine : List ℕ → Grammar → Named × ℕ → List ℕ → Type 0
+IsRuleLine file g head line = (shown : Shortest) × IsShown g.rules head.1 shown × (line ≡ rule_line file g.text head.0 shown)
+
+-- the lines of the rules of these heads, one after the other
+abbrev pub AreRuleLines : List ℕ → Grammar → List (Named × ℕ) → List ℕ → Type 0
+AreRuleLines file g [] lines = lines ≡ []
+AreRuleLines file g (head ∷ heads) lines = (line : List ℕ) × (rest : List ℕ) × IsRuleLine file g head line × AreRuleLines file g heads rest × (lines ≡ line ++ rest)
+
+-- This is printed of the rules of a text in a file with this name: a line for each rule that it defines, at the first place that does.
+pub record ArePrintedRules (file text lines : List ℕ) : Type 0 where
+  pub grammar : Grammar
+  pub of_text : grammar.text ≡ text
+  pub right : IsGrammar grammar
+  pub lines_are : AreRuleLines file grammar (heads grammar.names grammar.places) lines
+
+-- ---- how the code finds the heads
+
+-- what a head of the code says
+abbrev pub head_at : Head → Named × ℕ
+head_at head = (named_at head.spot, head.rule)
+
+-- this rule, unless it is told
+abbrev pub if_new : List Bool → Option ℕ → Option ℕ
+if_new told None = None
+if_new told (Some r) = if slice_index_or told r false then None else Some r
+
+-- this rule is told too
+abbrev pub also_told : Option ℕ → List Bool → List Bool
+also_told None told = told
+also_told (Some r) told = slice_set told r true

@@ -1,0 +1,99 @@
+//! What is printed of the rules of a text.
+
+ghost use Rattle.std.specs.Prelude.{◌≡◌, ◌<◌, All, IfOk, IfSome, length, map, string_bytes};
+ghost use Rattle.abnf_cert.specs.Accepted.{IsAccepted};
+ghost use Rattle.abnf_names.specs.Places.{named_at};
+ghost use Rattle.findings_text.specs.Rules as spec;
+
+use crate::rule_line::push_rule_line;
+use abnf_cert::Cert;
+use abnf_least::{example, least};
+use abnf_names::{Grammar, RuleNo, Spot};
+use ls_lists::{List, Text};
+use ls_text::{Encoding, Ruler, Snapshot};
+use std::alloc::{AllocError as Memory, Global};
+
+/// The first place that defines a rule, and the rule.
+#[derive(Clone, Copy)]
+struct Head<'t> {
+    spot: Spot<'t>,
+    rule: RuleNo,
+}
+
+/// The rule that a place defines.
+fn defined_at<'t>(grammar: &Grammar<'t>, spot: &Spot<'t>) -> Option<RuleNo>
+    ensures rule { result ≡ spec.defined_at grammar.now.names (named_at spot.now) }
+    ensures within { IfSome result (λ r. r < length grammar.now.rules) }
+{
+    if spot.defines {
+        grammar.rule_of(spot.name)
+    } else {
+        None
+    }
+}
+
+/// The rule that a place defines, unless it is told; from now on it is.
+fn new_rule<'t>(grammar: &Grammar<'t>, told: &mut [bool], spot: &Spot<'t>) -> Option<RuleNo>
+    requires { length told.old ≡ length grammar.now.rules }
+    ensures rule { result ≡ spec.if_new told.old (spec.defined_at grammar.now.names (named_at spot.now)) }
+    ensures told { told.new ≡ spec.also_told result told.old }
+    ensures within { IfSome result (λ r. r < length grammar.now.rules) }
+{
+    let rule = defined_at(grammar, spot)?;
+    if told[rule.get()] {
+        return None;
+    }
+    told[rule.get()] = true;
+    Some(rule)
+}
+
+/// The heads among the places of a text: of each rule that it defines the first place that does.
+fn heads_of<'t>(alloc: Global, grammar: &Grammar<'t>) -> Result<List<Head<'t>>, Memory>
+    ensures heads { IfOk result (λ heads. map spec.head_at heads ≡ spec.heads grammar.now.names grammar.now.places) }
+    ensures within { IfOk result (λ heads. All (λ head. head.rule < length grammar.now.rules) heads) }
+{
+    let mut table = vec![in alloc; false; grammar.rule_count()]?;
+    let told = table.as_mut_slice();
+    let mut heads = List::new(alloc);
+    for spot in grammar.spots() {
+        if let Some(rule) = new_rule(grammar, told, spot) {
+            heads.push(Head { spot: *spot, rule })?;
+        }
+    }
+    Ok(heads)
+}
+
+/// The lines of the rules of these heads.
+fn rule_lines<'t>(
+    alloc: Global,
+    file: &str,
+    grammar: &Grammar<'t>,
+    cert: &Cert,
+    heads: &[Head<'t>],
+) -> Result<String, Memory>
+    requires accepted { IsAccepted grammar.now.rules cert.now }
+    requires within { All (λ head. head.rule < length grammar.now.rules) heads.now }
+    ensures { IfOk result (λ lines. spec.AreRuleLines file.now grammar.now (map spec.head_at heads.now) (string_bytes lines)) }
+{
+    let mut ruler = Ruler::new(grammar.source(), Encoding::Utf32);
+    let mut lines = String::new(alloc);
+    for head in heads {
+        let shown = example(alloc, grammar, cert, head.rule)?;
+        push_rule_line(&mut lines, alloc, file, &mut ruler, &head.spot, &shown)?;
+    }
+    Ok(lines)
+}
+
+/// What is printed of the rules of a text in a file with this name: each rule that it defines in a line, with what is known of its
+/// shortest strings by a certificate that is found for it. Lines and columns count from 1, and columns count characters.
+///
+/// `Memory` says that an allocation was refused.
+pub fn print_rules(alloc: Global, file: &str, text: &Snapshot) -> Result<Text, Memory>
+    ensures { IfOk result (λ lines. spec.ArePrintedRules file.now text.now lines) }
+{
+    let grammar = Grammar::of(alloc, text)?;
+    let cert = least(alloc, &grammar)?;
+    let heads = heads_of(alloc, &grammar)?;
+    let lines = rule_lines(alloc, file, &grammar, &cert, heads.as_slice())?;
+    Ok(Text::new(lines))
+}
