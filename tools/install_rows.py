@@ -107,7 +107,8 @@ ROWS = (
     ),
     (
         "a file that an earlier install put there, and this one doesn't",
-        folders("p", "p/share", "p/share/abnf_ls") | {"p/share/abnf_ls/old": "1", "p/share/abnf_ls/installed": "file share/abnf_ls/old\nfolder share\nfolder share/abnf_ls\n"},
+        folders("p", "p/share", "p/share/abnf_ls")
+        | {"p/share/abnf_ls/old": "1", "p/share/abnf_ls/installed": "file share/abnf_ls/old\nfolder share\nfolder share/abnf_ls\n"},
         ((["p"], DONE), (["--uninstall", "p"], DONE)),
         folders("p"),
     ),
