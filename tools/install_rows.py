@@ -46,29 +46,36 @@ NOT_PUT = "nothing was put in place"
 ODD = "a \"b\" \\c' $d %e \u00e9"
 
 
-def under(prefix, mode="installed"):
-    """What lies under a prefix after an install into nothing."""
-    return {os.path.join(prefix, it): mode for it in FILES} | {os.path.join(prefix, it).rstrip("/"): None for it in FOLDERS}
-
-
 def folders(*paths):
     return dict.fromkeys(paths)
 
 
+def under(prefix):
+    """What lies under a prefix after an install into nothing."""
+    files = {os.path.join(prefix, it): "installed" for it in FILES}
+    return {**files, **folders(*(os.path.join(prefix, it).rstrip("/") for it in FOLDERS))}
+
+
 DONE = (0, ())
-OTHERS = {"p/bin/other": "1", "p/share/abnf_ls/editors/mine": "2", "p/share/man/man1/other.1": "3"} | folders(
-    "p", "p/bin", "p/share", "p/share/abnf_ls", "p/share/abnf_ls/editors", "p/share/man", "p/share/man/man1"
-)
+OTHERS = {
+    **folders("p", "p/bin", "p/share", "p/share/abnf_ls", "p/share/abnf_ls/editors", "p/share/man", "p/share/man/man1"),
+    **{"p/bin/other": "1", "p/share/abnf_ls/editors/mine": "2", "p/share/man/man1/other.1": "3"},
+}
+EARLIER = {
+    **folders("p", "p/share", "p/share/abnf_ls"),
+    "p/share/abnf_ls/old": "1",
+    "p/share/abnf_ls/installed": "file share/abnf_ls/old\nfolder share\nfolder share/abnf_ls\n",
+}
 EMPTY = folders("p", "p/bin", "p/empty")
 # Each row: what it is; what lies there before; the calls, each with its status and its lines; what lies there behind. {} is the place.
 ROWS = (
     ("an install", {}, ((["p"], DONE),), under("p")),
-    ("an install into folders that aren't there", {}, ((["x/y/p"], DONE),), under("x/y/p") | folders("x", "x/y")),
+    ("an install into folders that aren't there", {}, ((["x/y/p"], DONE),), {**under("x/y/p"), **folders("x", "x/y")}),
     ("an install by default", {}, (([], DONE),), under("home/.local")),
     ("an install twice", {}, ((["p"], DONE), (["p"], DONE)), under("p")),
     ("an install by a whole path", {}, ((["{}/p"], DONE),), under("p")),
     ("a prefix whose name means something in the snippets", {}, (([ODD], DONE),), under(ODD)),
-    ("an install beside other files", OTHERS, ((["p"], DONE),), under("p") | OTHERS),
+    ("an install beside other files", OTHERS, ((["p"], DONE),), {**under("p"), **OTHERS}),
     ("an uninstall", {}, ((["x/y/p"], DONE), (["--uninstall", "x/y/p"], DONE)), {}),
     ("an uninstall by default", {}, (([], DONE), (["--uninstall"], DONE)), {}),
     ("an uninstall after two installs", {}, ((["p"], DONE), (["p"], DONE), (["--uninstall", "p"], DONE)), {}),
@@ -89,15 +96,15 @@ ROWS = (
     ),
     (
         "a file where a folder must be",
-        folders("p", "p/share", "p/share/man") | {"p/share/man/man1": "1"},
+        {**folders("p", "p/share", "p/share/man"), "p/share/man/man1": "1"},
         ((["p"], (1, ("stopped; in place under {}/p by now: nothing new", "{}/p/share/man/man1: Not a directory"))),),
-        folders("p", "p/share", "p/share/man") | {"p/share/man/man1": "1"},
+        {**folders("p", "p/share", "p/share/man"), "p/share/man/man1": "1"},
     ),
     (
         "a program of another origin",
-        folders("p", "p/bin") | {"p/bin/abnf_ls": "1"},
+        {**folders("p", "p/bin"), "p/bin/abnf_ls": "1"},
         ((["p"], (1, (f"{{}}/p/bin/abnf_ls is there already, and not by an install; {NOT_PUT}",))),),
-        folders("p", "p/bin") | {"p/bin/abnf_ls": "1"},
+        {**folders("p", "p/bin"), "p/bin/abnf_ls": "1"},
     ),
     (
         "a folder where a program must be",
@@ -106,17 +113,22 @@ ROWS = (
         folders("p", "p/bin", "p/bin/abnf_ls"),
     ),
     (
-        "a file that an earlier install put there, and this one doesn't",
-        folders("p", "p/share", "p/share/abnf_ls")
-        | {"p/share/abnf_ls/old": "1", "p/share/abnf_ls/installed": "file share/abnf_ls/old\nfolder share\nfolder share/abnf_ls\n"},
+        "an uninstall behind an earlier install and one of now",
+        EARLIER,
         ((["p"], DONE), (["--uninstall", "p"], DONE)),
         folders("p"),
     ),
     (
+        "what only an earlier install put there",
+        EARLIER,
+        ((["p"], DONE),),
+        {**under("p"), "p/share/abnf_ls/installed": "changed"},
+    ),
+    (
         "a list that no install has written",
-        folders("p", "p/share", "p/share/abnf_ls") | {"p/x": "1", "p/share/abnf_ls/installed": "file share/../x\n"},
+        {**folders("p", "p/share", "p/share/abnf_ls"), "p/x": "1", "p/share/abnf_ls/installed": "file share/../x\n"},
         ((["--uninstall", "p"], (1, ("{}/p/share/abnf_ls/installed has a line that no install writes: file share/../x",))),),
-        folders("p", "p/share", "p/share/abnf_ls") | {"p/x": "1", "p/share/abnf_ls/installed": "file share/../x\n"},
+        {**folders("p", "p/share", "p/share/abnf_ls"), "p/x": "1", "p/share/abnf_ls/installed": "file share/../x\n"},
     ),
     ("a prefix with a line end", {}, ((["p\nq"], (1, ("'{}/p\\nq' has a control character, or isn't UTF-8",))),), {}),
     *(
@@ -215,6 +227,14 @@ def quoted(path):
     return path.replace("\\", "\\\\").replace('"', '\\"').encode()
 
 
+def command_of(settings):
+    """The command in Kate's settings, none where they are no JSON."""
+    try:
+        return json.loads(settings)["servers"]["abnf"]["command"]
+    except ValueError:
+        return None
+
+
 def content_cases(place, programs):
     """What is put in place: the programs as they are, to be run by all, and snippets that name the server where it lies."""
     place.lay({})
@@ -226,8 +246,7 @@ def content_cases(place, programs):
         page = os.path.join(prefix, "share", "man", "man1", f"{name}.1")
         yield f"the page of {name} as it is", (read(page), oct(os.stat(page).st_mode & 0o777)), (read(TOP, "man", f"{name}.1"), "0o644")
     server, editors = os.path.join(prefix, "bin", "abnf_ls"), os.path.join(prefix, "share", "abnf_ls", "editors")
-    settings = json.loads(read(editors, "kate-settings.json"))
-    yield "the server in Kate's settings", settings["servers"]["abnf"]["command"], [server]
+    yield "the server in Kate's settings", command_of(read(editors, "kate-settings.json")), [server]
     for path in (it[len("share/abnf_ls/editors/") :] for it in FILES if it.startswith("share/abnf_ls/editors/")):
         snippet, template = read(editors, path), read(TOP, "editors", path)
         count = template.count(b'"/path/to/abnf_ls/out/abnf_ls"')
