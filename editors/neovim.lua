@@ -1,7 +1,7 @@
 -- Neovim 0.7 or later; a line in init.lua that reads this file is enough:
 --   dofile(vim.fn.expand("~/.local/share/abnf_ls/editors/neovim.lua"))
 -- gd goes from a name to its definition, grr lists its places, grn renames it, gO shows the outline, K what a rule generates at the
--- shortest, and gra inserts that as a comment. From 0.9 on names are coloured by what they are. Faults are marked when Insert mode ends;
+-- shortest, and gra inserts that as a comment. From 0.10 on names are coloured by what they are. Faults are marked when Insert mode ends;
 -- vim.diagnostic.config({ update_in_insert = true }) has them marked as you type, in all files. :edit starts a server that has ended.
 vim.api.nvim_create_autocmd({ "BufRead", "BufNewFile" }, { pattern = "*.abnf", command = "setfiletype abnf" })
 local started = {}

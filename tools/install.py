@@ -119,9 +119,12 @@ class Staged:
         with contextlib.suppress(FileNotFoundError):
             os.remove(self.beside(place))
         self.laid.append(place)
-        with open(self.beside(place), "xb") as file:
-            file.write(data)
-        os.chmod(self.beside(place), mode)
+        try:
+            with open(self.beside(place), "xb") as file:
+                file.write(data)
+            os.chmod(self.beside(place), mode)
+        except OSError as fault:
+            raise OSError(fault.errno, fault.strerror, self.installed.at(place)) from fault
 
     def move(self, place):
         os.replace(self.beside(place), self.installed.at(place))

@@ -9,6 +9,7 @@ standard error of each, and what lies there behind. No `rt` is on the PATH: what
 """
 import json
 import os
+import resource
 import shutil
 import subprocess
 import sys
@@ -182,13 +183,14 @@ class Place:
                 with open(whole, "w", encoding="utf-8") as file:
                     file.write(before[path])
 
-    def call(self, words):
-        """The status of a call and the lines on its standard error."""
+    def call(self, words, most=resource.RLIM_INFINITY):
+        """The status of a call and the lines on its standard error. No file may have more bytes than that."""
         env = {"PATH": self.bin, "HOME": os.path.join(self.path, "home"), "LC_ALL": "C.UTF-8"}
         words = [it.replace("{}", self.path) for it in words]
         ran = subprocess.run(
             [os.path.join(self.checkout, "install"), *words],
             cwd=self.path, env=env, stdin=subprocess.DEVNULL, capture_output=True, timeout=SECONDS, check=False,
+            preexec_fn=lambda: resource.setrlimit(resource.RLIMIT_FSIZE, (most, resource.RLIM_INFINITY)),
         )
         return ran.returncode, tuple(ran.stderr.decode().splitlines())
 
@@ -255,6 +257,19 @@ def content_cases(place, programs):
         yield f"each path in {path} stands between double quotes", template.count(b"/path/to"), count
 
 
+def full_cases(place):
+    """A file that can't be written whole, as where a disk is full: nothing is left of it, or of those before it."""
+    for before in ({}, OTHERS):
+        place.lay(before)
+        said = (f"install: stopped; in place under {place.path}/p by now: nothing new", f"install: {place.path}/p/bin/abnf_ls: File too large")
+        yield "a file that can't be written", place.call(["p"], 4096), (1, said)
+        yield "a file that can't be written, what lies there", place.lies(before), before
+    place.lay({})
+    yield "an install before that", place.call(["p"]), DONE
+    yield "a file that can't be written anew", place.call(["p"], 4096), (1, said)
+    yield "a file that can't be written anew, what lies there", place.lies({}), under("p")
+
+
 def unbuilt_cases(place):
     """Without one of the programs, and no toolchain, nothing is put in place."""
     place.lay({})
@@ -269,6 +284,7 @@ def cases(*programs):
         place = Place(folder, copied(programs, os.path.join(folder, "a checkout")))
         yield from row_cases(place)
         yield from content_cases(place, programs)
+        yield from full_cases(place)
         yield from unbuilt_cases(place)
 
 
