@@ -1,19 +1,24 @@
-;; Emacs 29, or 28 with the package eglot: goes into init.el. M-. goes from a name to its definition, M-? lists its places,
-;; M-x eglot-rename renames it, M-x imenu has the outline, and what a rule generates at the shortest stands in the echo area while point
-;; is on its name; M-x eglot-code-actions inserts it as a comment.
-(define-derived-mode abnf-mode prog-mode "ABNF"
-  "Major mode for ABNF grammars (RFC 5234)."
-  :syntax-table (let ((table (make-syntax-table)))
-                  (modify-syntax-entry ?\; "<" table)
-                  (modify-syntax-entry ?\n ">" table)
-                  (modify-syntax-entry ?- "w" table)
-                  (modify-syntax-entry ?\\ "." table)
-                  table)
-  (setq-local comment-start "; "
-              comment-start-skip ";+\\s-*"
-              imenu-auto-rescan t
-              indent-tabs-mode nil))
-(add-to-list 'auto-mode-alist '("\\.abnf\\'" . abnf-mode))
+;;; -*- lexical-binding: t -*-
+;; Emacs 29 or later, or 28 with the package eglot; a line in init.el that loads this file is enough:
+;;   (load "~/.local/share/abnf_ls/editors/emacs-eglot.el")
+;; M-. goes from a name to its definition, M-? lists its places, M-x eglot-rename renames it, M-x imenu has the outline, and what a rule
+;; generates at the shortest stands in the echo area while point is on its name, with the example; M-x eglot-code-actions inserts that
+;; as a comment. M-x eglot-reconnect starts the server anew.
+(load (expand-file-name "emacs-abnf-mode" (file-name-directory load-file-name)) nil t)
 (with-eval-after-load 'eglot
   (add-to-list 'eglot-server-programs '(abnf-mode . ("/path/to/abnf_ls/out/abnf_ls"))))
 (add-hook 'abnf-mode-hook #'eglot-ensure)
+;; A later eglot has eldoc cut a hover behind its first line, before the example. This has it shown whole, in grammars alone.
+(defun abnf-show-hover (show text &rest _)
+  "Show TEXT by SHOW, all of it."
+  (funcall show text))
+(defun abnf-hover (show &rest _)
+  "As `eglot-hover-eldoc-function', with all lines of the hover."
+  (when (eglot-current-server)
+    (eglot-hover-eldoc-function (apply-partially #'abnf-show-hover show))))
+(defun abnf-use-hover ()
+  "Have eldoc ask `abnf-hover' in place of eglot's own function."
+  (when (and (derived-mode-p 'abnf-mode) (memq #'eglot-hover-eldoc-function eldoc-documentation-functions))
+    (remove-hook 'eldoc-documentation-functions #'eglot-hover-eldoc-function t)
+    (add-hook 'eldoc-documentation-functions #'abnf-hover nil t)))
+(add-hook 'eglot-managed-mode-hook #'abnf-use-hover)

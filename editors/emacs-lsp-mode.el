@@ -1,8 +1,18 @@
-;; Emacs with the package lsp-mode: goes into init.el, after abnf-mode of emacs-eglot.el (the mode alone, without eglot).
+;;; -*- lexical-binding: t -*-
+;; Emacs with the package lsp-mode; a line in init.el that loads this file is enough:
+;;   (load "~/.local/share/abnf_ls/editors/emacs-lsp-mode.el")
+;; M-. goes from a name to its definition, M-? lists its places, M-x lsp-rename renames it, M-x imenu has the outline, what a rule
+;; generates at the shortest stands in the echo area, with the example, and M-x lsp-execute-code-action inserts that as a comment.
+;; M-x lsp-workspace-restart starts the server anew.
+(load (expand-file-name "emacs-abnf-mode" (file-name-directory load-file-name)) nil t)
 (with-eval-after-load 'lsp-mode
   (add-to-list 'lsp-language-id-configuration '(abnf-mode . "abnf"))
   (lsp-register-client
    (make-lsp-client :new-connection (lsp-stdio-connection '("/path/to/abnf_ls/out/abnf_ls"))
                     :activation-fn (lsp-activate-on "abnf")
                     :server-id 'abnf_ls)))
-(add-hook 'abnf-mode-hook #'lsp)
+(defun abnf-start-lsp ()
+  "Start the server, and have a hover shown whole: the example is its second line."
+  (setq-local lsp-eldoc-render-all t)
+  (lsp))
+(add-hook 'abnf-mode-hook #'abnf-start-lsp)

@@ -1,11 +1,15 @@
--- Neovim 0.7 or later: goes into init.lua. gd goes from a name to its definition, grr lists its places, grn renames it, gO shows the
--- outline, K what a rule generates at the shortest, and gra inserts that as a comment. From 0.9 on names are coloured by what they are.
+-- Neovim 0.7 or later; a line in init.lua that reads this file is enough:
+--   dofile(vim.fn.expand("~/.local/share/abnf_ls/editors/neovim.lua"))
+-- gd goes from a name to its definition, grr lists its places, grn renames it, gO shows the outline, K what a rule generates at the
+-- shortest, and gra inserts that as a comment. From 0.10 on names are coloured by what they are. Faults are marked when Insert mode ends;
+-- vim.diagnostic.config({ update_in_insert = true }) has them marked as you type, in all files. :edit starts a server that has ended.
 vim.api.nvim_create_autocmd({ "BufRead", "BufNewFile" }, { pattern = "*.abnf", command = "setfiletype abnf" })
 local started = {}
 vim.api.nvim_create_autocmd("FileType", {
   pattern = "abnf",
   callback = function(args)
     vim.bo[args.buf].commentstring = "; %s"
+    vim.cmd("setlocal iskeyword+=-") -- a rename proposes the word under the cursor: the whole name
     local root = vim.fn.fnamemodify(args.file, ":p:h")
     local config = { name = "abnf_ls", cmd = { "/path/to/abnf_ls/out/abnf_ls" }, root_dir = root }
     if vim.lsp.start then
@@ -24,3 +28,7 @@ vim.api.nvim_create_autocmd("FileType", {
     vim.keymap.set("n", "K", vim.lsp.buf.hover, { buffer = args.buf })
   end,
 })
+if vim.fn.has("nvim-0.9") == 1 then -- a name that is defined here, and one of a core rule
+  vim.cmd("highlight default link @lsp.typemod.type.definition.abnf Function")
+  vim.cmd("highlight default link @lsp.typemod.type.defaultLibrary.abnf Special")
+end

@@ -17,6 +17,7 @@ import command_rows
 import cut_pipes
 import encoding_rows
 import findings_rows
+import install_rows
 import random_texts
 import refused_commands
 import refused_memory
@@ -197,6 +198,8 @@ def programs_and_cases():
     for rows in (refused_memory, findings_rows):
         for program in filter(os.path.isfile, rows.PROGRAMS):
             yield from ((program, *case) for case in rows.cases(program))
+    if os.path.isfile(BUILT) and os.path.isfile(findings_rows.BUILT):
+        yield from (("install", *case) for case in install_rows.cases(BUILT, findings_rows.BUILT))
 
 
 def main(words):

@@ -1,24 +1,25 @@
 #!/usr/bin/env bash
-# Runs a real Neovim (0.7 or later) headless against the language server, by the set-up that editors/neovim.lua gives: opens
-# a grammar, asks for its outline, a definition and a hover, looks at its diagnostics, edits, asks again, reloads, goes through the
-# references of a name, renames it and back, takes the code action, asks for the semantic tokens, opens a CRLF file and one with
-# characters of one to four bytes before names, and ends. It does so with what this Neovim offers of itself, and then with each of the three
-# encodings of positions offered alone. Usage: neovim.sh PROGRAM. NVIM names the editor (nvim if left out). Status 0: all right, 1: a wrong answer, 2: it could not be
-# tried. The snippet is taken as it stands, but for the path of the program.
+# Runs a real Neovim (0.7 or later) headless against the language server, by the set-up that editors/neovim.lua gives, and from 0.11 on
+# by that of editors/neovim-0.11.lua too: opens a grammar, asks for its outline, a definition and a hover, looks at its diagnostics, edits,
+# asks again, reloads, goes through the references of a name, renames it and back, takes the code action, asks for the semantic tokens,
+# opens a CRLF file and one with characters of one to four bytes before names, and ends. It does so with what this Neovim offers of
+# itself, and then with each of the three encodings of positions offered alone. Usage: neovim.sh PROGRAM. NVIM names the editor (nvim if
+# left out). Status 0: all right, 1: a wrong answer, 2: it could not be tried. A snippet is taken as it stands, but for the path of the
+# program.
 set -euo pipefail
 [ $# -eq 1 ] || { echo "usage: neovim.sh PROGRAM" >&2; exit 2; }
 program=$(realpath -- "$1")
 [ -x "$program" ] || { echo "neovim.sh: no program at $program" >&2; exit 2; }
 nvim=${NVIM:-nvim}
 command -v "$nvim" >/dev/null || { echo "neovim.sh: no $nvim" >&2; exit 2; }
-snippet=$(dirname -- "$(realpath -- "${BASH_SOURCE[0]}")")/../neovim.lua
+editors=$(dirname -- "$(realpath -- "${BASH_SOURCE[0]}")")/..
 folder=$(mktemp -d "${TMPDIR:-/tmp}/try neovim ü.XXXXXX")
 trap 'rm -rf -- "$folder"' EXIT
 export ABNF_LS_PROGRAM=$program TRY_FOLDER=$folder
 export XDG_CONFIG_HOME=$folder/config XDG_DATA_HOME=$folder/data XDG_STATE_HOME=$folder/state XDG_CACHE_HOME=$folder/cache
 mkdir -p "$XDG_CONFIG_HOME/nvim"
 
-cat > "$XDG_CONFIG_HOME/nvim/init.lua" <<'LUA'
+cat > "$folder/init.lua" <<'LUA'
 local encoding = vim.env.TRY_ENCODING
 if encoding ~= "" then
   for _, name in ipairs({ "start", "start_client" }) do
@@ -34,8 +35,8 @@ if encoding ~= "" then
   end
 end
 LUA
-sed 's#"/path/to/abnf_ls/[^"]*"#vim.env.ABNF_LS_PROGRAM#' "$snippet" >> "$XDG_CONFIG_HOME/nvim/init.lua"
-grep -q ABNF_LS_PROGRAM "$XDG_CONFIG_HOME/nvim/init.lua" || { echo "neovim.sh: no program named in $snippet" >&2; exit 2; }
+snippets=(neovim.lua)
+if "$nvim" --headless -u NONE -c 'lua vim.cmd(vim.lsp.config and "qall!" or "cquit 1")' 2>"$folder/stderr"; then snippets+=(neovim-0.11.lua); fi
 printf '; a gr\303\244mmar \360\237\230\200\n\ngreeting = hello SP name ; \360\237\230\200\nhello    = "hi" / "hello"\nNAME     = 1*ALPHA\nname    =/ "\360\237\230\200"/hello/name\n' > "$folder/a.abnf"
 sed 's/$/\r/' "$folder/a.abnf" > "$folder/dos.abnf"
 printf 'a = <\303\251\342\202\254\360\237\230\200> / b / nope ; \360\237\230\200 \303\251\nb = "x"\n' > "$folder/wide.abnf"
@@ -147,6 +148,12 @@ end
 local ok, err = pcall(function()
   is("file type", vim.bo.filetype, "abnf")
   is("attached", tostring(ready()), "true")
+  is("a hyphen belongs to a word", vim.fn.matchstr("id-right = a", [[\k*]]), "id-right")
+  if vim.fn.has("nvim-0.9") == 1 then
+    for mod, group in pairs({ definition = "Function", defaultLibrary = "Special" }) do
+      is("colour of " .. mod, tostring(vim.api.nvim_get_hl(0, { name = "@lsp.typemod.type." .. mod .. ".abnf" }).link), group)
+    end
+  end
   is("what positions count", client().server_capabilities.positionEncoding, vim.env.TRY_ENCODING ~= "" and vim.env.TRY_ENCODING or encoding())
   is("outline", outline(), "greeting@2 hello@3 NAME@4 name@5")
   is("definition", definition(3, "hello"), "3:0-5")
@@ -235,15 +242,19 @@ for line in log and log:lines() or function() end do
 end
 vim.cmd(failed == 0 and "qall!" or "cquit 1")
 LUA
-for encoding in '' utf-8 utf-16 utf-32; do
-  status=0
-  echo "offered: ${encoding:-what it does of itself}"
-  TRY_ENCODING=$encoding timeout 18 "$nvim" -n --headless "$folder/a.abnf" \
-    -c "luafile $(printf '%s' "$folder/try.lua" | sed 's/ /\\ /g')" 2>"$folder/stderr" || status=$?
-  if [ "$status" != 0 ]; then
-    cat "$folder/stderr" >&2
-    echo "neovim.sh: failed with status $status ($("$nvim" --version | head -1))" >&2
-    exit 1
-  fi
+for snippet in "${snippets[@]}"; do
+  sed 's#"/path/to/abnf_ls/[^"]*"#vim.env.ABNF_LS_PROGRAM#' "$editors/$snippet" | cat "$folder/init.lua" - > "$XDG_CONFIG_HOME/nvim/init.lua"
+  grep -q ABNF_LS_PROGRAM "$XDG_CONFIG_HOME/nvim/init.lua" || { echo "neovim.sh: no program named in $snippet" >&2; exit 2; }
+  for encoding in '' utf-8 utf-16 utf-32; do
+    status=0
+    echo "$snippet, offered: ${encoding:-what it does of itself}"
+    TRY_ENCODING=$encoding timeout 18 "$nvim" -n --headless "$folder/a.abnf" \
+      -c "luafile $(printf '%s' "$folder/try.lua" | sed 's/ /\\ /g')" 2>"$folder/stderr" || status=$?
+    if [ "$status" != 0 ]; then
+      cat "$folder/stderr" >&2
+      echo "neovim.sh: failed with status $status by $snippet ($("$nvim" --version | head -1))" >&2
+      exit 1
+    fi
+  done
 done
 echo "neovim.sh: passed ($("$nvim" --version | head -1))"
