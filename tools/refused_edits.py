@@ -539,6 +539,8 @@ def main():
     parser.add_argument("--log")
     parser.add_argument("names", nargs="*")
     given = parser.parse_args()
+    if given.log:
+        os.makedirs(given.log, exist_ok=True)
     os.chdir(TOP)
     if given.alone:
         return alone(given.names)
