@@ -1,6 +1,7 @@
 #!/usr/bin/env python3
 """Runs the programs that `rt ci` has built as a user would, and checks how they end: status, line and what they wrote. The worked sessions run on
-one thread and on several; the program with its threads is refused memory, given broken input and cut off from its pipes, by seeded samples.
+one thread and on several; the program with its threads is refused memory, given broken input, cut off from its pipes, and has devices that fail, by
+seeded samples.
 
     tools/program_ends.py ['N passed, M failed' ..]
 
@@ -16,6 +17,7 @@ import broken_input
 import command_rows
 import cut_pipes
 import encoding_rows
+import failing_devices
 import findings_rows
 import random_texts
 import refused_commands
@@ -172,7 +174,7 @@ def random_cases(program):
 
 
 def plain_cases(program):
-    for some in (session_cases, long_cases, refused_commands.session_cases, random_cases):
+    for some in (session_cases, long_cases, refused_commands.session_cases, failing_devices.plain_cases, random_cases):
         yield from some(program)
 
 
@@ -181,7 +183,7 @@ def all_cases(program):
     yield from refused_threads.cases(program)
     yield from refused_commands.command_cases(program)
     yield from threaded_sessions.cases(program)
-    for hostile in (refused_sessions, broken_input, cut_pipes):
+    for hostile in (refused_sessions, broken_input, cut_pipes, failing_devices):
         yield from hostile.cases(program)
     with tempfile.TemporaryDirectory() as folder:
         files = Files(folder)
