@@ -1,6 +1,7 @@
 #!/usr/bin/env python3
 """Runs the programs that `rt ci` has built as a user would, and checks how they end: status, line and what they wrote. The worked sessions run on
-one thread and on several; the program with its threads is refused memory, given broken input and cut off from its pipes, by seeded samples.
+one thread and on several; the program with its threads is refused memory, given broken input, cut off from its pipes, and has devices that fail, by
+seeded samples.
 
     tools/program_ends.py ['N passed, M failed' ..]
 
@@ -16,6 +17,7 @@ import broken_input
 import command_rows
 import cut_pipes
 import encoding_rows
+import failing_devices
 import findings_rows
 import install_rows
 import random_texts
@@ -166,14 +168,14 @@ def file_cases(program, files):
 
 def random_cases(program):
     """Answers on random texts, beside a plain reading of these, and the tokens after a rename that is granted."""
-    for encoding, count in (("utf-16", 800), ("utf-8", 400), ("utf-32", 400)):
+    for encoding, count in (("utf-16", 600), ("utf-8", 300), ("utf-32", 300)):
         session, wrong = random_texts.compared(program, 1, count, encoding)
-        yield f"{len(session.wanted)} requests about {count} random texts, in {encoding}", wrong, []
+        yield f"{len(session.wanted)} requests about {len(session.published)} versions of {count} random texts, in {encoding}", wrong, []
         yield f"the tokens after {len(session.renames)} renames there", session.renames.count(False), 0
 
 
 def plain_cases(program):
-    for some in (session_cases, long_cases, refused_commands.session_cases, random_cases):
+    for some in (session_cases, long_cases, refused_commands.session_cases, failing_devices.plain_cases, random_cases):
         yield from some(program)
 
 
@@ -182,7 +184,7 @@ def all_cases(program):
     yield from refused_threads.cases(program)
     yield from refused_commands.command_cases(program)
     yield from threaded_sessions.cases(program)
-    for hostile in (refused_sessions, broken_input, cut_pipes):
+    for hostile in (refused_sessions, broken_input, cut_pipes, failing_devices):
         yield from hostile.cases(program)
     with tempfile.TemporaryDirectory() as folder:
         files = Files(folder)
