@@ -26,7 +26,8 @@ def built(folder):
     return program
 
 
-PROGRAM = sys.argv[1] if len(sys.argv) > 1 else built(PLAIN)
+ARGUMENTS = [it for it in sys.argv[1:] if not it.startswith("--")]
+PROGRAM = ARGUMENTS[0] if ARGUMENTS else built(PLAIN)
 
 
 def frame(message):

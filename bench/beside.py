@@ -1,7 +1,7 @@
 #!/usr/bin/env python3
 """Drives the server on one thread and other servers side by side and prints what each request, opening and keystroke costs them.
 
-    bench/beside.py [PROGRAM ['SERVER ..' ..]]
+    bench/beside.py [--instructions] [PROGRAM ['SERVER ..' ..]]
 
 PROGRAM is that of the crate served_plainly, which is built if it is left out and isn't there; each SERVER is a command that answers the same
 requests over its standard streams. Without one the server in plain Rust of the folder plain is built by rustc and stands there: it says the same
@@ -11,15 +11,19 @@ All are asked the same, by turns. A figure is the least of some rounds, less tha
 its reply, of an opening or a keystroke to its findings. Behind it stand the most memory that the server has had once it opened the text and was
 asked once, and that for each byte of the text, which with a small text is that of the program alone. Behind another server's figure stands how
 often it goes into the program's. Such ratios hold on a busy machine too, where the figures don't.
+
+With --instructions valgrind, where it is installed, counts the instructions of each instead, which are the same on every run of one build: by
+how many more a session has that is asked three times than one that is asked once.
 """
 import os
+import re
 import shlex
 import subprocess
 import sys
 import tempfile
 import time
 
-from bench import INITIALIZE, PROGRAM, SYMBOLS, TOP, Server, about, grammar, notice, opened, request, typed
+from bench import END, INITIALIZE, PROGRAM, SYMBOLS, TOP, Server, about, grammar, notice, opened, request, typed
 
 SOURCE = os.path.join(TOP, "bench", "plain", "main.rs")
 FLAGS = ("--edition", "2024", "-C", "opt-level=3", "-C", "target-cpu=x86-64-v2")
@@ -137,13 +141,39 @@ def compare(names, commands):
     compared("outline of one rule", 'a = "x"', SYMBOLS, SYMBOLS * 200, 200, 30, commands)
 
 
+def instructions(command, given):
+    """How many instructions a server takes for its whole input."""
+    counting = ["valgrind", "--tool=callgrind", "--callgrind-out-file=/dev/null", *command]
+    ran = subprocess.run(counting, input=given, stdout=subprocess.PIPE, stderr=subprocess.PIPE, check=True)
+    return int(re.search(rb"Collected : (\d+)", ran.stderr)[1])
+
+
+def count_asked(name, begin, asked, count, commands):
+    """One line: how many instructions each server takes for what is asked, of which there are so many; the program first."""
+    costs = [(instructions(it, begin + asked * 3 + END) - instructions(it, begin + asked + END)) / 2 / count for it in commands]
+    said = [f"{name:<40}"] + [f"{cost:13,.0f}" + ("" if cost is costs[0] else f" ({costs[0] / cost:.2f})") for cost in costs]
+    print("  ".join(said), flush=True)
+
+
+def compare_instructions(names, commands):
+    print(f"{'instructions':<40}" + "".join(f"  {os.path.basename(name):>13}" for name in names))
+    for rules, each in ((1_000, 1), (1_000, 5)):
+        text = grammar(rules, each)
+        for name, (given, steps) in questions(text).items():
+            count_asked(f"{name}, {rules:,} rules of {each} name{'s' * (each > 1)}", INITIALIZE + opened(text), given, steps, commands)
+    count_asked("outline of one rule", INITIALIZE + opened('a = "x"'), SYMBOLS * 100, 100, commands)
+    count_asked("a request that is refused", INITIALIZE, request(9, "barrier") * 100, 100, commands)
+
+
 def main():
-    if len(sys.argv) > 2:
-        return compare([PROGRAM, *sys.argv[2:]], [[PROGRAM], *map(shlex.split, sys.argv[2:])])
+    how = compare_instructions if "--instructions" in sys.argv[1:2] else compare
+    others = sys.argv[3 if how is compare_instructions else 2:]
+    if others:
+        return how([PROGRAM, *others], [[PROGRAM], *map(shlex.split, others)])
     with tempfile.TemporaryDirectory() as folder:
         plain = os.path.join(folder, "plain")
         subprocess.run(["rustc", *FLAGS, SOURCE, "-o", plain], check=True)
-        return compare([PROGRAM, "plain Rust"], [[PROGRAM], [plain]])
+        return how([PROGRAM, "plain Rust"], [[PROGRAM], [plain]])
 
 
 if __name__ == "__main__":
