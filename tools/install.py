@@ -53,7 +53,7 @@ def contents(prefix):
         yield os.path.join("share", "man", "man1", f"{name}.1"), read(TOP, "man", f"{name}.1"), 0o644
     editors = os.path.join(TOP, "editors")
     for folder, folders, files in os.walk(editors):
-        folders[:] = sorted({*folders} - {"try"})
+        folders[:] = sorted({*folders} - {"try", "node_modules"})
         for path in (os.path.join(folder, it) for it in sorted(files)):
             place = os.path.join(OWN, "editors", os.path.relpath(path, editors))
             yield place, read(path).replace(IN_SNIPPETS, program), 0o644
