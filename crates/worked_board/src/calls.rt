@@ -163,33 +163,73 @@ pub(crate) fn answers_hover(out: &Out, ticket: u64, number: i64) -> bool {
     }
 }
 
-// The number that an entry tells the client or the writer: a version, a ticket, or the ticket of what left.
-fn told(event: &Event) -> (Option<u64>, Option<u64>) {
+// Whether this opens the document, by all that it says.
+fn is_opening(event: &Event) -> bool {
     match event {
-        Event::Opened { version, .. } => (Some(*version), None),
-        Event::Asked { ticket, .. } => (Some(*ticket), None),
-        Event::Sent { ticket } => (None, Some(*ticket)),
-        _ => (None, None),
+        Event::Opened {
+            uri,
+            label,
+            text,
+            encoding,
+            version,
+        } => {
+            let has_text = match text.get().line(0) {
+                Some(line) => line == "a = \"x\"" && text.get().line_count() == 1,
+                None => false,
+            };
+            let is_utf16 = matches!(encoding, Encoding::Utf16);
+            uri.as_str() == URI && *label == 1 && has_text && is_utf16 && *version == 1
+        }
+        _ => false,
     }
 }
 
-/// Whether a journal told the client these versions and tickets, and the writer these tickets, in this order.
+// Whether this asks for a hover on its rule with this id and this ticket, by all that it says.
+fn is_hover(event: &Event, wanted: i64, told: u64) -> bool {
+    match event {
+        Event::Asked {
+            id: Id::Number(id),
+            uri,
+            ask: Ask::Hover(position),
+            links,
+            ticket,
+        } => {
+            let is_start = position.line == 0 && position.character == 0;
+            *id == wanted && uri.as_str() == URI && is_start && !*links && *ticket == told
+        }
+        _ => false,
+    }
+}
+
+// Whether this is the client's event with this number, from 0, of the session with two hovers.
+fn is_of_client(event: &Event, number: usize) -> bool {
+    match number {
+        0 => is_opening(event),
+        1 => is_hover(event, 1, 2),
+        2 => is_hover(event, 2, 3),
+        _ => false,
+    }
+}
+
+/// Whether the client's events in a journal are that one document is opened and two hovers are asked, in this order, and what was sent has these
+/// tickets, in this order.
 pub(crate) fn has_told(
     alloc: Global,
     journal: &[Event],
-    answers: &[u64],
     tickets: &[u64],
 ) -> Result<bool, AllocError> {
-    let mut answered = Vec::new(alloc);
+    let mut count = 0_usize;
+    let mut are_alike = true;
     let mut sent = Vec::new(alloc);
     for event in journal {
-        let (answer, ticket) = told(event);
-        if let Some(answer) = answer {
-            answered.push(answer)?;
-        }
-        if let Some(ticket) = ticket {
-            sent.push(ticket)?;
+        match event {
+            Event::Sent { ticket } => sent.push(*ticket)?,
+            Event::Took { .. } | Event::Returned { .. } | Event::Finished { .. } => {}
+            _ => {
+                are_alike = are_alike && is_of_client(event, count);
+                count = count.saturating_add(1);
+            }
         }
     }
-    Ok(answered.as_slice() == answers && sent.as_slice() == tickets)
+    Ok(are_alike && count == 3 && sent.as_slice() == tickets)
 }
