@@ -50,6 +50,23 @@ pub fn frames(alloc: Global, bodies: &[&str]) -> Result<Vec<u8>, Fail> {
     Ok(stream)
 }
 
+/// Whether the bytes are the frames of some of these bodies, each at most once, and at last a front of one more.
+pub fn are_frames_of(alloc: Global, bytes: &[u8], bodies: &[&str]) -> Result<bool, Fail> {
+    let mut left = Vec::new(alloc);
+    for body in bodies {
+        left.push(frames(alloc, &[*body])?)?;
+    }
+    let mut rest = bytes;
+    for _ in 0..bodies.len() {
+        let Some(found) = left.iter().position(|frame| rest.starts_with(frame)) else {
+            break;
+        };
+        let frame = left.swap_remove(found);
+        rest = &rest[frame.len().min(rest.len())..];
+    }
+    Ok(rest.is_empty() || left.iter().any(|frame| frame.starts_with(rest)))
+}
+
 /// The bodies of a stream, in the order of their bytes.
 pub fn sorted(alloc: Global, stream: &[u8]) -> Result<Vec<Vec<u8>>, Fail> {
     let mut bodies = Vec::new(alloc);

@@ -2,8 +2,8 @@
 ghost use Rattle.std.specs.Prelude.{◌<◌, ◌≤◌};
 
 use super::bodies::{
-    CAPABILITIES, DOWN, EXIT, INITIALIZE, NOTHING_WRONG, OPEN, OUTLINE, SHUTDOWN, SYMBOLS, frames,
-    sorted,
+    CAPABILITIES, DOWN, EXIT, INITIALIZE, NOTHING_WRONG, OPEN, OUTLINE, SHUTDOWN, SYMBOLS,
+    are_frames_of, frames, sorted,
 };
 use super::devices::{Bytes, Noting};
 use ls_server::{ServeFault, Status};
@@ -91,14 +91,22 @@ fn the_first_session(rt: HostRuntime) -> Result<(), Fail> {
     Ok(())
 }
 
-// The first read gives the whole input, and the second its end.
+const ASKED: [&str; 3] = [INITIALIZE, OPEN, SYMBOLS];
+
+const ANSWERED: [&str; 3] = [CAPABILITIES, NOTHING_WRONG, OUTLINE];
+
+// The first read gives the whole input, and the second its end. No frame is cut.
 #[test]
 fn a_read_fails(rt: HostRuntime) -> Result<(), Fail> {
     let alloc = rt.alloc();
-    for read in [1, 2] {
-        let input = frames(alloc, &[INITIALIZE, OPEN, SYMBOLS])?;
-        let left = serves(&rt, alloc, input, 2, (read, 0), &Open)?;
+    for workers in [1, 2, 4] {
+        let left = serves(&rt, alloc, frames(alloc, &ASKED)?, workers, (1, 0), &Open)?;
         assert!(rt; left.answer == Err(ServeFault::Read));
+        assert!(rt; left.bytes.is_empty());
+        let left = serves(&rt, alloc, frames(alloc, &ASKED)?, workers, (2, 0), &Open)?;
+        assert!(rt; left.answer == Err(ServeFault::Read));
+        assert!(rt; are_frames_of(alloc, &left.bytes, &ANSWERED)?);
+        assert!(rt; sorted(alloc, &left.bytes)?.len() <= ANSWERED.len());
     }
     Ok(())
 }
@@ -107,13 +115,22 @@ fn a_read_fails(rt: HostRuntime) -> Result<(), Fail> {
 #[test]
 fn a_write_fails(rt: HostRuntime) -> Result<(), Fail> {
     let alloc = rt.alloc();
-    for call in 1..7 {
-        let input = frames(alloc, &[INITIALIZE, OPEN, SYMBOLS])?;
-        let left = serves(&rt, alloc, input, 2, (0, call), &Open)?;
-        assert!(rt; left.answer == Err(ServeFault::Write));
+    for workers in [1, 2, 4] {
+        for call in 1..7 {
+            let left = serves(
+                &rt,
+                alloc,
+                frames(alloc, &ASKED)?,
+                workers,
+                (0, call),
+                &Open,
+            )?;
+            assert!(rt; left.answer == Err(ServeFault::Write));
+            assert!(rt; are_frames_of(alloc, &left.bytes, &ANSWERED)?);
+            assert_eq!(rt; sorted(alloc, &left.bytes)?.len() as u64, call / 2);
+        }
     }
-    let input = frames(alloc, &[INITIALIZE, OPEN, SYMBOLS])?;
-    let left = serves(&rt, alloc, input, 2, (0, 7), &Open)?;
+    let left = serves(&rt, alloc, frames(alloc, &ASKED)?, 2, (0, 7), &Open)?;
     assert!(rt; left.answer == Ok(Status::Unclean));
     Ok(())
 }
