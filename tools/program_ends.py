@@ -167,9 +167,9 @@ def file_cases(program, files):
 
 def random_cases(program):
     """Answers on random texts, beside a plain reading of these, and the tokens after a rename that is granted."""
-    for encoding, count in (("utf-16", 800), ("utf-8", 400), ("utf-32", 400)):
+    for encoding, count in (("utf-16", 600), ("utf-8", 300), ("utf-32", 300)):
         session, wrong = random_texts.compared(program, 1, count, encoding)
-        yield f"{len(session.wanted)} requests about {count} random texts, in {encoding}", wrong, []
+        yield f"{len(session.wanted)} requests about {len(session.published)} versions of {count} random texts, in {encoding}", wrong, []
         yield f"the tokens after {len(session.renames)} renames there", session.renames.count(False), 0
 
 

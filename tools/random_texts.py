@@ -3,11 +3,13 @@
 
     tools/random_texts.py [PROGRAM [SEED [COUNT [ENCODING]]]]
 
-PROGRAM is out/abnf_ls, SEED 1, COUNT 600 and ENCODING each of the three where they aren't given. For each text the tokens are asked for, and
-at random positions references, renames, hovers and code actions. The plain reading below knows tokens, blocks and places of names, and that of
-plain_rules which string of a rule is the shortest. Then the edits of a rename that is granted are made in the text: its tokens are the same but at the places of the name, and at each place the same is shown as before. At last random
-edits are made, at positions inside characters and past the ends too, and tokens and references are asked for again. All positions count
-what the session agreed on. It ends nonzero where an answer differs. The gate asks about 1,600 texts (tools/program_ends.py).
+PROGRAM is that of the crate served_plainly, SEED 1, COUNT 600 and ENCODING each of the three where they aren't given. For each text the tokens
+and the outline are asked for, and at random positions definitions, references, renames, hovers and code actions; and what is published of each
+version is compared. The plain reading below knows tokens, blocks and places of names, that of plain_rules which string of a rule is the shortest,
+and that of plain_findings what is wrong in a text. Then the edits of a rename that is granted are made in the text: its tokens are the same but at
+the places of the name, and at each place the same is shown as before. At last random edits are made, at positions inside characters and past the
+ends too, or of the whole text, and tokens, the outline and references are asked for again. All positions count what the session agreed on. It ends
+nonzero where an answer differs. The gate asks about 1,200 texts (tools/program_ends.py).
 """
 import json
 import os
@@ -16,6 +18,7 @@ import re
 import sys
 
 import encoding_rows
+import plain_findings
 import plain_rules
 import runs
 
@@ -147,9 +150,7 @@ class Reading:
         return next(iter(holding + [place for place in here if place.end == at]), None)
 
     def range_of(self, place):
-        ends = (self.units(self.lines[place.line][:at]) for at in (place.start, place.end))
-        start, end = ({"line": place.line, "character": character} for character in ends)
-        return {"start": start, "end": end}
+        return self.range_at(place.line, place.start, place.end)
 
     def numbers(self):
         """The five numbers of each semantic token."""
@@ -170,6 +171,29 @@ class Reading:
         if place.defines:
             return 1
         return 2 if not self.is_defined(place.text) and place.text.lower() in CORE_RULES else 0
+
+    def range_at(self, line, start, end):
+        """The range of these characters of a line."""
+        ends = (self.units(self.lines[line][:at]) for at in (start, end))
+        return dict(zip(("start", "end"), ({"line": line, "character": character} for character in ends)))
+
+    def findings(self):
+        """What is published of the text."""
+        found = plain_findings.findings(self.items, self.rules)
+        rows = ((*plain_findings.CODES[row], message, self.range_at(*place)) for row, message, place in found)
+        return [{"code": code, "message": message, "range": at, "severity": severity, "source": "abnf"} for code, severity, message, at in rows]
+
+    def outline(self):
+        """The symbols of the blocks that have a head, each from its first item to its last one's end."""
+        return [self.symbol(items[0], items[-1]) for items in self.items if plain_findings.has_head(items)]
+
+    def symbol(self, head, last):
+        names, ends = (self.range_at(*plain_findings.place(it)) for it in (head, last))
+        return {"kind": 12, "name": head[1], "range": {**names, "end": ends["end"]}, "selectionRange": names}
+
+    def definitions(self, position):
+        place = self.place_at(position)
+        return [self.range_of(it) for it in (self.named(place.text) if place else []) if it.defines]
 
     def references(self, position, declarations):
         place = self.place_at(position)
@@ -222,13 +246,28 @@ class Reading:
         return {"contents": {"kind": "plaintext", "value": self.rules.shown(place.text)}, "range": self.range_of(place)}
 
 
+# Brackets about as deep as they may nest, of which a text has few
+DEEP = tuple(f"deep = {left * count}a{right * more}\n" for left, right in ("()", "[]") for count in (64, 65) for more in (count, count - 1))
+# Rules that refer to one another: their lengths double, are too great to tell, or are none
+CHAINS = tuple(
+    "".join(f"r{number} = {times}r{number + 1} {more}\n" for number in range(count)) + f"r{count} = {last}\n"
+    for times in ("2", "4096", "*", "")
+    for count, more, last in ((5, "/ r0", '"x"'), (12, "", "DIGIT"), (70, "", '"y"'), (4, "r0", "r0"), (6, "", "<p>"), (3, "/ nope", "nope"))
+)
 FRAGMENTS = (
+    *("%x39-30", "%x100000000", "%d4294967295", "4294967296", "4294967295*", "4096", "00", "2*1", '%x.', '%s"', '""'),
     *("a", "b", "A", "item", "ITEM", "DIGIT", "digit", "HEXDIG", "CRLF", "x41", "c-1", " ", "  ", "\t"),
     *(" = ", " =/ ", "=", "=/", "/", " / ", "(", ")", "[", "]", "*", "2", "1*3", "3*2", "0*"),
     *('"x"', '"', "%x41", "%d13.10", "%x30-39", "%", '%s"Q"', '%i"q"', "<p r>", "<", "é", "€", "😀"),
     *("; c item\n", ";", "\n", "\n", "\n", "\r\n", "\r", "?", "_", "-", "\n a", "\nb = ", "\nitem = ", "\n="),
     *('a = "x"\n', "b = a b\n", "item = 1*DIGIT\n", 'A =/ "y"\n', "a = %x41 / <é> b ; 😀\n", "b = <€😀é> a ; 😀 a\r\n"),
 )
+# What rules that are right have, but for ranges and repeats that are empty, numbers that are too large, and names that stand for nothing
+HEADS = ("a", "b", "item", "ITEM", "c-1", "digit", "rule-1", "B", "d0")
+USES = (*HEADS, "nope", "CRLF", "hexdig")
+ELEMENTS = ('"x"', '"yy"', '""', '%s"Aa"', "%x41", "%d13.10", "%x30-39", "%x39-30", "%xFFFFFFFF", '%i"q\\"', "DIGIT", '"x y"', "<p>", "%x100000000")
+REPEATS = (*("",) * 12, "*", "1*", "2", "0", "*3", "1*2", "3*2", "4*4", "4096", "4294967295")
+BLANKS = (*(" ",) * 8, "  ", "\t", " ; \u00e9\U0001f600\n    ", "\r\n  ")
 NEW_NAMES = ("a", "b", "c", "item2", "ITEM", "digit", "crlf", "2x", "", "a b", "x41", "d0", "-a", "Q", "A", "hexdig", "c-1", "C-1", "é")
 
 
@@ -237,6 +276,8 @@ class Session:
 
     def __init__(self, choose, encoding):
         self.choose, self.encoding, self.messages, self.wanted = choose, encoding, [], {}
+        # what is published of each version, by the document and the client's version
+        self.published = {}
         # of each rename that was made, whether the plain reading finds the promised tokens after it
         self.renames = []
         # where nothing is offered it is UTF-16
@@ -249,15 +290,18 @@ class Session:
         self.wanted[number] = want
         return number
 
-    def notice(self, method, document, **params):
+    def notice(self, method, document, reading=None, **params):
+        """A notice, and what is published of the text that it leaves."""
         self.messages.append({"method": f"textDocument/{method}", "params": {"textDocument": document, **params}})
+        if reading is not None:
+            self.published[document["uri"], document["version"]] = reading.findings()
 
     def position(self, reading):
         if reading.places and self.choose.random() < 0.8:
             place = self.choose.choice(reading.places)
             at = self.choose.choice((place.start, (place.start + place.end) // 2, place.end))
             return place.line, reading.units(reading.lines[place.line][:at])
-        return self.choose.randrange(len(reading.lines) + 1), self.choose.randrange(12)
+        return self.choose.choice((*range(len(reading.lines) + 1), 2**40)), self.choose.choice((*range(12), 4294967296))
 
     def ask(self, uri, method, want, **params):
         return self.request(f"textDocument/{method}", {"textDocument": {"uri": uri}, **params}, lambda answers: want)
@@ -265,10 +309,11 @@ class Session:
     def about(self, uri, text):
         """Opens a text, asks about it and closes it."""
         reading = Reading(text, self.encoding)
-        self.notice("didOpen", {"uri": uri, "languageId": "abnf", "version": 1, "text": text})
-        self.ask(uri, "semanticTokens/full", {"data": reading.numbers()})
+        self.notice("didOpen", {"uri": uri, "languageId": "abnf", "version": 1, "text": text}, reading)
+        self.ask_whole(uri, reading)
         for _ in range(3):
             self.ask_references(uri, reading)
+            self.ask_definition(uri, reading)
             self.ask_rename(uri, reading)
             self.ask_action(uri, reading)
         self.edit_some(uri, self.rename_one(uri, reading))
@@ -279,11 +324,25 @@ class Session:
         changes = []
         for _ in range(self.choose.randrange(4)):
             ends, new = [self.position(reading) for _ in range(2)], self.choose.choice(FRAGMENTS)
-            changes.append({"range": dict(zip(("start", "end"), map(as_json, ends))), "text": new})
-            reading = reading.edited(ends, new)
-        self.notice("didChange", {"uri": uri, "version": 3}, contentChanges=changes)
-        self.ask(uri, "semanticTokens/full", {"data": reading.numbers()})
+            if self.choose.random() < 0.05:
+                changes.append({"text": new})
+                reading = Reading(new, self.encoding)
+            else:
+                changes.append({"range": dict(zip(("start", "end"), map(as_json, ends))), "text": new})
+                reading = reading.edited(ends, new)
+        self.notice("didChange", {"uri": uri, "version": self.choose.choice((3, -5, 2**31 - 1))}, reading, contentChanges=changes)
+        self.ask_whole(uri, reading)
         self.ask_references(uri, reading)
+
+    def ask_whole(self, uri, reading):
+        """What is asked about a text and not about a place in it."""
+        self.ask(uri, "semanticTokens/full", {"data": reading.numbers()})
+        self.ask(uri, "documentSymbol", reading.outline())
+
+    def ask_definition(self, uri, reading):
+        at = self.position(reading)
+        want = [{"range": it, "uri": uri} for it in reading.definitions(at)]
+        self.ask(uri, "definition", want, position=as_json(at))
 
     def ask_references(self, uri, reading):
         at, declarations = self.position(reading), self.choose.choice((True, False))
@@ -298,14 +357,15 @@ class Session:
 
     def rename_one(self, uri, reading):
         """Makes the edits of a rename that is granted, if there is one, and asks for what it keeps. Gives what the text says then."""
-        named = [(place.text, new) for place in reading.places for new in NEW_NAMES if self.is_granted(reading, place, new)]
+        places = {place.text.lower(): place for place in reading.places}.values()
+        named = [(place.text, new) for place in places for new in NEW_NAMES if self.is_granted(reading, place, new)]
         if not named:
             return reading
         old, new = self.choose.choice(named)
         after = Reading(reading.with_name(old, new), self.encoding)
         before = [self.hover(uri, reading.start_of(place)) for place in reading.places]
         changes = [{"range": reading.range_of(place), "text": new} for place in reversed(reading.named(old))]
-        self.notice("didChange", {"uri": uri, "version": 2}, contentChanges=changes)
+        self.notice("didChange", {"uri": uri, "version": 2}, after, contentChanges=changes)
         self.renames.append(after.pieces() == reading.pieces(old, new) and len(after.places) == len(reading.places))
         self.ask(uri, "semanticTokens/full", {"data": after.numbers()})
         for place, number in zip(after.places, before):
@@ -340,7 +400,8 @@ def actions(uri, line, example):
 
 
 def answers_of(program, messages):
-    """What is answered to each request: its result, or the text of its error. Nothing is where the program doesn't end as it must."""
+    """What is answered to each request: its result, or the text of its error; and what is published of each version. Nothing is where the program
+    doesn't end as it must."""
     said = runs.frames(json.dumps({"jsonrpc": "2.0", **message}) for message in messages)
     status, line, wrote = runs.ended(program, said, seconds=SECONDS)
     if (status, line) != (1, b""):
@@ -350,30 +411,65 @@ def answers_of(program, messages):
     for message in map(json.loads, runs.bodies_of(wrote)[0]):
         if "id" in message:
             answers[message["id"]] = message["error"]["message"] if "error" in message else message["result"]
+        else:
+            told = message["params"]
+            answers[told["uri"], told["version"]] = told["diagnostics"]
     return answers
 
 
+def element(choose, depth):
+    kind = choose.random()
+    if depth and kind < 0.2:
+        left, right = choose.choice(("()", "[]"))
+        return left + alternation(choose, depth - 1) + right
+    return choose.choice(USES if kind < 0.6 else ELEMENTS[:-2] if kind < 0.97 else ELEMENTS)
+
+
+def alternation(choose, depth):
+    rows = (range(choose.choice((1, 1, 2, 3))) for _ in range(choose.choice((1, 1, 2, 3))))
+    return " / ".join(choose.choice(BLANKS).join(choose.choice(REPEATS) + element(choose, depth) for _ in row) for row in rows)
+
+
+def rule(choose):
+    head = choose.choice(HEADS) + choose.choice((" = ", " = ", " = ", "=", " =/ ", " ; c\n  = "))
+    return head + alternation(choose, 3) + choose.choice(("", "", " ", " ; \u00e9\U0001f600"))
+
+
+def random_text(choose):
+    """A text of rules or of fragments, now and then with deep brackets, or a chain of rules."""
+    kind = choose.random()
+    if kind < 0.03:
+        return choose.choice(CHAINS)
+    if kind > 0.6:
+        end = choose.choice(("\n", "\n", "\r\n", "\r"))
+        return "".join(rule(choose) + end for _ in range(choose.choice((1, 2, 5, 10))))
+    return "".join(choose.choices(FRAGMENTS, k=choose.choice((1, 3, 6, 10, 20, 40)))) + (choose.choice(DEEP) if kind < 0.08 else "")
+
+
 def compared(program, seed, count, encoding):
-    """The session on so many random texts, and the numbers of the requests in it that the program answers otherwise."""
+    """The session on so many random texts, and what the program answers otherwise in it: numbers of requests, and versions of documents."""
     session = Session(random.Random(seed), encoding)
     for number in range(count):
-        text = "".join(session.choose.choices(FRAGMENTS, k=session.choose.choice((1, 3, 6, 10, 20, 40))))
-        session.about(f"file:///{number}", text)
+        session.about(f"file:///{number}", random_text(session.choose))
     answers = answers_of(program, session.messages)
     if not answers:
         return session, [*session.wanted]
     wrong = [number for number, want in session.wanted.items() if want and answers.get(number) != want(answers)]
+    strays = [version for version, found in session.published.items() if answers.get(version) != found]
     for number in wrong[:5]:
         print(f"request {number}: {answers.get(number)!r} in place of {session.wanted[number](answers)!r}")
-    return session, wrong
+    for version in strays[:5]:
+        print(f"published of {version}: {answers.get(version)!r} in place of {session.published[version]!r}")
+    return session, wrong + strays
 
 
-def main(program=os.path.join(TOP, "out", "abnf_ls"), seed="1", count="600", *encodings):
+def main(program=os.path.join(TOP, "crates", "served_plainly", "out", "served_plainly"), seed="1", count="600", *encodings):
     bad = 0
     for encoding in encodings or UNITS:
         session, wrong = compared(program, int(seed), int(count), encoding)
         lost = session.renames.count(False)
-        print(f"random_texts.py: {encoding}: {len(session.wanted)} requests about {count} texts, {len(wrong)} answered otherwise")
+        versions = f"{len(session.published)} versions of {count} texts"
+        print(f"random_texts.py: {encoding}: {len(session.wanted)} requests about {versions}, {len(wrong)} answered otherwise")
         print(f"random_texts.py: {encoding}: {len(session.renames)} renames made, {lost} with other tokens than promised")
         bad += len(wrong) + lost
     return 1 if bad else 0
