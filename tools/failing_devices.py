@@ -32,7 +32,7 @@ SECONDS = 20
 READ_FAILED, WRITE_FAILED, CLEAN = (2, b"read failed\n"), (2, b"write failed\n"), (0, b"")
 
 # FAILED_READ, INTERRUPTED_READ, FAILED_WRITE and NO_WRITE are numbers of calls, from 1; a read with the number 0 is each other one. MOST_READ and
-# MOST_WRITE are how many bytes a call takes.
+# MOST_WRITE are how many bytes a call takes. NO_LINE is 1 where no line can be told.
 LIBRARY = r"""
 extern char *getenv(const char *name);
 extern int *__errno_location(void);
@@ -72,6 +72,7 @@ long write(int file, const void *bytes, unsigned long count) {
     if (call == number("NO_WRITE")) return 0;
     count = least(count, number("MOST_WRITE"));
   }
+  if (file == 2 && number("NO_LINE") == 1) return fails(5);
   return syscall(1, file, bytes, count);
 }
 """
@@ -198,6 +199,8 @@ def faults(wanted, step):
         yield Fault("writes that take nothing", WRITE_FAILED, no_write=call)
     for call in range(1, size + 1, step):
         yield Fault("writes of one byte, of which one fails", WRITE_FAILED, failed_write=call, most_write=1)
+    for call in ("failed_read", "failed_write"):
+        yield Fault("lines that can't be told", (2, b""), heard=0, no_line=1, **{call: 1})
     yield Fault("devices at which nothing is wrong", CLEAN, failed_write=size + 1, most_write=1)
 
 

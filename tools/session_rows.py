@@ -95,7 +95,31 @@ assert (len(CAPABILITIES), len(OUTLINE), len(NOT_OPEN), len(INVALID_REQUEST), le
 NO_IDS = ("true", "false", "null", "[]", "{}", "1.0", "1.5", "1e2", "-0", "9223372036854775808", "-9223372036854775809")
 IDS = ("0", "9223372036854775807", "-9223372036854775808", '""', '"9223372036854775808"', '"null"')
 
+# Messages that can't be served or ask for nothing, and what each is answered
+HOVER = '{"id":6,"method":"textDocument/hover","params":{"textDocument":{"uri":%s},"position":{"line":%s,"character":0}}}'
+STRANGE = (
+    *((body, INVALID_REQUEST) for body in ("{}", "[]", "5", "null", '"x"', "[" * 127 + "]" * 127)),
+    *((body, PARSE_ERROR) for body in ("{", "", "nothing", '"\t"', b"\xff", '{"a":1,}', '{"id":2} x', "[" * 128 + "]" * 128, '{"id":01,"method":"x"}')),
+    ('{"id":3,"method":"\\ud800"}', PARSE_ERROR),
+    ('{"id":1,"method":5}', refused(-32600, "invalid request", "1")),
+    *((f'{{"id":{said},"method":"x"}}', INVALID_REQUEST) for said in ("-0", "1.0", "1e5", "true", "9223372036854775808")),
+    ('{"id":-7,"method":"$/x"}', refused(-32601, "method not found", "-7")),
+    ('{"id":"\\u00e9\\ud83d\\ude00\\n\\u0001","method":"x"}', refused(-32601, "method not found", '"\u00e9\U0001f600\\n\\u0001"')),
+    *((f'{{"id":4,"method":"{method}"}}', refused(-32601, "method not found", "4")) for method in ("exit", "textDocument/didOpen")),
+    ('{"id":8,"method":"textDocument/documentSymbol"}', refused(-32602, "invalid params", "8")),
+    *((HOVER % asked, refused(-32602, "invalid params", "6")) for asked in (('"file:///g"', "-1"), ('"file:///g"', "0.5"), ("5", "0"))),
+    *((body, None) for body in ('{"id":1,"result":null}', '{"method":"unknown"}', cancelled("1"))),
+    ('{"method":"textDocument/didOpen","params":{"textDocument":{"uri":"file:///g"}}}', None),
+    ('{"method":"textDocument/didChange","params":{"textDocument":{"uri":"file:///none"},"contentChanges":[]}}', None),
+)
+
 LIVES = (
+    (
+        "messages that can't be served, and ones that ask for nothing",
+        [INITIALIZE, OPEN, *(message for message, _ in STRANGE), SYMBOLS],
+        [CAPABILITIES, CLEAN, *(answer for _, answer in STRANGE if answer), OUTLINE],
+        1,
+    ),
     ("no exit", [INITIALIZE, INITIALIZED, OPEN, SYMBOLS], [CAPABILITIES, CLEAN, OUTLINE], 1),
     ("an exit", [INITIALIZE, INITIALIZED, OPEN, SYMBOLS, SHUTDOWN, EXIT, SYMBOLS], [CAPABILITIES, CLEAN, OUTLINE, DOWN], 0),
     # nothing is published when a document is closed
@@ -263,6 +287,9 @@ def syntax(start, end, message):
     return 0, start, end, 1, "syntax", message
 
 
+# What a client says of a version, and the one that it is told
+LABELS = (("-5", -5), ("9223372036854775807", 9223372036854775807), *((said, 0) for said in ("null", "7.5", '"7"', "9223372036854775808", "[]", "{}")))
+
 FINDINGS = (
     found('a = b "x"\nb = a', unproductive(0, "a"), unproductive(1, "b")),
     found('a = 0nope *nope [nope] "k"', *(undefined(0, start, start + 4, "nope") for start in (5, 11, 17))),
@@ -288,6 +315,13 @@ FINDINGS = (
     found('a = <text> / "x"\nb = "y"'),
     # characters outside the first plane are two units of UTF-16 each
     found("a = <\U0001f600> / b", undefined(0, 11, 12, "b")),
+    # what is no integer of 64 bits is told as 0, and a change without edits is one
+    (
+        "findings by the versions that a client names, and by what is none",
+        [INITIALIZE, OPEN, *(changed("[]").replace('"version":2', f'"version":{said}') for said, _ in LABELS)],
+        [CAPABILITIES, CLEAN, *(published(label=label) for _, label in LABELS)],
+        1,
+    ),
     # the findings of each version, with the version that the client named; a change that closes publishes nothing
     (
         "findings of each version",
