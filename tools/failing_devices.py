@@ -1,12 +1,13 @@
 #!/usr/bin/env python3
 """Runs a session of every kind of request with reads and writes that fail, are interrupted, or take a few bytes.
 
-    tools/failing_devices.py [PROGRAM [PLAIN]]
+    tools/failing_devices.py [PROGRAM [PLAIN]] [--all]
 
 A small library in front of the C library's answers the calls of the standard input and output. A read that fails ends the run by `read failed`,
 and of what was heard before it the replies may have been written: each whole and once. A write that fails ends it by `write failed`, and what was
 written is as many bytes as were taken: whole frames of such replies, and a front of one more. A read that is interrupted is made again, and a
-write that takes one byte is followed by others: nothing else is seen of these. On one thread, by PLAIN, the bytes are known to the last.
+write that takes one byte is followed by others: nothing else is seen of these. On one thread, by PLAIN, the bytes are known to the last. --all reads
+the input byte by byte, and lets each write of one byte fail.
 """
 import collections
 import concurrent.futures
@@ -145,9 +146,9 @@ class Wanted:
 class Fault:
     """One way in which the devices go wrong, and what must be so of a run then."""
 
-    def __init__(self, said, ends, heard=len(GIVEN), taken=None, **at_calls):
-        self.said, self.ends, self.heard, self.taken = said, ends, heard, taken
-        self.environment = {"MOST_READ": str(PIECE), **{name.upper(): str(number) for name, number in at_calls.items()}}
+    def __init__(self, said, ends, heard=len(GIVEN), **at_calls):
+        self.said, self.ends, self.heard = said, ends, heard
+        self.environment = {name.upper(): str(number) for name, number in at_calls.items()}
 
     def wrong(self, wanted, run):
         """What is wrong with a run on several threads."""
@@ -185,14 +186,14 @@ class Fault:
         return None if run == (*self.ends, whole) else f"it ended with {run[:2]} and {len(run[2])} bytes, and not with {self.ends} and {len(whole)}"
 
 
-def faults(wanted, step):
-    """The ways in which the devices go wrong."""
-    reads = range(1, -(-len(GIVEN) // PIECE) + 1)
+def faults(wanted, piece, step):
+    """The ways in which the devices go wrong, where the input comes in pieces of so many bytes."""
+    reads = range(1, -(-len(GIVEN) // piece) + 1)
     count, size = len(wanted.bodies(len(GIVEN))), len(runs.frames(wanted.bodies(len(GIVEN))))
     for call in reads:
-        yield Fault("reads that fail", READ_FAILED, heard=PIECE * (call - 1), failed_read=call)
-        yield Fault("reads that are interrupted", CLEAN, interrupted_read=call)
-    yield Fault("reads that are interrupted", CLEAN, interrupted_read=0)
+        yield Fault("reads that fail", READ_FAILED, heard=piece * (call - 1), failed_read=call, most_read=piece)
+        yield Fault("reads that are interrupted", CLEAN, interrupted_read=call, most_read=piece)
+    yield Fault("reads that are interrupted", CLEAN, interrupted_read=0, most_read=piece)
     yield Fault("writes of one byte", CLEAN, most_write=1)
     for call in range(1, count + 1):
         yield Fault("writes that fail", WRITE_FAILED, failed_write=call)
@@ -204,7 +205,7 @@ def faults(wanted, step):
     yield Fault("devices at which nothing is wrong", CLEAN, failed_write=size + 1, most_write=1)
 
 
-def all_cases(program, step, wrong_of):
+def all_cases(program, piece, step, wrong_of):
     """What was tried, what was wrong with it, and what must be wrong: nothing."""
     wanted = Wanted(program)
     yield "the session whose devices fail", wanted.is_whole, True
@@ -219,26 +220,26 @@ def all_cases(program, step, wrong_of):
             return fault.said, fault.environment, wrong_of(fault)(wanted, run)
 
         with concurrent.futures.ThreadPoolExecutor(len(os.sched_getaffinity(0))) as pool:
-            found = list(pool.map(ran, faults(wanted, step)))
+            found = list(pool.map(ran, faults(wanted, piece, step)))
     for said in dict.fromkeys(it[0] for it in found):
         some = [it for it in found if it[0] == said]
         yield f"{len(some)} runs with {said}", [it[1:] for it in some if it[2]][:3], []
 
 
-def cases(program, step=STEP):
+def cases(program, piece=PIECE, step=STEP):
     """On several threads, where replies may come in any order."""
-    yield from all_cases(program, step, lambda fault: fault.wrong)
+    yield from all_cases(program, piece, step, lambda fault: fault.wrong)
 
 
-def plain_cases(program, step=STEP):
+def plain_cases(program, piece=PIECE, step=STEP):
     """On one thread."""
-    yield from all_cases(program, step, lambda fault: fault.wrong_plainly)
+    yield from all_cases(program, piece, step, lambda fault: fault.wrong_plainly)
 
 
 def main(words):
-    failed, programs = 0, words or [BUILT, PLAIN]
+    failed, programs = 0, [word for word in words if word != "--all"] or [BUILT, PLAIN]
     for program, some in zip(programs, (cases, plain_cases)):
-        for what, found, wanted in some(program):
+        for what, found, wanted in some(program, 1, 1) if "--all" in words else some(program):
             print(f"{os.path.basename(program)}, {what}: {'as it must be' if found == wanted else f'FAILED: {found}'}")
             failed += found != wanted
     return 1 if failed else 0
