@@ -3,17 +3,18 @@
 
     tools/refused_edits.py [--jobs N] [--beside FILE] [--kept | --alone] [--log FOLDER] [CRATE ..] [CRATE/NAME.edit ..]
 
-An edit has the form of a must-fail edit of `rt`: a line 'file: PATH', then pairs of lines 'old: TEXT' and 'new: TEXT'.
+An edit has the form of a must-fail edit of `rt`: a line 'file: PATH', then pairs of lines 'old: TEXT' and 'new: TEXT'. A line
+'checked: FUNCTION' may say in whose proof it must be refused, if it changes something else than bodies.
 
 Edits that change bodies of functions alone are tried together on one copy of the crate, each in functions of its own: a function is
-proved against the contracts of what it calls, and no such edit changes one. Further edits of the same functions stand in for the first
-ones in the next copy, whose check takes all else from the one before. An edit of anything else (a definition, a contract) comes on top
-of the first copy, by itself.
+proved against the contracts of what it calls, and no such edit changes one. So of a copy only the edited functions are checked, and what
+they call. Further edits of the same functions come on the next copy, whose check takes what is proved from the one before. An edit of
+anything else (a definition, a contract) comes on a copy by itself, of which the functions that it names are checked, or all.
 
 An edit of bodies is refused where a function that it changes has a goal of its own that isn't proved. That what it calls isn't proved
-is no such goal, nor is a proof file that names what is gone. Any other edit is refused where something isn't proved that no edit of the
-first copy changes. A copy counts only if all of it was read, and nothing failed by itself that isn't edited; else its edits are halved
-and tried again. What no copy shows to be refused is tried alone and from nothing, as `rt must-fail` does, and has that verdict.
+is no such goal, nor is a proof file that names what is gone. Any other edit is refused where something isn't proved. A copy counts only
+if all of it was read, and nothing that was checked failed by itself and isn't edited; else its edits are halved and tried again. What no
+copy shows to be refused is tried alone and from nothing, as `rt must-fail` does, and has that verdict.
 
 Without names all edits are tried, and with them this tool: the edits in tools/same_meaning/, which mean the same as before, stand in one
 copy of abnf_token among its own, and must be found not refused.
@@ -43,6 +44,7 @@ import sys
 import tempfile
 import threading
 import time
+from itertools import chain
 
 TOP = os.path.dirname(os.path.dirname(os.path.abspath(__file__)))
 SAME_MEANING = os.path.join(TOP, "tools", "same_meaning")
@@ -68,6 +70,8 @@ FUNCTION = re.compile(
     r"(?:.* \{|.*(?:\n(?:\2[ )>].*|\2where|))*?\n\2(?:[)>].* )?\{)\n((?:.*\n)*?)\2\}$"
 )
 BLOCK = re.compile(r"(?m)^(?:pub(?:\(\w+\))? )?(impl|trait|mod)\b(.*)")
+# An impl of a trait at a type of one word, as From<X> for Y, whose name is YFromX.
+AT_A_TYPE = re.compile(r" (\w+)<(\w+)> for (\w+) \{")
 TYPE = re.compile(r"(?m)^(?:pub(?:\(\w+\))? )?(?:struct|enum) (\w+)")
 # What may stand in a body and reaches beyond it.
 REACHES_OUT = re.compile(r"\b(impl|trait|macro_rules)\b")
@@ -98,9 +102,12 @@ def module_of(path):
 def block_of(text):
     """The words of the block that is open where this text ends: of an impl its type and then its trait, of a module its name.
 
-    None for a trait, and for an impl of one at some type, whose name has more to it.
+    None for a trait, and for an impl of one at some type, unless that is one word: whose name has more to it.
     """
     kind, head = (BLOCK.findall(text) or [("trait", "")])[-1]
+    at_a_type = AT_A_TYPE.fullmatch(head)
+    if at_a_type:
+        return [at_a_type[3], at_a_type[1], at_a_type[2]]
     is_named = kind != "trait" and "> for " not in head
     while kind == "impl" and "<" in head:
         head = re.sub(r"<[^<>]*>", "", head)
@@ -169,7 +176,7 @@ def faults_of(said, crate, homes):
                 return None
             inside = PROOF_FILE.fullmatch(error[1])
             faults[inside[1].replace("/fn/", "/").replace("/", "::") if inside else error[1]].append(line)
-    return faults if line.startswith("logic=") and not goals else None
+    return faults if line.startswith(("logic=", "only=")) and not goals else None
 
 
 class Edit:
@@ -180,6 +187,7 @@ class Edit:
         self.is_same = os.path.dirname(file) == SAME_MEANING
         texts, self.why = RT.read_edit(file, crate.folder)
         self.paths = list(texts or {})
+        self.checked = re.findall(r"(?m)^checked: (\S+)$", text_of(file))
         for path, text in (texts or {}).items():
             rest, own = files.get(path, (None, {}))
             now_rest, now = split(path, text, homes) if own else ("", {})
@@ -371,8 +379,12 @@ class Trial:
             return are_made(edits, folder)
 
     def faults(self, edits, kept):
-        """Checks a copy of the crate with these edits, one made after the other. Gives its faults, or None where it says nothing."""
-        made = copy.copy(self.crate)
+        """Checks a copy of the crate with these edits: the functions that they change or name, or all where one does neither.
+
+        Gives what isn't proved of it, or None where the check says nothing.
+        """
+        made, functions = copy.copy(self.crate), [it.functions or it.checked for it in edits]
+        flags = [*ONE_JOB, *(word for name in sorted({*chain(*functions)}) if all(functions) for word in ("--only", name))]
         with tempfile.TemporaryDirectory(prefix=f"rt-edits-{os.getpid()}-") as made.folder:
             for part in PARTS:
                 if os.path.isdir(f"{self.crate.folder}/{part}"):
@@ -380,45 +392,36 @@ class Trial:
             if not are_made(edits, made.folder):
                 return None
             with MEMORY.of(self.crate):
-                ran = RT.checked(made, {}, ONE_JOB, kept)
+                ran = RT.checked(made, {}, flags, kept)
                 if ran.returncode == -signal.SIGKILL:
                     # most likely for memory
-                    ran = RT.checked(made, {}, ONE_JOB, kept)
+                    ran = RT.checked(made, {}, flags, kept)
             self.checks += 1
             if self.given.log:
                 with open(f"{self.given.log}/{self.crate.name}", "a", encoding="utf-8") as it:
                     it.write(f"== {' '.join(it.name for it in edits)}\n{ran.stdout}")
             return faults_of(ran.stdout, made, self.homes)
 
-    def is_refused(self, edit, lines):
-        """Whether what is said shows that an edit is refused."""
+    def judge(self, edit, lines):
+        """Finds an edit refused where what is said of it shows that."""
         lines = [it for it in lines if not SAYS_LITTLE.match(it)]
         if lines:
             self.results[edit.name] = True, f"refused, as it must be: {lines[0][:160]}"
-        return bool(lines)
 
-    def beside(self, base, edits):
-        """Those edits of a base that leave others their functions and their texts."""
-        rest = []
-        for it in base:
-            if not any(it.functions & edit.functions for edit in edits) and self.are_apart([*rest, it, *edits]):
-                rest.append(it)
-        return rest
-
-    def together(self, base, edits, kept):
-        """Tries edits of bodies on one copy, with those of the base that change other functions. Gives those that are refused."""
-        rest = self.beside(base, edits)
-        faults = self.faults([*rest, *edits], kept)
-        if faults is None or any(not any(it.changes(name) for it in [*rest, *edits]) for name in faults):
+    def together(self, edits, kept):
+        """Tries edits of bodies on one copy."""
+        faults = self.faults(edits, kept)
+        if faults is None or any(not any(it.changes(name) for it in edits) for name in faults):
             half = len(edits) // 2
-            return [it for some in (edits[:half], edits[half:]) for it in self.together(base, some, kept)] if half else []
-        return [it for it in edits if self.is_refused(it, [line for name in faults if it.changes(name) for line in faults[name]])]
+            for some in (edits[:half], edits[half:]) if half else ():
+                self.together(some, kept)
+            return
+        for edit in edits:
+            self.judge(edit, [line for name in faults if edit.changes(name) for line in faults[name]])
 
-    def on_top(self, base, edit, kept):
-        """Tries an edit of something else than bodies by itself, on top of edits of bodies that are refused."""
-        base = self.beside(base, [edit])
-        faults = self.faults([*base, edit], kept) or {}
-        self.is_refused(edit, [line for name in faults if not any(it.changes(name) for it in base) for line in faults[name]])
+    def by_itself_on_a_copy(self, edit, kept):
+        """Tries an edit of something else than bodies."""
+        self.judge(edit, [line for lines in (self.faults([edit], kept) or {}).values() for line in lines])
 
     def shared_out(self, edits):
         """Edits of bodies by copies: in each copy they change functions of their own, and can all be made."""
@@ -435,14 +438,13 @@ class Trial:
     def by_copies(self, edits, kept):
         """Tries edits on copies. Gives what to say of how many went together."""
         others = [it for it in edits if not it.functions]
-        copies, base = self.shared_out([it for it in edits if it.functions]), []
+        copies = self.shared_out([it for it in edits if it.functions])
         for some in copies:
-            found = self.together(base, some, kept)
-            base = base or found
+            self.together(some, kept)
             self.look_at_same(some)
         for edit in others:
-            self.on_top(base, edit, kept)
-        return f"{' + '.join(str(len(it)) for it in copies) or 'none'} in copies, {len(others)} on top"
+            self.by_itself_on_a_copy(edit, kept)
+        return f"{' + '.join(str(len(it)) for it in copies) or 'none'} in copies, {len(others)} by themselves"
 
     def look_at_same(self, copied):
         """Sees that edits that mean the same are found not refused by the first copy, in which real ones are."""

@@ -1,5 +1,5 @@
 //! What lies behind the lock.
-ghost use Rattle.std.specs.Prelude.{◌≡◌, ◌+◌, ◌++◌, ◌∷◌, ◌<◌, ◌⊎◌, [], IfOk, IfErr, OnOk, OnErr, IfNone, IfSome, OnSome, None, Some, find, vec_len, vec_capacity, true, false};
+ghost use Rattle.std.specs.Prelude.{◌≡◌, ◌+◌, ◌++◌, ◌∷◌, ◌<◌, ◌⊎◌, [], IfOk, IfErr, OnOk, OnErr, IfNone, IfSome, IsTrue, OnSome, None, Some, find, is_some, vec_len, vec_capacity, true, false};
 ghost use Rattle.ls_machine.specs.Machine.{is_queued, waits};
 ghost use Rattle.ls_desk.specs.Stands.{Sends, state_of, ticket_of_out};
 ghost use Rattle.ls_workers.specs.Count.{Counts};
@@ -53,6 +53,8 @@ pub struct Behind<C: Crew> {
     pub sent: Book<OfSent<C>>,
     pub left: Vec<Noted>,
     pub stop: Option<Stop>,
+    /// Which workers wait for a job: the bit of each one's number, and of every 64th the same.
+    pub idle: u64,
     pub ghost counts: { Counts asked.total took.total returned.total finished.total sent.total desk },
     pub ghost limits: { HasLimits C.max_journal C.max_events desk },
     pub ghost replies: { left.items ≡ sent_by desk },
@@ -80,11 +82,36 @@ impl<C: Crew> Behind<C> {
         }
     }
 
-    /// Whether a worker has nothing to wait for.
+    /// Whether some worker has nothing to wait for: a job is queued, or the board has ended.
     pub fn has_job(&self) -> bool
         ensures { result ≡ has_job self.now.stop self.now.desk }
     {
         self.stop.is_some() || self.desk.has_queued()
+    }
+
+    /// Whether the worker with this number has nothing to wait for. Of those that wait the one with the least number takes a job, so that
+    /// jobs which come one at a time are run by one worker: the C library keeps the memory that a thread lets go for that thread.
+    pub fn has_job_for(&self, number: u32) -> bool
+        ensures job { IsTrue result → has_job self.now.stop self.now.desk ≡ true }
+        ensures ended { is_some self.now.stop ≡ true → result ≡ true }
+    {
+        self.has_job() && (self.stop.is_some() || self.idle.trailing_zeros() >= number % 64)
+    }
+
+    /// A worker begins to wait for a job.
+    pub fn begin_wait(&mut self, number: u32)
+        ensures desk { self.new.desk ≡ self.old.desk }
+        ensures stop { self.new.stop ≡ self.old.stop }
+    {
+        self.idle = self.idle | 1 << (number % 64);
+    }
+
+    /// A worker waits no longer.
+    pub fn end_wait(&mut self, number: u32)
+        ensures desk { self.new.desk ≡ self.old.desk }
+        ensures stop { self.new.stop ≡ self.old.stop }
+    {
+        self.idle = self.idle & !(1 << (number % 64));
     }
 
     /// Whether the writer has nothing to wait for.

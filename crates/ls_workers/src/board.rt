@@ -84,6 +84,7 @@ impl<C: Crew> Board<C> {
             sent: sent_book,
             left: Vec::new(alloc),
             stop: None,
+            idle: 0,
         };
         let board = Board {
             mark,
@@ -138,11 +139,20 @@ impl<C: Crew> Board<C> {
         ensures others { (seat.new.returned.share.amount ≡ seat.old.returned.share.amount) × (seat.new.finished.share.amount ≡ seat.old.finished.share.amount) }
         ensures kept { (seat.new.mark ≡ seat.old.mark) × (seat.new.number ≡ seat.old.number) }
     {
-        let behind = self.behind.lock(rt);
+        let number = seat.number;
+        let mut behind = self.behind.lock(rt);
+        behind.begin_wait(number);
         let mut behind = self
             .changed
-            .wait_while(rt, behind, |behind| !behind.has_job());
-        behind.take(seat)
+            .wait_while(rt, behind, |behind| !behind.has_job_for(number));
+        behind.end_wait(number);
+        let job = behind.take(seat);
+        let has_more = behind.has_job();
+        drop(behind);
+        if has_more {
+            self.changed.notify_all();
+        }
+        job
     }
 
     /// Gives a job back that wasn't run. It is queued again.
