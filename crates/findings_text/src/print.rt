@@ -21,13 +21,22 @@ pub struct Printed {
     pub outcome: Outcome,
 }
 
-/// The findings of a text.
+/// The findings in the text of a grammar.
+fn found_by(alloc: Global, grammar: &Grammar) -> Result<List<Finding>, Memory>
+    ensures { IfOk result (λ found. AreFindings grammar.now.text found) }
+{
+    let cert = least(alloc, grammar)?;
+    findings(alloc, grammar, &cert)
+}
+
+/// The findings of a text. Its grammar is let go here.
 fn found_in(alloc: Global, text: &Snapshot) -> Result<List<Finding>, Memory>
     ensures { IfOk result (λ found. AreFindings text.now found) }
 {
     let grammar = Grammar::of(alloc, text)?;
-    let cert = least(alloc, &grammar)?;
-    findings(alloc, &grammar, &cert)
+    let found = found_by(alloc, &grammar);
+    drop(grammar);
+    found
 }
 
 /// The lines of findings in a text.

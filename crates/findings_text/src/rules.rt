@@ -84,6 +84,16 @@ fn rule_lines<'t>(
     Ok(lines)
 }
 
+/// The lines of the rules of a grammar.
+fn printed_by(alloc: Global, file: &str, grammar: &Grammar) -> Result<Text, Memory>
+    ensures { IfOk result (λ lines. spec.AreRuleLines file.now grammar.now (spec.heads grammar.now.names grammar.now.places) lines) }
+{
+    let cert = least(alloc, grammar)?;
+    let heads = heads_of(alloc, grammar)?;
+    let lines = rule_lines(alloc, file, grammar, &cert, heads.as_slice())?;
+    Ok(Text::new(lines))
+}
+
 /// What is printed of the rules of a text in a file with this name: each rule that it defines in a line, with what is known of its
 /// shortest strings by a certificate that is found for it. Lines and columns count from 1, and columns count characters.
 ///
@@ -92,8 +102,7 @@ pub fn print_rules(alloc: Global, file: &str, text: &Snapshot) -> Result<Text, M
     ensures { IfOk result (λ lines. spec.ArePrintedRules file.now text.now lines) }
 {
     let grammar = Grammar::of(alloc, text)?;
-    let cert = least(alloc, &grammar)?;
-    let heads = heads_of(alloc, &grammar)?;
-    let lines = rule_lines(alloc, file, &grammar, &cert, heads.as_slice())?;
-    Ok(Text::new(lines))
+    let lines = printed_by(alloc, file, &grammar);
+    drop(grammar);
+    lines
 }
