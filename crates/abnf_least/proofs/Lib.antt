@@ -5,6 +5,7 @@ pub mod Height
 pub mod Queued
 pub mod SearchStep
 pub mod At
+pub mod Chains
 pub mod Listed
 pub mod Offers
 pub mod Named

@@ -1,16 +1,17 @@
 -- What users are offered, one after the other.
-use Rattle.std.proofs.Common.{◌≡◌, ℕ, ◌+◌, ◌<◌, ◌≤◌, ⊎_elim, List, length, sym, ap, ◌∙◌, subst, arith, get_or, Result, Ok, Err}
+use Rattle.std.proofs.Common.{◌≡◌, ℕ, ◌+◌, ◌<◌, ◌≤◌, ◌⊎◌, inl, inr, ⊎_elim, List, length, sym, ap, ◌∙◌, subst, arith, Result, Ok, Err}
 use Rattle.std.proofs.lemmas.Bool.{cases_lt}
-use Rattle.std.proofs.lemmas.List.{get_or_default}
 use Rattle.std.specs.Prelude.{OnOk}
 use Rattle.std.specs.List.{Contains}
 use Rattle.abnf_cert.specs.declared.entry.Entry.{Entry}
 use Rattle.abnf_cert.specs.declared.entry.Entry.TheVariants.{Nothing, Least}
 use Rattle.abnf_parts.specs.Part.{Part, parts_of}
 use Rattle.abnf_least.specs.declared.candidate.Candidate.{Candidate}
+use Rattle.abnf_least.specs.declared.users.Link.{Link}
 use Rattle.abnf_least.specs.Form.{Form, entry_given}
 use Rattle.abnf_least.specs.Queue.{Joins}
 use Rattle.abnf_least.specs.Search.{form_at, offered, IsOffered, IsPushed, Keeps, AllWait, candidate}
+use Rattle.abnf_least.specs.Users.{InChain, Reaches, Leads}
 use Rattle.abnf_least.proofs.At.{past_form}
 use Rattle.abnf_least.proofs.Queued.{now_there}
 use Rattle.abnf_least.proofs.Settle.{nothing_least, same_least}
@@ -32,29 +33,31 @@ pushed_from e l h c n old new is j a b d given =
     let p = same_least l h c a b d (sym is ∙ given) in
     subst (λ x. Contains new (candidate x b n)) p.0 (subst (λ x. Contains new (candidate l x n)) p.1 (now_there old new (candidate l h n) j))
 
--- the first users have been offered
-pub record OffersUpTo (form : ℕ → Form) (at : ℕ → Entry) (part : ℕ) (users : List ℕ) (old new : List Candidate) (count : ℕ) : Type 0 where
+-- the users that are reached from the first place have been offered, but those that are reached from this one
+pub record OffersUpTo (form : ℕ → Form) (at : ℕ → Entry) (part : ℕ) (links : List Link) (first place : ℕ) (old new : List Candidate) : Type 0 where
   pub kept : Keeps old new
-  pub each : (j : ℕ) → j < count → IsOffered form at part (get_or users j 0) new
+  pub each : (k : ℕ) → Reaches links first k → IsOffered form at part k new ⊎ Reaches links place k
+
+pub offers_none : (form : ℕ → Form) (at : ℕ → Entry) (part : ℕ) (links : List Link) (first place : ℕ) (queue : List Candidate) → place ≡ first → OffersUpTo form at part links first place queue queue
+offers_none form at part links first place queue is = record { kept = λ y here. here; each = λ k r. inr (subst (λ n. Reaches links n k) (sym is) r) }
 
 pub offers_more :
-    (form : ℕ → Form) (at : ℕ → Entry) (part : ℕ) (users : List ℕ) (old mid new : List Candidate) (count : ℕ) → OffersUpTo form at part users old mid count → Keeps mid new →
-    IsOffered form at part (get_or users count 0) new → OffersUpTo form at part users old new (count + 1)
-offers_more form at part users old mid new count o keeps now =
+    (form : ℕ → Form) (at : ℕ → Entry) (part : ℕ) (links : List Link) (first place here next : ℕ) (old mid new : List Candidate) → OffersUpTo form at part links first place old mid →
+    Leads links place here next → Keeps mid new → IsOffered form at part here new → OffersUpTo form at part links first next old new
+offers_more form at part links first place here next old mid new o leads keeps now =
     record {
-      kept = λ y here. keeps y (o.kept y here);
-      each = λ j below.
+      kept = λ y there. keeps y (o.kept y there);
+      each = λ k r.
           ⊎_elim
-          (λ less. offered_still form at part (get_or users j 0) mid new keeps (o.each j less))
-          (λ ge. let e : count ≡ j = omega arith in subst (λ n. IsOffered form at part (get_or users n 0) new) e now)
-          (cases_lt j count);
+          (λ offered. inl (offered_still form at part k mid new keeps offered))
+          (λ left. ⊎_elim (λ e. inl (subst (λ n. IsOffered form at part n new) e now)) (λ on. inr on) (leads k left))
+          (o.each k r);
     }
 
 pub offers_all :
-    (form : ℕ → Form) (at : ℕ → Entry) (part : ℕ) (users : List ℕ) (old new : List Candidate) (count : ℕ) → OffersUpTo form at part users old new count → length users ≤ count →
-    (k : ℕ) → Contains users k → IsOffered form at part k new
-offers_all form at part users old new count o all k here =
-    subst (λ n. IsOffered form at part n new) (get_or_default users here.0 0 k here.1 ∙ here.2) (o.each here.0 (let w = here.1 in omega arith))
+    (form : ℕ → Form) (at : ℕ → Entry) (part : ℕ) (links : List Link) (first place : ℕ) (old new : List Candidate) → OffersUpTo form at part links first place old new →
+    ((steps k : ℕ) → InChain links steps place k → ⊥) → (k : ℕ) → Reaches links first k → IsOffered form at part k new
+offers_all form at part links first place old new o ends k r = ⊎_elim (λ offered. offered) (λ left. absurd (ends left.0 k left.1)) (o.each k r)
 
 -- the first parts wait that are given an entry
 abbrev pub WaitUpTo : (ℕ → Form) → (ℕ → Entry) → ℕ → List Candidate → Type 0

@@ -11,7 +11,9 @@ use Rattle.abnf_least.specs.declared.candidate.Candidate.{Candidate}
 use Rattle.abnf_least.specs.Form.{Form, text, never, row, one_of, repeated, refers, needs, entry_given}
 use Rattle.abnf_least.specs.Table.{InRange, IsUnchosen, IsUpTo, HasRoom, unsettled}
 use Rattle.abnf_least.specs.Queue.{Leaves}
-use Rattle.abnf_least.specs.Search.{IsDone, IsNext, OthersWait, AllWait, IsGiven, IsFound, offered, IsOffered, Keeps, Stands, Uses, AreUsers, form_at, candidate}
+use Rattle.abnf_least.specs.Search.{IsDone, IsNext, OthersWait, AllWait, IsGiven, IsFound, offered, IsOffered, Keeps, Stands, form_at, candidate}
+use Rattle.abnf_least.specs.declared.users.Users.{Users}
+use Rattle.abnf_least.specs.Users.{Uses, AreUsers}
 use Rattle.abnf_least.proofs.Settle.{among, nothing_least, moved_to, some_least, none_settled, given_same, choice_from, settled_more}
 use Rattle.abnf_least.proofs.Height.{given_up, settle_one}
 use Rattle.abnf_least.proofs.Queued.{others_there}
@@ -63,7 +65,7 @@ up_to_more : (b : ℕ) (e : Entry) → IsUpTo b e → IsUpTo (b + 1) e
 up_to_more b Nothing u = tt
 up_to_more b (Least l h c) u = omega (arith, u)
 
-module _ (trees : List Part) (table : List Entry) (queue found new : List Candidate) (x : Candidate) (users : List (List ℕ)) where
+module _ (trees : List Part) (table : List Entry) (queue found new : List Candidate) (x : Candidate) (users : Users) where
   pub stands_more :
       Stands trees table queue → IsFound (form_at trees) table x found → AreUsers trees users → x.length ≤ top → Keeps found new →
       ((k : ℕ) → Uses users x.number k → IsOffered (form_at trees) (entry_at (set table x.number (Least x.length x.height 0))) x.number k new) →
@@ -97,7 +99,7 @@ module _ (trees : List Part) (table : List Entry) (queue found new : List Candid
             let waited : at k ≡ Nothing = sym (others k apart) ∙ waits in
             ⊎_elim
             (λ a.
-            let within : x.number < length users = omega (arith, are.one_each, s.one_each, f.is_given.within) in
+            let within : x.number < length users.starts.items = omega (arith, are.one_each, s.one_each, f.is_given.within) in
             let off = offers k (are.each k x.number a within) in
             ⊎_elim
             (λ now. off l h now.0 waits now.1)

@@ -3,6 +3,7 @@ pub mod Table
 pub mod Order
 pub mod Queue
 pub mod Search
+pub mod Users
 pub mod Sentence
 pub mod Shown
 pub mod Walk

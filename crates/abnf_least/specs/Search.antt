@@ -1,12 +1,12 @@
 -- How far the search for least pairs has come.
-use Rattle.std.specs.Prelude.{◌≡◌, ℕ, ◌+◌, ◌^◌, ◌<◌, ◌≤◌, ◌⊎◌, Option, Some, None, List, [], ◌∷◌, length, slice_get, slice_index_or}
+use Rattle.std.specs.Prelude.{◌≡◌, ℕ, ◌+◌, ◌^◌, ◌<◌, ◌≤◌, ◌⊎◌, Option, Some, None, List, [], ◌∷◌, length, slice_get}
 use Rattle.std.specs.List.{Contains}
 use Rattle.abnf_cert.specs.declared.entry.Entry.{Entry}
 use Rattle.abnf_cert.specs.declared.entry.Entry.TheVariants.{Nothing, Least}
 use Rattle.abnf_parts.specs.Part.{Part, parts_of, root_number}
 use Rattle.abnf_cert.specs.Accepted.{NotBefore, entry_at}
 use Rattle.abnf_least.specs.declared.candidate.Candidate.{Candidate}
-use Rattle.abnf_least.specs.Form.{Form, never, one_of, needs, entry_given, part_form}
+use Rattle.abnf_least.specs.Form.{Form, never, one_of, entry_given, part_form}
 use Rattle.abnf_least.specs.Table.{InRange, IsUnchosen, IsUpTo, unsettled}
 
 -- the form of each part of a grammar
@@ -86,26 +86,6 @@ pub record Stands (trees : List Part) (table : List Entry) (queue : List Candida
   pub heights : (n : ℕ) → IsUpTo height (entry_at table n)
   pub low : height + unsettled table ≤ length table
   pub waiting : AllWait (form_at trees) (entry_at table) queue
-
--- the user is listed under the part
-abbrev pub Uses : List (List ℕ) → ℕ → ℕ → Type 0
-Uses users part user = Contains (slice_index_or users part []) user
-
-pub record Adds (old : List (List ℕ)) (part user : ℕ) (new : List (List ℕ)) : Type 0 where
-  pub one_each : length new ≡ length old
-  pub kept : (m k : ℕ) → Uses old m k → Uses new m k
-  pub joins : part < length old → Uses new part user
-
--- the user is added under each of these parts
-pub record AddsEach (old : List (List ℕ)) (parts : List ℕ) (user : ℕ) (new : List (List ℕ)) : Type 0 where
-  pub one_each : length new ≡ length old
-  pub kept : (m k : ℕ) → Uses old m k → Uses new m k
-  pub joins : (m : ℕ) → Among m parts → m < length old → Uses new m user
-
--- each part is listed under those that its value depends on
-pub record AreUsers (trees : List Part) (users : List (List ℕ)) : Type 0 where
-  pub one_each : length users ≡ length (parts_of trees)
-  pub each : (k m : ℕ) → Among m (needs (form_at trees k)) → m < length users → Uses users m k
 
 -- the certificate has the value of each part
 pub record AreGiven (trees : List Part) (table cert : List Entry) : Type 0 where

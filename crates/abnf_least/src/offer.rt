@@ -1,7 +1,6 @@
 //! What the users of a part are offered once it is settled.
 
 ghost use Rattle.std.specs.Prelude.{OnOk, ◌≡◌, ◌<◌, ℕ, false, true, length, map, slice_index_or as get_or};
-ghost use Rattle.std.specs.List.{Contains};
 ghost use Rattle.abnf_parts.specs.Part.{parts_of, root_number};
 ghost use Rattle.abnf_cert.specs.Accepted.{all_in_a_row, entry_at};
 ghost use Rattle.abnf_cert.specs.FitsNode.{NodeRefersWithin};
@@ -9,10 +8,12 @@ ghost use Rattle.abnf_cert.specs.declared.entry.Entry.TheVariants.{Nothing};
 ghost use Rattle.abnf_least.specs.Form.{node_form};
 ghost use Rattle.abnf_least.specs.Search.{IsOffered, IsPushed, Keeps, form_at, offered};
 ghost use Rattle.abnf_least.specs.Table.{HasRoom};
+ghost use Rattle.abnf_least.specs.Users.{Uses};
 
 use crate::candidate::Candidate;
 use crate::given::entry_given;
 use crate::queue::Queue;
+use crate::users::Users;
 use abnf_cert::Entry;
 use abnf_cert::entries::entry_of;
 use abnf_names::Grammar;
@@ -73,15 +74,15 @@ fn is_settled(table: &[Entry], part: usize) -> bool
 }
 
 /// Whether all parts of a row are settled. At the row's number `ready` says up to which place they were so before, so that all calls
-/// together pass each place once.
-fn is_ready(table: &[Entry], parts: &[NodeNo], number: usize, ready: &mut [usize]) -> bool
+/// together pass each place once. A place that needs more than 32 bits, as no text has one, is passed again.
+fn is_ready(table: &[Entry], parts: &[NodeNo], number: usize, ready: &mut [u32]) -> bool
     ensures { result ≡ false → all_in_a_row (map (entry_at table.now) parts.now) ≡ Nothing }
 {
     if number >= ready.len() {
         return true;
     }
-    let at = first_unsettled(table, parts, ready[number]);
-    ready[number] = at;
+    let at = first_unsettled(table, parts, ready[number] as usize);
+    ready[number] = at.min(u32::MAX as usize) as u32;
     at >= parts.len()
 }
 
@@ -92,7 +93,7 @@ fn offer(
     table: &[Entry],
     part: usize,
     user: usize,
-    ready: &mut [usize],
+    ready: &mut [u32],
     queue: &mut Queue,
 ) -> Result<(), AllocError>
     requires one_each { length table.now ≡ length (parts_of grammar.now.rules) }
@@ -118,17 +119,20 @@ pub(crate) fn offer_all(
     grammar: &Grammar,
     table: &[Entry],
     part: usize,
-    users: &[usize],
-    ready: &mut [usize],
+    users: &Users,
+    ready: &mut [u32],
     queue: &mut Queue,
 ) -> Result<(), AllocError>
     requires one_each { length table.now ≡ length (parts_of grammar.now.rules) }
     requires room { HasRoom table.now }
+    requires within { part < length users.now.starts.items }
     ensures kept { OnOk result (Keeps queue.old queue.new) }
-    ensures offered { OnOk result ((k : ℕ) → Contains users.now k → IsOffered (form_at grammar.now.rules) (entry_at table.now) part k queue.new) }
+    ensures offered { OnOk result ((k : ℕ) → Uses users.now part k → IsOffered (form_at grammar.now.rules) (entry_at table.now) part k queue.new) }
 {
-    for user in users {
-        offer(grammar, table, part, *user, ready, queue)?;
+    let mut place = users.start_of(part);
+    while let Some(link) = users.link_at(place) {
+        offer(grammar, table, part, link.user as usize, ready, queue)?;
+        place = link.next;
     }
     Ok(())
 }

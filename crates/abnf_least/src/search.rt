@@ -8,8 +8,9 @@
 ghost use Rattle.std.specs.Prelude.{IfNone, IfOk, IfSome, IsTrue, OnOk, ◌≡◌, ◌↔◌, [], length};
 ghost use Rattle.abnf_parts.specs.Part.{parts_of};
 ghost use Rattle.abnf_cert.specs.Accepted.{IsAccepted, entry_at};
-ghost use Rattle.abnf_least.specs.Search.{AllWait, AreGiven, AreUsers, IsDone, IsFound, IsGiven, Stands, form_at};
+ghost use Rattle.abnf_least.specs.Search.{AllWait, AreGiven, IsDone, IsFound, IsGiven, Stands, form_at};
 ghost use Rattle.abnf_least.specs.Table.{HasRoom, NoneSettled};
+ghost use Rattle.abnf_least.specs.Users.{AreUsers};
 
 use crate::candidate::Candidate;
 use crate::given::{awaits_parts, chosen, entry_given};
@@ -66,7 +67,7 @@ fn settle(
     grammar: &Grammar,
     users: &Users,
     table: &mut [Entry],
-    ready: &mut [usize],
+    ready: &mut [u32],
     queue: &mut Queue,
 ) -> Result<(), AllocError>
     requires stands { Stands grammar.now.rules table.old queue.old }
@@ -79,14 +80,7 @@ fn settle(
             height: next.height,
             choice: 0,
         };
-        offer_all(
-            grammar,
-            table,
-            next.number,
-            users.of(next.number),
-            ready,
-            queue,
-        )?;
+        offer_all(grammar, table, next.number, users, ready, queue)?;
     }
     Ok(())
 }
@@ -112,7 +106,7 @@ fn settled(alloc: Global, grammar: &Grammar) -> Result<Vec<Entry>, AllocError>
 {
     let count = grammar.nodes().len();
     let users = Users::of_grammar(alloc, grammar)?;
-    let mut ready = vec![in alloc; 0usize; count]?;
+    let mut ready = vec![in alloc; 0u32; count]?;
     let mut table = vec![in alloc; Entry::Nothing; count]?;
     let mut queue = Queue::new(alloc);
     start(grammar, &table, &mut queue)?;
@@ -137,7 +131,7 @@ fn choose(grammar: &Grammar, table: &mut [Entry])
 ///
 /// # Errors
 ///
-/// Where an allocation is refused.
+/// Where an allocation is refused. So it is where the numbers of parts don't fit in 31 bits, as those of each text do that is read.
 pub fn least(alloc: Global, grammar: &Grammar) -> Result<Cert, AllocError>
     ensures { IfOk result (λ cert. IsAccepted grammar.now.rules cert) }
 {

@@ -1,5 +1,4 @@
-use Rattle.std.proofs.Common.{arith, subst, sym}
-use Rattle.std.specs.List.{Contains}
+use Rattle.std.proofs.Common.{arith}
 use Rattle.abnf_least.proofs.SearchStep.{room_more, stands_done, stands_more}
 use Rattle.abnf_least.proofs.Height.{settle_one}
 use Rattle.abnf_least.proofs.search.settle.Goals as goal
@@ -20,7 +19,7 @@ loop-next-preserved c =
     let x = c.in-Some.next in
     stands_more c.args.grammar.now.rules c.loop-next.table c.loop-next.queue c.take_next.new.queue c.offer_all.new.queue x c.args.users.now
     c.loop-next.invariant c.in-Some.ensures.some c.requires.users (omega arith) c.in_ok-offer_all.ensures.kept
-    (λ k uses. c.in_ok-offer_all.ensures.offered k (subst (λ xs. Contains xs k) (sym c.of.ensures) uses))
+    c.in_ok-offer_all.ensures.offered
 
 pub returns : goal.returns
 returns c = stands_done c.args.grammar.now.rules c.loop-next.table c.loop-next.queue c.loop-next.invariant c.in_default.ensures.none

@@ -1,6 +1,6 @@
 use Rattle.std.proofs.Common.{◌≡◌, ◌∙◌, subst, get_or, arith, ℕ}
 use Rattle.std.proofs.lemmas.List.{get_or_default}
-use Rattle.abnf_least.specs.Search.{Adds}
+use Rattle.abnf_least.specs.Users.{Adds}
 use Rattle.abnf_least.proofs.Listed.{adds_more}
 use Rattle.abnf_least.proofs.users.Users.add_each.Goals as goal
 
