@@ -1,6 +1,7 @@
 " Vim with the package YouCompleteMe; a line in vimrc that reads this file is enough:
 "   source ~/.local/share/abnf_ls/editors/vim-ycm.vim
 " :YcmCompleter has GoToDefinition, GoToReferences, GetHover, RefactorRename NEW, FixIt, and RestartServer.
+silent! packadd! youcompleteme
 autocmd BufRead,BufNewFile *.abnf setfiletype abnf
 autocmd FileType abnf setlocal commentstring=;%s comments=:; iskeyword+=-
 let g:ycm_language_server = get(g:, 'ycm_language_server', []) +
