@@ -7,8 +7,8 @@ An edit has the form of a must-fail edit of `rt`: a line 'file: PATH', then pair
 'checked: FUNCTION' may say in whose proof it must be refused, if it changes something else than bodies.
 
 Edits that change bodies of functions alone are tried together on one copy of the crate, each in functions of its own: a function is
-proved against the contracts of what it calls, and no such edit changes one. So of a copy only the edited functions are checked, and what
-they call. Further edits of the same functions come on the next copy, whose check takes what is proved from the one before. An edit of
+proved against the contracts of what it calls, and no such edit changes one. So of the first copy only the edited functions are checked,
+and what they call. Further edits of the same functions come on the next copies, where what they call goes without a proof. An edit of
 anything else (a definition, a contract) comes on a copy by itself, of which the functions that it names are checked, or all.
 
 An edit of bodies is refused where a function that it changes has a goal of its own that isn't proved. That what it calls isn't proved
@@ -16,8 +16,8 @@ is no such goal, nor is a proof file that names what is gone. Any other edit is 
 if all of it was read, and nothing that was checked failed by itself and isn't edited; else its edits are halved and tried again. What no
 copy shows to be refused is tried alone and from nothing, as `rt must-fail` does, and has that verdict.
 
-Without names all edits are tried, and with them this tool: the edits in tools/same_meaning/, which mean the same as before, stand in one
-copy of abnf_token among its own, and must be found not refused.
+Without names all edits are tried, and with them this tool: the edits in tools/same_meaning/, which mean the same as before, stand in the
+copies of abnf_token among its own, and must be found not refused.
 
 With --beside it works beside an `rt ci` in this checkout, which runs as long as FILE is there, and writes to it: the edits of a crate are
 tried once the libraries below it are proved. With --kept the first check of a crate begins with what `rt check` kept of it, and not from nothing. With
@@ -378,10 +378,25 @@ class Trial:
                 shutil.copyfile(f"{self.crate.folder}/{path}", f"{folder}/{path}")
             return are_made(edits, folder)
 
-    def faults(self, edits, kept):
+    def leave_out(self, folder, functions):
+        """Takes the proofs of all functions but these out of a copy's folder, so that the prover spends nothing on them. Gives their names."""
+        left = {name for _, bodies in self.files.values() for name, (_, is_own) in bodies.items() if is_own and name not in functions}
+        for name in left:
+            at = f"{folder}/proofs/{name.replace('::', '/')}"
+            os.makedirs(at, exist_ok=True)
+            for it in ("Answers", "Invariants"):
+                with contextlib.suppress(FileNotFoundError):
+                    os.remove(f"{at}/{it}.antt")
+            # (a proof file that says nothing, in place of the search)
+            with open(f"{at}/Proof.antt", "w", encoding="utf-8"):
+                pass
+        return left
+
+    def faults(self, edits, kept, is_first=True):
         """Checks a copy of the crate with these edits: the functions that they change or name, or all where one does neither.
 
-        Gives what isn't proved of it, or None where the check says nothing.
+        Gives what isn't proved of it, or None where the check says nothing. In a copy that isn't the first the edited functions alone
+        have proofs.
         """
         made, functions = copy.copy(self.crate), [it.functions or it.checked for it in edits]
         flags = [*ONE_JOB, *(word for name in sorted({*chain(*functions)}) if all(functions) for word in ("--only", name))]
@@ -391,6 +406,7 @@ class Trial:
                     shutil.copytree(f"{self.crate.folder}/{part}", f"{made.folder}/{part}")
             if not are_made(edits, made.folder):
                 return None
+            left = set() if is_first else self.leave_out(made.folder, {*chain(*functions)})
             with MEMORY.of(self.crate):
                 ran = RT.checked(made, {}, flags, kept)
                 if ran.returncode == -signal.SIGKILL:
@@ -400,7 +416,8 @@ class Trial:
             if self.given.log:
                 with open(f"{self.given.log}/{self.crate.name}", "a", encoding="utf-8") as it:
                     it.write(f"== {' '.join(it.name for it in edits)}\n{ran.stdout}")
-            return faults_of(ran.stdout, made, self.homes)
+            faults = faults_of(ran.stdout, made, self.homes)
+            return faults and {name: lines for name, lines in faults.items() if name not in left}
 
     def judge(self, edit, lines):
         """Finds an edit refused where what is said of it shows that."""
@@ -408,13 +425,13 @@ class Trial:
         if lines:
             self.results[edit.name] = True, f"refused, as it must be: {lines[0][:160]}"
 
-    def together(self, edits, kept):
+    def together(self, edits, kept, is_first):
         """Tries edits of bodies on one copy."""
-        faults = self.faults(edits, kept)
+        faults = self.faults(edits, kept, is_first)
         if faults is None or any(not any(it.changes(name) for it in edits) for name in faults):
             half = len(edits) // 2
             for some in (edits[:half], edits[half:]) if half else ():
-                self.together(some, kept)
+                self.together(some, kept, is_first)
             return
         for edit in edits:
             self.judge(edit, [line for name in faults if edit.changes(name) for line in faults[name]])
@@ -423,38 +440,47 @@ class Trial:
         """Tries an edit of something else than bodies."""
         self.judge(edit, [line for lines in (self.faults([edit], kept) or {}).values() for line in lines])
 
+    def have_room(self, edits, edit):
+        """Whether a copy with these edits takes one more: in functions of its own, and made where the others are."""
+        return not any(edit.functions & it.functions for it in edits) and self.are_apart([*edits, edit])
+
     def shared_out(self, edits):
         """Edits of bodies by copies: in each copy they change functions of their own, and can all be made."""
         copies = []
         for edit in edits:
             for some in copies:
-                if not any(edit.functions & it.functions for it in some) and self.are_apart([*some, edit]):
+                if self.have_room(some, edit):
                     some.append(edit)
                     break
             else:
                 copies.append([edit])
+        # (those that mean the same stand in each copy, since the first is checked otherwise than the others)
+        for some in copies[1:]:
+            for edit in (it for it in edits if it.is_same):
+                if self.have_room(some, edit):
+                    some.append(edit)
         return copies
 
     def by_copies(self, edits, kept):
         """Tries edits on copies. Gives what to say of how many went together."""
         others = [it for it in edits if not it.functions]
         copies = self.shared_out([it for it in edits if it.functions])
-        for some in copies:
-            self.together(some, kept)
-            self.look_at_same(some)
+        for number, some in enumerate(copies, 1):
+            self.together(some, kept, number == 1)
+            self.look_at_same(some, number)
         for edit in others:
             self.by_itself_on_a_copy(edit, kept)
         return f"{' + '.join(str(len(it)) for it in copies) or 'none'} in copies, {len(others)} by themselves"
 
-    def look_at_same(self, copied):
-        """Sees that edits that mean the same are found not refused by the first copy, in which real ones are."""
-        found = [it for it in copied if it.name in self.results]
+    def look_at_same(self, copied, number):
+        """Sees that edits that mean the same are found not refused by a copy in which real ones are."""
+        found = [it for it in copied if self.results.get(it.name, (False, ""))[1].startswith("refused")]
         for edit in (it for it in copied if it.is_same):
             if edit in found:
                 self.results[edit.name] = False, f"MEANS THE SAME AS BEFORE, and is found refused: {self.results[edit.name][1]}"
-            elif self.checks > 1 or not found:
-                self.results[edit.name] = False, "MEANS THE SAME AS BEFORE, and did not stand among refused edits in one copy that counts"
-            else:
+            elif self.checks != number or not found:
+                self.results[edit.name] = False, "MEANS THE SAME AS BEFORE, and did not stand among refused edits in copies that count"
+            elif edit.name not in self.results:
                 self.results[edit.name] = True, f"means the same as before, and is not found refused where {len(found)} others are"
 
     def by_itself(self, edit):
