@@ -1,14 +1,14 @@
-use ls_answers::{Answer, Ask, Job, run};
+use ls_answers::{Answer, Ask, Done, Job, Symbol, run};
 use ls_text::{Encoding, Snapshot};
+use std::alloc::Global;
 use std::sync::Arc;
 use std::test::Fail;
 
 /// A duplicate, a block without a head, and a faulty one with a head, over several lines.
 const TEXT: &str = "a = \"x\" ; c\n  / b\n\"y\"\nA =/ \"z\"\nb = ?\n";
 
-#[test]
-fn an_outline(rt: HostRuntime) -> Result<(), Fail> {
-    let alloc = rt.alloc();
+/// The outline of that text, as a job that has run.
+fn outlined(alloc: Global) -> Result<Done, Fail> {
     let snapshot = Snapshot::of_text(alloc, String::from_str(alloc, TEXT)?)?;
     let job = Job {
         ticket: 7,
@@ -16,29 +16,42 @@ fn an_outline(rt: HostRuntime) -> Result<(), Fail> {
         encoding: Encoding::Utf16,
         ask: Ask::Symbols.copy()?,
     };
-    let done = run(alloc, job);
-    assert_eq!(rt; done.ticket(), 7);
-    assert_eq!(rt; done.snapshot().line_count(), 6);
-    assert!(rt; matches!(done.ask(), Ask::Symbols));
-    let Answer::Symbols(symbols) = done.answer()? else {
-        panic!(rt; "no symbols");
-    };
-    let want = [("a", 0, 1, 5), ("A", 3, 3, 8), ("b", 4, 4, 5)];
-    assert_eq!(rt; symbols.len(), want.len());
-    for (symbol, (name, first, last, end)) in symbols.as_slice().iter().zip(want.iter()) {
-        assert_eq!(rt; symbol.name.as_str(), *name);
-        assert_eq!(rt;
-            (symbol.range.start.line, symbol.range.start.character),
-            (*first, 0)
-        );
-        assert_eq!(rt;
-            (symbol.range.end.line, symbol.range.end.character),
-            (*last, *end)
-        );
-        assert_eq!(rt;
-            (symbol.name_range.end.line, symbol.name_range.end.character),
-            (*first, 1)
-        );
+    Ok(run(alloc, job))
+}
+
+/// Whether a symbol has this name of one character, its first line, and its last one up to this character.
+fn is_symbol(symbol: &Symbol, name: &str, first: u32, last: u32, end: u32) -> bool {
+    let (range, name_range) = (&symbol.range, &symbol.name_range);
+    symbol.name.as_str() == name
+        && (range.start.line, range.start.character) == (first, 0)
+        && (range.end.line, range.end.character) == (last, end)
+        && (name_range.end.line, name_range.end.character) == (first, 1)
+}
+
+/// Whether these are the symbols of that text.
+fn are_its_symbols(symbols: &[Symbol]) -> bool {
+    match symbols {
+        [one, again, other] => {
+            is_symbol(one, "a", 0, 1, 5)
+                && is_symbol(again, "A", 3, 3, 8)
+                && is_symbol(other, "b", 4, 4, 5)
+        }
+        _ => false,
     }
+}
+
+#[test]
+fn an_outline(rt: HostRuntime) -> Result<(), Fail> {
+    let done = outlined(rt.alloc())?;
+    let (ticket, lines) = (done.ticket(), done.snapshot().line_count());
+    let asked = matches!(done.ask(), Ask::Symbols);
+    let is_right = match done.answer() {
+        Ok(Answer::Symbols(symbols)) => are_its_symbols(symbols.as_slice()),
+        _ => false,
+    };
+    drop(done);
+    assert_eq!(rt; ticket, 7);
+    assert_eq!(rt; lines, 6);
+    assert!(rt; asked && is_right);
     Ok(())
 }

@@ -26,53 +26,101 @@ const SHUTDOWN: &[u8] = b"{\"id\":3,\"method\":\"shutdown\"}";
 
 const CANCEL: &[u8] = b"{\"method\":\"$/cancelRequest\",\"params\":{\"id\":\"q\"}}";
 
+/// Goes on by a body, whatever it comes to.
+fn pass(session: &mut Session, body: &[u8]) -> Result<(), Memory> {
+    let turn = session.event(body)?;
+    drop(turn);
+    Ok(())
+}
+
 /// What the session makes of a body after `initialize`.
 fn turn_of(alloc: Global, body: &[u8]) -> Result<Turn, Memory> {
     let mut session = Session::new(alloc);
-    session.event(INITIALIZE)?;
+    pass(&mut session, INITIALIZE)?;
     session.event(body)
+}
+
+/// Whether the session makes nothing of a body.
+fn is_ignored(session: &mut Session, body: &[u8]) -> Result<bool, Memory> {
+    let turn = session.event(body)?;
+    let is_nothing = matches!(&turn, Turn::Nothing);
+    drop(turn);
+    Ok(is_nothing)
 }
 
 #[test]
 fn a_notice_before_initialize(rt: HostRuntime) -> Result<(), Fail> {
     let mut session = Session::new(rt.alloc());
-    assert!(rt; matches!(&session.event(OPEN)?, Turn::Nothing));
+    assert!(rt; is_ignored(&mut session, OPEN)?);
     Ok(())
+}
+
+/// Whether this opens the document.
+fn is_open(event: &ClientEvent) -> bool {
+    match event {
+        ClientEvent::DidOpen(uri, label, text, encoding) => {
+            uri.as_str() == "file:///g"
+                && *label == 7
+                && text.as_str() == "a"
+                && *encoding == Encoding::Utf16
+        }
+        _ => false,
+    }
+}
+
+/// Whether a copy of what the client does opens the document.
+fn opens(turn: &Turn) -> Result<bool, Memory> {
+    let Turn::Event(event) = turn else {
+        return Ok(false);
+    };
+    let event = event.copy()?;
+    let is_open = is_open(&event);
+    drop(event);
+    Ok(is_open)
 }
 
 #[test]
 fn an_open(rt: HostRuntime) -> Result<(), Fail> {
-    match &turn_of(rt.alloc(), OPEN)? {
-        Turn::Event(event) => match &event.copy()? {
-            ClientEvent::DidOpen(uri, label, text, encoding) => {
-                assert!(rt; uri.as_str() == "file:///g" && *label == 7 && text.as_str() == "a");
-                assert!(rt; *encoding == Encoding::Utf16);
-            }
-            _ => panic!(rt; "another event"),
-        },
-        _ => panic!(rt; "no event"),
-    }
+    let turn = turn_of(rt.alloc(), OPEN)?;
+    let opens = opens(&turn);
+    drop(turn);
+    assert!(rt; opens?);
     Ok(())
+}
+
+/// Whether this asks for the symbols of the document.
+fn asks_for_symbols(turn: &Turn) -> bool {
+    match turn {
+        Turn::Event(ClientEvent::Request(Id::Number(id), uri, Ask::Symbols, links)) => {
+            *id == 2 && uri.as_str() == "file:///g" && *links
+        }
+        _ => false,
+    }
 }
 
 #[test]
 fn a_request(rt: HostRuntime) -> Result<(), Fail> {
-    match &turn_of(rt.alloc(), SYMBOLS)? {
-        Turn::Event(ClientEvent::Request(id, uri, ask, links)) => {
-            assert!(rt; matches!(id, Id::Number(2)) && uri.as_str() == "file:///g" && *links);
-            assert!(rt; matches!(ask, Ask::Symbols));
-        }
-        _ => panic!(rt; "no request"),
-    }
+    let turn = turn_of(rt.alloc(), SYMBOLS)?;
+    let asks = asks_for_symbols(&turn);
+    drop(turn);
+    assert!(rt; asks);
     Ok(())
+}
+
+/// Whether this closes the document.
+fn closes(turn: &Turn) -> bool {
+    match turn {
+        Turn::Event(ClientEvent::DidClose(uri)) => uri.as_str() == "file:///g",
+        _ => false,
+    }
 }
 
 #[test]
 fn a_close(rt: HostRuntime) -> Result<(), Fail> {
-    match &turn_of(rt.alloc(), CLOSE)? {
-        Turn::Event(ClientEvent::DidClose(uri)) => assert!(rt; uri.as_str() == "file:///g"),
-        _ => panic!(rt; "no closing"),
-    }
+    let turn = turn_of(rt.alloc(), CLOSE)?;
+    let closes = closes(&turn);
+    drop(turn);
+    assert!(rt; closes);
     Ok(())
 }
 
@@ -84,15 +132,23 @@ fn cancels(turn: &Turn) -> bool {
     }
 }
 
+/// Whether the session cancels that request.
+fn is_cancelled(session: &mut Session) -> Result<bool, Memory> {
+    let turn = session.event(CANCEL)?;
+    let cancels = cancels(&turn);
+    drop(turn);
+    Ok(cancels)
+}
+
 #[test]
 fn a_cancel(rt: HostRuntime) -> Result<(), Fail> {
     let mut session = Session::new(rt.alloc());
-    assert!(rt; matches!(&session.event(CANCEL)?, Turn::Nothing));
-    session.event(INITIALIZE)?;
-    assert!(rt; cancels(&session.event(CANCEL)?));
-    session.event(SHUTDOWN)?;
-    assert!(rt; cancels(&session.event(CANCEL)?));
-    assert!(rt; matches!(&session.event(CLOSE)?, Turn::Nothing));
+    assert!(rt; is_ignored(&mut session, CANCEL)?);
+    pass(&mut session, INITIALIZE)?;
+    assert!(rt; is_cancelled(&mut session)?);
+    pass(&mut session, SHUTDOWN)?;
+    assert!(rt; is_cancelled(&mut session)?);
+    assert!(rt; is_ignored(&mut session, CLOSE)?);
     Ok(())
 }
 
@@ -109,24 +165,29 @@ fn outline_of(alloc: Global, text: &str) -> Result<Done, Fail> {
 }
 
 /// What replies with a job that has run.
-fn replied(alloc: Global, done: Done) -> Result<Out, Memory> {
-    let uri = Text::from_str(alloc, "file:///g")?;
-    Ok(Out::Replied {
+fn replied(uri: Text, done: Done) -> Out {
+    Out::Replied {
         id: Id::Number(2),
         uri,
         version: 1,
         label: 7,
         links: true,
         done,
-    })
+    }
+}
+
+/// The body of a reply, which is let go.
+fn body_for(alloc: Global, out: Out) -> Result<Vec<u8>, Memory> {
+    let body = body_of(alloc, &out);
+    drop(out);
+    body
 }
 
 #[test]
 fn a_reply(rt: HostRuntime) -> Result<(), Fail> {
     let alloc = rt.alloc();
-    let done = outline_of(alloc, "a = \"x\"")?;
-    let replied = replied(alloc, done)?;
-    let body = body_of(alloc, &replied)?;
+    let uri = Text::from_str(alloc, "file:///g")?;
+    let body = body_for(alloc, replied(uri, outline_of(alloc, "a = \"x\"")?))?;
     assert_eq!(rt; body.len(), 215);
     assert!(rt;
         body.as_slice()
@@ -138,7 +199,7 @@ fn a_reply(rt: HostRuntime) -> Result<(), Fail> {
 #[test]
 fn a_body_that_is_said(rt: HostRuntime) -> Result<(), Fail> {
     let alloc = rt.alloc();
-    let said = body_of(alloc, &Out::Said(List::from_slice(alloc, b"{}")?))?;
+    let said = body_for(alloc, Out::Said(List::from_slice(alloc, b"{}")?))?;
     assert!(rt; said.as_slice() == b"{}".as_slice());
     Ok(())
 }
@@ -147,26 +208,28 @@ fn a_body_that_is_said(rt: HostRuntime) -> Result<(), Fail> {
 fn failed(alloc: Global, code: i32) -> Result<Vec<u8>, Memory> {
     let id = Id::Number(2);
     let ticket = 2;
-    body_of(alloc, &Out::Failed { ticket, id, code })
+    body_for(alloc, Out::Failed { ticket, id, code })
+}
+
+/// Whether that body is this one.
+fn fails(alloc: Global, code: i32, wanted: &str) -> Result<bool, Memory> {
+    let body = failed(alloc, code)?;
+    Ok(body.as_slice() == wanted.as_bytes())
 }
 
 #[test]
 fn failures(rt: HostRuntime) -> Result<(), Fail> {
     let alloc = rt.alloc();
-    let cancelled = failed(alloc, -32800)?;
+    let cancelled =
+        "{\"error\":{\"code\":-32800,\"message\":\"request cancelled\"},\"id\":2,\"jsonrpc\":\"2.0\"}";
     assert_eq!(rt; cancelled.len(), 78);
-    assert!(rt;
-        cancelled.as_slice()
-            == b"{\"error\":{\"code\":-32800,\"message\":\"request cancelled\"},\"id\":2,\"jsonrpc\":\"2.0\"}".as_slice()
-    );
-    assert!(rt;
-        failed(alloc, -32801)?.as_slice()
-            == b"{\"error\":{\"code\":-32801,\"message\":\"content modified\"},\"id\":2,\"jsonrpc\":\"2.0\"}".as_slice()
-    );
-    assert!(rt;
-        failed(alloc, -32603)?.as_slice()
-            == b"{\"error\":{\"code\":-32603,\"message\":\"internal error\"},\"id\":2,\"jsonrpc\":\"2.0\"}".as_slice()
-    );
+    assert!(rt; fails(alloc, -32800, cancelled)?);
+    let modified =
+        "{\"error\":{\"code\":-32801,\"message\":\"content modified\"},\"id\":2,\"jsonrpc\":\"2.0\"}";
+    assert!(rt; fails(alloc, -32801, modified)?);
+    let internal =
+        "{\"error\":{\"code\":-32603,\"message\":\"internal error\"},\"id\":2,\"jsonrpc\":\"2.0\"}";
+    assert!(rt; fails(alloc, -32603, internal)?);
     Ok(())
 }
 

@@ -4,8 +4,17 @@ use ls_frame::FrameFault;
 use ls_server::{
     Ending, FileFault, ServeFault, Status, check_text, example_text, read_cert_file, read_text,
 };
+use ls_text::Snapshot;
 use std::alloc::Global;
 use std::test::Fail;
+
+/// Whether the example of the rule `B` is this, `read_cert_file` reads it as it is, and its certificate is accepted.
+fn has_example(alloc: Global, text: &Snapshot, wanted: &str) -> Result<bool, Fail> {
+    let example = example_text(alloc, text, "B")?;
+    let cert = read_cert_file(alloc, example.as_bytes())?;
+    let is_accepted = check_text(alloc, text, &cert)?;
+    Ok(example.as_str() == wanted && cert.as_slice() == wanted.as_bytes() && is_accepted)
+}
 
 /// An example, what `read_text` takes for the text of a grammar, and that the example's certificate is accepted.
 #[test]
@@ -13,23 +22,29 @@ fn an_example_and_its_check(rt: HostRuntime) -> Result<(), Fail> {
     let alloc = rt.alloc();
     let file: &[u8] = b"a = b / \"x\"\nb = a";
     let text = read_text(alloc, file)?;
-    let example = example_text(alloc, &text, "B")?;
     let want = "shortest length 1\nexample x\n\n0 1 0 1\n1 1 2 0\n2 1 0 0\n3 1 1 0\n4 1 1 0\n";
-    assert_eq!(rt; example.as_str(), want);
-    let cert = read_cert_file(alloc, example.as_bytes())?;
-    assert_eq!(rt; cert.as_slice(), want.as_bytes());
-    assert!(rt; check_text(alloc, &text, &cert)?);
+    let has_example = has_example(alloc, &text, want);
     let other = b"0 0 0 1\n1 1 2 0\n2 1 0 0\n3 1 1 0\n4 1 1 0\n";
-    assert!(rt; !check_text(alloc, &text, other)?);
+    let accepts_other = check_text(alloc, &text, other);
+    drop(text);
+    assert!(rt; has_example?);
+    assert!(rt; !accepts_other?);
     Ok(())
 }
 
 /// Whether this is what is printed of a rule of a text, and its certificate is accepted.
+fn is_printed(alloc: Global, text: &Snapshot, rule: &str, wanted: &str) -> Result<bool, Fail> {
+    let example = example_text(alloc, text, rule)?;
+    let accepted = check_text(alloc, text, example.as_bytes())?;
+    Ok(example.as_str() == wanted && accepted)
+}
+
+/// The same of a text that is read and let go here.
 fn prints(alloc: Global, text: &str, rule: &str, wanted: &str) -> Result<bool, Fail> {
     let text = read_text(alloc, text.as_bytes())?;
-    let example = example_text(alloc, &text, rule)?;
-    let accepted = check_text(alloc, &text, example.as_bytes())?;
-    Ok(example.as_str() == wanted && accepted)
+    let printed = is_printed(alloc, &text, rule, wanted);
+    drop(text);
+    printed
 }
 
 /// A rule alone, in another case, and names that stand for nothing.
@@ -61,10 +76,12 @@ fn examples_of_each_kind(rt: HostRuntime) -> Result<(), Fail> {
     Ok(())
 }
 
-/// Whether an ending has this status and this line.
-fn ends(ending: &Ending, status: u8, kind: &str, detail: &str) -> bool {
+/// Whether an ending, which is let go, has this status and this line.
+fn ends(ending: Ending, status: u8, kind: &str, detail: &str) -> bool {
     let line = ending.line();
-    ending.status() == status && line.0 == kind && line.1 == detail
+    let is_so = ending.status() == status && line.0 == kind && line.1 == detail;
+    drop(ending);
+    is_so
 }
 
 const TWO: &str = "a = b / \"x\"\nb = a";
@@ -72,13 +89,15 @@ const TWO: &str = "a = b / \"x\"\nb = a";
 /// Whether the check of a certificate for these two rules prints this, and ends so.
 fn checks(alloc: Global, cert: &str, printed: &str, status: u8, fault: &str) -> Result<bool, Fail> {
     let text = read_text(alloc, TWO.as_bytes())?;
-    let (said, ending) = Ending::of_check(check_text(alloc, &text, cert.as_bytes()));
+    let checked = check_text(alloc, &text, cert.as_bytes());
+    drop(text);
+    let (said, ending) = Ending::of_check(checked);
     let kind = if fault.is_empty() {
         ""
     } else {
         "certificate fault "
     };
-    Ok(said == printed && ends(&ending, status, kind, fault))
+    Ok(ends(ending, status, kind, fault) && said == printed)
 }
 
 /// A certificate that is accepted, alone and behind an example, and ones with a wrong entry, a wrong choice, and a line too few.
@@ -114,7 +133,7 @@ fn checks_of_no_certificate(rt: HostRuntime) -> Result<(), Fail> {
 
 /// Whether a run of the server that came to this has this status and this line.
 fn serves(served: Result<Status, ServeFault>, status: u8, kind: &str, detail: &str) -> bool {
-    ends(&Ending::of(served), status, kind, detail)
+    ends(Ending::of(served), status, kind, detail)
 }
 
 #[test]
@@ -146,17 +165,20 @@ fn endings_by_a_framing_fault(rt: HostRuntime) -> Result<(), Fail> {
     Ok(())
 }
 
+/// Whether a command that can't use the file `g.abnf` ends so.
+fn gives_up(alloc: Global, fault: FileFault, status: u8, line: (&str, &str)) -> Result<bool, Fail> {
+    let path = String::from_str(alloc, "g.abnf")?;
+    Ok(ends(Ending::of_file(fault, path), status, line.0, line.1))
+}
+
 /// How a command ends that can't use the file `g.abnf`, and other arguments.
 #[test]
 fn endings_of_the_commands(rt: HostRuntime) -> Result<(), Fail> {
     let alloc = rt.alloc();
-    let unread = Ending::of_file(FileFault::CannotRead, String::from_str(alloc, "g.abnf")?);
-    assert!(rt; ends(&unread, 2, "cannot read ", "g.abnf"));
-    let no_text = Ending::of_file(FileFault::NotText, String::from_str(alloc, "g.abnf")?);
-    assert!(rt; ends(&no_text, 2, "not a text: ", "g.abnf"));
-    let memory = Ending::of_file(FileFault::Memory, String::from_str(alloc, "g.abnf")?);
-    assert!(rt; ends(&memory, 6, "out of memory", ""));
+    assert!(rt; gives_up(alloc, FileFault::CannotRead, 2, ("cannot read ", "g.abnf"))?);
+    assert!(rt; gives_up(alloc, FileFault::NotText, 2, ("not a text: ", "g.abnf"))?);
+    assert!(rt; gives_up(alloc, FileFault::Memory, 6, ("out of memory", ""))?);
     let usage = "usage: abnf_ls [example FILE RULE | check FILE CERT]";
-    assert!(rt; ends(&Ending::Usage, 5, usage, ""));
+    assert!(rt; ends(Ending::Usage, 5, usage, ""));
     Ok(())
 }
