@@ -1,6 +1,6 @@
 ;;; -*- lexical-binding: t -*-
 ;; The mode for ABNF that emacs-eglot.el and emacs-lsp-mode.el load. Its colours stand for those of the server, which eglot up to 1.17
-;; doesn't show, and lsp-mode only where lsp-semantic-tokens-enable is set. They have not been tried.
+;; doesn't show, and lsp-mode only where lsp-semantic-tokens-enable is set.
 (defvar abnf-font-lock
   '(("<[^>\n]*>" . font-lock-doc-face)
     ("^[ \t]*\\([a-z][a-z0-9-]*\\)[ \t]*=" 1 font-lock-function-name-face)

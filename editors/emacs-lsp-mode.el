@@ -1,9 +1,10 @@
 ;;; -*- lexical-binding: t -*-
 ;; Emacs with the package lsp-mode; a line in init.el that loads this file is enough:
 ;;   (load "~/.local/share/abnf_ls/editors/emacs-lsp-mode.el")
-;; M-. goes from a name to its definition, M-? lists its places, M-x lsp-rename renames it, M-x imenu has the outline, what a rule
+;; M-. goes from a name to its definition, M-? lists its uses, M-x lsp-rename renames it, M-x imenu has the outline, what a rule
 ;; generates at the shortest stands in the echo area, with the example, and M-x lsp-execute-code-action inserts that as a comment.
-;; M-x lsp-workspace-restart starts the server anew.
+;; M-x lsp-workspace-restart starts the server anew. At the first grammar of a folder lsp-mode asks where the project lies: i is that
+;; folder. M-? leaves out the places that define the name.
 (load (expand-file-name "emacs-abnf-mode" (file-name-directory load-file-name)) nil t)
 (with-eval-after-load 'lsp-mode
   (add-to-list 'lsp-language-id-configuration '(abnf-mode . "abnf"))

@@ -1,6 +1,6 @@
 " Vim with the package ALE; a line in vimrc that reads this file is enough:
 "   source ~/.local/share/abnf_ls/editors/vim-ale.vim
-" gd goes from a name to its definition, K shows what its rule generates at the shortest, :ALEFindReferences lists its places,
+" gd goes from a name to its definition, K shows what its rule generates at the shortest, :ALEFindReferences lists its uses,
 " :ALERename renames it, :ALECodeAction inserts the shortest example. Faults are marked ALE's delay after Insert mode ends; with
 " g:ale_lint_on_text_changed = "always" also as you type. :ALEStopAllLSPs and :edit start the server anew.
 silent! packadd! ale

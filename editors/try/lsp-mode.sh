@@ -28,8 +28,8 @@ run '(mapcar (function flymake-diagnostic-text) (flymake-diagnostics))'; shows "
 run '(remq nil (mapcar (function car) (imenu--make-index-alist)))'; shows "the outline" 'greeting' 'hello' 'NAME' 'name' 'id-right'
 go 3 12; shows "a hover" 'shortest length 2' 'example hi'
 go 3 12; keys M-.; shows "a definition" ' L4 '
-go 5 1; ask lsp-find-references;
-  shows "references" '3: greeting' '5: NAME' '6: name'; keys q; keys C-x 1
+# lsp-mode asks for the uses of a name, without its definitions.
+go 5 1; ask lsp-find-references; shows "references" '3: greeting' '6: name'; keys q; keys C-x 1
 go 7 13; ask lsp-rename; keys C-a; keys C-k; keys -l salutation; keys Enter
 sed 's/hello\([^"]\|$\)/salutation\1/g' "$folder/whole" > "$folder/renamed"
 writes "a rename over the whole file" "$folder/renamed" C-x C-s
