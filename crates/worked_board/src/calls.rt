@@ -31,7 +31,9 @@ pub(crate) fn opening(alloc: Global) -> Result<ClientEvent, AllocError>
 {
     let text = Text::from_str(alloc, "a = \"x\"")?;
     let event = ClientEvent::DidOpen(uri(alloc)?, 1, text, Encoding::Utf16);
-    event.copy()
+    let copy = event.copy();
+    drop(event);
+    copy
 }
 
 // How many events a journal may have before it begins anew: 1 to 4, and then as many as it may have at all.
@@ -73,7 +75,9 @@ pub(crate) fn hover(alloc: Global, id: i64) -> Result<ClientEvent, AllocError>
     ensures { IfOk result (λ event. IsAllowed event) }
 {
     let event = ClientEvent::Request(Id::Number(id), uri(alloc)?, Ask::Hover(START), false);
-    event.copy()
+    let copy = event.copy();
+    drop(event);
+    copy
 }
 
 /// Takes a job and brings it back, and says its ticket.
@@ -89,7 +93,10 @@ pub(crate) fn run_one<C: Crew, R: Wait>(
         Ok(Kept::Reply) => Ok(ticket),
         Ok(Kept::Failure) => Err(DeskFault::Memory),
         Ok(Kept::Nothing) => Err(DeskFault::Memory),
-        Err((fault, _)) => Err(fault),
+        Err((fault, back)) => {
+            drop(back);
+            Err(fault)
+        }
     }
 }
 
@@ -100,8 +107,22 @@ pub(crate) fn return_one<C: Crew, R: Wait>(
     seat: &mut WorkerSeat<C>,
 ) -> Result<u64, DeskFault> {
     let job = board.take(rt, seat)?.ok_or(DeskFault::UnknownTicket)?;
-    board.give_back(rt, seat, job.ticket)?;
-    Ok(job.ticket)
+    let ticket = job.ticket;
+    drop(job);
+    board.give_back(rt, seat, ticket)?;
+    Ok(ticket)
+}
+
+/// Whether there is no job to take.
+pub(crate) fn has_no_job<C: Crew, R: Wait>(
+    rt: &R,
+    board: &Board<C>,
+    seat: &mut WorkerSeat<C>,
+) -> bool {
+    let taken = board.take(rt, seat);
+    let has_none = matches!(&taken, Ok(None));
+    drop(taken);
+    has_none
 }
 
 /// The ticket of the next reply, if there is one.
@@ -110,10 +131,12 @@ pub(crate) fn next_ticket<C: Crew, R: Wait>(
     board: &Board<C>,
     writer: &mut WriterSeat<C>,
 ) -> Result<Option<u64>, DeskFault> {
-    match board.next_out(rt, writer)? {
-        Some(out) => Ok(Some(ticket_of(&out))),
-        None => Ok(None),
-    }
+    let Some(out) = board.next_out(rt, writer)? else {
+        return Ok(None);
+    };
+    let ticket = ticket_of(&out);
+    drop(out);
+    Ok(Some(ticket))
 }
 
 /// The document is opened, its findings are found by the first worker and sent, and two hovers are asked: the client's answers and the

@@ -2,7 +2,7 @@
 //! one worker, and one document is opened.
 ghost use Rattle.std.specs.Prelude.{◌≡◌, ◌+◌, ◌<◌, nat_lt, if◌then◌else◌};
 
-use super::calls::{DESKS, counts, hover, next_ticket, nth_desk, opening, run_one};
+use super::calls::{DESKS, counts, has_no_job, hover, next_ticket, nth_desk, opening, run_one};
 use ls_desk::DeskFault;
 use ls_rpc::Id;
 use ls_workers::{
@@ -60,7 +60,7 @@ fn drains<C: Crew, R: Wait>(
     board.stop(rt, Stop::Drain);
     let findings = run_one(rt, alloc, board, worker)?;
     let shown = run_one(rt, alloc, board, worker)?;
-    let no_job = matches!(board.take(rt, worker), Ok(None));
+    let no_job = has_no_job(rt, board, worker);
     let unknown = board.give_back(rt, worker, 1) == Err(DeskFault::UnknownTicket);
     let first = next_ticket(rt, board, writer)?;
     let second = next_ticket(rt, board, writer)?;
@@ -102,8 +102,8 @@ fn stops<C: Crew, R: Wait>(
 ) -> bool {
     board.stop(rt, Stop::Now);
     board.stop(rt, Stop::Drain);
-    let no_job = matches!(board.take(rt, worker), Ok(None));
-    let no_reply = matches!(board.next_out(rt, writer), Ok(None));
+    let no_job = has_no_job(rt, board, worker);
+    let no_reply = next_ticket(rt, board, writer) == Ok(None);
     no_job && no_reply && board.wanted(rt, 1) && !board.wanted(rt, 2)
 }
 

@@ -45,7 +45,11 @@ fn sends<C: Crew, R: Wait>(
     id: i64,
 ) -> bool {
     match board.next_out(rt, writer) {
-        Ok(Some(out)) => answers_hover(&out, ticket, id),
+        Ok(Some(out)) => {
+            let is_it = answers_hover(&out, ticket, id);
+            drop(out);
+            is_it
+        }
         _ => false,
     }
 }
@@ -167,7 +171,10 @@ fn closes<C: Crew>(
             Ok(matches!(seats, Seats::All) && overtaken && whole?)
         }
         Err(SeatFault::SeatMissing) => Ok(!matches!(seats, Seats::All) && overtaken),
-        Err(SeatFault::Strayed(_)) => Ok(false),
+        Err(SeatFault::Strayed(desk)) => {
+            drop(desk);
+            Ok(false)
+        }
     }
 }
 
@@ -197,7 +204,11 @@ fn two_hovers<C: Crew + Send + Sync, R: Threads + Wait + Sync>(
     }
     match run_gated(rt, alloc, &board, writer, workers) {
         Some(worked) => closes(alloc, board, client, worked, number, seats),
-        None => Ok(false),
+        None => {
+            drop(board);
+            drop(client);
+            Ok(false)
+        }
     }
 }
 

@@ -41,8 +41,27 @@ fn closes<C: Crew>(
             drop(desk);
             found == wanted
         }
-        Err(_) => false,
+        Err(fault) => {
+            drop(fault);
+            false
+        }
     }
+}
+
+// The one worker works. Whether its work ends by this fault.
+fn ends<C: Crew, R: Wait>(
+    rt: &R,
+    alloc: Global,
+    board: &Board<C>,
+    workers: &mut Vec<WorkerSeat<C>>,
+    fault: Option<DeskFault>,
+) -> Result<bool, AllocError> {
+    let Some(worker) = workers.pop() else {
+        return Ok(false);
+    };
+    let (worker, ended) = work(rt, alloc, board, worker, &Open);
+    workers.push(worker)?;
+    Ok(ended == fault)
 }
 
 // The document is opened, and its findings are left to a worker, in a session of so many events and unsent replies. Whether the work ends by this
@@ -61,17 +80,14 @@ fn works<C: Crew, R: Wait>(
     requires events { (0 < events) × (events ≤ 1000000) }
     requires limits { (C.max_journal ≡ 1000000) × (C.max_events ≡ events) }
 {
+    let event = opening(alloc)?;
     let desk = Desk::new(alloc, 1_000_000, events);
     let (board, mut client, writer, mut workers) = Board::<C>::new(alloc, blanks, 1, desk, 1)?;
-    let opened = board.client(rt, &mut client, opening(alloc)?) == Ok(ClientAnswer::Version(1));
+    let opened = board.client(rt, &mut client, event) == Ok(ClientAnswer::Version(1));
     board.stop(rt, Stop::Drain);
-    let Some(worker) = workers.pop() else {
-        return Ok(false);
-    };
-    let (worker, ended) = work(rt, alloc, &board, worker, &Open);
-    workers.push(worker)?;
+    let ended = ends(rt, alloc, &board, &mut workers, fault);
     let closed = closes(board, client, writer, workers, wanted);
-    Ok(opened && ended == fault && closed)
+    Ok(opened && ended? && closed)
 }
 
 // A run with this ticket of the findings of another text.
@@ -91,6 +107,31 @@ fn other_run(alloc: Global, ticket: u64) -> Result<Done, DeskFault> {
     Ok(run(alloc, job))
 }
 
+// Whether the run of another text with this ticket is refused and comes back.
+fn is_refused<C: Crew, R: Wait>(
+    rt: &R,
+    alloc: Global,
+    board: &Board<C>,
+    worker: &mut WorkerSeat<C>,
+    ticket: u64,
+) -> Result<bool, DeskFault> {
+    match board.finish(rt, worker, other_run(alloc, ticket)?) {
+        Err((fault, back)) => {
+            let is_it = fault == DeskFault::OtherText && back.ticket() == 1;
+            drop(back);
+            Ok(is_it)
+        }
+        Ok(_) => Ok(false),
+    }
+}
+
+// Whether a run was kept for a reply.
+fn is_kept(answer: Result<Kept, (DeskFault, Done)>) -> bool {
+    let is_reply = matches!(&answer, Ok(Kept::Reply));
+    drop(answer);
+    is_reply
+}
+
 // The findings are taken. The run of another text under their ticket is refused and comes back, and the seat has brought nothing; then their
 // own run is kept.
 fn strays<C: Crew, R: Wait>(
@@ -102,14 +143,10 @@ fn strays<C: Crew, R: Wait>(
 ) -> Result<bool, DeskFault> {
     let opened = board.client(rt, client, opening(alloc)?)?;
     let job = board.take(rt, worker)?.ok_or(DeskFault::UnknownTicket)?;
-    let other = other_run(alloc, job.ticket)?;
-    let refused = match board.finish(rt, worker, other) {
-        Err((DeskFault::OtherText, back)) => back.ticket() == 1,
-        Err(_) | Ok(_) => false,
-    };
+    let refused = is_refused(rt, alloc, board, worker, job.ticket);
     let none = worker.took.get() == 1 && worker.finished.get() == 0;
-    let kept = matches!(board.finish(rt, worker, run(alloc, job)), Ok(Kept::Reply));
-    Ok(opened == ClientAnswer::Version(1) && refused && none && kept)
+    let kept = is_kept(board.finish(rt, worker, run(alloc, job)));
+    Ok(opened == ClientAnswer::Version(1) && refused? && none && kept)
 }
 
 fn strays_once<C: Crew, R: Wait>(rt: &R, alloc: Global, blanks: Blanks) -> Result<bool, AllocError>

@@ -34,13 +34,23 @@ fn closes<C: Crew>(
     match stranger {
         Stranger::Client => client.mark = OTHER,
         Stranger::Writer => writer.mark = OTHER,
-        Stranger::Worker => workers.last_mut()?.mark = OTHER,
+        Stranger::Worker => {
+            if let Some(worker) = workers.last_mut() {
+                worker.mark = OTHER;
+            }
+        }
         Stranger::Nobody => {}
     }
     match board.close(client, writer, workers) {
-        Ok(_) => Some(true),
+        Ok(desk) => {
+            drop(desk);
+            Some(true)
+        }
         Err(SeatFault::SeatMissing) => Some(false),
-        Err(SeatFault::Strayed(_)) => None,
+        Err(SeatFault::Strayed(desk)) => {
+            drop(desk);
+            None
+        }
     }
 }
 
