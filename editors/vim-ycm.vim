@@ -6,5 +6,7 @@
 silent! packadd! youcompleteme
 autocmd BufRead,BufNewFile *.abnf setfiletype abnf
 autocmd FileType abnf setlocal commentstring=;%s comments=:; iskeyword+=-
+" The server's colours need the groups that "syntax on" makes.
+autocmd FileType abnf let b:ycm_enable_semantic_highlighting = exists('g:syntax_on')
 let g:ycm_language_server = get(g:, 'ycm_language_server', []) +
 \   [{'name': 'abnf_ls', 'cmdline': ["/path/to/abnf_ls/out/abnf_ls"], 'filetypes': ['abnf']}]

@@ -9,7 +9,7 @@ set -euo pipefail
 . "$(dirname -- "$(realpath -- "${BASH_SOURCE[0]}")")/terminal.sh"
 set_up "${VIM_PROGRAM:-vim}" "$@"
 snippet vim-ycm.vim > "$folder/ycm.vim"
-printf 'set encoding=utf-8\nsource ~/ycm.vim\n' > "$folder/.vimrc"
+printf 'syntax on\nset encoding=utf-8\nsource ~/ycm.vim\n' > "$folder/.vimrc"
 go() { keys Escape; keys ":call cursor($1, $2)" Enter; }
 ask() { keys ":YcmCompleter $1" Enter; }
 
