@@ -80,8 +80,9 @@ fn hover(desk: &mut Desk, alloc: Global, id: i64) -> Result<u64, DeskFault> {
 }
 
 fn rename(desk: &mut Desk, alloc: Global, id: i64) -> Result<u64, DeskFault> {
+    let uri = uri(alloc)?;
     let ask = Ask::Rename(START, Text::from_str(alloc, "b")?);
-    desk.request(Id::Number(id), uri(alloc)?, ask, false)
+    desk.request(Id::Number(id), uri, ask, false)
 }
 
 fn symbols(desk: &mut Desk, alloc: Global, id: i64) -> Result<u64, DeskFault> {
@@ -105,11 +106,10 @@ fn first(desk: &Desk) -> Answer {
 
 fn sent(desk: &mut Desk) -> Answer {
     let first = first(desk);
-    if desk.next_out().is_some() {
-        first
-    } else {
-        Answer::Nothing
-    }
+    let out = desk.next_out();
+    let is_sent = out.is_some();
+    drop(out);
+    if is_sent { first } else { Answer::Nothing }
 }
 
 fn numbered(answer: Result<u64, DeskFault>) -> Answer {

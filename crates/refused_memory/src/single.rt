@@ -41,15 +41,21 @@ fn fed(framer: &mut Framer, out: &mut Vec<Vec<u8>>, piece: &[u8]) -> Option<usiz
     framer.feed(piece, out).ok()
 }
 
-fn frames(rt: &HostRuntime) -> io::Result<()> {
-    let mut framer = Framer::new(rt.alloc());
-    let mut out = Vec::new(rt.alloc());
+// Feeds the pieces, and prints how many frames each makes whole. How many there are.
+fn feed(rt: &HostRuntime, framer: &mut Framer, out: &mut Vec<Vec<u8>>) -> io::Result<usize> {
     let mut count = 0_usize;
     for piece in PIECES {
-        let more = fed(&mut framer, &mut out, piece);
+        let more = fed(framer, out, piece);
         println!(rt; "feed: {more:?}")?;
         count = count.saturating_add(more.unwrap_or(0));
     }
+    Ok(count)
+}
+
+fn frames(rt: &HostRuntime) -> io::Result<()> {
+    let mut framer = Framer::new(rt.alloc());
+    let mut out = Vec::new(rt.alloc());
+    let count = feed(rt, &mut framer, &mut out)?;
     let whole = are_contents(out.as_slice(), count) && framer.end() == Ok(());
     println!(rt; "contents: {count}, {whole}")
 }
@@ -99,6 +105,7 @@ fn texts(rt: &HostRuntime) -> io::Result<()> {
         Ok(text) => is_edited(alloc, text),
         Err(_) => None,
     };
+    drop(text);
     println!(rt; "apply: {is_right:?}")
 }
 

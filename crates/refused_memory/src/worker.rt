@@ -23,7 +23,10 @@ fn copied(job: &Job) -> Result<Job, AllocError> {
 fn handed_in(desk: &mut Desk, done: Done) -> Result<Kept, DeskFault> {
     match desk.finish(done) {
         Ok(kept) => Ok(kept),
-        Err((fault, _)) => Err(fault),
+        Err((fault, back)) => {
+            drop(back);
+            Err(fault)
+        }
     }
 }
 
@@ -56,7 +59,7 @@ impl Worker {
             return Ok(());
         };
         desk.give_back(job.ticket)?;
-        self.held.pop();
+        drop(self.held.pop());
         Ok(())
     }
 
@@ -68,7 +71,7 @@ impl Worker {
         let job = copied(job)?;
         let answer = handed_in(desk, run(alloc, job));
         if answer != Err(DeskFault::Memory) {
-            self.held.pop();
+            drop(self.held.pop());
         }
         answer
     }
