@@ -26,7 +26,9 @@ fn is_least(alloc: Global, grammar: &Grammar<'_>) -> Result<bool, AllocError> {
 
 fn has_least_of(alloc: Global, text: &Snapshot) -> Result<bool, AllocError> {
     let grammar = Grammar::of(alloc, text)?;
-    is_least(alloc, &grammar)
+    let is_least = is_least(alloc, &grammar);
+    drop(grammar);
+    is_least
 }
 
 /// Whether this holds of the grammar of a text.

@@ -31,7 +31,9 @@ fn verdict(alloc: Global, grammar: &Grammar<'_>, cert: &str) -> &'static str {
 
 fn says_of(alloc: Global, text: &Snapshot, cert: &str, want: &str) -> Result<bool, AllocError> {
     let grammar = Grammar::of(alloc, text)?;
-    Ok(verdict(alloc, &grammar, cert) == want)
+    let verdict = verdict(alloc, &grammar, cert);
+    drop(grammar);
+    Ok(verdict == want)
 }
 
 /// Whether this is said of a certificate's text, for the grammar of a text.
@@ -49,7 +51,9 @@ fn is_found(alloc: Global, grammar: &Grammar<'_>, want: &str) -> Result<bool, Al
 
 fn finds_of(alloc: Global, text: &Snapshot, want: &str) -> Result<bool, AllocError> {
     let grammar = Grammar::of(alloc, text)?;
-    is_found(alloc, &grammar, want)
+    let is_found = is_found(alloc, &grammar, want);
+    drop(grammar);
+    is_found
 }
 
 /// Whether this is the text of the certificate that is found for the grammar of a text.
