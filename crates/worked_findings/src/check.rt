@@ -58,7 +58,9 @@ fn tells(alloc: Global, grammar: &Grammar<'_>, want: &str) -> Result<bool, Alloc
 /// Whether just this is found in a text.
 pub(crate) fn has_findings(alloc: Global, text: &Snapshot, want: &str) -> Result<bool, AllocError> {
     let grammar = Grammar::of(alloc, text)?;
-    tells(alloc, &grammar, want)
+    let tells = tells(alloc, &grammar, want);
+    drop(grammar);
+    tells
 }
 
 pub(crate) fn snapshot(alloc: Global, text: &str) -> Result<Snapshot, Fail> {
