@@ -32,11 +32,12 @@ impl<'t, T> Model for Groups<'t, T> {
 }
 
 impl<'t, T> Groups<'t, T> {
-    pub fn new(alloc: Global) -> Groups<'t, T>
+    /// No names. The seed is that of their table.
+    pub fn new(alloc: Global, seed: u64) -> Groups<'t, T>
         ensures { result ≡ ([], []) }
     {
         Groups {
-            names: Names::new(alloc),
+            names: Names::new(alloc, seed),
             members: Vec::new(alloc),
         }
     }

@@ -18,6 +18,7 @@ use abnf_token::Folded;
 use ls_lists::List;
 use ls_text::Place;
 use std::alloc::{AllocError, Global};
+use std::hash::{DefaultHasher, Hash, Hasher};
 
 /// One more section under the name that its block defines, if it defines one.
 fn with_section<'s, 't>(
@@ -33,6 +34,18 @@ fn with_section<'s, 't>(
     }
 }
 
+/// A number that depends on each name that the blocks define. Names that meet in a table with one seed don't in a table with another, and
+/// a name that is changed so that it meets others changes the seed.
+fn seed_of(sections: &[Section<'_>]) -> u64 {
+    let mut hasher = DefaultHasher::new();
+    for section in sections {
+        if let Some(head) = section.block.head() {
+            Folded(head.name.text).hash(&mut hasher);
+        }
+    }
+    hasher.finish()
+}
+
 /// The names that the blocks define, and under each the sections of its blocks.
 pub(crate) fn own_groups<'s, 't>(
     alloc: Global,
@@ -40,7 +53,7 @@ pub(crate) fn own_groups<'s, 't>(
 ) -> Result<Groups<'t, Listed<'s, 't>>, AllocError>
     ensures { IfOk result (λ g. spec.AreGrouped (map excerpts.excerpt sections.now) g) }
 {
-    let mut groups = Groups::new(alloc);
+    let mut groups = Groups::new(alloc, seed_of(sections));
     for section in sections {
         groups = with_section(alloc, groups, section)?;
     }
@@ -61,7 +74,7 @@ fn add_core_name<'t>(names: &mut Names<'t>, name: Folded<'t>) -> Result<(), Allo
 fn core_names_stated<'t>(alloc: Global, spots: &[Spot<'t>]) -> Result<Names<'t>, AllocError>
     ensures { IfOk result (λ names. names ≡ spec.stated (map named_at spots.now)) }
 {
-    let mut names = Names::new(alloc);
+    let mut names = Names::new(alloc, 0);
     for spot in spots {
         add_core_name(&mut names, spot.name)?;
     }

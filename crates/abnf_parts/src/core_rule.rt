@@ -217,7 +217,7 @@ pub fn needed_rules(
 pub fn core_names<'t>(alloc: Global, needed: &[Core]) -> Result<Names<'t>, AllocError>
     ensures { IfOk result (λ names. names ≡ fold with_name [] (map (λ core. core_name (table.core_of core)) needed.now)) }
 {
-    let mut names = Names::new(alloc);
+    let mut names = Names::new(alloc, 0);
     for core in needed {
         names.add(Folded(core.name()))?;
     }

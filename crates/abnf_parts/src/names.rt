@@ -9,12 +9,38 @@ use crate::node::RuleNo;
 use abnf_token::Folded;
 use indexmap::IndexSet;
 use std::alloc::{AllocFailed, Global};
+use std::hash::{BuildHasher, FoldHasher, Hasher};
 use std::marker::Model;
+
+/// How a table hashes its names: each by a hasher to which a number, the seed, was fed before. Which names meet in the table depends on
+/// the seed, so nobody can choose names that do without knowing it.
+#[derive(Clone, Copy)]
+pub struct Seeded {
+    seeded: FoldHasher,
+}
+
+impl Seeded {
+    fn by(seed: u64) -> Seeded {
+        let mut seeded = FoldHasher::default();
+        seeded.write_u64(seed);
+        Seeded { seeded }
+    }
+}
+
+impl BuildHasher for Seeded {
+    type Hasher = FoldHasher;
+
+    ghost build_hasher = { λ s. s.seeded };
+
+    fn build_hasher(&self) -> FoldHasher {
+        self.seeded
+    }
+}
 
 /// Names, each once, in the order in which they came. Contracts see the list of names with their letters made small.
 #[derive(Drop)]
 pub struct Names<'t> {
-    names: IndexSet<Folded<'t>>,
+    names: IndexSet<Folded<'t>, Seeded>,
 }
 
 impl<'t> Model for Names<'t> {
@@ -27,12 +53,12 @@ impl<'t> Model for Names<'t> {
 }
 
 impl<'t> Names<'t> {
-    /// No names.
-    pub fn new(alloc: Global) -> Names<'t>
+    /// No names. Where anybody may choose those that come, the seed should depend on all of them.
+    pub fn new(alloc: Global, seed: u64) -> Names<'t>
         ensures { result ≡ [] }
     {
         Names {
-            names: IndexSet::new(alloc),
+            names: IndexSet::with_hasher(alloc, Seeded::by(seed)),
         }
     }
 
