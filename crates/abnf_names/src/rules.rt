@@ -17,7 +17,7 @@ use crate::reach::reaching;
 use crate::section::{Listed, Section};
 use crate::sections::rule_of;
 use abnf_parts::{Core, Node, NodeNo, RuleNames, fill, push_concatenations, push_needed};
-use abnf_syntax::{MAX_NESTING, Rule};
+use abnf_syntax::{MAX_NESTING, Rule, Spare};
 use ls_lists::List;
 use std::alloc::{AllocError, Global};
 
@@ -52,6 +52,7 @@ fn push_known<'t>(
 /// The alternatives that a section's block says, whose numbers are added to `numbers`.
 fn push_alternatives<'t>(
     alloc: Global,
+    spare: &mut Spare<'t>,
     names: &RuleNames<'t>,
     section: &Section<'t>,
     nodes: &mut Vec<Node<'t>>,
@@ -61,14 +62,19 @@ fn push_alternatives<'t>(
         → AddsTrees (rules.alternatives_said (rule_number (all_names names.now)) tells) nodes.old.items nodes.new.items numbers.old numbers.new) }
     ensures kept { OnOk result (length nodes.old.items ≤ length nodes.new.items) }
 {
-    let rule = rule_of(alloc, section)?;
-    push_known(alloc, names, &rule, nodes, numbers)
+    let rule = rule_of(alloc, spare, section)?;
+    push_known(alloc, names, &rule, nodes, numbers)?;
+    if let Some(rule) = rule {
+        spare.keep(rule);
+    }
+    Ok(())
 }
 
 /// The same if the section counts.
 fn push_if<'t>(
     alloc: Global,
     counts: bool,
+    spare: &mut Spare<'t>,
     names: &RuleNames<'t>,
     section: &Section<'t>,
     nodes: &mut Vec<Node<'t>>,
@@ -79,7 +85,7 @@ fn push_if<'t>(
     ensures kept { OnOk result (length nodes.old.items ≤ length nodes.new.items) }
 {
     if counts {
-        push_alternatives(alloc, names, section, nodes, numbers)
+        push_alternatives(alloc, spare, names, section, nodes, numbers)
     } else {
         Ok(())
     }
@@ -98,6 +104,7 @@ fn adds(section: &Section<'_>) -> bool
 /// The alternatives that those of a name's sections say which count, whose numbers are added to `numbers`.
 fn push_counted<'s, 't>(
     alloc: Global,
+    spare: &mut Spare<'t>,
     names: &RuleNames<'t>,
     sections: &[Listed<'s, 't>],
     nodes: &mut Vec<Node<'t>>,
@@ -113,6 +120,7 @@ fn push_counted<'s, 't>(
         push_if(
             alloc,
             adds | !is_defined,
+            spare,
             names,
             listed.section,
             nodes,
@@ -126,6 +134,7 @@ fn push_counted<'s, 't>(
 /// The rule whose name has these sections.
 fn push_rule<'s, 't>(
     alloc: Global,
+    spare: &mut Spare<'t>,
     names: &RuleNames<'t>,
     sections: &[Listed<'s, 't>],
     nodes: &mut Vec<Node<'t>>,
@@ -136,7 +145,7 @@ fn push_rule<'s, 't>(
     let at = nodes.len();
     let mut numbers = List::new(alloc);
     nodes.push(Node::Opaque)?;
-    push_counted(alloc, names, sections, nodes, &mut numbers)?;
+    push_counted(alloc, spare, names, sections, nodes, &mut numbers)?;
     fill(nodes, at, Node::Alt(numbers));
     Ok(())
 }
@@ -144,6 +153,7 @@ fn push_rule<'s, 't>(
 /// The rules of the text, by the sections of each, whose roots' numbers are added to `roots`.
 fn push_own<'s, 't>(
     alloc: Global,
+    spare: &mut Spare<'t>,
     names: &RuleNames<'t>,
     own: &[List<Listed<'s, 't>>],
     nodes: &mut Vec<Node<'t>>,
@@ -154,7 +164,7 @@ fn push_own<'s, 't>(
 {
     for sections in own {
         roots.push(NodeNo::new(nodes.len()))?;
-        push_rule(alloc, names, sections.as_slice(), nodes)?;
+        push_rule(alloc, spare, names, sections.as_slice(), nodes)?;
     }
     Ok(())
 }
@@ -162,6 +172,7 @@ fn push_own<'s, 't>(
 /// All rules, those of the text first.
 fn push_rules<'s, 't>(
     alloc: Global,
+    spare: &mut Spare<'t>,
     names: &RuleNames<'t>,
     own: &[List<Listed<'s, 't>>],
     needed: &[Core],
@@ -170,7 +181,7 @@ fn push_rules<'s, 't>(
 ) -> Result<(), AllocError>
     ensures { OnOk result ((blocks : List said.Block) → spec.AreDefined blocks names.now.0 own.now → spec.AreNames blocks names.now → map table.core_of needed.now ≡ rules.needed blocks → AddsTrees (rules.rules_of blocks) nodes.old.items nodes.new.items roots.old roots.new) }
 {
-    push_own(alloc, names, own, nodes, roots)?;
+    push_own(alloc, spare, names, own, nodes, roots)?;
     push_needed(alloc, names.own().len(), names.core(), needed, nodes, roots)
 }
 
@@ -185,7 +196,10 @@ fn numbered_rules<'s, 't>(
 {
     let mut nodes = Vec::new(alloc);
     let mut roots = List::new(alloc);
-    push_rules(alloc, names, own, needed, &mut nodes, &mut roots)?;
+    let mut spare = Spare::new(alloc);
+    push_rules(
+        alloc, &mut spare, names, own, needed, &mut nodes, &mut roots,
+    )?;
     // What looks through the nodes needs memory of its own beside them.
     nodes.shrink_to_fit();
     Ok((nodes, roots.into_vec()))

@@ -7,7 +7,7 @@ ghost use Rattle.abnf_names.specs.Passes as spec;
 ghost use Rattle.abnf_names.specs.Shown.{HasFault};
 
 use crate::section::Section;
-use abnf_syntax::{Block, Rule, SyntaxFault, blocks, check_block, parse_block};
+use abnf_syntax::{Block, Rule, Spare, SyntaxFault, blocks, check_block, read_block};
 use ls_lists::List;
 use ls_text::Snapshot;
 use std::alloc::{AllocError, Global};
@@ -45,6 +45,7 @@ pub(crate) fn sections_of<'t>(
 /// The rule that the block of a section says, if it says one; a block without items says none.
 pub(crate) fn rule_of<'t>(
     alloc: Global,
+    spare: &mut Spare<'t>,
     section: &Section<'t>,
 ) -> Result<Option<Rule<'t>>, AllocError>
     ensures { IfOk result (λ rule. (said : Result Rule SyntaxFault) → spec.IsSaidBy section.now said
@@ -56,10 +57,6 @@ pub(crate) fn rule_of<'t>(
     if section.block.items.is_empty() {
         return Ok(None);
     }
-    match parse_block(alloc, &section.block) {
-        Ok(rule) => Ok(Some(rule)),
-        Err(SyntaxFault::Memory) => Err(AllocError),
-        // The block shows no fault.
-        Err(_) => unreachable!(),
-    }
+    let rule = read_block(alloc, spare, &section.block)?;
+    Ok(Some(rule))
 }

@@ -1,7 +1,7 @@
 -- The ends of a range are the first two of its numbers.
 use Rattle.std.proofs.Common.{◌≡◌, ◌∙◌, ℕ, true, false, List, [], ◌∷◌, Some, None, refl, sym, ap}
 use Rattle.std.specs.Prelude.{fold, if◌then◌else◌}
-use Rattle.abnf_parts.specs.Part.{series}
+use Rattle.abnf_parts.specs.Part.{Part, opaque, series, span}
 use Rattle.abnf_parts.specs.Leaf.{both_ends, ends_of, has, number_in, numbers_from, span_of, with_end}
 
 both_stay : (low high : ℕ) (ns : List ℕ) → fold with_end (Some low, Some high) ns ≡ (Some low, Some high)
@@ -22,3 +22,25 @@ ends_in base digits h =
 -- digits without it are no range
 pub no_ends : (base : ℕ) (digits : List ℕ) → has 0x2D digits ≡ false → None ≡ ends_of (number_in base digits)
 no_ends base digits h = sym (ap (λ b. ends_of (if b then span_of (numbers_from base 0 digits) else series (numbers_from base 0 digits))) h)
+
+-- numbers are a range where both ends are read, and opaque else
+span_of_ends : (ns : List ℕ) (low high : ℕ) → ends_of (span_of ns) ≡ Some (low, high) → span_of ns ≡ span low high
+span_of_ends [] low high h = absurd (cc)
+span_of_ends (x ∷ []) low high h = absurd (cc)
+span_of_ends (x ∷ y ∷ rest) low high h =
+    let both : ◌≡◌ {A = ℕ × ℕ} (x, y) (low, high) = some_same (x, y) (low, high) h in
+    (λ i. span (both i).0 (both i).1)
+  where
+    some_same : (a b : ℕ × ℕ) → Some a ≡ Some b → a ≡ b
+    some_same a b e = cc e
+
+opaque_of_none : (ns : List ℕ) → ends_of (span_of ns) ≡ None → span_of ns ≡ opaque
+opaque_of_none [] h = refl
+opaque_of_none (x ∷ []) h = refl
+opaque_of_none (x ∷ y ∷ rest) h = absurd (cc)
+
+pub span_in : (ns : List ℕ) (low high : ℕ) → both_ends (fold with_end (None, None) ns) ≡ Some (low, high) → span_of ns ≡ span low high
+span_in ns low high e = span_of_ends ns low high (sym (first_two ns) ∙ e)
+
+pub opaque_in : (ns : List ℕ) → both_ends (fold with_end (None, None) ns) ≡ None → span_of ns ≡ opaque
+opaque_in ns e = opaque_of_none ns (sym (first_two ns) ∙ e)

@@ -68,26 +68,6 @@ fn numbers(alloc: Global, base: u32, digits: &[u8]) -> Result<List<u32>, AllocEr
     Ok(numbers)
 }
 
-/// The node of a number, a series or a range.
-pub(crate) fn number_node<'t>(alloc: Global, token: Token<'t>) -> Result<Node<'t>, AllocError>
-    ensures { IfOk result (λ node. (n : ℕ) → IsNode n (leaf.number_part token.entry.text.now) node) }
-{
-    let [_, letter, digits @ ..] = token.text.as_bytes() else {
-        return Ok(Node::Opaque);
-    };
-    let numbers = numbers(alloc, base_of(*letter), digits)?;
-    if !has(digits, b'-') {
-        return Ok(Node::Series(numbers));
-    }
-    match numbers.as_slice() {
-        [low, high, ..] => Ok(Node::Span {
-            low: *low,
-            high: *high,
-        }),
-        _ => Ok(Node::Opaque),
-    }
-}
-
 /// One more number of a range, behind those that were read.
 fn with_end(ends: (Option<u32>, Option<u32>), number: u32) -> (Option<u32>, Option<u32>)
     ensures { result ≡ leaf.with_end ends number }
@@ -124,6 +104,30 @@ fn both_ends(ends: (Option<u32>, Option<u32>)) -> Option<(u32, u32)>
         (Some(low), Some(high)) => Some((low, high)),
         _ => None,
     }
+}
+
+/// The node of a range with these digits.
+fn range_node<'t>(base: u32, digits: &[u8]) -> Node<'t>
+    ensures { (n : ℕ) → IsNode n (leaf.span_of (leaf.numbers_from base 0 digits.now)) result }
+{
+    match both_ends(first_ends(base, digits)) {
+        Some((low, high)) => Node::Span { low, high },
+        None => Node::Opaque,
+    }
+}
+
+/// The node of a number, a series or a range. A range takes no memory.
+pub(crate) fn number_node<'t>(alloc: Global, token: Token<'t>) -> Result<Node<'t>, AllocError>
+    ensures { IfOk result (λ node. (n : ℕ) → IsNode n (leaf.number_part token.entry.text.now) node) }
+{
+    let [_, letter, digits @ ..] = token.text.as_bytes() else {
+        return Ok(Node::Opaque);
+    };
+    let base = base_of(*letter);
+    if has(digits, b'-') {
+        return Ok(range_node(base, digits));
+    }
+    Ok(Node::Series(numbers(alloc, base, digits)?))
 }
 
 /// The two ends of a range, if these are the digits of one.

@@ -16,3 +16,5 @@ pub mod Exist
 pub mod Early
 pub mod Cons
 pub mod CheckLaws
+pub mod Plain
+pub mod Goes

@@ -1,15 +1,26 @@
 -- The check of a block, over lists. No public contract speaks of it.
-use Rattle.std.specs.Prelude.{◌⊎◌, ◌≡◌, List, [], ◌∷◌, Option, Some, None, Result, Ok, Err}
+use Rattle.std.specs.Prelude.{◌⊎◌, ◌≡◌, Bool, false, List, [], ◌∷◌, Option, Some, None, Result, Ok, Err}
 use Rattle.std.specs.Option.{option_or}
+use Rattle.abnf_token.specs.declared.token.Kind.{Kind}
+use Rattle.abnf_token.specs.declared.token.Kind.TheVariants.{Name, Slash, Quoted, Prose}
 use Rattle.abnf_token.specs.declared.token.Token.{Token}
 use Rattle.abnf_syntax.specs.declared.item.Item.{Item}
 use Rattle.abnf_syntax.specs.declared.fault.SyntaxFault.{SyntaxFault}
 use Rattle.abnf_syntax.specs.declared.fault.SyntaxFault.TheVariants.{Memory}
+use Rattle.abnf_syntax.specs.Kinds.{needs_element, ends_element}
 use Rattle.abnf_syntax.specs.Faults.{rows_of, least, open_after}
 
 -- what the table says behind a last item and open brackets
 unfoldable pub fault_behind : Item → List Token → List Item → Option SyntaxFault
 fault_behind last brackets rest = least (rows_of last brackets rest)
+
+-- An item of this kind shows no fault behind one of that kind, whatever else stands there: an element where one must come, or a slash behind one.
+abbrev pub shows_none : Kind → Kind → Bool
+shows_none last Name = needs_element last
+shows_none last Quoted = needs_element last
+shows_none last Prose = needs_element last
+shows_none last Slash = ends_element last
+shows_none last _ = false
 
 -- the first fault that is shown from there on
 abbrev pub first_fault : Item → List Token → List Item → Option SyntaxFault

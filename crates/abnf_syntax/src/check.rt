@@ -14,7 +14,7 @@ use crate::fault::SyntaxFault;
 use crate::heading::Heading;
 use crate::item::Item;
 use crate::kinds::{closes, opens};
-use crate::table::Front;
+use crate::table::{Front, shows_none};
 use abnf_token::Token;
 use ls_lists::List;
 use std::alloc::{AllocError, Global};
@@ -52,6 +52,17 @@ impl<'t> Checker<'t> {
         }
     }
 
+    /// The fault that the next item shows, with what follows it.
+    #[tactic(auto, using(crate::proofs::Plain::plain_shows_none))]
+    fn item_fault(&self, item: &Item<'t>, rest: &[Item<'t>]) -> Option<SyntaxFault>
+        ensures { result ≡ fault_behind self.now.last (reverse self.now.brackets) (item.now ∷ rest.now) }
+    {
+        if shows_none(self.last.token.kind, item.token.kind) {
+            return None;
+        }
+        self.front().item_fault(item, rest)
+    }
+
     /// Takes the next item, which shows no fault.
     fn shift(&mut self, item: &Item<'t>) -> Result<(), AllocError>
         ensures ok { OnOk result ((self.new.last ≡ item.now) × (reverse self.new.brackets ≡ open_after (reverse self.old.brackets) item.now)) }
@@ -78,7 +89,7 @@ impl<'t> Checker<'t> {
         ensures bare { opens (kind_of item.now) ≡ false
             → IfErr result (λ fault. first_fault self.old.last (reverse self.old.brackets) (item.now ∷ rest.now) ≡ Some fault) }
     {
-        match self.front().item_fault(item, rest) {
+        match self.item_fault(item, rest) {
             Some(fault) => Err(fault),
             None => Ok(self.shift(item)?),
         }

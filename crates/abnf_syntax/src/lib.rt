@@ -3,7 +3,7 @@
 //! [`blocks`] cuts a text at the lines whose indent is not above that of its first rule, and gives the items of each
 //! block: its tokens without blanks and comments. [`parse_block`] reads the items of a block as a rule of RFC 5234
 //! section 4, with the strings of RFC 7405, or says what is wrong first, and where; [`check_block`] says only whether it
-//! does, or what is wrong. Tokens, items and rules hold slices of the text's lines: no text is copied.
+//! does, or what is wrong; and [`read_block`] reads one of which that is known. Tokens, items and rules hold slices of the text's lines: no text is copied.
 #![tactic(auto)]
 
 mod block;
@@ -16,6 +16,7 @@ mod kinds;
 mod number;
 mod parse;
 mod parser;
+mod spare;
 mod table;
 mod tree;
 
@@ -24,6 +25,7 @@ pub use check::check_block;
 pub use existence::{items_say_something, texts_have_blocks};
 pub use fault::SyntaxFault;
 pub use item::Item;
-pub use parse::parse_block;
+pub use parse::{parse_block, read_block};
+pub use spare::Spare;
 pub use table::{MAX_NESTING, place_of};
 pub use tree::{Alternation, Concatenation, Element, Repetition, Rule};

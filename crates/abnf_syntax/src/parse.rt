@@ -1,6 +1,6 @@
 //! The parse of a block.
 
-ghost use Rattle.std.specs.Prelude.{◌≡◌, ◌⊎◌, ◌<◌, length, IfOk, IfErr, Some, Ok, Err};
+ghost use Rattle.std.specs.Prelude.{◌≡◌, ◌⊎◌, ◌<◌, length, IfOk, IfErr, IsOk, Some, Ok, Err};
 ghost use Rattle.abnf_syntax.specs.Grammar.{Derives, HasOneRule};
 ghost use Rattle.abnf_syntax.specs.Faults.{Faults};
 ghost use Rattle.abnf_syntax.specs.Machine as spec;
@@ -11,9 +11,10 @@ use crate::fault::SyntaxFault;
 use crate::heading::Heading;
 use crate::item::Item;
 use crate::kinds::is_adds;
-use crate::parser::body_of;
+use crate::parser::{body_of, sound_body_of};
+use crate::spare::Spare;
 use crate::tree::Rule;
-use std::alloc::Global;
+use std::alloc::{AllocError, Global};
 
 /// The rule that these items say.
 fn parsed<'t>(alloc: Global, items: &[Item<'t>]) -> Result<Rule<'t>, SyntaxFault>
@@ -22,7 +23,8 @@ fn parsed<'t>(alloc: Global, items: &[Item<'t>]) -> Result<Rule<'t>, SyntaxFault
     ensures early { (fault : SyntaxFault) → spec.early items.now ≡ Some fault → result ≡ Err fault }
 {
     let heading = Heading::of(items)?;
-    let body = body_of(alloc, heading.defined, heading.body)?;
+    let mut spare = Spare::new(alloc);
+    let body = body_of(alloc, &mut spare, heading.defined, heading.body)?;
     Ok(Rule {
         name: heading.head.token,
         adds: is_adds(heading.defined.token.kind),
@@ -57,4 +59,44 @@ pub fn parse_block<'t>(alloc: Global, block: &Block<'t>) -> Result<Rule<'t>, Syn
     ensures early { (fault : SyntaxFault) (shows : Faults block.now.items fault) → length shows.front < 3 → result ≡ Err fault }
 {
     parsed(alloc, block.items.as_slice())
+}
+
+/// The rule that these items say.
+fn sound_parsed<'t>(
+    alloc: Global,
+    spare: &mut Spare<'t>,
+    items: &[Item<'t>],
+) -> Result<Rule<'t>, AllocError>
+    requires some { 0 < length items.now }
+    requires sound { IsOk (spec.parse items.now) }
+    ensures { IfOk result (λ rule. spec.parse items.now ≡ Ok rule) }
+{
+    let Ok(heading) = Heading::of(items) else {
+        unreachable!()
+    };
+    let body = sound_body_of(alloc, spare, heading.defined, heading.body)?;
+    Ok(Rule {
+        name: heading.head.token,
+        adds: is_adds(heading.defined.token.kind),
+        body,
+    })
+}
+
+/// The rule that a block says which shows no fault: what [`parse_block`] answers. Nothing is looked for twice, and the rule takes
+/// spare room where there is some.
+///
+/// # Errors
+///
+/// Where an allocation is refused.
+pub fn read_block<'t>(
+    alloc: Global,
+    spare: &mut Spare<'t>,
+    block: &Block<'t>,
+) -> Result<Rule<'t>, AllocError>
+    requires some { 0 < length block.now.items }
+    requires sound { (fault : SyntaxFault) → Faults block.now.items fault → ⊥ }
+    ensures derives { IfOk result (λ rule. Derives block.now.items rule) }
+    ensures one { HasOneRule block.now.items }
+{
+    sound_parsed(alloc, spare, block.items.as_slice())
 }

@@ -1,12 +1,13 @@
 //! The parser: a stack of the brackets that are open, which takes one item after another.
 
-ghost use Rattle.std.specs.Prelude.{◌≡◌, ◌⊎◌, ◌∷◌, [], reverse, length, Some, IfOk, IfErr, OnOk, Err};
+ghost use Rattle.std.specs.Prelude.{◌≡◌, ◌⊎◌, ◌∷◌, [], reverse, length, Some, IfOk, IfErr, IsOk, OnOk, Ok, Err};
 ghost use Rattle.abnf_syntax.specs.Faults.{first_of};
 ghost use Rattle.abnf_syntax.specs.Machine as spec;
 
 use crate::fault::SyntaxFault;
 use crate::item::Item;
-use crate::table::Front;
+use crate::spare::Spare;
+use crate::table::{Front, shows_none};
 use crate::tree::{Alternation, Concatenation, Element, Repetition};
 use abnf_token::{Kind, Token};
 use ls_lists::List;
@@ -51,12 +52,12 @@ impl<'t> Level<'t> {
     ghost use Rattle.abnf_syntax.specs.Machine as spec;
 
     /// Nothing yet.
-    fn new(alloc: Global) -> Level<'t>
+    fn new(spare: &mut Spare<'t>) -> Level<'t>
         ensures { result ≡ spec.empty }
     {
         Level {
-            done: List::new(alloc),
-            row: List::new(alloc),
+            done: spare.take_alternation(),
+            row: spare.take_concatenation(),
             repeat: None,
         }
     }
@@ -77,10 +78,10 @@ impl<'t> Level<'t> {
     }
 
     /// A slash ends the concatenation. The first that one ends gets room for the next beside it, since one follows.
-    fn bar(&mut self, alloc: Global) -> Result<(), AllocError>
+    fn bar(&mut self, spare: &mut Spare<'t>) -> Result<(), AllocError>
         ensures { OnOk result (self.new ≡ spec.barred self.old) }
     {
-        let row = mem::replace(&mut self.row, List::new(alloc));
+        let row = mem::replace(&mut self.row, spare.take_concatenation());
         self.repeat = None;
         if self.done.is_empty() {
             self.done.reserve(2)?;
@@ -126,25 +127,25 @@ impl<'t> Parser<'t> {
     ghost use Rattle.abnf_syntax.specs.Machine as spec;
 
     /// The parser behind `=` or `=/`.
-    fn new(alloc: Global, defined: Item<'t>) -> Parser<'t>
+    fn new(alloc: Global, spare: &mut Spare<'t>, defined: Item<'t>) -> Parser<'t>
         ensures { spec.state_of result ≡ spec.start defined.entry }
     {
         Parser {
             outer: List::new(alloc),
-            level: Level::new(alloc),
+            level: Level::new(spare),
             last: defined,
         }
     }
 
     /// A bracket opens.
-    fn open_bracket(&mut self, alloc: Global, bracket: Token<'t>) -> Result<(), AllocError>
+    fn open_bracket(&mut self, spare: &mut Spare<'t>, bracket: Token<'t>) -> Result<(), AllocError>
         ensures { OnOk result (spec.state_of self.new ≡ record {
           outer = record { bracket = bracket.entry; level = self.old.level } ∷ reverse self.old.outer;
           level = spec.empty;
           last = self.old.last;
         }) }
     {
-        let level = mem::replace(&mut self.level, Level::new(alloc));
+        let level = mem::replace(&mut self.level, Level::new(spare));
         self.outer.push(Opened { bracket, level })
     }
 
@@ -161,7 +162,7 @@ impl<'t> Parser<'t> {
 
     /// Takes the next item, which shows no fault.
     #[tactic(auto, unfolding(crate::specs::Machine::shift))]
-    fn shift(&mut self, alloc: Global, item: &Item<'t>) -> Result<(), AllocError>
+    fn shift(&mut self, spare: &mut Spare<'t>, item: &Item<'t>) -> Result<(), AllocError>
         ensures { OnOk result (spec.state_of self.new ≡ spec.shift (spec.state_of self.old) item.now) }
     {
         let token = item.token;
@@ -171,9 +172,9 @@ impl<'t> Parser<'t> {
             Kind::Quoted => self.level.put(Element::Quoted(token)),
             Kind::Number => self.level.put(Element::Number(token)),
             Kind::Prose => self.level.put(Element::Prose(token)),
-            Kind::ParenL | Kind::BracketL => self.open_bracket(alloc, token),
+            Kind::ParenL | Kind::BracketL => self.open_bracket(spare, token),
             Kind::ParenR | Kind::BracketR => self.close_bracket(),
-            Kind::Slash => self.level.bar(alloc),
+            Kind::Slash => self.level.bar(spare),
             Kind::Repeat => {
                 self.level.count(token);
                 Ok(())
@@ -213,7 +214,12 @@ impl<'t> Parser<'t> {
 
     /// Takes the next item.
     #[tactic(auto, unfolding(crate::specs::Machine::fault_at))]
-    fn step(&mut self, alloc: Global, item: &Item<'t>, rest: &[Item<'t>]) -> Result<(), SyntaxFault>
+    fn step(
+        &mut self,
+        spare: &mut Spare<'t>,
+        item: &Item<'t>,
+        rest: &[Item<'t>],
+    ) -> Result<(), SyntaxFault>
         ensures ok { OnOk result (
             spec.run (spec.state_of self.old) (item.now ∷ rest.now) ≡ spec.run (spec.state_of self.new) rest.now) }
         ensures err { IfErr result (λ fault. (fault ≡ SyntaxFault.Memory)
@@ -223,7 +229,7 @@ impl<'t> Parser<'t> {
     {
         match self.item_fault(item, rest) {
             Some(fault) => Err(fault),
-            None => Ok(self.shift(alloc, item)?),
+            None => Ok(self.shift(spare, item)?),
         }
     }
 
@@ -243,15 +249,33 @@ impl<'t> Parser<'t> {
 /// The alternation behind `=` or `=/`, up to the end of the block.
 pub(crate) fn body_of<'t>(
     alloc: Global,
+    spare: &mut Spare<'t>,
     defined: Item<'t>,
     items: &[Item<'t>],
 ) -> Result<Alternation<'t>, SyntaxFault>
     ensures gives { spec.Gives result (spec.run (spec.start defined.entry) items.now) }
     ensures shown { (fault : SyntaxFault) → spec.fault_at (spec.start defined.entry) items.now ≡ Some fault → result ≡ Err fault }
 {
-    let mut parser = Parser::new(alloc, defined);
+    let mut parser = Parser::new(alloc, spare, defined);
     for i in 0..items.len() {
-        parser.step(alloc, &items[i], &items[i + 1..])?;
+        parser.step(spare, &items[i], &items[i + 1..])?;
     }
     parser.finish()
+}
+
+/// The same where none of these items and not their end shows a fault.
+pub(crate) fn sound_body_of<'t>(
+    alloc: Global,
+    spare: &mut Spare<'t>,
+    defined: Item<'t>,
+    items: &[Item<'t>],
+) -> Result<Alternation<'t>, AllocError>
+    requires { IsOk (spec.run (spec.start defined) items.now) }
+    ensures { IfOk result (λ a. spec.run (spec.start defined.entry) items.now ≡ Ok a) }
+{
+    let mut parser = Parser::new(alloc, spare, defined);
+    for item in items {
+        parser.shift(spare, item)?;
+    }
+    parser.level.finish()
 }

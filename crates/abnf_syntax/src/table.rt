@@ -3,7 +3,7 @@
 ghost use Rattle.std.specs.Prelude.{◌≡◌, List, [], ◌∷◌, length};
 ghost use Rattle.abnf_token.specs.declared.token.Token.{Token};
 ghost use Rattle.abnf_syntax.specs.Faults.{place_of, place_after, first_of, is_followed};
-ghost use Rattle.abnf_syntax.specs.Check.{fault_behind};
+ghost use Rattle.abnf_syntax.specs.Check.{fault_behind, shows_none};
 
 use crate::fault::SyntaxFault;
 use crate::item::Item;
@@ -12,7 +12,7 @@ use crate::kinds::{
     needs_element, opens,
 };
 use crate::number::numbers_fit;
-use abnf_token::Token;
+use abnf_token::{Kind, Token};
 use ls_text::Place;
 
 /// How deep groups and options may nest.
@@ -56,6 +56,17 @@ fn is_followed(rest: &[Item<'_>]) -> bool
     match rest.first() {
         None => false,
         Some(next) => begins_element(next.token.kind) && !next.apart,
+    }
+}
+
+/// Whether an item shows no fault behind another one by their kinds alone, as most do.
+pub(crate) fn shows_none(last: Kind, kind: Kind) -> bool
+    ensures { result ≡ shows_none last kind }
+{
+    match kind {
+        Kind::Name | Kind::Quoted | Kind::Prose => needs_element(last),
+        Kind::Slash => ends_element(last),
+        _ => false,
     }
 }
 

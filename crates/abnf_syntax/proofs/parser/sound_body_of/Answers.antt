@@ -1,0 +1,12 @@
+use Rattle.abnf_syntax.specs.Machine.{run, start, state_of}
+use Rattle.abnf_syntax.proofs.Goes.{next_goes, end_goes}
+use Rattle.abnf_syntax.proofs.parser.sound_body_of.Goals as goal
+
+pub loop-item-preserved : goal.loop-item-preserved
+loop-item-preserved c =
+    next_goes c.args.items.now c.loop-item.item-index c.item-item.result (state_of c.loop-item.parser) (state_of c.shift.new.self) (run (start c.args.defined) c.args.items.now)
+    c.loop-item-test.true c.item-item.is c.loop-item.invariant c.requires c.in_ok-shift.ensures
+
+pub returns : goal.returns
+returns c =
+    end_goes c.args.items.now c.loop-item.item-index (state_of c.loop-item.parser) (run (start c.args.defined) c.args.items.now) c.loop-item-test.false c.loop-item.invariant c.requires c.finish.result c.finish.ensures
