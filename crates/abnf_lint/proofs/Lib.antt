@@ -11,7 +11,7 @@ pub mod FoundItems
 pub mod FoundBlock
 pub mod Stands
 pub mod Refers
-pub mod Known
+pub mod Sound
 pub mod Seen
 pub mod FaultLines
 pub mod Apart

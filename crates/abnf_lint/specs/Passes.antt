@@ -1,21 +1,18 @@
 -- What the pass over a text's blocks holds. Only contracts of private functions speak of it.
-use Rattle.std.specs.Prelude.{◌≡◌, ◌<◌, ℕ, Bool, true, false, not, ◌&&◌, ◌||◌, List, [], ◌∷◌, ◌++◌, flat_map, length, slice_get, Some, None, if◌then◌else◌}
+use Rattle.std.specs.Prelude.{◌≡◌, ◌<◌, ℕ, Bool, true, false, not, ◌&&◌, ◌||◌, List, [], ◌∷◌, ◌++◌, length, nat_lt, slice_get, Some, None, if◌then◌else◌}
 use Rattle.std.specs.Option.{option_map_or}
 use Rattle.abnf_syntax.specs.declared.block.Head.{Head}
-use Rattle.abnf_syntax.specs.declared.item.Item.{Item}
-use Rattle.abnf_syntax.specs.Grammar.{kind_of}
 use Rattle.abnf_syntax.specs.Faults.{place_of}
 use Rattle.abnf_syntax.specs.Heads.{head_of}
 use Rattle.abnf_parts.specs.declared.node.Node.{Node}
-use Rattle.abnf_parts.specs.declared.node.Node.TheVariants.{Ref}
+use Rattle.abnf_parts.specs.declared.node.Node.TheVariants.{Ref, Rep, Span}
 use Rattle.abnf_parts.specs.Names.{Name, rule_number, with_name}
 use Rattle.abnf_names.specs.Said.{name_of}
-use Rattle.abnf_names.specs.Places.{Named, uses_after}
 use Rattle.abnf_names.specs.Excerpts.{Excerpt}
 use Rattle.abnf_lint.specs.declared.block.Seen.{Seen}
 use Rattle.abnf_lint.specs.declared.finding.Code.TheVariants as c
 use Rattle.abnf_lint.specs.declared.finding.Finding.{Finding}
-use Rattle.abnf_lint.specs.Findings.{block_findings, found_if, has_name, number_findings, use_findings}
+use Rattle.abnf_lint.specs.Findings.{block_findings, found_if, has_name, said_findings}
 
 -- the names of heads, and one more block's
 abbrev pub with_head : List Name → Excerpt → List Name
@@ -59,40 +56,28 @@ abbrev pub HaveRules : List Name → List Excerpt → Type 0
 HaveRules names [] = Unit {0}
 HaveRules names (block ∷ blocks) = ((head : Head) → head_of block.items ≡ Some head → has_name names (name_of head) ≡ true) × HaveRules names blocks
 
--- the node is no reference, or its name stands for a rule
-abbrev pub is_resolved : Node → Bool
-is_resolved (Ref name None) = false
-is_resolved _ = true
+-- nothing is found at the node: its name stands for a rule, if it has one, and no range and no repetition is empty
+abbrev pub is_sound : Node → Bool
+is_sound (Ref name None) = false
+is_sound (Span low high) = not (nat_lt high low)
+is_sound (Rep least (Some most) body) = not (nat_lt most least)
+is_sound _ = true
 
 -- the block counts among those of its name: it adds, or no block before defines the name with `=`
 abbrev pub counts : List Name → Excerpt → Bool
 counts bases block = option_map_or (λ head. head.adds || not (has_name bases (name_of head))) (head_of block.items) false
 
--- the uses behind the first item
-abbrev pub uses_in : List Item → List Named
-uses_in [] = []
-uses_in (item ∷ items) = uses_after (kind_of item) items
-
--- no use is undefined in the block, if it has no fault
-abbrev pub IsKnown : List Name → Excerpt → Type 0
-IsKnown names block = block.fault ≡ None → flat_map (use_findings names) (uses_in block.items) ≡ []
+-- nothing is found at the items of the block, if it has no fault
+abbrev pub IsSound : List Name → Excerpt → Type 0
+IsSound names block = block.fault ≡ None → said_findings names block ≡ []
 
 -- so if the block counts, by what the blocks before say of its head's name
-abbrev pub IsKnownIfCounted : List Name → List Seen → Excerpt → Type 0
-IsKnownIfCounted names seen block =
+abbrev pub IsSoundIfCounted : List Name → List Seen → Excerpt → Type 0
+IsSoundIfCounted names seen block =
     (head : Head) → head_of block.items ≡ Some head → (r : ℕ) → rule_number names (name_of head) ≡ Some r → (before : Seen) → slice_get seen r ≡ Some before → (head.adds || not before.is_base) ≡ true
-    → IsKnown names block
+    → IsSound names block
 
--- no use is undefined in those of the blocks that count
-abbrev pub AreKnown : List Name → List Name → List Excerpt → Type 0
-AreKnown names bases [] = Unit {0}
-AreKnown names bases (block ∷ blocks) = (counts bases block ≡ true → IsKnown names block) × AreKnown names (with_base bases block) blocks
-
--- of the repeats and numbers among these items
-abbrev pub numbers_found : List Item → List Finding
-numbers_found items = flat_map (λ item. number_findings (kind_of item) (place_of item.token) item.token.text.now) items
-
--- of the items of a block where no use is undefined
-abbrev pub known_findings : List Item → List Finding
-known_findings [] = []
-known_findings (item ∷ items) = numbers_found items
+-- nothing is found at the items of those of the blocks that count
+abbrev pub AreSound : List Name → List Name → List Excerpt → Type 0
+AreSound names bases [] = Unit {0}
+AreSound names bases (block ∷ blocks) = (counts bases block ≡ true → IsSound names block) × AreSound names (with_base bases block) blocks

@@ -8,7 +8,7 @@ ghost use Rattle.abnf_lint.specs.Findings as spec;
 ghost use Rattle.abnf_lint.specs.Passes as passes;
 
 use crate::finding::{Code, Finding};
-use crate::item::{push_fault, push_if, push_items, push_known_items};
+use crate::item::{push_fault, push_if, push_items};
 use abnf_names::{Grammar, Section};
 use abnf_parts::RuleNo;
 use abnf_syntax::{Head, place_of};
@@ -87,43 +87,42 @@ fn push_head(
     )
 }
 
-/// Adds what is found of a block's fault, or of its items where it has none. The names in it may be known to stand for rules.
+/// Adds what is found of a block's fault, or of its items where it has none. It may be known that there is nothing to be found at these.
 fn push_said<'t>(
     alloc: Global,
     grammar: &Grammar<'t>,
-    is_known: bool,
+    is_sound: bool,
     section: &Section<'t>,
     found: &mut List<Finding>,
 ) -> Result<(), AllocError>
-    requires { IsTrue is_known → passes.IsKnown grammar.now.names (excerpt section.now) }
+    requires { IsTrue is_sound → passes.IsSound grammar.now.names (excerpt section.now) }
     ensures { OnOk result (found.new ≡ found.old ++ spec.said_findings grammar.now.names (excerpt section.now)) }
 {
-    let items = section.block.items.as_slice();
     match section.fault {
         Some(fault) => push_fault(alloc, fault, found),
         None => {
-            if is_known {
-                push_known_items(alloc, items, found)
+            if is_sound {
+                Ok(())
             } else {
-                push_items(alloc, grammar, items, found)
+                push_items(alloc, grammar, section.block.items.as_slice(), found)
             }
         }
     }
 }
 
 /// Adds what is found in a block. Beside each rule stands what the blocks before say of its name, to which the block's head is added.
-/// All names that rules use may be known to stand for rules.
+/// All nodes of the rules may be known to be sound.
 pub(crate) fn push_block<'t>(
     alloc: Global,
     grammar: &Grammar<'t>,
     marks: &[bool],
-    knows_all: bool,
+    are_sound: bool,
     seen: &mut [Seen],
     section: &Section<'t>,
     found: &mut List<Finding>,
 ) -> Result<(), AllocError>
     requires mark { passes.HasMark grammar.now.names seen.old (excerpt section.now) }
-    requires known { IsTrue knows_all → passes.IsKnownIfCounted grammar.now.names seen.old (excerpt section.now) }
+    requires sound { IsTrue are_sound → passes.IsSoundIfCounted grammar.now.names seen.old (excerpt section.now) }
     ensures found { OnOk result ((heads bases : List Name) → passes.AreSeen grammar.now.names heads bases seen.old
         → found.new ≡ found.old ++ spec.block_findings marks.now grammar.now.names heads bases (excerpt section.now)) }
     ensures seen { OnOk result ((heads bases : List Name) → passes.AreSeen grammar.now.names heads bases seen.old
@@ -134,7 +133,7 @@ pub(crate) fn push_block<'t>(
             let rule = rule_of_head(grammar, head);
             let before = join_heads(seen, rule, head);
             let counts = head.adds | !before.is_base;
-            push_said(alloc, grammar, knows_all & counts, section, found)?;
+            push_said(alloc, grammar, are_sound & counts, section, found)?;
             push_head(alloc, before, is_marked(marks, rule), head, found)
         }
         None => push_said(alloc, grammar, false, section, found),

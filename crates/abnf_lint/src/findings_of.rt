@@ -16,25 +16,31 @@ use abnf_names::{Grammar, Node, Section};
 use ls_lists::List;
 use std::alloc::{AllocError, Global};
 
-/// Whether a node is no reference, or one whose name stands for a rule.
-fn is_resolved(node: &Node<'_>) -> bool
-    ensures { result ≡ passes.is_resolved node.now }
+/// Whether nothing is found at a node: its name stands for a rule, if it has one, and it is no range and no repetition that is empty.
+fn is_sound(node: &Node<'_>) -> bool
+    ensures { result ≡ passes.is_sound node.now }
 {
     match node {
         Node::Ref { name: _, rule } => rule.is_some(),
+        Node::Span { low, high } => !(*high < *low),
+        Node::Rep {
+            least,
+            most: Some(most),
+            body: _,
+        } => !(*most < *least),
         _ => true,
     }
 }
 
-/// Whether each name that rules use stands for a rule, by the nodes of the rules.
-fn knows_all_names(nodes: &[Node<'_>]) -> bool
-    ensures { result ≡ list_all passes.is_resolved nodes.now }
+/// Whether nothing is found at these nodes.
+fn are_sound(nodes: &[Node<'_>]) -> bool
+    ensures { result ≡ list_all passes.is_sound nodes.now }
 {
-    nodes.iter().all(|node| is_resolved(node))
+    nodes.iter().all(|node| is_sound(node))
 }
 
-/// What is found, block after block. Beside each rule stands what is known of the heads of its name; uses are looked up only where one
-/// of them may stand for nothing.
+/// What is found, block after block. Beside each rule stands what is known of the heads of its name. Each use, number and repeat of a
+/// block that counts has a node, so the items of such blocks are looked at only where some node isn't sound.
 fn candidates<'t>(
     alloc: Global,
     grammar: &Grammar<'t>,
@@ -44,7 +50,7 @@ fn candidates<'t>(
     requires { HasSections grammar.now sections.now }
     ensures { IfOk result (λ found. found ≡ passes.findings_behind marks.now grammar.now.names [] [] (map excerpt sections.now)) }
 {
-    let knows_all = knows_all_names(grammar.nodes());
+    let are_sound = are_sound(grammar.nodes());
     let not_seen = Seen {
         is_head: false,
         is_base: false,
@@ -53,7 +59,7 @@ fn candidates<'t>(
     let seen = table.as_mut_slice();
     let mut found = List::new(alloc);
     for section in sections {
-        push_block(alloc, grammar, marks, knows_all, seen, section, &mut found)?;
+        push_block(alloc, grammar, marks, are_sound, seen, section, &mut found)?;
     }
     Ok(found)
 }

@@ -4,7 +4,6 @@ ghost use Rattle.std.specs.Prelude.{◌≡◌, ◌++◌, false, flat_map, OnOk};
 ghost use Rattle.abnf_names.specs.Places as places;
 ghost use Rattle.abnf_syntax.specs.Faults as faults;
 ghost use Rattle.abnf_lint.specs.Findings as spec;
-ghost use Rattle.abnf_lint.specs.Passes as passes;
 
 use crate::finding::{Code, Finding};
 use abnf_names::{Grammar, is_touched};
@@ -164,32 +163,4 @@ pub(crate) fn push_items<'t>(
         before = item.token.kind;
     }
     Ok(())
-}
-
-/// Adds what is found of the repeats and numbers among these items.
-fn push_numbers(
-    alloc: Global,
-    items: &[Item<'_>],
-    found: &mut List<Finding>,
-) -> Result<(), AllocError>
-    ensures { OnOk result (found.new ≡ found.old ++ passes.numbers_found items.now) }
-{
-    for item in items {
-        push_number(alloc, item.token, found)?;
-    }
-    Ok(())
-}
-
-/// Adds what is found of the items of a block without fault where no use is undefined; the first of them is its head.
-pub(crate) fn push_known_items(
-    alloc: Global,
-    items: &[Item<'_>],
-    found: &mut List<Finding>,
-) -> Result<(), AllocError>
-    ensures { OnOk result (found.new ≡ found.old ++ passes.known_findings items.now) }
-{
-    let Some((_, rest)) = items.split_first() else {
-        return Ok(());
-    };
-    push_numbers(alloc, rest, found)
 }

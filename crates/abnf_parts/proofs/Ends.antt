@@ -1,7 +1,7 @@
 -- The ends of a range are the first two of its numbers.
 use Rattle.std.proofs.Common.{◌≡◌, ◌∙◌, ℕ, true, false, List, [], ◌∷◌, Some, None, refl, sym, ap}
 use Rattle.std.specs.Prelude.{fold, if◌then◌else◌}
-use Rattle.abnf_parts.specs.Part.{Part, opaque, series, span}
+use Rattle.abnf_parts.specs.Part.{opaque, series, span}
 use Rattle.abnf_parts.specs.Leaf.{both_ends, ends_of, has, number_in, numbers_from, span_of, with_end}
 
 both_stay : (low high : ℕ) (ns : List ℕ) → fold with_end (Some low, Some high) ns ≡ (Some low, Some high)

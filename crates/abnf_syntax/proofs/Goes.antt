@@ -10,7 +10,7 @@ use Rattle.abnf_syntax.specs.declared.tree.Rule.{Rule}
 use Rattle.abnf_syntax.specs.Faults.{Faults}
 use Rattle.abnf_syntax.specs.Grammar.{Alternation, Derives}
 use Rattle.abnf_syntax.specs.Machine.{State, finish, parse, run, shift, fault_at, unless}
-use Rattle.abnf_syntax.proofs.Whole.{parse_faulty, parse_sound}
+use Rattle.abnf_syntax.proofs.Whole.{parse_sound}
 
 goes : (o : Option SyntaxFault) (r : Result Alternation SyntaxFault) → IsOk (unless o r) → unless o r ≡ r
 goes None r h = refl

@@ -1,4 +1,4 @@
-use Rattle.std.proofs.Common.{◌∙◌, ℕ, ap, refl, sym, subst}
+use Rattle.std.proofs.Common.{◌∙◌, ap, refl, sym, subst}
 use Rattle.abnf_parts.specs.Leaf.{both_ends, numbers_from}
 use Rattle.abnf_parts.specs.Nodes.{IsNode}
 use Rattle.abnf_parts.specs.Part.{Part}

@@ -1,0 +1,278 @@
+-- Where each node is sound, nothing is found at the items of a block that counts.
+use Rattle.std.proofs.Common.{◌≡◌, ◌∙◌, ℕ, Bool, true, false, List, [], ◌∷◌, ◌++◌, ◌⊎◌, inl, inr, map, refl, sym, ap, subst, append_assoc, append-nil}
+use Rattle.std.specs.Prelude.{All, Contains, not, ◌||◌, filter, flat_map, nat_lt, Option, Some, None, option_map, Result, Ok, Err, if◌then◌else◌}
+use Rattle.std.specs.List.{list_all}
+use Rattle.std.specs.Option.{is_some, option_map_or}
+use Rattle.std.specs.Str.{bytes_eq}
+use Rattle.std.proofs.lemmas.List.Elements.{All-contains, Contains-append_left, Contains-append_right, filter-append}
+use Rattle.std.proofs.lemmas.List.Folds.{list_all_at}
+use Rattle.std.proofs.lemmas.Option.{get_or_from_slice_get, slice_get_within, slice_get-get_or}
+use Rattle.ls_text.specs.declared.position.Place.{Place}
+use Rattle.abnf_token.specs.declared.token.Kind.{Kind}
+use Rattle.abnf_token.specs.declared.token.Kind.TheVariants as k
+use Rattle.abnf_token.specs.Folded.{lowercase}
+use Rattle.abnf_syntax.specs.declared.block.Head.{Head}
+use Rattle.abnf_syntax.specs.declared.fault.SyntaxFault.{SyntaxFault}
+use Rattle.abnf_syntax.specs.declared.item.Item.{Item}
+use Rattle.abnf_syntax.specs.declared.tree.Rule.{Rule}
+use Rattle.abnf_syntax.specs.Faults.{place_of}
+use Rattle.abnf_syntax.specs.Grammar.{kind_of, Derives}
+use Rattle.abnf_syntax.specs.Heads.{head_of}
+use Rattle.abnf_syntax.specs.Kinds.{is_name}
+use Rattle.abnf_parts.specs.declared.node.Node.{Node}
+use Rattle.abnf_parts.specs.Names.{Name, rule_number}
+use Rattle.abnf_parts.specs.Leaf.{bounds, ends_of, number_part}
+use Rattle.abnf_parts.specs.Nodes.{AreNodes, IsNode}
+use Rattle.abnf_parts.specs.Part.{Part, quoted, series, span, seq, alt, rep, ref, opaque, subparts, all_subparts, parts_of}
+use Rattle.abnf_parts.specs.Tree.{parts, alternatives}
+use Rattle.abnf_parts.proofs.NameLaws.{never, same_is, same_refl}
+use Rattle.abnf_names.specs.declared.section.Section.{Section}
+use Rattle.abnf_names.specs.Excerpts.{Excerpt, HasSections, excerpt, excerpt_of}
+use Rattle.abnf_names.specs.Shown.{fault_shown}
+use Rattle.abnf_names.specs.Places.{is_touched, named}
+use Rattle.abnf_names.specs.Rules.{Grammar, adds, alternatives_said, core_tree, counted, defined, defines, names_of, needed, rule_tree, rules_of, said_alternatives}
+use Rattle.abnf_names.specs.Said.{Block, Says, name_of}
+use Rattle.abnf_names.proofs.Kept.{each_says}
+use Rattle.abnf_lint.specs.declared.finding.Code.TheVariants as c
+use Rattle.abnf_lint.specs.Findings.{based, found_if, has_name, body_findings, fault_findings, is_empty_range, is_empty_repeat, item_findings, items_findings, number_findings, use_findings}
+use Rattle.abnf_lint.specs.Passes.{AreSound, IsSound, counts, is_sound}
+use Rattle.abnf_lint.proofs.Behind.{bases_more}
+use Rattle.abnf_lint.proofs.Heads.{bases_is, defines_is, from_has}
+use Rattle.abnf_lint.proofs.Member.{filter_in, first_in, flat_in, in_cons, in_filter, later_in, none_in}
+use Rattle.abnf_lint.proofs.Refers.{Among, TellsBy, below, in_parts, is_told, items_told}
+
+not_true : (b : Bool) → not b ≡ true → b ≡ false
+not_true true e = absurd (cc e)
+not_true false e = refl
+
+is_name_kind : (kind : Kind) → is_name kind ≡ true → kind ≡ k.Name
+is_name_kind k.Name h = refl
+is_name_kind _ h = absurd (cc h)
+
+-- ---- the nodes
+
+-- nothing is found where the part stands
+abbrev is_sound_part : Part → Bool
+is_sound_part (ref name None) = false
+is_sound_part (span low high) = not (nat_lt high low)
+is_sound_part (rep least (Some most) p) = not (nat_lt most least)
+is_sound_part _ = true
+
+node_sound : (n : ℕ) (p : Part) (node : Node) → IsNode n p node → is_sound node ≡ is_sound_part p
+node_sound n (quoted text exact) node h = ap is_sound h.1
+node_sound n (series characters) node h = ap is_sound h
+node_sound n (span low high) node h = ap is_sound h
+node_sound n (seq ps) node h = ap is_sound h
+node_sound n (alt ps) node h = ap is_sound h
+node_sound n (rep least None p) node h = ap is_sound h
+node_sound n (rep least (Some most) p) node h = ap is_sound h
+node_sound n (ref name None) node h = ap is_sound h.1
+node_sound n (ref name (Some r)) node h = ap is_sound h.1
+node_sound n opaque node h = ap is_sound h
+
+abbrev AllSound : List Part → Type 0
+AllSound rules = (p : Part) → Contains (parts_of rules) p → is_sound_part p ≡ true
+
+true_of_not_false : (b : Bool) → (b ≡ false → ⊥) → b ≡ true
+true_of_not_false true h = refl
+true_of_not_false false h = absurd (h refl)
+
+all_sound : (rules : List Part) (nodes : List Node) → AreNodes rules nodes → list_all is_sound nodes ≡ true → AllSound rules
+all_sound rules nodes are e p h =
+    let one = are.each h.0 p (slice_get-get_or (parts_of rules) h.0 p h.1 ∙ ap Some h.2) in
+    true_of_not_false (is_sound_part p) (λ bad.
+    let unsound : is_sound one.0 ≡ false = node_sound h.0 p one.0 one.2 ∙ bad in
+    let none = list_all_at is_sound nodes h.0 one.0 (slice_get_within nodes h.0 one.0 one.1) (ap is_sound (get_or_from_slice_get nodes h.0 one.0 one.0 one.1) ∙ unsound) in
+    never (list_all is_sound nodes) e none)
+
+-- ---- the items
+
+range_sound : (p : Part) → is_sound_part p ≡ true → is_empty_range (ends_of p) ≡ false
+range_sound (span low high) e = not_true (nat_lt high low) e
+range_sound (quoted text exact) e = refl
+range_sound (series characters) e = refl
+range_sound (seq ps) e = refl
+range_sound (alt ps) e = refl
+range_sound (rep least most p) e = refl
+range_sound (ref name rule) e = refl
+range_sound opaque e = refl
+
+repeat_sound : (b : ℕ × Option ℕ) (p : Part) → is_sound_part (rep b.0 b.1 p) ≡ true → is_empty_repeat b ≡ false
+repeat_sound (least, None) p e = refl
+repeat_sound (least, Some most) p e = not_true (nat_lt most least) e
+
+found_none : (o : Option ℕ) (place : Place) (text : List ℕ) → (o ≡ None → ⊥) → found_if (not (is_some o)) c.Undefined place text ≡ []
+found_none None place text known = absurd (known refl)
+found_none (Some r) place text known = refl
+
+never_unsound : (name : List ℕ) (o : Option ℕ) → is_sound_part (ref name o) ≡ true → o ≡ None → ⊥
+never_unsound name None e h = absurd (cc e)
+never_unsound name (Some r) e h = absurd (cc h)
+
+module _ (names : List Name) where
+  abbrev stands_for : Name → Option ℕ
+  stands_for = rule_number names
+
+  -- nothing is found at the item, whatever stands before it
+  abbrev IsSilent : Item → Type 0
+  IsSilent item = (before : Kind) → item_findings names before item ≡ []
+
+  named_none : (b : Bool) (item : Item) → (b ≡ true → stands_for (lowercase item.token.text.now) ≡ None → ⊥)
+      → flat_map (use_findings names) (if b then record { text = item.token.text.now; place = place_of item.token; defines = false } ∷ [] else []) ≡ []
+  named_none false item known = refl
+  named_none true item known = append-nil _ ∙ found_none (stands_for (lowercase item.token.text.now)) (place_of item.token) item.token.text.now (known refl)
+
+  use_none : (b : Bool) (item : Item) → (is_name (kind_of item) ≡ true → stands_for (lowercase item.token.text.now) ≡ None → ⊥) → flat_map (use_findings names) (if b then [] else named false item) ≡ []
+  use_none true item known = refl
+  use_none false item known = named_none (is_name (kind_of item)) item known
+
+  number_none : (kind : Kind) (place : Place) (text : List ℕ) → (kind ≡ k.Repeat → is_empty_repeat (bounds text) ≡ false) → (kind ≡ k.Number → is_empty_range (ends_of (number_part text)) ≡ false)
+      → number_findings kind place text ≡ []
+  number_none k.Repeat place text counts ranges = ap (λ b. found_if b c.EmptyRepeat place []) (counts refl)
+  number_none k.Number place text counts ranges = ap (λ b. found_if b c.EmptyRange place []) (ranges refl)
+  number_none _ place text counts ranges = refl
+
+  silent : (item : Item) → (is_name (kind_of item) ≡ true → stands_for (lowercase item.token.text.now) ≡ None → ⊥)
+      → (kind_of item ≡ k.Repeat → is_empty_repeat (bounds item.token.text.now) ≡ false) → (kind_of item ≡ k.Number → is_empty_range (ends_of (number_part item.token.text.now)) ≡ false) → IsSilent item
+  silent item known counts ranges before =
+      (λ i. use_none (is_touched before item) item known i ++ number_none (kind_of item) (place_of item.token) item.token.text.now counts ranges i)
+
+  items_silent : (before : Kind) (items : List Item) → ((item : Item) → Contains items item → IsSilent item) → items_findings names before items ≡ []
+  items_silent before [] all = refl
+  items_silent before (x ∷ xs) all = (λ i. all x (first_in x xs) before i ++ items_silent (kind_of x) xs (λ y m. all y (later_in x xs y m)) i)
+
+-- ---- the blocks that count
+
+if_based : (x : Block) (before after : List Block) (b : Block) (a : Bool) → adds x ≡ a → (adds b ≡ true) ⊎ (adds x ≡ true) → Contains (counted (before ++ b ∷ after)) b
+    → Contains (if a then counted (before ++ b ∷ after) else filter adds (before ++ b ∷ after)) b
+if_based x before after b true e h rest = rest
+if_based x before after b false e h rest = elim h [
+  | inl so ↦ filter_in adds (before ++ b ∷ after) b (Contains-append_right before (b ∷ after) b (first_in b after)) so
+  | inr so ↦ never (adds x) so e
+]
+
+counted_in : (before : List Block) (b : Block) (after : List Block) → ((x : Block) → Contains before x → (adds b ≡ true) ⊎ (adds x ≡ true)) → Contains (counted (before ++ b ∷ after)) b
+counted_in [] b after h = first_in b _
+counted_in (x ∷ before) b after h =
+    later_in x _ b (if_based x before after b (adds x) refl (h x (first_in x before)) (counted_in before b after (λ y m. h y (later_in x before y m))))
+
+-- it adds, or none before it defines its name with `=`
+counts_by : (bases : List Name) (o : Option Head) → option_map_or (λ head. head.adds || not (has_name bases (name_of head))) o false ≡ true
+    → (head : Head) × (o ≡ Some head) × ((head.adds ≡ true) ⊎ (has_name bases (name_of head) ≡ false))
+counts_by bases None e = absurd (cc e)
+counts_by bases (Some head) e = (head, refl, either head.adds (has_name bases (name_of head)) e)
+  where
+    either : (a b : Bool) → (a || not b) ≡ true → (a ≡ true) ⊎ (b ≡ false)
+    either true b e = inl refl
+    either false b e = inr (not_true b e)
+
+defines_by : (name : Name) (o : Option Head) → option_map_or (λ head. bytes_eq (name_of head) name) o false ≡ true → option_map name_of o ≡ Some name
+defines_by name None e = absurd (cc e)
+defines_by name (Some head) e = ap Some (same_is (name_of head) name e)
+
+either_adds : (before : List Block) (b : Block) (name : Name) → (adds b ≡ true) ⊎ (has_name (based before) name ≡ false) → (x : Block) → Contains (filter (defines name) before) x → (a : Bool) → adds x ≡ a
+    → (adds b ≡ true) ⊎ (adds x ≡ true)
+either_adds before b name h x m true e = inr e
+either_adds before b name h x m false e = elim h [
+  | inl so ↦ inl so
+  | inr none ↦ let k = in_filter (defines name) before x m in
+      never (has_name (based before) name) ((bases_is before name).1 (x, k.0, defines_by name (head_of x.items) k.1, e)) none
+]
+
+kept_first : (name : Name) (b : Block) (after : List Block) (a : Bool) → a ≡ true → (if a then b ∷ filter (defines name) after else filter (defines name) after) ≡ b ∷ filter (defines name) after
+kept_first name b after true e = refl
+kept_first name b after false e = absurd (cc e)
+
+-- a block that counts is among those whose alternatives make up its name's rule
+counted_there : (before : List Block) (b : Block) (after : List Block) (head : Head) → head_of b.items ≡ Some head → (head.adds ≡ true) ⊎ (has_name (based before) (name_of head) ≡ false)
+    → Contains (counted (filter (defines (name_of head)) (before ++ b ∷ after))) b
+counted_there before b after head e h =
+    let name = name_of head in
+    let here : defines name b ≡ true = ap (λ o. option_map_or (λ head. bytes_eq (name_of head) name) o false) e ∙ same_refl name in
+    let split : filter (defines name) (before ++ b ∷ after) ≡ filter (defines name) before ++ b ∷ filter (defines name) after =
+    filter-append (defines name) before (b ∷ after) ∙ ap (λ bs. filter (defines name) before ++ bs) (kept_first name b after (defines name b) here) in
+    let added : adds b ≡ head.adds = ap (λ o. option_map_or (λ head. head.adds) o false) e in
+    let either : (adds b ≡ true) ⊎ (has_name (based before) name ≡ false) = elim h [ inl so ↦ inl (added ∙ so) | inr none ↦ inr none ] in
+    subst (λ bs. Contains (counted bs) b) (sym split)
+    (counted_in (filter (defines name) before) b (filter (defines name) after) (λ x m. either_adds before b name either x m (adds x) refl))
+
+in_map : {X Y : Type 0} (f : X → Y) (xs : List X) (x : X) → Contains xs x → Contains (map f xs) (f x)
+in_map f [] x h = none_in x h
+in_map f (y ∷ xs) x h = elim (in_cons y xs x h) [
+  | inl e ↦ subst (λ z. Contains (f y ∷ map f xs) (f z)) e (first_in (f y) (map f xs))
+  | inr r ↦ later_in (f y) (map f xs) (f x) (in_map f xs x r)
+]
+
+-- ---- all blocks
+
+module _ (blocks : List Block) (says : All (λ block. Says block.items block.said) blocks) (sound : AllSound (rules_of blocks)) where
+  abbrev names : List Name
+  names = names_of blocks
+
+  abbrev number : Name → Option ℕ
+  number = rule_number names
+
+  -- the parts of a name's rule are among all parts
+  of_rule : (name : Name) → Contains (defined blocks) name → (x : Part) → Contains (subparts (rule_tree blocks name)) x → Contains (parts_of (rules_of blocks)) x
+  of_rule name h x m =
+      in_parts (rules_of blocks) (rule_tree blocks name) x
+      (Contains-append_left (map (rule_tree blocks) (defined blocks)) (map (core_tree blocks) (needed blocks)) (rule_tree blocks name) (in_map (rule_tree blocks) (defined blocks) name h)) m
+
+  -- the parts that tell of the items in a block that counts are sound
+  part_sound : (b : Block) (name : Name) → Contains (defined blocks) name → Contains (counted (filter (defines name) blocks)) b → (rule : Rule) → b.said ≡ Ok rule
+      → (item : Item) (among : Among number (alternatives number rule.body) item) → is_sound_part among.2.own ≡ true
+  part_sound b name h counts rule said item among =
+      let part = among.2.own in
+      let mine : Contains (said_alternatives number b) among.0 = subst (λ r. Contains (alternatives_said number r) among.0) (sym said) among.1 in
+      let all = flat_map (said_alternatives number) (counted (filter (defines name) blocks)) in
+      let there : Contains all among.0 = flat_in (said_alternatives number) (counted (filter (defines name) blocks)) b among.0 counts mine in
+      let inside : Contains (subparts (rule_tree blocks name)) part = later_in (alt (parts all)) (all_subparts (parts all)) part (below all among.0 part there among.2.below) in
+      sound part (of_rule name h part inside)
+
+  -- nothing is found at such an item
+  by_kind : (item : Item) → ((h : is_told (kind_of item) ≡ true) → (x : Part) × TellsBy number (kind_of item) item x × (is_sound_part x ≡ true)) → IsSilent names item
+  by_kind item tells = silent names item
+      (λ named none. let t = tells_of k.Name (is_name_kind (kind_of item) named) refl in
+      never_unsound item.token.text.now (number (lowercase item.token.text.now)) (ap is_sound_part (sym t.1) ∙ t.2) none)
+      (λ e. let t = tells_of k.Repeat e refl in repeat_sound (bounds item.token.text.now) t.1.0 (ap is_sound_part (sym t.1.1) ∙ t.2))
+      (λ e. let t = tells_of k.Number e refl in range_sound (number_part item.token.text.now) (ap is_sound_part (sym t.1) ∙ t.2))
+    where
+      tells_of : (kind : Kind) → kind_of item ≡ kind → is_told kind ≡ true → (x : Part) × TellsBy number kind item x × (is_sound_part x ≡ true)
+      tells_of kind e told = subst (λ n. (x : Part) × TellsBy number n item x × (is_sound_part x ≡ true)) e (tells (ap is_told e ∙ told))
+
+  of_said : (b : Block) (name : Name) → Contains (defined blocks) name → Contains (counted (filter (defines name) blocks)) b → Says b.items b.said → (r : Result Rule SyntaxFault) → b.said ≡ r → fault_shown r ≡ None
+      → body_findings names b.items ≡ []
+  of_said b name h counts said (Err fault) e shown = absurd (cc shown)
+  of_said b name h counts said (Ok rule) e shown =
+      let d : Derives b.items rule = subst (Says b.items) e said in
+      subst (λ xs. body_findings names xs ≡ []) (sym d.split)
+      (items_silent names (kind_of d.head) (d.defined ∷ d.body) (λ item m.
+      by_kind item (λ told.
+      let among = items_told number b.items rule d item told m in
+      (among.2.own, among.2.tells, part_sound b name h counts rule e item among))))
+
+  one_sound : (before : List Block) (b : Block) (after : List Block) → blocks ≡ before ++ b ∷ after → counts (based before) (excerpt_of b) ≡ true → IsSound names (excerpt_of b)
+  one_sound before b after split e none =
+      let c = counts_by (based before) (head_of b.items) e in
+      let name = name_of c.0 in
+      let among : Contains blocks b = subst (λ bs. Contains bs b) (sym split) (Contains-append_right before (b ∷ after) b (first_in b after)) in
+      let has : Contains (defined blocks) name = from_has (defined blocks) name ((defines_is blocks name).1 (b, among, ap (option_map name_of) c.1)) in
+      let there : Contains (counted (filter (defines name) blocks)) b = subst (λ bs. Contains (counted (filter (defines name) bs)) b) (sym split) (counted_there before b after c.0 c.1 c.2) in
+      ap (λ fault. option_map_or fault_findings fault (body_findings names b.items)) none
+      ∙ of_said b name has there (All-contains (λ block. Says block.items block.said) blocks b says among) b.said refl none
+
+  from_block : (before after : List Block) → blocks ≡ before ++ after → AreSound names (based before) (map excerpt_of after)
+  from_block before [] split = tt
+  from_block before (b ∷ after) split = (
+    one_sound before b after split,
+    subst (λ bases. AreSound names bases (map excerpt_of after)) (bases_more before b) (from_block (before ++ b ∷ []) after (split ∙ sym (append_assoc before (b ∷ []) after))),
+  )
+
+pub all_blocks_sound : (g : Grammar) (sections : List Section) → HasSections g sections → (nodes : List Node) → AreNodes g.rules nodes → list_all is_sound nodes ≡ true
+    → AreSound g.names [] (map excerpt sections)
+all_blocks_sound g sections h nodes are e =
+    let rules_are : AreNodes (rules_of h.blocks) nodes = subst (λ (rs : List Part). AreNodes rs nodes) (ap (λ (x : Grammar). x.rules) h.is) are in
+    let all : AreSound (names_of h.blocks) [] (map excerpt_of h.blocks) =
+    from_block h.blocks (each_says _ h.of_text.bounds h.blocks h.of_text.each) (all_sound (rules_of h.blocks) nodes rules_are e) [] h.blocks refl in
+    subst (λ (ns : List Name). AreSound ns [] (map excerpt sections)) (sym (ap (λ (x : Grammar). x.names) h.is))
+    (subst (λ (os : List Excerpt). AreSound (names_of h.blocks) [] os) (sym h.excerpts) all)
