@@ -1,11 +1,15 @@
 -- Where each node is sound, nothing is found at the items of a block that counts.
-use Rattle.std.proofs.Common.{◌≡◌, ◌∙◌, ℕ, Bool, true, false, List, [], ◌∷◌, ◌++◌, ◌⊎◌, inl, inr, map, refl, sym, ap, subst, append_assoc, append-nil}
-use Rattle.std.specs.Prelude.{All, Contains, not, ◌||◌, filter, flat_map, nat_lt, Option, Some, None, option_map, Result, Ok, Err, if◌then◌else◌}
+use Rattle.std.proofs.Common.{◌≡◌, ◌∙◌, ◌<◌, ◌≤◌, ◌+◌, ◌-◌, ℕ, zero, suc, Bool, true, false, List, [], ◌∷◌, ◌++◌, ◌⊎◌, inl, inr, length, nat_lt, take, drop, get_or, map, refl, sym, ap, subst, arith, append_assoc, append-nil, length-append, length-drop}
+use Rattle.std.specs.Prelude.{All, Contains, not, ◌||◌, filter, flat_map, min, IsTrue, slice_get, slice_index_or, Option, Some, None, option_map, Result, Ok, Err, if◌then◌else◌}
 use Rattle.std.specs.List.{list_all}
 use Rattle.std.specs.Option.{is_some, option_map_or}
 use Rattle.std.specs.Str.{bytes_eq}
-use Rattle.std.proofs.lemmas.List.Elements.{All-contains, Contains-append_left, Contains-append_right, filter-append}
+use Rattle.std.proofs.lemmas.List.Elements.{All-contains, Contains-append_right, filter-append}
+use Rattle.std.proofs.Math.ListN.{get_or-append}
+use Rattle.std.proofs.lemmas.Bool.{cases_lt}
+use Rattle.std.proofs.lemmas.List.{get_or-append-add, get_or-drop, get_or-map, get_or-take, length-map, length-take, take_all}
 use Rattle.std.proofs.lemmas.List.Folds.{list_all_at}
+use Rattle.std.proofs.lemmas.List.Quantifiers.{position-Some}
 use Rattle.std.proofs.lemmas.Option.{get_or_from_slice_get, slice_get_within, slice_get-get_or}
 use Rattle.ls_text.specs.declared.position.Place.{Place}
 use Rattle.abnf_token.specs.declared.token.Kind.{Kind}
@@ -23,7 +27,8 @@ use Rattle.abnf_parts.specs.declared.node.Node.{Node}
 use Rattle.abnf_parts.specs.Names.{Name, rule_number}
 use Rattle.abnf_parts.specs.Leaf.{bounds, ends_of, number_part}
 use Rattle.abnf_parts.specs.Nodes.{AreNodes, IsNode}
-use Rattle.abnf_parts.specs.Part.{Part, quoted, series, span, seq, alt, rep, ref, opaque, subparts, all_subparts, parts_of}
+use Rattle.abnf_parts.specs.Core.{core_name}
+use Rattle.abnf_parts.specs.Part.{Part, quoted, series, span, seq, alt, rep, ref, opaque, subparts, all_subparts, parts_of, root_number}
 use Rattle.abnf_parts.specs.Tree.{parts, alternatives}
 use Rattle.abnf_parts.proofs.NameLaws.{never, same_is, same_refl}
 use Rattle.abnf_names.specs.declared.section.Section.{Section}
@@ -33,13 +38,14 @@ use Rattle.abnf_names.specs.Places.{is_touched, named}
 use Rattle.abnf_names.specs.Rules.{Grammar, adds, alternatives_said, core_tree, counted, defined, defines, names_of, needed, rule_tree, rules_of, said_alternatives}
 use Rattle.abnf_names.specs.Said.{Block, Says, name_of}
 use Rattle.abnf_names.proofs.Kept.{each_says}
+use Rattle.abnf_names.proofs.UsersLaws.{cut, next_root}
 use Rattle.abnf_lint.specs.declared.finding.Code.TheVariants as c
 use Rattle.abnf_lint.specs.Findings.{based, found_if, has_name, body_findings, fault_findings, is_empty_range, is_empty_repeat, item_findings, items_findings, number_findings, use_findings}
-use Rattle.abnf_lint.specs.Passes.{AreSound, IsSound, counts, is_sound}
+use Rattle.abnf_lint.specs.Passes.{AreSoundMarks, AreSoundWhereMarked, IsSoundRule, IsSoundWhereMarked, counts, is_sound, is_sound_part}
 use Rattle.abnf_lint.proofs.Behind.{bases_more}
 use Rattle.abnf_lint.proofs.Heads.{bases_is, defines_is, from_has}
 use Rattle.abnf_lint.proofs.Member.{filter_in, first_in, flat_in, in_cons, in_filter, later_in, none_in}
-use Rattle.abnf_lint.proofs.Refers.{Among, TellsBy, below, in_parts, is_told, items_told}
+use Rattle.abnf_lint.proofs.Refers.{Among, TellsBy, below, is_told, items_told}
 
 not_true : (b : Bool) → not b ≡ true → b ≡ false
 not_true true e = absurd (cc e)
@@ -50,13 +56,6 @@ is_name_kind k.Name h = refl
 is_name_kind _ h = absurd (cc h)
 
 -- ---- the nodes
-
--- nothing is found where the part stands
-abbrev is_sound_part : Part → Bool
-is_sound_part (ref name None) = false
-is_sound_part (span low high) = not (nat_lt high low)
-is_sound_part (rep least (Some most) p) = not (nat_lt most least)
-is_sound_part _ = true
 
 node_sound : (n : ℕ) (p : Part) (node : Node) → IsNode n p node → is_sound node ≡ is_sound_part p
 node_sound n (quoted text exact) node h = ap is_sound h.1
@@ -70,20 +69,81 @@ node_sound n (ref name None) node h = ap is_sound h.1
 node_sound n (ref name (Some r)) node h = ap is_sound h.1
 node_sound n opaque node h = ap is_sound h
 
-abbrev AllSound : List Part → Type 0
-AllSound rules = (p : Part) → Contains (parts_of rules) p → is_sound_part p ≡ true
-
 true_of_not_false : (b : Bool) → (b ≡ false → ⊥) → b ≡ true
 true_of_not_false true h = refl
 true_of_not_false false h = absurd (h refl)
 
-all_sound : (rules : List Part) (nodes : List Node) → AreNodes rules nodes → list_all is_sound nodes ≡ true → AllSound rules
-all_sound rules nodes are e p h =
-    let one = are.each h.0 p (slice_get-get_or (parts_of rules) h.0 p h.1 ∙ ap Some h.2) in
+next_is : (rules : List Part) (r : ℕ) → root_number rules (r + 1) ≡ root_number rules (suc r)
+next_is rules r = ap (root_number rules) (let e : r + 1 ≡ suc r = omega arith in e)
+
+-- the nodes of a rule are its parts
+pub rule_sound : (rules : List Part) (nodes : List Node) → AreNodes rules nodes → (r start end : ℕ) → start ≡ root_number rules r → end ≡ root_number rules (r + 1)
+    → list_all is_sound (take (end - start) (drop start nodes)) ≡ true → IsSoundRule rules r
+rule_sound rules nodes are r start end at_start at_next e tree is p c =
+    let front = parts_of (take r rules) in
+    let k = c.0 in
+    let split = cut rules r tree is in
+    let size = next_root rules r tree is in
+    let at_end : end ≡ root_number rules (suc r) = at_next ∙ next_is rules r in
+    let at : start + k ≡ length front + k = ap (λ n. n + k) at_start in
+    let here : get_or (parts_of rules) (start + k) p ≡ p =
+    (λ i. get_or (split.1 i) (at i) p) ∙ (get_or-append-add front (subparts tree ++ split.0) k p ∙ (get_or-append (subparts tree) split.0 p k c.1 ∙ c.2)) in
+    let all : length (parts_of rules) ≡ length front + length (subparts tree ++ split.0) = ap length split.1 ∙ length-append front (subparts tree ++ split.0) in
+    let more : length (subparts tree ++ split.0) ≡ length (subparts tree) + length split.0 = length-append (subparts tree) split.0 in
+    let low : k < length (subparts tree) = c.1 in
+    let within : start + k < length (parts_of rules) = omega (arith, at, all, more, low) in
+    let one = are.each (start + k) p (slice_get-get_or (parts_of rules) (start + k) p within ∙ ap Some here) in
     true_of_not_false (is_sound_part p) (λ bad.
-    let unsound : is_sound one.0 ≡ false = node_sound h.0 p one.0 one.2 ∙ bad in
-    let none = list_all_at is_sound nodes h.0 one.0 (slice_get_within nodes h.0 one.0 one.1) (ap is_sound (get_or_from_slice_get nodes h.0 one.0 one.0 one.1) ∙ unsound) in
-    never (list_all is_sound nodes) e none)
+    let unsound : is_sound one.0 ≡ false = node_sound (start + k) p one.0 one.2 ∙ bad in
+    let behind : start + k < length nodes = slice_get_within nodes (start + k) one.0 one.1 in
+    let few : k < end - start = omega (arith, at_start, at_end, size, low) in
+    let dropped : length (drop start nodes) ≡ length nodes - start = length-drop start nodes in
+    let left : k < length (drop start nodes) = omega (arith, behind, dropped) in
+    let taken : length (take (end - start) (drop start nodes)) ≡ min (end - start) (length (drop start nodes)) = length-take (end - start) (drop start nodes) in
+    let short : k < length (take (end - start) (drop start nodes)) = omega (arith, taken, few, left) in
+    let node_is : get_or (take (end - start) (drop start nodes)) k one.0 ≡ one.0 =
+    get_or-take (end - start) (drop start nodes) k one.0 few ∙ (get_or-drop start nodes k one.0 ∙ get_or_from_slice_get nodes (start + k) one.0 one.0 one.1) in
+    let none = list_all_at is_sound (take (end - start) (drop start nodes)) k one.0 short (ap is_sound node_is ∙ unsound) in
+    never (list_all is_sound (take (end - start) (drop start nodes))) e none)
+
+pub within_nodes : (rules : List Part) (nodes : List Node) → AreNodes rules nodes → (r start end : ℕ) → r < length rules → start ≡ root_number rules r → end ≡ root_number rules (r + 1) → (start ≤ end) × (end ≤ length nodes)
+within_nodes rules nodes are r start end below at_start at_next =
+    let tree = get_or rules r opaque in
+    let is = slice_get-get_or rules r opaque below in
+    let split = cut rules r tree is in
+    let size = next_root rules r tree is in
+    let front = parts_of (take r rules) in
+    let all : length (parts_of rules) ≡ length front + length (subparts tree ++ split.0) = ap length split.1 ∙ length-append front (subparts tree ++ split.0) in
+    let more : length (subparts tree ++ split.0) ≡ length (subparts tree) + length split.0 = length-append (subparts tree) split.0 in
+    let one_each = are.one_each in
+    let at_end : end ≡ root_number rules (suc r) = at_next ∙ next_is rules r in
+    (omega (arith, size, at_start, at_end), omega (arith, size, all, more, one_each, at_end))
+
+-- behind the last rule the nodes end
+pub last_root : (rules : List Part) (nodes : List Node) → AreNodes rules nodes → (r : ℕ) → r < length rules → length rules ≤ r + 1 → length nodes ≡ root_number rules (r + 1)
+last_root rules nodes are r below last = are.one_each ∙ ap (λ rs. length (parts_of rs)) (sym (take_all (r + 1) rules last))
+
+-- ---- the marks
+
+more_marked : (P : ℕ → Type 0) (marks : List Bool) (b : Bool) → ((k : ℕ) → slice_index_or marks k false ≡ true → P k) → (b ≡ true → P (length marks)) → (k : ℕ) → slice_index_or (marks ++ b ∷ []) k false ≡ true → P k
+more_marked P [] b each here zero e = here e
+more_marked P [] b each here (suc k) e = absurd (cc e)
+more_marked P (m ∷ marks) b each here zero e = each 0 e
+more_marked P (m ∷ marks) b each here (suc k) e = more_marked (λ n. P (suc n)) marks b (λ n h. each (suc n) h) (λ h. at_last (length marks) (here h)) k e
+  where
+    at_last : (n : ℕ) → P (length (m ∷ marks)) → P (suc (length marks))
+    at_last n h = h
+
+pub marked_more : (rules : List Part) (marks now : List Bool) (r : ℕ) (b : Bool) → length marks ≡ r → AreSoundMarks rules marks → (IsTrue b → IsSoundRule rules r) → now ≡ marks ++ b ∷ []
+    → (length now ≡ r + 1) × AreSoundMarks rules now
+marked_more rules marks now r b len are sound is =
+    let whole : length (marks ++ b ∷ []) ≡ length marks + 1 = length-append marks (b ∷ []) in (
+      ap length is ∙ (whole ∙ ap (λ n. n + 1) len),
+      subst (AreSoundMarks rules) (sym is) (more_marked (λ k. IsSoundRule rules k) marks b are (λ h. subst (λ k. IsSoundRule rules k) (sym len) (sound h))),
+    )
+
+pub none_marked : (rules : List Part) → AreSoundMarks rules []
+none_marked rules r e = absurd (cc e)
 
 -- ---- the items
 
@@ -166,6 +226,9 @@ counts_by bases (Some head) e = (head, refl, either head.adds (has_name bases (n
     either true b e = inl refl
     either false b e = inr (not_true b e)
 
+one_head : (a b : Head) → Some a ≡ Some b → a ≡ b
+one_head a b e = cc e
+
 defines_by : (name : Name) (o : Option Head) → option_map_or (λ head. bytes_eq (name_of head) name) o false ≡ true → option_map name_of o ≡ Some name
 defines_by name None e = absurd (cc e)
 defines_by name (Some head) e = ap Some (same_is (name_of head) name e)
@@ -205,29 +268,44 @@ in_map f (y ∷ xs) x h = elim (in_cons y xs x h) [
 
 -- ---- all blocks
 
-module _ (blocks : List Block) (says : All (λ block. Says block.items block.said) blocks) (sound : AllSound (rules_of blocks)) where
+module _ (blocks : List Block) (says : All (λ block. Says block.items block.said) blocks) (marks : List Bool) (sound : AreSoundMarks (rules_of blocks) marks) where
   abbrev names : List Name
   names = names_of blocks
 
   abbrev number : Name → Option ℕ
   number = rule_number names
 
-  -- the parts of a name's rule are among all parts
-  of_rule : (name : Name) → Contains (defined blocks) name → (x : Part) → Contains (subparts (rule_tree blocks name)) x → Contains (parts_of (rules_of blocks)) x
-  of_rule name h x m =
-      in_parts (rules_of blocks) (rule_tree blocks name) x
-      (Contains-append_left (map (rule_tree blocks) (defined blocks)) (map (core_tree blocks) (needed blocks)) (rule_tree blocks name) (in_map (rule_tree blocks) (defined blocks) name h)) m
+  -- the tree of a name's rule is at its number
+  tree_at : (name : Name) → Contains (defined blocks) name → (r : ℕ) → number name ≡ Some r → slice_get (rules_of blocks) r ≡ Some (rule_tree blocks name)
+  tree_at name h r e =
+      let own = defined blocks in
+      let trees = map (rule_tree blocks) own in
+      let first = position-Some (bytes_eq name) names r name e in
+      let at : get_or names r name ≡ name = sym (same_is name (get_or names r name) first.1) in
+      let k = h.0 in
+      let there : get_or names k name ≡ name = get_or-append own (map core_name (needed blocks)) name k h.1 ∙ h.2 in
+      let within : r < length own = elim (cases_lt k r) [
+        | inl before ↦ never (bytes_eq name (get_or names k name)) (subst (λ n. bytes_eq name n ≡ true) (sym there) (same_refl name)) (first.2 k before)
+        | inr behind ↦ let low : k < length own = h.1 in omega (arith, low, behind)
+      ] in
+      let here : get_or own r name ≡ name = sym (get_or-append own (map core_name (needed blocks)) name r within) ∙ at in
+      let size : length trees ≡ length own = length-map own (rule_tree blocks) in
+      let inside : r < length trees = omega (arith, size, within) in
+      let cores = map (core_tree blocks) (needed blocks) in
+      let whole : length (trees ++ cores) ≡ length trees + length cores = length-append trees cores in
+      slice_get-get_or (rules_of blocks) r (rule_tree blocks name) (omega (arith, whole, inside))
+      ∙ ap Some (get_or-append trees cores (rule_tree blocks name) r inside ∙ (get_or-map (rule_tree blocks) own r name (rule_tree blocks name) within ∙ ap (rule_tree blocks) here))
 
   -- the parts that tell of the items in a block that counts are sound
-  part_sound : (b : Block) (name : Name) → Contains (defined blocks) name → Contains (counted (filter (defines name) blocks)) b → (rule : Rule) → b.said ≡ Ok rule
+  part_sound : (b : Block) (name : Name) → Contains (defined blocks) name → (r : ℕ) → number name ≡ Some r → slice_index_or marks r false ≡ true → Contains (counted (filter (defines name) blocks)) b → (rule : Rule) → b.said ≡ Ok rule
       → (item : Item) (among : Among number (alternatives number rule.body) item) → is_sound_part among.2.own ≡ true
-  part_sound b name h counts rule said item among =
+  part_sound b name h r of_name marked counts rule said item among =
       let part = among.2.own in
       let mine : Contains (said_alternatives number b) among.0 = subst (λ r. Contains (alternatives_said number r) among.0) (sym said) among.1 in
       let all = flat_map (said_alternatives number) (counted (filter (defines name) blocks)) in
       let there : Contains all among.0 = flat_in (said_alternatives number) (counted (filter (defines name) blocks)) b among.0 counts mine in
       let inside : Contains (subparts (rule_tree blocks name)) part = later_in (alt (parts all)) (all_subparts (parts all)) part (below all among.0 part there among.2.below) in
-      sound part (of_rule name h part inside)
+      sound r marked (rule_tree blocks name) (tree_at name h r of_name) part inside
 
   -- nothing is found at such an item
   by_kind : (item : Item) → ((h : is_told (kind_of item) ≡ true) → (x : Part) × TellsBy number (kind_of item) item x × (is_sound_part x ≡ true)) → IsSilent names item
@@ -240,39 +318,38 @@ module _ (blocks : List Block) (says : All (λ block. Says block.items block.sai
       tells_of : (kind : Kind) → kind_of item ≡ kind → is_told kind ≡ true → (x : Part) × TellsBy number kind item x × (is_sound_part x ≡ true)
       tells_of kind e told = subst (λ n. (x : Part) × TellsBy number n item x × (is_sound_part x ≡ true)) e (tells (ap is_told e ∙ told))
 
-  of_said : (b : Block) (name : Name) → Contains (defined blocks) name → Contains (counted (filter (defines name) blocks)) b → Says b.items b.said → (r : Result Rule SyntaxFault) → b.said ≡ r → fault_shown r ≡ None
+  of_said : (b : Block) (name : Name) → Contains (defined blocks) name → (r : ℕ) → number name ≡ Some r → slice_index_or marks r false ≡ true → Contains (counted (filter (defines name) blocks)) b → Says b.items b.said → (r : Result Rule SyntaxFault) → b.said ≡ r → fault_shown r ≡ None
       → body_findings names b.items ≡ []
-  of_said b name h counts said (Err fault) e shown = absurd (cc shown)
-  of_said b name h counts said (Ok rule) e shown =
+  of_said b name h r of_name marked counts said (Err fault) e shown = absurd (cc shown)
+  of_said b name h r of_name marked counts said (Ok rule) e shown =
       let d : Derives b.items rule = subst (Says b.items) e said in
       subst (λ xs. body_findings names xs ≡ []) (sym d.split)
       (items_silent names (kind_of d.head) (d.defined ∷ d.body) (λ item m.
       by_kind item (λ told.
       let among = items_told number b.items rule d item told m in
-      (among.2.own, among.2.tells, part_sound b name h counts rule e item among))))
+      (among.2.own, among.2.tells, part_sound b name h r of_name marked counts rule e item among))))
 
-  one_sound : (before : List Block) (b : Block) (after : List Block) → blocks ≡ before ++ b ∷ after → counts (based before) (excerpt_of b) ≡ true → IsSound names (excerpt_of b)
-  one_sound before b after split e none =
+  one_sound : (before : List Block) (b : Block) (after : List Block) → blocks ≡ before ++ b ∷ after → IsSoundWhereMarked marks names (based before) (excerpt_of b)
+  one_sound before b after split e headed headed_is r of_name marked none =
       let c = counts_by (based before) (head_of b.items) e in
       let name = name_of c.0 in
       let among : Contains blocks b = subst (λ bs. Contains bs b) (sym split) (Contains-append_right before (b ∷ after) b (first_in b after)) in
       let has : Contains (defined blocks) name = from_has (defined blocks) name ((defines_is blocks name).1 (b, among, ap (option_map name_of) c.1)) in
       let there : Contains (counted (filter (defines name) blocks)) b = subst (λ bs. Contains (counted (filter (defines name) bs)) b) (sym split) (counted_there before b after c.0 c.1 c.2) in
       ap (λ fault. option_map_or fault_findings fault (body_findings names b.items)) none
-      ∙ of_said b name has there (All-contains (λ block. Says block.items block.said) blocks b says among) b.said refl none
+      ∙ of_said b name has r (subst (λ (h : Head). number (name_of h) ≡ Some r) (one_head headed c.0 (sym headed_is ∙ c.1)) of_name) marked there (All-contains (λ block. Says block.items block.said) blocks b says among) b.said refl none
 
-  from_block : (before after : List Block) → blocks ≡ before ++ after → AreSound names (based before) (map excerpt_of after)
+  from_block : (before after : List Block) → blocks ≡ before ++ after → AreSoundWhereMarked marks names (based before) (map excerpt_of after)
   from_block before [] split = tt
   from_block before (b ∷ after) split = (
     one_sound before b after split,
-    subst (λ bases. AreSound names bases (map excerpt_of after)) (bases_more before b) (from_block (before ++ b ∷ []) after (split ∙ sym (append_assoc before (b ∷ []) after))),
+    subst (λ bases. AreSoundWhereMarked marks names bases (map excerpt_of after)) (bases_more before b) (from_block (before ++ b ∷ []) after (split ∙ sym (append_assoc before (b ∷ []) after))),
   )
 
-pub all_blocks_sound : (g : Grammar) (sections : List Section) → HasSections g sections → (nodes : List Node) → AreNodes g.rules nodes → list_all is_sound nodes ≡ true
-    → AreSound g.names [] (map excerpt sections)
-all_blocks_sound g sections h nodes are e =
-    let rules_are : AreNodes (rules_of h.blocks) nodes = subst (λ (rs : List Part). AreNodes rs nodes) (ap (λ (x : Grammar). x.rules) h.is) are in
-    let all : AreSound (names_of h.blocks) [] (map excerpt_of h.blocks) =
-    from_block h.blocks (each_says _ h.of_text.bounds h.blocks h.of_text.each) (all_sound (rules_of h.blocks) nodes rules_are e) [] h.blocks refl in
-    subst (λ (ns : List Name). AreSound ns [] (map excerpt sections)) (sym (ap (λ (x : Grammar). x.names) h.is))
-    (subst (λ (os : List Excerpt). AreSound (names_of h.blocks) [] os) (sym h.excerpts) all)
+pub all_blocks_sound : (g : Grammar) (sections : List Section) → HasSections g sections → (marks : List Bool) → AreSoundMarks g.rules marks → AreSoundWhereMarked marks g.names [] (map excerpt sections)
+all_blocks_sound g sections h marks sound =
+    let rules_sound : AreSoundMarks (rules_of h.blocks) marks = subst (λ (rs : List Part). AreSoundMarks rs marks) (ap (λ (x : Grammar). x.rules) h.is) sound in
+    let all : AreSoundWhereMarked marks (names_of h.blocks) [] (map excerpt_of h.blocks) =
+    from_block h.blocks (each_says _ h.of_text.bounds h.blocks h.of_text.each) marks rules_sound [] h.blocks refl in
+    subst (λ (ns : List Name). AreSoundWhereMarked marks ns [] (map excerpt sections)) (sym (ap (λ (x : Grammar). x.names) h.is))
+    (subst (λ (os : List Excerpt). AreSoundWhereMarked marks (names_of h.blocks) [] os) (sym h.excerpts) all)

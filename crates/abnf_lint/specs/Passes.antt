@@ -1,5 +1,5 @@
 -- What the pass over a text's blocks holds. Only contracts of private functions speak of it.
-use Rattle.std.specs.Prelude.{◌≡◌, ◌<◌, ℕ, Bool, true, false, not, ◌&&◌, ◌||◌, List, [], ◌∷◌, ◌++◌, length, nat_lt, slice_get, Some, None, if◌then◌else◌}
+use Rattle.std.specs.Prelude.{◌≡◌, ◌<◌, ℕ, Bool, true, false, not, ◌&&◌, ◌||◌, List, [], ◌∷◌, ◌++◌, Contains, length, nat_lt, slice_get, slice_index_or, Some, None, if◌then◌else◌}
 use Rattle.std.specs.Option.{option_map_or}
 use Rattle.abnf_syntax.specs.declared.block.Head.{Head}
 use Rattle.abnf_syntax.specs.Faults.{place_of}
@@ -7,6 +7,7 @@ use Rattle.abnf_syntax.specs.Heads.{head_of}
 use Rattle.abnf_parts.specs.declared.node.Node.{Node}
 use Rattle.abnf_parts.specs.declared.node.Node.TheVariants.{Ref, Rep, Span}
 use Rattle.abnf_parts.specs.Names.{Name, rule_number, with_name}
+use Rattle.abnf_parts.specs.Part.{Part, span, rep, ref, subparts}
 use Rattle.abnf_names.specs.Said.{name_of}
 use Rattle.abnf_names.specs.Excerpts.{Excerpt}
 use Rattle.abnf_lint.specs.declared.block.Seen.{Seen}
@@ -63,6 +64,21 @@ is_sound (Span low high) = not (nat_lt high low)
 is_sound (Rep least (Some most) body) = not (nat_lt most least)
 is_sound _ = true
 
+-- nothing is found where the part stands
+abbrev pub is_sound_part : Part → Bool
+is_sound_part (ref name None) = false
+is_sound_part (span low high) = not (nat_lt high low)
+is_sound_part (rep least (Some most) p) = not (nat_lt most least)
+is_sound_part _ = true
+
+-- nothing is found where the parts of a rule stand
+abbrev pub IsSoundRule : List Part → ℕ → Type 0
+IsSoundRule rules r = (tree : Part) → slice_get rules r ≡ Some tree → (p : Part) → Contains (subparts tree) p → is_sound_part p ≡ true
+
+-- a mark stands beside such rules alone
+abbrev pub AreSoundMarks : List Part → List Bool → Type 0
+AreSoundMarks rules marks = (r : ℕ) → slice_index_or marks r false ≡ true → IsSoundRule rules r
+
 -- the block counts among those of its name: it adds, or no block before defines the name with `=`
 abbrev pub counts : List Name → Excerpt → Bool
 counts bases block = option_map_or (λ head. head.adds || not (has_name bases (name_of head))) (head_of block.items) false
@@ -71,13 +87,18 @@ counts bases block = option_map_or (λ head. head.adds || not (has_name bases (n
 abbrev pub IsSound : List Name → Excerpt → Type 0
 IsSound names block = block.fault ≡ None → said_findings names block ≡ []
 
--- so if the block counts, by what the blocks before say of its head's name
-abbrev pub IsSoundIfCounted : List Name → List Seen → Excerpt → Type 0
-IsSoundIfCounted names seen block =
-    (head : Head) → head_of block.items ≡ Some head → (r : ℕ) → rule_number names (name_of head) ≡ Some r → (before : Seen) → slice_get seen r ≡ Some before → (head.adds || not before.is_base) ≡ true
-    → IsSound names block
+-- so if the block counts, by what the blocks before say of its head's name, and a mark stands beside the name's rule
+abbrev pub IsSoundIfMarked : List Bool → List Name → List Seen → Excerpt → Type 0
+IsSoundIfMarked marks names seen block =
+    (head : Head) → head_of block.items ≡ Some head → (r : ℕ) → rule_number names (name_of head) ≡ Some r → slice_index_or marks r false ≡ true
+    → (before : Seen) → slice_get seen r ≡ Some before → (head.adds || not before.is_base) ≡ true → IsSound names block
 
--- nothing is found at the items of those of the blocks that count
-abbrev pub AreSound : List Name → List Name → List Excerpt → Type 0
-AreSound names bases [] = Unit {0}
-AreSound names bases (block ∷ blocks) = (counts bases block ≡ true → IsSound names block) × AreSound names (with_base bases block) blocks
+-- of the block that counts nothing is found at its items, if a mark stands beside its rule
+abbrev pub IsSoundWhereMarked : List Bool → List Name → List Name → Excerpt → Type 0
+IsSoundWhereMarked marks names bases block =
+    counts bases block ≡ true → (head : Head) → head_of block.items ≡ Some head → (r : ℕ) → rule_number names (name_of head) ≡ Some r → slice_index_or marks r false ≡ true → IsSound names block
+
+-- so of each block
+abbrev pub AreSoundWhereMarked : List Bool → List Name → List Name → List Excerpt → Type 0
+AreSoundWhereMarked marks names bases [] = Unit {0}
+AreSoundWhereMarked marks names bases (block ∷ blocks) = IsSoundWhereMarked marks names bases block × AreSoundWhereMarked marks names (with_base bases block) blocks

@@ -111,18 +111,18 @@ fn push_said<'t>(
 }
 
 /// Adds what is found in a block. Beside each rule stands what the blocks before say of its name, to which the block's head is added.
-/// All nodes of the rules may be known to be sound.
+/// Beside each rule stands whether all its nodes are known to be sound.
 pub(crate) fn push_block<'t>(
     alloc: Global,
     grammar: &Grammar<'t>,
     marks: &[bool],
-    are_sound: bool,
+    sound: &[bool],
     seen: &mut [Seen],
     section: &Section<'t>,
     found: &mut List<Finding>,
 ) -> Result<(), AllocError>
     requires mark { passes.HasMark grammar.now.names seen.old (excerpt section.now) }
-    requires sound { IsTrue are_sound → passes.IsSoundIfCounted grammar.now.names seen.old (excerpt section.now) }
+    requires sound { passes.IsSoundIfMarked sound.now grammar.now.names seen.old (excerpt section.now) }
     ensures found { OnOk result ((heads bases : List Name) → passes.AreSeen grammar.now.names heads bases seen.old
         → found.new ≡ found.old ++ spec.block_findings marks.now grammar.now.names heads bases (excerpt section.now)) }
     ensures seen { OnOk result ((heads bases : List Name) → passes.AreSeen grammar.now.names heads bases seen.old
@@ -133,7 +133,13 @@ pub(crate) fn push_block<'t>(
             let rule = rule_of_head(grammar, head);
             let before = join_heads(seen, rule, head);
             let counts = head.adds | !before.is_base;
-            push_said(alloc, grammar, are_sound & counts, section, found)?;
+            push_said(
+                alloc,
+                grammar,
+                is_marked(sound, rule) & counts,
+                section,
+                found,
+            )?;
             push_head(alloc, before, is_marked(marks, rule), head, found)
         }
         None => push_said(alloc, grammar, false, section, found),

@@ -1,8 +1,9 @@
 //! What is found in a text.
 
-ghost use Rattle.std.specs.Prelude.{◌≡◌, [], map, IfOk};
+ghost use Rattle.std.specs.Prelude.{◌≡◌, ◌<◌, ◌≤◌, ◌+◌, [], length, map, slice_range, IfOk, IsTrue};
 ghost use Rattle.std.specs.List.{list_all};
 ghost use Rattle.abnf_cert.specs.Accepted.{IsAccepted};
+ghost use Rattle.abnf_parts.specs.Part.{root_number};
 ghost use Rattle.abnf_names.specs.Excerpts.{HasSections, excerpt};
 ghost use Rattle.abnf_lint.specs.Findings as spec;
 ghost use Rattle.abnf_lint.specs.Passes as passes;
@@ -12,7 +13,7 @@ use crate::block::{Seen, push_block};
 use crate::finding::Finding;
 use crate::unproductive::unproductive_rules;
 use abnf_cert::Cert;
-use abnf_names::{Grammar, Node, Section};
+use abnf_names::{Grammar, Node, RuleNo, Section};
 use ls_lists::List;
 use std::alloc::{AllocError, Global};
 
@@ -39,8 +40,53 @@ fn are_sound(nodes: &[Node<'_>]) -> bool
     nodes.iter().all(|node| is_sound(node))
 }
 
+/// The number behind those of a rule's nodes.
+fn end_of(grammar: &Grammar<'_>, rule: usize) -> usize
+    requires { rule < length grammar.now.rules }
+    ensures { result ≡ root_number grammar.now.rules (rule + 1) }
+{
+    let count = grammar.rule_count();
+    let next = rule + 1;
+    if next < count {
+        grammar.root_of(RuleNo::new(next)).get()
+    } else {
+        grammar.nodes().len()
+    }
+}
+
+/// The nodes with these numbers.
+fn nodes_between<'g, 't>(nodes: &'g [Node<'t>], start: usize, end: usize) -> &'g [Node<'t>]
+    requires order { start ≤ end }
+    requires within { end ≤ length nodes.now }
+    ensures { result.now ≡ slice_range nodes.now start end }
+{
+    &nodes[start..end]
+}
+
+/// Whether nothing is found at the nodes of a rule.
+fn is_sound_rule(grammar: &Grammar<'_>, rule: usize) -> bool
+    requires { rule < length grammar.now.rules }
+    ensures { IsTrue result → passes.IsSoundRule grammar.now.rules rule }
+{
+    let start = grammar.root_of(RuleNo::new(rule)).get();
+    let end = end_of(grammar, rule);
+    are_sound(nodes_between(grammar.nodes(), start, end))
+}
+
+/// Beside each rule whether nothing is found at its nodes.
+fn sound_rules(alloc: Global, grammar: &Grammar<'_>) -> Result<Vec<bool>, AllocError>
+    ensures { IfOk result (λ marks. passes.AreSoundMarks grammar.now.rules marks.items) }
+{
+    let count = grammar.rule_count();
+    let mut marks = Vec::with_capacity(alloc, count)?;
+    for rule in 0..count {
+        marks.push(is_sound_rule(grammar, rule))?;
+    }
+    Ok(marks)
+}
+
 /// What is found, block after block. Beside each rule stands what is known of the heads of its name. Each use, number and repeat of a
-/// block that counts has a node, so the items of such blocks are looked at only where some node isn't sound.
+/// block that counts has a node in the block's rule, so the items of such a block are looked at only where not all these nodes are sound.
 fn candidates<'t>(
     alloc: Global,
     grammar: &Grammar<'t>,
@@ -50,7 +96,7 @@ fn candidates<'t>(
     requires { HasSections grammar.now sections.now }
     ensures { IfOk result (λ found. found ≡ passes.findings_behind marks.now grammar.now.names [] [] (map excerpt sections.now)) }
 {
-    let are_sound = are_sound(grammar.nodes());
+    let sound = sound_rules(alloc, grammar)?;
     let not_seen = Seen {
         is_head: false,
         is_base: false,
@@ -59,7 +105,15 @@ fn candidates<'t>(
     let seen = table.as_mut_slice();
     let mut found = List::new(alloc);
     for section in sections {
-        push_block(alloc, grammar, marks, are_sound, seen, section, &mut found)?;
+        push_block(
+            alloc,
+            grammar,
+            marks,
+            sound.as_slice(),
+            seen,
+            section,
+            &mut found,
+        )?;
     }
     Ok(found)
 }

@@ -179,14 +179,14 @@ module _ (trees : List Part) (nodes : List Node) (are : AreNodes trees nodes) wh
       ∙ sym (get_or-map g (parts_of trees) k opaque d in_parts))))
 
 -- where the parts of a rule stand
-cut : (trees : List Part) (r : ℕ) (root : Part) → slice_get trees r ≡ Some root → (rest : List Part) × (parts_of trees ≡ parts_of (take r trees) ++ (subparts root ++ rest))
+pub cut : (trees : List Part) (r : ℕ) (root : Part) → slice_get trees r ≡ Some root → (rest : List Part) × (parts_of trees ≡ parts_of (take r trees) ++ (subparts root ++ rest))
 cut [] r root e = absurd (cc e)
 cut (t ∷ trees) zero root e = (parts_of trees, ap (λ p. subparts p ++ parts_of trees) (cc e))
 cut (t ∷ trees) (suc r) root e =
     let inner = cut trees r root e in
     (inner.0, ap (λ ps. subparts t ++ ps) inner.1 ∙ sym (append_assoc (subparts t) (parts_of (take r trees)) (subparts root ++ inner.0)))
 
-next_root : (trees : List Part) (r : ℕ) (root : Part) → slice_get trees r ≡ Some root → root_number trees (suc r) ≡ root_number trees r + length (subparts root)
+pub next_root : (trees : List Part) (r : ℕ) (root : Part) → slice_get trees r ≡ Some root → root_number trees (suc r) ≡ root_number trees r + length (subparts root)
 next_root [] r root e = absurd (cc e)
 next_root (t ∷ trees) zero root e =
     let len : length (subparts t ++ parts_of (take 0 trees)) ≡ length (subparts t) + 0 = length-append (subparts t) [] in

@@ -3,7 +3,7 @@ use Rattle.abnf_names.specs.Excerpts.{Excerpt, excerpt}
 use Rattle.abnf_lint.specs.declared.block.Seen.{Seen}
 use Rattle.abnf_lint.specs.declared.finding.Finding.{Finding}
 use Rattle.abnf_lint.specs.Findings.{block_findings}
-use Rattle.abnf_lint.specs.Passes.{AreSound, HaveRules, findings_behind, with_base, with_head}
+use Rattle.abnf_lint.specs.Passes.{AreSoundWhereMarked, HaveRules, findings_behind, with_base, with_head}
 use Rattle.abnf_lint.proofs.Sound.{all_blocks_sound}
 use Rattle.abnf_lint.proofs.Seen.{has_mark, have_rules, none_seen, rest_is}
 use Rattle.abnf_lint.proofs.findings_of.candidates.Goals as goal
@@ -20,7 +20,7 @@ loop-section-init c =
       none_seen g sections c.requires c.as_mut_slice-seen.result.now seen,
       ap (λ (fs : List Finding). fs ++ findings_behind c.args.marks.now g.names [] [] (map excerpt sections)) (sym c.new-found.ensures),
       have_rules g sections c.requires,
-      λ sound. all_blocks_sound g sections c.requires c.nodes.result.now c.nodes.ensures (sym c.are_sound-are_sound.ensures ∙ sound),
+      all_blocks_sound g sections c.requires c.in_ok-sound.sound.items c.in_ok-sound.ensures,
     )
 
 pub push_block-requires-clause-mark : goal.push_block-requires-clause-mark
@@ -47,5 +47,5 @@ loop-section-preserved c =
           ∙ (sym (append_assoc c.loop-section.found (block_findings marks names left.0 left.1 block) rest)
           ∙ ap (λ (fs : List Finding). fs ++ rest) (sym (c.in_ok-push_block.ensures.found left.0 left.1 left.2)))),
       (subst (λ (os : List Excerpt). HaveRules names os) split left.4).1,
-      λ sound. (subst (λ (os : List Excerpt). AreSound names left.1 os) split (left.5 sound)).1,
+      (subst (λ (os : List Excerpt). AreSoundWhereMarked c.in_ok-sound.sound.items names left.1 os) split left.5).1,
     )
