@@ -89,14 +89,15 @@ fn edit(alloc: Global, value: &Value) -> Result<Option<Edit>, Memory>
 fn edits(alloc: Global, values: &Vec<Value>) -> Result<Option<List<Edit>>, Memory>
     ensures { IfOk result (λ edits. edits ≡ edits_of (items_view values.now.items)) }
 {
-    let mut found = Vec::new(alloc);
+    // Most changes have one edit, for which a list takes no room to spare.
+    let mut found = List::new(alloc);
     for value in values {
         match edit(alloc, value)? {
             Some(edit) => found.push(edit)?,
             None => return Ok(None),
         }
     }
-    Ok(Some(List::from_vec(found)))
+    Ok(Some(found))
 }
 
 fn changes(alloc: Global, params: &Value) -> Result<Option<List<Edit>>, Memory>
