@@ -35,12 +35,12 @@ fn is_marked(marks: &[bool], rule: RuleNo) -> bool
     }
 }
 
-/// The rule of a head's name, which must have one.
-fn rule_of_head<'t>(grammar: &Grammar<'t>, head: Head<'t>) -> RuleNo
+/// The rule of a head's name, which must have one, and may be guessed.
+fn rule_of_head<'t>(grammar: &Grammar<'t>, head: Head<'t>, guess: usize) -> RuleNo
     requires { IsTrue (spec.has_name grammar.now.names (name_of head)) }
     ensures { rule_number grammar.now.names (name_of head.entry) ≡ Some result }
 {
-    match grammar.rule_of(Folded(head.name.text)) {
+    match grammar.rule_guessed(Folded(head.name.text), guess) {
         Some(rule) => rule,
         None => unreachable!(),
     }
@@ -111,13 +111,14 @@ fn push_said<'t>(
 }
 
 /// Adds what is found in a block. Beside each rule stands what the blocks before say of its name, to which the block's head is added.
-/// Beside each rule stands whether all its nodes are known to be sound.
+/// Beside each rule stands whether all its nodes are known to be sound. The rule of the head's name may be guessed by its number.
 pub(crate) fn push_block<'t>(
     alloc: Global,
     grammar: &Grammar<'t>,
     marks: &[bool],
     sound: &[bool],
     seen: &mut [Seen],
+    guess: usize,
     section: &Section<'t>,
     found: &mut List<Finding>,
 ) -> Result<(), AllocError>
@@ -130,7 +131,7 @@ pub(crate) fn push_block<'t>(
 {
     match section.block.head() {
         Some(head) => {
-            let rule = rule_of_head(grammar, head);
+            let rule = rule_of_head(grammar, head, guess);
             let before = join_heads(seen, rule, head);
             let counts = head.adds | !before.is_base;
             push_said(

@@ -85,6 +85,14 @@ fn sound_rules(alloc: Global, grammar: &Grammar<'_>) -> Result<Vec<bool>, AllocE
     Ok(marks)
 }
 
+/// Whether a head of the rule's name has come.
+fn has_come(seen: &[Seen], rule: usize) -> bool {
+    match seen.get(rule) {
+        Some(told) => told.is_head,
+        None => false,
+    }
+}
+
 /// What is found, block after block. Beside each rule stands what is known of the heads of its name. Each use, number and repeat of a
 /// block that counts has a node in the block's rule, so the items of such a block are looked at only where not all these nodes are sound.
 fn candidates<'t>(
@@ -104,6 +112,8 @@ fn candidates<'t>(
     let mut table = vec![in alloc; not_seen; grammar.rule_count()]?;
     let seen = table.as_mut_slice();
     let mut found = List::new(alloc);
+    // Rules have the order of their first heads, so the next one is mostly the first of which none has come.
+    let mut guess: usize = 0;
     for section in sections {
         push_block(
             alloc,
@@ -111,9 +121,11 @@ fn candidates<'t>(
             marks,
             sound.as_slice(),
             seen,
+            guess,
             section,
             &mut found,
         )?;
+        guess = guess.saturating_add(usize::from(has_come(seen, guess)));
     }
     Ok(found)
 }

@@ -116,6 +116,14 @@ impl<'t> Grammar<'t> {
         self.names.rule_of(name)
     }
 
+    /// The same, at once where the guess is right that the text's rule with this number has the name.
+    pub fn rule_guessed(&self, name: Folded<'t>, guess: usize) -> Option<RuleNo>
+        ensures rule { result ≡ rule_number self.now.names (folded_text name.entry) }
+        ensures within { IfSome result (λ r. r < length self.now.rules) }
+    {
+        self.names.rule_guessed(name, guess)
+    }
+
     /// The text's own rule of a name. There is none where the text doesn't define the name, which then stands for a core rule or for
     /// nothing.
     pub fn own_rule_of(&self, name: Folded<'t>) -> Option<RuleNo>

@@ -12,3 +12,4 @@ pub mod Unknown
 pub mod Nesting
 pub mod Ends
 pub mod Uncut
+pub mod NamePlace

@@ -1,6 +1,6 @@
 //! The names of the rules.
 
-ghost use Rattle.std.specs.Prelude.{◌≡◌, [], ◌<◌, ◌^◌, ◌++◌, length, map, IfOk, IfSome, OnOk};
+ghost use Rattle.std.specs.Prelude.{◌≡◌, [], ◌<◌, ◌^◌, ◌++◌, length, map, IfOk, IfSome, IsTrue, OnOk, Some};
 ghost use Rattle.std.specs.List.{list_any};
 ghost use Rattle.std.specs.Str.{bytes_eq};
 ghost use Rattle.abnf_parts.specs.Names.{rule_number, with_name, folded_text, all_names};
@@ -70,6 +70,18 @@ impl<'t> Names<'t> {
         // What `len` ensures bounds the place too.
         let _bounded = self.names.len();
         self.names.get_index_of(&name)
+    }
+
+    /// Whether this is the name at a place, and so the place is the name's.
+    fn is_at(&self, name: Folded<'t>, place: usize) -> bool
+        ensures { IsTrue result → rule_number self.now (folded_text name.entry) ≡ Some place }
+    {
+        // What `as_slice` ensures says that no two names are the same.
+        let _distinct = self.names.as_slice();
+        match self.names.get_index(place) {
+            Some(found) => *found == name,
+            None => false,
+        }
     }
 
     /// Whether the name is there.
@@ -159,6 +171,17 @@ impl<'t> RuleNames<'t> {
         match self.core.index_of(name) {
             Some(rule) => Some(RuleNo::new(self.own.len() + rule)),
             None => None,
+        }
+    }
+
+    /// The same, at once where the guess is right that the text's rule with this number has the name.
+    pub fn rule_guessed(&self, name: Folded<'t>, guess: usize) -> Option<RuleNo>
+        ensures { result ≡ rule_number (all_names self.now) (folded_text name.entry) }
+    {
+        if self.own.is_at(name, guess) {
+            Some(RuleNo::new(guess))
+        } else {
+            self.rule_of(name)
         }
     }
 }
