@@ -75,7 +75,11 @@ AT_A_TYPE = re.compile(r" (\w+)<(\w+)> for (\w+) \{")
 TYPE = re.compile(r"(?m)^(?:pub(?:\(\w+\))? )?(?:struct|enum) (\w+)")
 # What may stand in a body and reaches beyond it.
 REACHES_OUT = re.compile(r"\b(impl|trait|macro_rules)\b")
-GOAL = re.compile(r"note: (?:\./)?(src/[^:]*):(\d+):\d+: (?:it is not proved|`search` found no proof)")
+# A goal that isn't proved, by its place. Where the search for it breaks off, rattle tells that in antt's words.
+GOAL = re.compile(
+    r"note: (?:what antt said of a `search` in the proof that rattle made: )?(?:\./)?(src/[^:]*):(\d+):\d+: "
+    r"(?:it is not proved|`search` found no proof|error: `[^`]*`: give the call less to do)"
+)
 ERROR = re.compile(r"(?:\./)?(\S+?):\d+:\d+: error: (`[^`]*`(?:: | is not admitted)|\d+ declarations? that depend|module `)?")
 PROOF_FILE = re.compile(r"proofs/(.*)/(Answers|Proof|Invariants)\.antt")
 # What isn't proved only since something else isn't.

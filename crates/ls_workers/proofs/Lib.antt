@@ -1,4 +1,5 @@
 pub mod Beside
+pub mod FirstWaiting
 pub mod Numbers
 pub mod Refused
 pub mod SentLaws

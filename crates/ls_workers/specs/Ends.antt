@@ -1,5 +1,6 @@
 -- How a board ends, and when a seat has nothing to wait for.
-use Rattle.std.specs.Prelude.{length, nat_lt, ◌==◌, ◌||◌, Bool, true, false, Option, Some, None, is_some, find, if◌then◌else◌}
+use Rattle.std.specs.Prelude.{ℕ, ◌≡◌, ◌<◌, List, length, slice_index_or, nat_lt, ◌==◌, ◌&&◌, ◌||◌, Bool, true, false, Option, Some, None, is_some, find, if◌then◌else◌}
+use Rattle.std.specs.List.{position}
 use Rattle.ls_machine.specs.Machine.{is_queued}
 use Rattle.ls_desk.specs.Stands.{Seen, Sends, state_of}
 use Rattle.ls_machine.specs.declared.event.Out.{Out}
@@ -18,6 +19,27 @@ ended_by before stop = if is_over before then before else Some stop
 -- a worker has nothing to wait for: a job is queued, or the board ends
 abbrev pub has_job : Option Stop → Seen → Bool
 has_job stop desk = is_some stop || is_some (find is_queued (state_of desk).waiting)
+
+-- the number of the first worker that waits; the list says of each worker, at its number, whether it waits
+abbrev pub first_waiting : List Bool → Option ℕ
+first_waiting idle = position (λ waits. waits) idle
+
+abbrev pub is_number : ℕ → Option ℕ → Bool
+is_number number None = false
+is_number number (Some first) = first == number
+
+-- the worker of this number is the first that waits
+abbrev pub is_first : List Bool → ℕ → Bool
+is_first idle number = is_number number (first_waiting idle)
+
+-- the worker of this number has nothing to wait for: the board ends, or a job is queued and this is the first that waits
+abbrev pub has_job_for : Option Stop → Seen → List Bool → ℕ → Bool
+has_job_for stop desk idle number = is_some stop || (is_some (find is_queued (state_of desk).waiting) && is_first idle number)
+
+-- the worker of this number waits, and none of a lesser number
+pub record IsFirstWaiting (idle : List Bool) (number : ℕ) : Type 0 where
+  pub waits : slice_index_or idle number false ≡ true
+  pub before : (k : ℕ) → k < number → slice_index_or idle k false ≡ false
 
 -- the writer has nothing to wait for: a reply is unsent, or the board ends, at once or with no job that waits
 abbrev pub has_news : Option Stop → Seen → Bool

@@ -1,5 +1,5 @@
 //! What lies behind the lock.
-ghost use Rattle.std.specs.Prelude.{◌≡◌, ◌+◌, ◌++◌, ◌∷◌, ◌<◌, ◌⊎◌, [], IfOk, IfErr, OnOk, OnErr, IfNone, IfSome, IsTrue, OnSome, None, Some, find, is_some, vec_len, vec_capacity, true, false};
+ghost use Rattle.std.specs.Prelude.{◌≡◌, ◌+◌, ◌%◌, ◌++◌, ◌∷◌, ◌<◌, ◌⊎◌, [], IfOk, IfErr, OnOk, OnErr, IfNone, IfSome, OnSome, None, Some, find, slice_set, vec_len, vec_capacity, true, false};
 ghost use Rattle.ls_machine.specs.Machine.{is_queued, waits};
 ghost use Rattle.ls_desk.specs.Stands.{Sends, state_of, ticket_of_out};
 ghost use Rattle.ls_workers.specs.Count.{Counts};
@@ -9,7 +9,7 @@ ghost use Rattle.ls_workers.specs.Jobs.{Finishes, HasLimits, Returns};
 ghost use Rattle.ls_workers.specs.Refusals.{RefusesEvent, client_fault, is_shortage, may_refuse, may_refuse_return, may_refuse_run};
 ghost use Rattle.ls_workers.specs.Seats.{Heard, since};
 ghost use Rattle.ls_workers.specs.Sent.{noted_of, sent_by};
-ghost use Rattle.ls_workers.specs.Ends.{is_over, ended_by, has_job, has_news};
+ghost use Rattle.ls_workers.specs.Ends.{is_over, ended_by, first_waiting, is_first, has_job, has_job_for, has_news};
 
 use crate::calls::{enter, finish, give_back, is_long, next_out, strays, take};
 use crate::ledgers::{Crew, OfClient, OfFinished, OfReturned, OfSent, OfTook};
@@ -53,8 +53,8 @@ pub struct Behind<C: Crew> {
     pub sent: Book<OfSent<C>>,
     pub left: Vec<Noted>,
     pub stop: Option<Stop>,
-    /// Which workers wait for a job: the bit of each one's number, and of every 64th the same.
-    pub idle: u64,
+    /// Which workers wait for a job, by their numbers.
+    pub idle: [bool; 8],
     pub ghost counts: { Counts asked.total took.total returned.total finished.total sent.total desk },
     pub ghost limits: { HasLimits C.max_journal C.max_events desk },
     pub ghost replies: { left.items ≡ sent_by desk },
@@ -89,29 +89,44 @@ impl<C: Crew> Behind<C> {
         self.stop.is_some() || self.desk.has_queued()
     }
 
+    /// The first worker that waits for a job.
+    fn first_waiting(&self) -> Option<usize>
+        ensures { result ≡ first_waiting self.now.idle }
+    {
+        self.idle.iter().position(|waits| *waits)
+    }
+
+    /// Whether the worker with this number is the first that waits.
+    fn is_first(&self, number: u32) -> bool
+        ensures { result ≡ is_first self.now.idle (number % 8) }
+    {
+        self.first_waiting() == Some(number as usize % 8)
+    }
+
     /// Whether the worker with this number has nothing to wait for. Of those that wait the one with the least number takes a job, so that
     /// jobs which come one at a time are run by one worker: the C library keeps the memory that a thread lets go for that thread.
     pub fn has_job_for(&self, number: u32) -> bool
-        ensures job { IsTrue result → has_job self.now.stop self.now.desk ≡ true }
-        ensures ended { is_some self.now.stop ≡ true → result ≡ true }
+        ensures { result ≡ has_job_for self.now.stop self.now.desk self.now.idle (number % 8) }
     {
-        self.has_job() && (self.stop.is_some() || self.idle.trailing_zeros() >= number % 64)
+        self.stop.is_some() || (self.desk.has_queued() && self.is_first(number))
     }
 
     /// A worker begins to wait for a job.
     pub fn begin_wait(&mut self, number: u32)
+        ensures idle { self.new.idle ≡ slice_set self.old.idle (number % 8) true }
         ensures desk { self.new.desk ≡ self.old.desk }
         ensures stop { self.new.stop ≡ self.old.stop }
     {
-        self.idle = self.idle | 1 << (number % 64);
+        self.idle[number as usize % 8] = true;
     }
 
     /// A worker waits no longer.
     pub fn end_wait(&mut self, number: u32)
+        ensures idle { self.new.idle ≡ slice_set self.old.idle (number % 8) false }
         ensures desk { self.new.desk ≡ self.old.desk }
         ensures stop { self.new.stop ≡ self.old.stop }
     {
-        self.idle = self.idle & !(1 << (number % 64));
+        self.idle[number as usize % 8] = false;
     }
 
     /// Whether the writer has nothing to wait for.

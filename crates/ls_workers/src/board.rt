@@ -84,7 +84,7 @@ impl<C: Crew> Board<C> {
             sent: sent_book,
             left: Vec::new(alloc),
             stop: None,
-            idle: 0,
+            idle: [false; 8],
         };
         let board = Board {
             mark,

@@ -25,6 +25,7 @@ mod behind;
 mod board;
 mod calls;
 mod crew;
+mod laws;
 mod ledgers;
 mod lists;
 mod notes;
@@ -35,6 +36,7 @@ mod worker;
 
 pub use behind::{SeatFault, Stop};
 pub use board::Board;
+pub use laws::first_waiting_is_let_go;
 pub use ledgers::{Blanks, Crew, Ledgers, OfClient, OfFinished, OfReturned, OfSent, OfTook};
 pub use ls_machine::{ClientAnswer, ClientEvent};
 pub use replies::Noted;
