@@ -3,10 +3,11 @@
 
     bench/unproved.py CRATE OUT
 
-CRATE is a program, as served_plainly or abnf_ls. What it makes is no program to use: nothing of it is proved. It takes the module that `rt try`
-hands to the compiler, takes out the calls by which such a run checks itself, and compiles and links what is left as the gate does. Its instructions
-were within a tenth of those of the program that the gate makes, most of them above. It reads the toolchain's names, so another kit may want
-other words here.
+CRATE is a program, as served_plainly or abnf_ls. What it makes is no program to use: nothing of it
+is proved. It takes the module that `rt try` hands to the compiler, takes out the calls by which such
+a run checks itself, and compiles and links what is left as the gate does. Its instructions were
+within a tenth of those of the program that the gate makes, most of them above; only those of an
+outline were nearly twice. It reads the toolchain's names, so another kit may want other words here.
 """
 import os
 import re
