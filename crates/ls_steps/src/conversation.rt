@@ -29,17 +29,24 @@ const WORKER: u32 = 0;
 const HEADER_ROOM: usize = 64;
 
 /// The frame of what is to be said.
-///
-/// `Memory` says that an allocation was refused.
-pub fn framed(alloc: Global, out: Out) -> Result<Vec<u8>, Memory>
-    ensures { IfOk result (λ frame. (body : List ℕ) × (body_of out ≡ Some body) × (frame.items ≡ frame_of body)) }
+fn frame_about(alloc: Global, out: &Out) -> Result<Vec<u8>, Memory>
+    ensures { IfOk result (λ frame. (body : List ℕ) × (body_of out.now ≡ Some body) × (frame.items ≡ frame_of body)) }
 {
-    let body = body_of(alloc, &out)?;
+    let body = body_of(alloc, out)?;
     let mut frame = Vec::with_capacity(alloc, body.len() + HEADER_ROOM)?;
     match write_frame(alloc, &body, &mut frame) {
         Ok(()) => Ok(frame),
         Err(_) => Err(Memory),
     }
+}
+
+/// The frame of what is to be said.
+///
+/// `Memory` says that an allocation was refused.
+pub fn framed(alloc: Global, out: Out) -> Result<Vec<u8>, Memory>
+    ensures { IfOk result (λ frame. (body : List ℕ) × (body_of out ≡ Some body) × (frame.items ≡ frame_of body)) }
+{
+    frame_about(alloc, &out)
 }
 
 /// The session of one client, the desk with its documents, and the jobs that the worker holds. Its methods are the steps
