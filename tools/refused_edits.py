@@ -1,15 +1,16 @@
 #!/usr/bin/env python3
 """Tries the edits crates/NAME/edits/*.edit, many of a crate in one check: the prover must refuse each.
 
-    tools/refused_edits.py [--jobs N] [--beside FILE] [--kept | --alone] [--log FOLDER] [CRATE ..] [CRATE/NAME.edit ..]
+    tools/refused_edits.py [--fit | --unedited | --alone] [--jobs N] [--beside FILE] [--kept] [--log FOLDER] [CRATE ..] [CRATE/NAME.edit ..]
 
 An edit has the form of a must-fail edit of `rt`: a line 'file: PATH', then pairs of lines 'old: TEXT' and 'new: TEXT'. A line
 'checked: FUNCTION' may say in whose proof it must be refused, if it changes something else than bodies.
 
 Edits that change bodies of functions alone are tried together on one copy of the crate, each in functions of its own: a function is
-proved against the contracts of what it calls, and no such edit changes one. So of the first copy only the edited functions are checked,
-and what they call. Further edits of the same functions come on the next copies, where what they call goes without a proof. An edit of
-anything else (a definition, a contract) comes on a copy by itself, of which the functions that it names are checked, or all.
+proved against the contracts of what it calls, and no such edit changes one. So of a copy only the edited functions are checked: all others
+are left out, with a body that never returns and a hole in place of a proof, but for one that stays whole as a witness. Further edits of the
+same functions come on the next copies. An edit of anything else (a definition, a contract) comes on a copy by itself, of which the
+functions that it names are checked in the same way, or all.
 
 An edit of bodies is refused where a function that it changes has a goal of its own that isn't proved. That what it calls isn't proved
 is no such goal, nor is a proof file that names what is gone. Any other edit is refused where something isn't proved. A copy counts only
@@ -18,6 +19,9 @@ copy shows to be refused is tried alone and from nothing, as `rt must-fail` does
 
 Without names all edits are tried, and with them this tool: the edits in tools/same_meaning/, which mean the same as before, stand in the
 copies of abnf_token among its own, and must be found not refused.
+
+Before any proof it looks whether each edit can be made, since its words must stand once in the code, and tries none where one can't. With
+--fit that is all it does. With --unedited the copies are checked with no edit made, and nothing of them may be found refused.
 
 With --beside it works beside an `rt ci` in this checkout, which runs as long as FILE is there, and writes to it: the edits of a crate are
 tried once the libraries below it are proved. With --kept the first check of a crate begins with what `rt check` kept of it, and not from nothing. With
@@ -82,15 +86,25 @@ GOAL = re.compile(
 )
 ERROR = re.compile(r"(?:\./)?(\S+?):\d+:\d+: error: (`[^`]*`(?:: | is not admitted)|\d+ declarations? that depend|module `)?")
 PROOF_FILE = re.compile(r"proofs/(.*)/(Answers|Proof|Invariants)\.antt")
+# What is proved, or was where the holes that it rests on are filled.
+PROVED = re.compile("proved|no holes|depends on a hole in ")
 # What isn't proved only since something else isn't.
 WAITS = re.compile(
     r"(no proof: |not proved; )(in `[^`]*`, of this cycle of calls: )?it (calls|passes the block|waits for the proof of) "
     r"|no proof: the borrow checker's part in its proof is not made yet: a call of "
+    r"|not proved; it stands on "
 )
 # What says little: that something isn't proved, or that a text names what isn't there.
 SAYS_LITTLE = re.compile(
     r"[a-z]+ \S+: |.*(has no field|is not in scope|has no `|was not admitted|is not admitted|that depend|is no name|operand is missing|expected the end|cannot continue)"
 )
+
+# The proof of a function that is left out.
+HOLE = """use Rattle.{crate}.proofs.{module}.Statement.{{statement}}
+
+pub {name}_spec : {{M : Type 1}} → statement M
+{name}_spec = ?
+"""
 
 
 def text_of(path):
@@ -120,18 +134,28 @@ def block_of(text):
 
 
 def place_of(found, path, homes):
-    """The module and the block of a function that stands in a file: a method's module is that of its type."""
+    """The module and the block of a function that stands in a file: a method's module is that of its type, where its impl has no trait."""
     block = block_of(found.string[: found.start()]) if found[2] else []
-    return homes.get((block or [""])[0], module_of(path)), block
+    return homes.get(block[0], module_of(path)) if block and len(block) == 1 else module_of(path), block
+
+
+def name_of(found, path, homes):
+    """The name of a function that stands in a file, as rattle tells it."""
+    module, block = place_of(found, path, homes)
+    return "::".join([*module, *filter(None, ["".join(block or [])]), found[3]])
+
+
+def without_body(found):
+    """The text of a function, with a body that never returns in place of its own."""
+    return found[0].removesuffix(f"{found[4]}{found[2]}}}") + f"{found[2]}    loop {{}}\n{found[2]}}}"
 
 
 def split(path, text, homes):
     """A file's text without the bodies of its functions; and each body by the function's name, with whether it is proved by itself."""
     bodies = {}
     for it in FUNCTION.finditer(text):
-        above, indent, name, body = it.groups()
-        module, block = place_of(it, path, homes)
-        name = "::".join([*module, *filter(None, ["".join(block or [])]), name])
+        above, indent, _, body = it.groups()
+        block, name = place_of(it, path, homes)[1], name_of(it, path, homes)
         # (a cycle's functions have one proof, a trait's one at each impl; and two impls can give their functions the same names)
         is_own = block is not None and len(indent) <= 4 and "#[cycle(" not in above and name not in bodies
         bodies[name] = bodies.get(name, ("",))[0] + body, is_own
@@ -172,7 +196,7 @@ def faults_of(said, crate, homes):
             parts = item[1].split("::")
             if any(parts[: len(module)] != module or function not in (*parts, None) for (module, function), _ in goals):
                 return None
-            if not item[2].startswith("proved") and (goals or not WAITS.match(item[2])):
+            if goals or not PROVED.match(item[2]) and not WAITS.match(item[2]):
                 faults[item[1]] += [line for _, line in goals] or [line]
             goals = []
         elif error:
@@ -374,6 +398,11 @@ class Trial:
             elif not name.endswith(".md"):
                 self.results[name] = False, BAD_NAME
 
+    def unfit(self):
+        """What is said of each edit that can't be made."""
+        self.results.update({it.name: (False, f"BAD EDIT: {it.why}") for it in self.edits if it.why})
+        return [f"{self.crate.name}/{name}: {text}" for name, (_, text) in self.results.items()]
+
     def are_apart(self, edits):
         """Whether each of these edits can be made where the others are."""
         with tempfile.TemporaryDirectory(prefix=f"rt-edits-{os.getpid()}-") as folder:
@@ -383,34 +412,48 @@ class Trial:
             return are_made(edits, folder)
 
     def leave_out(self, folder, functions):
-        """Takes the proofs of all functions but these out of a copy's folder, so that the prover spends nothing on them. Gives their names."""
+        """Takes all functions but these out of a copy's folder, so that the prover spends little on them. Gives their names.
+
+        In place of a body stands one that never returns, and in place of its proof a hole: what calls the function is proved against its
+        contract, as before.
+        """
         left = {name for _, bodies in self.files.values() for name, (_, is_own) in bodies.items() if is_own and name not in functions}
+        for path, (_, bodies) in self.files.items():
+            if not left.isdisjoint(bodies):
+                text = text_of(f"{folder}/{path}")
+                with open(f"{folder}/{path}", "w", encoding="utf-8") as file:
+                    file.write(FUNCTION.sub(lambda it: without_body(it) if name_of(it, path, self.homes) in left else it[0], text))
         for name in left:
-            at = f"{folder}/proofs/{name.replace('::', '/')}"
-            os.makedirs(at, exist_ok=True)
-            for it in ("Answers", "Invariants"):
-                with contextlib.suppress(FileNotFoundError):
-                    os.remove(f"{at}/{it}.antt")
-            # (a proof file that says nothing, in place of the search)
-            with open(f"{at}/Proof.antt", "w", encoding="utf-8"):
-                pass
+            at, short = f"{folder}/proofs/{name.replace('::', '/')}", name.rpartition("::")[2]
+            shutil.rmtree(at, ignore_errors=True)
+            os.makedirs(at)
+            with open(f"{at}/Proof.antt", "w", encoding="utf-8") as file:
+                file.write(HOLE.format(crate=self.crate.name, module=name.replace("::", "."), name=short))
         return left
 
-    def faults(self, edits, kept, is_first=True):
+    def witness(self, functions):
+        """A function beside these that a copy leaves whole, so that it must be proved there: that with the shortest body of some lines."""
+        bodies = {name: body for _, found in self.files.values() for name, (body, is_own) in found.items() if is_own and name not in functions}
+        return sorted((it for it in bodies if bodies[it].count("\n") > 3), key=lambda it: len(bodies[it]))[:1]
+
+    def faults(self, edits, kept):
         """Checks a copy of the crate with these edits: the functions that they change or name, or all where one does neither.
 
-        Gives what isn't proved of it, or None where the check says nothing. In a copy that isn't the first the edited functions alone
-        have proofs.
+        Gives what isn't proved of it, or None where the check says nothing.
         """
         made, functions = copy.copy(self.crate), [it.functions or it.checked for it in edits]
-        flags = [*ONE_JOB, *(word for name in sorted({*chain(*functions)}) if all(functions) for word in ("--only", name))]
+        checked = sorted({*chain(*functions)}) if all(functions) else []
         with tempfile.TemporaryDirectory(prefix=f"rt-edits-{os.getpid()}-") as made.folder:
             for part in PARTS:
                 if os.path.isdir(f"{self.crate.folder}/{part}"):
                     shutil.copytree(f"{self.crate.folder}/{part}", f"{made.folder}/{part}")
-            if not are_made(edits, made.folder):
+            if not self.given.unedited and not are_made(edits, made.folder):
                 return None
-            left = set() if is_first else self.leave_out(made.folder, {*chain(*functions)})
+            flags = [*ONE_JOB]
+            if checked:
+                checked += self.witness(checked)
+                self.leave_out(made.folder, checked)
+                flags += ["--allow-holes", *(word for name in checked for word in ("--only", name))]
             with MEMORY.of(self.crate):
                 ran = RT.checked(made, {}, flags, kept)
                 if ran.returncode == -signal.SIGKILL:
@@ -420,8 +463,7 @@ class Trial:
             if self.given.log:
                 with open(f"{self.given.log}/{self.crate.name}", "a", encoding="utf-8") as it:
                     it.write(f"== {' '.join(it.name for it in edits)}\n{ran.stdout}")
-            faults = faults_of(ran.stdout, made, self.homes)
-            return faults and {name: lines for name, lines in faults.items() if name not in left}
+            return faults_of(ran.stdout, made, self.homes)
 
     def judge(self, edit, lines):
         """Finds an edit refused where what is said of it shows that."""
@@ -429,13 +471,13 @@ class Trial:
         if lines:
             self.results[edit.name] = True, f"refused, as it must be: {lines[0][:160]}"
 
-    def together(self, edits, kept, is_first):
+    def together(self, edits, kept):
         """Tries edits of bodies on one copy."""
-        faults = self.faults(edits, kept, is_first)
+        faults = self.faults(edits, kept)
         if faults is None or any(not any(it.changes(name) for it in edits) for name in faults):
             half = len(edits) // 2
             for some in (edits[:half], edits[half:]) if half else ():
-                self.together(some, kept, is_first)
+                self.together(some, kept)
             return
         for edit in edits:
             self.judge(edit, [line for name in faults if edit.changes(name) for line in faults[name]])
@@ -470,7 +512,7 @@ class Trial:
         others = [it for it in edits if not it.functions]
         copies = self.shared_out([it for it in edits if it.functions])
         for number, some in enumerate(copies, 1):
-            self.together(some, kept, number == 1)
+            self.together(some, kept)
             self.look_at_same(some, number)
         for edit in others:
             self.by_itself_on_a_copy(edit, kept)
@@ -493,13 +535,20 @@ class Trial:
             kind, text = RT.must_fail(self.crate, edit.file, ONE_JOB)
         self.results[edit.name] = kind in REFUSED, text.partition(": ")[2]
 
+    def run_unedited(self):
+        """Checks the copies with no edit made."""
+        copies = self.shared_out([it for it in self.edits if it.functions])
+        with tempfile.TemporaryDirectory(prefix=f"rt-edits-{os.getpid()}-") as kept:
+            for number, some in enumerate(copies, 1):
+                faults = self.faults(some, kept)
+                said = "not all was read" if faults is None else "; ".join(chain(*faults.values())) or "nothing is refused"
+                self.results[f"copy {number}"] = faults == {}, said
+        return [f"{self.crate.name}/{name}: {text}" for name, (_, text) in self.results.items()]
+
     def run(self):
-        names = {}
-        for edit in self.edits:
-            if edit.why:
-                self.results[edit.name] = False, f"BAD EDIT: {edit.why}"
-            else:
-                names[edit] = self.store.name(self.crate, edit)
+        if self.given.unedited:
+            return self.run_unedited()
+        names = {it: self.store.name(self.crate, it) for it in self.edits}
         told = {it: self.store.told(name) for it, name in names.items()}
         if any(it.is_same and not text for it, text in told.items()):
             # (they are to stand among real ones)
@@ -564,6 +613,8 @@ def tried(trials, crates, given, store):
 
 def main():
     parser = argparse.ArgumentParser(usage=__doc__.split("\n\n")[1].strip())
+    parser.add_argument("--fit", action="store_true")
+    parser.add_argument("--unedited", action="store_true")
     parser.add_argument("--jobs", type=int, default=len(os.sched_getaffinity(0)))
     parser.add_argument("--beside")
     parser.add_argument("--kept", action="store_true")
@@ -582,6 +633,10 @@ def main():
     began, crates = time.time(), crates_of(TOP)
     store = Store(crates) if DOES_KEEP else NoStore()
     trials = [it for it in (Trial(crate, given, store) for crate in crates) if it.edits or it.results]
+    unfit = [line for trial in trials for line in trial.unfit()]
+    if unfit or given.fit:
+        print("\n".join([*unfit, f"{sum(len(it.edits) for it in trials)} edits, of which {len(unfit)} can't be made"]))
+        return 1 if unfit else 0
     wells = tried(trials, crates, given, store)
     print(f"{(time.time() - began) / 60:.1f} minutes")
     print(f"{wells.count(True)} passed, {wells.count(False)} failed")
