@@ -412,7 +412,7 @@ class Trial:
             return are_made(edits, folder)
 
     def leave_out(self, folder, functions):
-        """Takes all functions but these out of a copy's folder, so that the prover spends little on them. Gives their names.
+        """Takes all functions but these out of a copy's folder, so that the prover spends little on them.
 
         In place of a body stands one that never returns, and in place of its proof a hole: what calls the function is proved against its
         contract, as before.
@@ -429,7 +429,6 @@ class Trial:
             os.makedirs(at)
             with open(f"{at}/Proof.antt", "w", encoding="utf-8") as file:
                 file.write(HOLE.format(crate=self.crate.name, module=name.replace("::", "."), name=short))
-        return left
 
     def witness(self, functions):
         """A function beside these that a copy leaves whole, so that it must be proved there: that with the shortest body of some lines."""
@@ -536,8 +535,9 @@ class Trial:
         self.results[edit.name] = kind in REFUSED, text.partition(": ")[2]
 
     def run_unedited(self):
-        """Checks the copies with no edit made."""
+        """Checks each copy of which something is left out, with no edit made."""
         copies = self.shared_out([it for it in self.edits if it.functions])
+        copies += [[it] for it in self.edits if it.checked and not it.functions]
         with tempfile.TemporaryDirectory(prefix=f"rt-edits-{os.getpid()}-") as kept:
             for number, some in enumerate(copies, 1):
                 faults = self.faults(some, kept)
