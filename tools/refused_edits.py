@@ -8,9 +8,10 @@ An edit has the form of a must-fail edit of `rt`: a line 'file: PATH', then pair
 
 Edits that change bodies of functions alone are tried together on one copy of the crate, each in functions of its own: a function is
 proved against the contracts of what it calls, and no such edit changes one. So of a copy only the edited functions are checked: all others
-are left out, with a body that never returns and a hole in place of a proof, but for one that stays whole as a witness. Further edits of the
-same functions come on the next copies. An edit of anything else (a definition, a contract) comes on a copy by itself, of which the
-functions that it names are checked in the same way, or all.
+are left out, with a body that never returns and a hole in place of a proof, but for one that stays whole as a witness. A further edit of a
+function is made in a twin of it, which is the function once more by another name. Where it can have none, as in an impl of a trait, the edit
+comes on the next copy. An edit of anything else (a definition, a contract) comes on a copy by itself, of which the functions that it names
+are checked in the same way, or all.
 
 An edit of bodies is refused where a function that it changes has a goal of its own that isn't proved. That what it calls isn't proved
 is no such goal, nor is a proof file that names what is gone. Any other edit is refused where something isn't proved. A copy counts only
@@ -18,7 +19,7 @@ if all of it was read, and nothing that was checked failed by itself and isn't e
 copy shows to be refused is tried alone and from nothing, as `rt must-fail` does, and has that verdict.
 
 Without names all edits are tried, and with them this tool: the edits in tools/same_meaning/, which mean the same as before, stand in the
-copies of abnf_token among its own, and must be found not refused.
+copies of abnf_token among its own, also in twins, and must be found not refused.
 
 Before any proof it looks whether each edit can be made, since its words must stand once in the code, and tries none where one can't. With
 --fit that is all it does. With --unedited the copies are checked with no edit made, and nothing of them may be found refused.
@@ -85,6 +86,7 @@ GOAL = re.compile(
     r"(?:it is not proved|`search` found no proof|error: `[^`]*`: give the call less to do)"
 )
 ERROR = re.compile(r"(?:\./)?(\S+?):\d+:\d+: error: (`[^`]*`(?:: | is not admitted)|\d+ declarations? that depend|module `)?")
+ANSWERS = ("Answers.antt", "Invariants.antt")
 PROOF_FILE = re.compile(r"proofs/(.*)/(Answers|Proof|Invariants)\.antt")
 # What is proved, or was where the holes that it rests on are filled.
 PROVED = re.compile("proved|no holes|depends on a hole in ")
@@ -212,11 +214,11 @@ class Edit:
 
     def __init__(self, file, crate, files, homes):
         self.file, self.name, self.functions = file, os.path.basename(file), set()
-        self.is_same = os.path.dirname(file) == SAME_MEANING
+        self.is_same, self.twins = os.path.dirname(file) == SAME_MEANING, {}
         texts, self.why = RT.read_edit(file, crate.folder)
-        self.paths = list(texts or {})
+        self.texts = texts or {}
         self.checked = re.findall(r"(?m)^checked: (\S+)$", text_of(file))
-        for path, text in (texts or {}).items():
+        for path, text in self.texts.items():
             rest, own = files.get(path, (None, {}))
             now_rest, now = split(path, text, homes) if own else ("", {})
             changed = {it for it in own if own[it] != now.get(it)}
@@ -228,16 +230,27 @@ class Edit:
     def changes(self, name):
         return any(f"{name}::".startswith(f"{it}::") for it in self.functions)
 
+    def in_twins(self, number):
+        """The same edit, of twins of its functions in place of these."""
+        made = copy.copy(self)
+        made.twins = {it: f"{it}_twin{number}" for it in self.functions}
+        made.functions = {*made.twins.values()}
+        return made
+
+
+def write(path, text):
+    with open(path, "w", encoding="utf-8") as file:
+        file.write(text)
+
 
 def are_made(edits, folder):
-    """Makes edits in a copy's folder, one after the other. Gives whether each could be made."""
-    for edit in edits:
+    """Makes edits in a copy's folder, one after the other, but for those of twins. Gives whether each could be made."""
+    for edit in (it for it in edits if not it.twins):
         texts, why = RT.read_edit(edit.file, folder)
         if why:
             return False
         for path, text in texts.items():
-            with open(f"{folder}/{path}", "w", encoding="utf-8") as file:
-                file.write(text)
+            write(f"{folder}/{path}", text)
     return True
 
 
@@ -385,6 +398,7 @@ class Trial:
                 homes[name].append(module_of(path))
         self.homes = {name: modules[0] for name, modules in homes.items() if len(modules) == 1}
         self.files = {path: split(path, text, self.homes) for path, text in texts.items()}
+        self.without_twins = {name for path, text in texts.items() for name in self.without_twins_in(path, text)}
         # (those that mean the same come first, so that all of them are in the first copy)
         is_tested = crate.name == TESTED_ON and not given.names
         self.edits = [*(self.edits_in(SAME_MEANING) if is_tested else ()), *self.edits_in(f"{crate.folder}/edits")]
@@ -406,10 +420,45 @@ class Trial:
     def are_apart(self, edits):
         """Whether each of these edits can be made where the others are."""
         with tempfile.TemporaryDirectory(prefix=f"rt-edits-{os.getpid()}-") as folder:
-            for path in {path for edit in edits for path in edit.paths}:
+            for path in {path for edit in edits for path in edit.texts}:
                 os.makedirs(os.path.dirname(f"{folder}/{path}"), exist_ok=True)
                 shutil.copyfile(f"{self.crate.folder}/{path}", f"{folder}/{path}")
             return are_made(edits, folder)
+
+    def without_twins_in(self, path, text):
+        """The functions of a file that can have no twin.
+
+        Those are of an impl of a trait, or their proof isn't all in the answers in their own folder, which nothing else names.
+        """
+        proofs = {f"{folder}/{it}": text_of(f"{folder}/{it}") for folder, _, names in os.walk(f"{self.crate.folder}/proofs") for it in names}
+        for it in FUNCTION.finditer(text):
+            name, (module, block) = name_of(it, path, self.homes), place_of(it, path, self.homes)
+            own = f"{self.crate.folder}/proofs/{name.replace('::', '/')}/"
+            named = [at for at, proof in proofs.items() if at.startswith(own) or f"proofs.{name.replace('::', '.')}." in proof]
+            has_closures = f"/fn/{it[3]}/" in "\n".join(proofs)
+            if block is None or len(block) > 1 or has_closures or not {*named} <= {f"{own}{file}" for file in ANSWERS}:
+                yield name
+
+    def make_twins(self, folder, edit):
+        """Makes an edit in twins of its functions, each of which stands behind the function itself and has a copy of its answers."""
+        for path, text in edit.texts.items():
+            text = text_of(f"{self.crate.folder}/{path}") if self.given.unedited else text
+            twins = {name_of(it, path, self.homes): it for it in FUNCTION.finditer(text)}
+
+            def with_twin(it):
+                name = name_of(it, path, self.homes)
+                if name not in edit.twins:
+                    return it[0]
+                twin, short = twins[name], edit.twins[name].rpartition("::")[2]
+                return f"{it[0]}\n\n{text[twin.start() : twin.start(3)]}{short}{text[twin.end(3) : twin.end()]}"
+
+            write(f"{folder}/{path}", FUNCTION.sub(with_twin, text_of(f"{folder}/{path}")))
+        for name, twin in edit.twins.items():
+            own, other = (f"{folder}/proofs/{it.replace('::', '/')}" for it in (name, twin))
+            for file in os.listdir(own) if os.path.isdir(own) else []:
+                os.makedirs(other, exist_ok=True)
+                inside, beside = (f"proofs.{it.replace('::', '.')}." for it in (name, twin))
+                write(f"{other}/{file}", text_of(f"{own}/{file}").replace(inside, beside))
 
     def leave_out(self, folder, functions):
         """Takes all functions but these out of a copy's folder, so that the prover spends little on them.
@@ -421,14 +470,12 @@ class Trial:
         for path, (_, bodies) in self.files.items():
             if not left.isdisjoint(bodies):
                 text = text_of(f"{folder}/{path}")
-                with open(f"{folder}/{path}", "w", encoding="utf-8") as file:
-                    file.write(FUNCTION.sub(lambda it: without_body(it) if name_of(it, path, self.homes) in left else it[0], text))
+                write(f"{folder}/{path}", FUNCTION.sub(lambda it: without_body(it) if name_of(it, path, self.homes) in left else it[0], text))
         for name in left:
             at, short = f"{folder}/proofs/{name.replace('::', '/')}", name.rpartition("::")[2]
             shutil.rmtree(at, ignore_errors=True)
             os.makedirs(at)
-            with open(f"{at}/Proof.antt", "w", encoding="utf-8") as file:
-                file.write(HOLE.format(crate=self.crate.name, module=name.replace("::", "."), name=short))
+            write(f"{at}/Proof.antt", HOLE.format(crate=self.crate.name, module=name.replace("::", "."), name=short))
 
     def witness(self, functions):
         """A function beside these that a copy leaves whole, so that it must be proved there: that with the shortest body of some lines."""
@@ -448,6 +495,8 @@ class Trial:
                     shutil.copytree(f"{self.crate.folder}/{part}", f"{made.folder}/{part}")
             if not self.given.unedited and not are_made(edits, made.folder):
                 return None
+            for edit in (it for it in edits if it.twins):
+                self.make_twins(made.folder, edit)
             flags = [*ONE_JOB]
             if checked:
                 checked += self.witness(checked)
@@ -485,25 +534,30 @@ class Trial:
         """Tries an edit of something else than bodies."""
         self.judge(edit, [line for lines in (self.faults([edit], kept) or {}).values() for line in lines])
 
-    def have_room(self, edits, edit):
-        """Whether a copy with these edits takes one more: in functions of its own, and made where the others are."""
-        return not any(edit.functions & it.functions for it in edits) and self.are_apart([*edits, edit])
+    def is_added(self, edits, edit):
+        """Adds an edit to those of a copy, if there is room: in functions that none of them changes, and made where the others are."""
+        has_room = not any(edit.functions & it.functions for it in edits) and self.are_apart([*edits, edit])
+        edits += [edit] * has_room
+        return has_room
+
+    def is_added_in_twins(self, edits, edit):
+        """Adds an edit to those of a copy in twins of its functions, if they can have some."""
+        can_have = self.without_twins.isdisjoint(edit.functions)
+        edits += [edit.in_twins(len(edits))] * can_have
+        return can_have
 
     def shared_out(self, edits):
         """Edits of bodies by copies: in each copy they change functions of their own, and can all be made."""
         copies = []
         for edit in edits:
-            for some in copies:
-                if self.have_room(some, edit):
-                    some.append(edit)
-                    break
-            else:
+            if not any(self.is_added(it, edit) for it in copies) and not any(self.is_added_in_twins(it, edit) for it in copies):
                 copies.append([edit])
-        # (those that mean the same stand in each copy, since the first is checked otherwise than the others)
-        for some in copies[1:]:
-            for edit in (it for it in edits if it.is_same):
-                if self.have_room(some, edit):
-                    some.append(edit)
+        # (those that mean the same stand in each copy, and there in each way)
+        for edit in (it for it in edits if it.is_same):
+            for some in copies[1:]:
+                self.is_added(some, edit)
+            for some in copies:
+                self.is_added_in_twins(some, edit)
         return copies
 
     def by_copies(self, edits, kept):
