@@ -85,7 +85,9 @@ fn has_all(alloc: Global, grammar: &Grammar<'_>, checks: &[Check]) -> Result<boo
 
 fn is_so(alloc: Global, text: &Snapshot, checks: &[Check]) -> Result<bool, AllocError> {
     let grammar = Grammar::of(alloc, text)?;
-    has_all(alloc, &grammar, checks)
+    let has_all = has_all(alloc, &grammar, checks);
+    drop(grammar);
+    has_all
 }
 
 pub(crate) fn snapshot(alloc: Global, text: &str) -> Result<Snapshot, TextFault> {

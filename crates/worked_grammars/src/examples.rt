@@ -2,7 +2,7 @@
 
 use super::check::{Check, holds, snapshot};
 use example_grammars::{RFC_3339, RFC_3986, RFC_5234, RFC_8259};
-use ls_answers::{Answer, Ask, Job, run};
+use ls_answers::{Answer, Ask, Done, Job, run};
 use ls_text::{Encoding, Position, Range, Snapshot, TextFault};
 use std::alloc::{AllocError, Global};
 use std::sync::Arc;
@@ -51,6 +51,10 @@ fn asked(alloc: Global, text: &str, at: Position) -> Result<Job, TextFault> {
     })
 }
 
+fn is_led(done: &Done, line: u32, end: u32) -> Result<bool, TextFault> {
+    Ok(leads_to(done.answer()?, line, end))
+}
+
 /// Whether the name at a position is defined at the start of a line, up to a character, and nowhere else.
 fn defines(
     alloc: Global,
@@ -60,7 +64,9 @@ fn defines(
     end: u32,
 ) -> Result<bool, TextFault> {
     let done = run(alloc, asked(alloc, text, at)?);
-    Ok(leads_to(done.answer()?, line, end))
+    let is_led = is_led(&done, line, end);
+    drop(done);
+    is_led
 }
 
 #[test]

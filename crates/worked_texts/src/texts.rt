@@ -210,15 +210,22 @@ fn has_positions(text: &Snapshot, encoding: Encoding, rows: &[(usize, (u32, u32)
     true
 }
 
+fn has_all_offsets(text: &Snapshot) -> bool {
+    has_offsets(text, Encoding::Utf8, OFFSETS_OF_BYTES)
+        && has_offsets(text, Encoding::Utf16, OFFSETS)
+        && has_offsets(text, Encoding::Utf32, OFFSETS_OF_CHARACTERS)
+}
+
+fn has_all_positions(text: &Snapshot) -> bool {
+    has_positions(text, Encoding::Utf8, POSITIONS_IN_BYTES)
+        && has_positions(text, Encoding::Utf16, POSITIONS)
+        && has_positions(text, Encoding::Utf32, POSITIONS_IN_CHARACTERS)
+}
+
 #[test]
 fn finds_offsets_and_positions(rt: HostRuntime) -> Result<(), TextFault> {
     let text = snapshot(rt.alloc(), "a\r\n;\u{1F600}z\n")?;
-    assert!(rt; has_offsets(&text, Encoding::Utf8, OFFSETS_OF_BYTES));
-    assert!(rt; has_offsets(&text, Encoding::Utf16, OFFSETS));
-    assert!(rt; has_offsets(&text, Encoding::Utf32, OFFSETS_OF_CHARACTERS));
-    assert!(rt; has_positions(&text, Encoding::Utf8, POSITIONS_IN_BYTES));
-    assert!(rt; has_positions(&text, Encoding::Utf16, POSITIONS));
-    assert!(rt; has_positions(&text, Encoding::Utf32, POSITIONS_IN_CHARACTERS));
+    assert!(rt; has_all_offsets(&text) && has_all_positions(&text));
     Ok(())
 }
 
@@ -327,14 +334,24 @@ fn edits_of(alloc: Global, rows: &[(Option<Span>, &str)]) -> Result<Vec<Edit>, A
     Ok(edits)
 }
 
+/// What edits make of a text, by positions that count this.
+fn applied_in(
+    alloc: Global,
+    text: &Snapshot,
+    encoding: Encoding,
+    rows: &[(Option<Span>, &str)],
+) -> Result<Snapshot, TextFault> {
+    let edits = edits_of(alloc, rows)?;
+    text.apply(edits.as_slice(), encoding)
+}
+
 /// What edits make of a text.
 pub fn applied(
     alloc: Global,
     text: &Snapshot,
     rows: &[(Option<Span>, &str)],
 ) -> Result<Snapshot, TextFault> {
-    let edits = edits_of(alloc, rows)?;
-    text.apply(edits.as_slice(), Encoding::Utf16)
+    applied_in(alloc, text, Encoding::Utf16, rows)
 }
 
 /// What one edit makes of a text.
@@ -348,6 +365,41 @@ fn is_cut(alloc: Global, text: &Snapshot, wanted: &str, lines: usize) -> Result<
         return Ok(false);
     }
     Ok(text.same_text(&snapshot(alloc, wanted)?))
+}
+
+fn is_changed_to(
+    alloc: Global,
+    text: &Snapshot,
+    encoding: Encoding,
+    rows: &[(Option<Span>, &str)],
+    wanted: &str,
+    lines: usize,
+) -> Result<bool, TextFault> {
+    is_cut(
+        alloc,
+        &applied_in(alloc, text, encoding, rows)?,
+        wanted,
+        lines,
+    )
+}
+
+/// Whether edits make this text of another, in so many lines, by positions that count this.
+fn change_to(
+    alloc: Global,
+    before: &str,
+    encoding: Encoding,
+    rows: &[(Option<Span>, &str)],
+    wanted: &str,
+    lines: usize,
+) -> Result<bool, TextFault> {
+    is_changed_to(
+        alloc,
+        &snapshot(alloc, before)?,
+        encoding,
+        rows,
+        wanted,
+        lines,
+    )
 }
 
 /// A text, a range, what is put there, and the text and its count of lines after that.
@@ -375,7 +427,8 @@ const EDITS: &[Row] = &[
 
 fn becomes(alloc: Global, row: &Row) -> Result<bool, TextFault> {
     let (before, span, new, after, lines) = *row;
-    is_cut(alloc, &changed(alloc, before, span, new)?, after, lines)
+    let edit = [(Some(span), new)];
+    change_to(alloc, before, Encoding::Utf16, &edit, after, lines)
 }
 
 #[test]
@@ -386,41 +439,27 @@ fn applies_edits(rt: HostRuntime) -> Result<(), TextFault> {
     Ok(())
 }
 
-/// Whether `a`, put into a text behind so many units, gives this text.
-fn puts(
-    alloc: Global,
-    encoding: Encoding,
-    character: u32,
-    wanted: &str,
-) -> Result<bool, TextFault> {
-    let text = snapshot(alloc, ";\u{1F600}z")?;
-    let at = (0, character);
-    let edits = edits_of(alloc, &[(Some((at, at)), "a")])?;
-    let changed = text.apply(edits.as_slice(), encoding)?;
-    is_cut(alloc, &changed, wanted, 1)
+/// A unit, how many of them stand before the place where `a` is put into a text, and the text after that.
+const PUTS: &[(Encoding, u32, &str)] = &[
+    (Encoding::Utf8, 4, ";a\u{1F600}z"),
+    (Encoding::Utf8, 5, ";\u{1F600}az"),
+    (Encoding::Utf16, 2, ";a\u{1F600}z"),
+    (Encoding::Utf16, 3, ";\u{1F600}az"),
+    (Encoding::Utf32, 1, ";a\u{1F600}z"),
+    (Encoding::Utf32, 2, ";\u{1F600}az"),
+];
+
+fn puts(alloc: Global, encoding: Encoding, units: u32, wanted: &str) -> Result<bool, TextFault> {
+    let edit = [(Some(((0, units), (0, units))), "a")];
+    change_to(alloc, ";\u{1F600}z", encoding, &edit, wanted, 1)
 }
 
 #[test]
 fn applies_edits_in_each_encoding(rt: HostRuntime) -> Result<(), TextFault> {
-    let alloc = rt.alloc();
-    assert!(rt; puts(alloc, Encoding::Utf8, 4, ";a\u{1F600}z")?);
-    assert!(rt; puts(alloc, Encoding::Utf8, 5, ";\u{1F600}az")?);
-    assert!(rt; puts(alloc, Encoding::Utf16, 2, ";a\u{1F600}z")?);
-    assert!(rt; puts(alloc, Encoding::Utf16, 3, ";\u{1F600}az")?);
-    assert!(rt; puts(alloc, Encoding::Utf32, 1, ";a\u{1F600}z")?);
-    assert!(rt; puts(alloc, Encoding::Utf32, 2, ";\u{1F600}az")?);
+    for (encoding, units, wanted) in PUTS {
+        assert!(rt; puts(rt.alloc(), *encoding, *units, wanted)?, "{wanted}");
+    }
     Ok(())
-}
-
-/// Whether edits make this text of another, in so many lines.
-fn gives(
-    alloc: Global,
-    rows: &[(Option<Span>, &str)],
-    wanted: &str,
-    lines: usize,
-) -> Result<bool, TextFault> {
-    let text = snapshot(alloc, "old\ntext")?;
-    is_cut(alloc, &applied(alloc, &text, rows)?, wanted, lines)
 }
 
 /// The whole text, and then two edits of it.
@@ -432,8 +471,17 @@ const IN_TURN: &[(Option<Span>, &str)] = &[
 
 #[test]
 fn applies_edits_in_turn(rt: HostRuntime) -> Result<(), TextFault> {
-    assert!(rt; gives(rt.alloc(), IN_TURN, "aX-c", 1)?);
-    assert!(rt; gives(rt.alloc(), &[], "old\ntext", 2)?);
+    assert!(rt; change_to(rt.alloc(), "old\ntext", Encoding::Utf16, IN_TURN, "aX-c", 1)?);
+    assert!(rt;
+        change_to(
+            rt.alloc(),
+            "old\ntext",
+            Encoding::Utf16,
+            &[],
+            "old\ntext",
+            2
+        )?
+    );
     Ok(())
 }
 
@@ -572,14 +620,19 @@ impl Plain {
         Ok(())
     }
 
+    /// Whether a text is this one, with the same lines.
+    fn is_cut_as(&self, alloc: Global, changed: &Snapshot) -> Result<bool, TextFault> {
+        let whole = snapshot(alloc, self.text.as_str())?;
+        Ok(
+            first_other_line(changed, &whole).is_none()
+                && is_cut(alloc, changed, self.text.as_str(), whole.line_count())?,
+        )
+    }
+
     /// Whether the edits make this text of the one before them, with the same lines.
     fn agrees(&self, alloc: Global, before: &str) -> Result<bool, TextFault> {
         let changed = snapshot(alloc, before)?.apply(self.edits.as_slice(), self.encoding)?;
-        let whole = snapshot(alloc, self.text.as_str())?;
-        if first_other_line(&changed, &whole).is_some() {
-            return Ok(false);
-        }
-        is_cut(alloc, &changed, self.text.as_str(), whole.line_count())
+        self.is_cut_as(alloc, &changed)
     }
 }
 

@@ -1,0 +1,30 @@
+//! Worked sessions, by steps and on several threads: what a client sends, every byte that it is sent, and how the run ends.
+//!
+//! They stand above the crates that they test, since a crate with tests is proved twice. No contract says that there is memory: here each
+//! run by steps succeeds. No clause says that several threads ran, that one that waits wakes, or that all that was asked is answered: here
+//! each session is served by 1, 2, 4 and 8 workers, and one of them can only end where a hover is answered while another worker holds an
+//! earlier one.
+#![tactic(auto)]
+
+#[cfg(test)]
+mod bodies;
+#[cfg(test)]
+mod devices;
+#[cfg(test)]
+mod endings;
+#[cfg(test)]
+mod many;
+#[cfg(test)]
+mod overtaking;
+#[cfg(test)]
+mod replies;
+#[cfg(test)]
+mod said;
+#[cfg(test)]
+mod sessions;
+#[cfg(test)]
+mod std_devices;
+#[cfg(test)]
+mod stepping;
+#[cfg(test)]
+mod written;
