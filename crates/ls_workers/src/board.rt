@@ -14,7 +14,6 @@ use crate::behind::{Behind, SeatFault, Stop};
 use crate::calls::count_none;
 use crate::crew::{are_all, gathered, seats_of};
 use crate::ledgers::{Blanks, Crew, OfClient, OfFinished, OfReturned, OfSent, OfTook};
-use crate::notes::note_of;
 use crate::seats::{ClientSeat, WorkerSeat, WriterSeat};
 use ls_answers::{Done, Job};
 use ls_desk::{Desk, DeskFault, Kept, Out};
@@ -119,8 +118,7 @@ impl<C: Crew> Board<C> {
         ensures refused { IfErr result (λ fault. may_refuse event fault ≡ true) }
         ensures mark { seat.new.mark ≡ seat.old.mark }
     {
-        let note = note_of(*seat.list.allocator(), &event)?;
-        seat.list.reserve(1)?;
+        let note = seat.note_with_room(&event)?;
         let result = self.behind.lock(rt).client(seat, event, note);
         self.changed.notify_all();
         result

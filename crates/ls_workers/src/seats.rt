@@ -1,10 +1,13 @@
 //! Seats: what the client's reader, the workers and the writer hold.
-ghost use Rattle.std.specs.Prelude.{◌≡◌, ◌+◌, ◌<◌, ◌^◌, [], false};
+ghost use Rattle.std.specs.Prelude.{◌≡◌, ◌+◌, ◌<◌, ◌^◌, [], IfOk, IfNone, IfSome, OnOk, vec_len, vec_capacity, true, false};
+ghost use Rattle.ls_machine.specs.Client.{HasSmallText, note_of, is_too_long};
 
 use crate::ledgers::{Ledgers, OfClient, OfFinished, OfReturned, OfSent, OfTook};
+use crate::notes::note_of;
 use crate::replies::Noted;
 use ls_desk::Event;
-use std::alloc::Global;
+use ls_machine::ClientEvent;
+use std::alloc::{AllocError, Global};
 use std::sync::ledger::{Book, Ledger, Share};
 
 /// How many events of a kind a seat has written: a number, and the share of the kind's ledger that bears it out.
@@ -75,6 +78,22 @@ impl<C: Ledgers> ClientSeat<C> {
             checkpoints: 0,
             strayed: false,
         }
+    }
+
+    /// The note of an event, its answer aside, for which the list has room then. `None` where the event's text is too large for any desk.
+    pub(crate) fn note_with_room(
+        &mut self,
+        event: &ClientEvent,
+    ) -> Result<Option<Event>, AllocError>
+        ensures some { IfOk result (λ noted. IfSome noted (λ note. note ≡ note_of event.now)) }
+        ensures none { IfOk result (λ noted. IfNone noted (is_too_long event.now ≡ true)) }
+        ensures fits { IfOk result (λ noted. IfSome noted (λ note. (is_too_long event.now ≡ false) × HasSmallText note)) }
+        ensures room { OnOk result (vec_len self.new.list < vec_capacity self.new.list) }
+        ensures list { self.new.list.items ≡ self.old.list.items }
+        ensures kept { (self.new.asked ≡ self.old.asked) × (self.new.mark ≡ self.old.mark) × (self.new.checkpoints ≡ self.old.checkpoints) × (self.new.strayed ≡ self.old.strayed) }
+    {
+        self.list.reserve(1)?;
+        note_of(*self.list.allocator(), event)
     }
 }
 

@@ -5,7 +5,7 @@ ghost use Rattle.ls_workers.specs.Refusals.{ends_work};
 use crate::board::Board;
 use crate::ledgers::Crew;
 use crate::seats::WorkerSeat;
-use ls_answers::run;
+use ls_answers::{Job, run};
 use ls_desk::DeskFault;
 use std::alloc::Global;
 use std::sync::Wait;
@@ -14,6 +14,29 @@ use std::sync::Wait;
 pub trait Gate {
     /// Lets the worker that took the job with this ticket pass. No lock is held. It may wait.
     fn pass<R: Wait>(&self, rt: &R, ticket: u64);
+}
+
+/// Passes the gate with a job, runs it if it is still wanted and brings it back. What ended the work, if something did: the session is full,
+/// the desk doesn't know what ran, or memory was refused. Where the job ended meanwhile its run is dropped.
+fn run_one<C: Crew, R: Wait, G: Gate>(
+    rt: &R,
+    alloc: Global,
+    board: &Board<C>,
+    seat: &mut WorkerSeat<C>,
+    gate: &G,
+    job: Job,
+) -> Option<DeskFault>
+    ensures seat { (seat.new.mark ≡ seat.old.mark) × (seat.new.number ≡ seat.old.number) }
+    ensures ended { IfSome result (λ fault. ends_work fault ≡ true) }
+{
+    gate.pass(rt, job.ticket);
+    if !board.wanted(rt, job.ticket) {
+        return None;
+    }
+    let Err((fault, _)) = board.finish(rt, seat, run(alloc, job)) else {
+        return None;
+    };
+    (fault != DeskFault::UnknownTicket).then_some(fault)
 }
 
 /// Works at a board through a seat: takes a job, passes the gate, runs the job if it is still wanted and brings it back, until there is
@@ -38,14 +61,8 @@ pub fn work<C: Crew, R: Wait, G: Gate>(
             Ok(None) => return (seat, None),
             Err(fault) => return (seat, Some(fault)),
         };
-        gate.pass(rt, job.ticket);
-        if !board.wanted(rt, job.ticket) {
-            continue;
-        }
-        match board.finish(rt, &mut seat, run(alloc, job)) {
-            Ok(_) => {}
-            Err((DeskFault::UnknownTicket, _)) => {}
-            Err((fault, _)) => return (seat, Some(fault)),
+        if let Some(fault) = run_one(rt, alloc, board, &mut seat, gate, job) {
+            return (seat, Some(fault));
         }
     }
     unreachable!()
