@@ -1,5 +1,6 @@
 //! Renames and their edits.
 
+use super::found::snapshot;
 use super::shown::shows;
 use ls_answers::{Answer, Ask, Done, Job, RenameFault, run};
 use ls_lists::{List, Text};
@@ -7,11 +8,6 @@ use ls_text::{Edit, Encoding, Position, Range, Snapshot};
 use std::alloc::{AllocError, Global};
 use std::sync::Arc;
 use std::test::Fail;
-
-fn snapshot(alloc: Global, text: &str) -> Result<Snapshot, Fail> {
-    let text = String::from_str(alloc, text)?;
-    Ok(Snapshot::of_text(alloc, text)?)
-}
 
 fn ask(alloc: Global, line: u32, character: u32, new: &str) -> Result<Ask, AllocError> {
     let new = Text::from_str(alloc, new)?;

@@ -1,5 +1,6 @@
 //! Least lengths of a grammar against those by rounds, and against wrong ones.
 
+use super::check::snapshot;
 use super::rounds::are_by_rounds;
 use super::wrong::all_refused;
 use abnf_cert::check;
@@ -8,11 +9,6 @@ use abnf_names::Grammar;
 use ls_text::Snapshot;
 use std::alloc::{AllocError, Global};
 use std::test::Fail;
-
-pub(crate) fn snapshot(alloc: Global, text: &str) -> Result<Snapshot, Fail> {
-    let text = String::from_str(alloc, text)?;
-    Ok(Snapshot::of_text(alloc, text)?)
-}
 
 /// Whether the certificate of least lengths is accepted and has the entries by rounds, and each other one is refused that has a wrong
 /// entry in place of one of these.

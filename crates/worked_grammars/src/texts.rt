@@ -1,6 +1,6 @@
 //! Texts of certificates: those that are read and accepted, and the faults of others.
 
-use super::lengths::snapshot;
+use super::check::snapshot;
 use abnf_cert::{CertFault, check, read_cert, write_cert};
 use abnf_least::least;
 use abnf_names::Grammar;
