@@ -398,7 +398,8 @@ class Trial:
                 homes[name].append(module_of(path))
         self.homes = {name: modules[0] for name, modules in homes.items() if len(modules) == 1}
         self.files = {path: split(path, text, self.homes) for path, text in texts.items()}
-        self.without_twins = {name for path, text in texts.items() for name in self.without_twins_in(path, text)}
+        proofs = {f"{at}/{name}": text_of(f"{at}/{name}") for at, _, names in os.walk(f"{crate.folder}/proofs") for name in names}
+        self.without_twins = {name for path, text in texts.items() for name in self.without_twins_in(path, text, proofs)}
         # (those that mean the same come first, so that all of them are in the first copy)
         is_tested = crate.name == TESTED_ON and not given.names
         self.edits = [*(self.edits_in(SAME_MEANING) if is_tested else ()), *self.edits_in(f"{crate.folder}/edits")]
@@ -425,17 +426,17 @@ class Trial:
                 shutil.copyfile(f"{self.crate.folder}/{path}", f"{folder}/{path}")
             return are_made(edits, folder)
 
-    def without_twins_in(self, path, text):
+    def without_twins_in(self, path, text, proofs):
         """The functions of a file that can have no twin.
 
         Those are of an impl of a trait, or their proof isn't all in the answers in their own folder, which nothing else names.
         """
-        proofs = {f"{folder}/{it}": text_of(f"{folder}/{it}") for folder, _, names in os.walk(f"{self.crate.folder}/proofs") for it in names}
+        folders = "\n".join(proofs)
         for it in FUNCTION.finditer(text):
-            name, (module, block) = name_of(it, path, self.homes), place_of(it, path, self.homes)
+            name, block = name_of(it, path, self.homes), place_of(it, path, self.homes)[1]
             own = f"{self.crate.folder}/proofs/{name.replace('::', '/')}/"
             named = [at for at, proof in proofs.items() if at.startswith(own) or f"proofs.{name.replace('::', '.')}." in proof]
-            has_closures = f"/fn/{it[3]}/" in "\n".join(proofs)
+            has_closures = f"/fn/{it[3]}/" in folders
             if block is None or len(block) > 1 or has_closures or not {*named} <= {f"{own}{file}" for file in ANSWERS}:
                 yield name
 
@@ -537,13 +538,15 @@ class Trial:
     def is_added(self, edits, edit):
         """Adds an edit to those of a copy, if there is room: in functions that none of them changes, and made where the others are."""
         has_room = not any(edit.functions & it.functions for it in edits) and self.are_apart([*edits, edit])
-        edits += [edit] * has_room
+        if has_room:
+            edits.append(edit)
         return has_room
 
     def is_added_in_twins(self, edits, edit):
         """Adds an edit to those of a copy in twins of its functions, if they can have some."""
         can_have = self.without_twins.isdisjoint(edit.functions)
-        edits += [edit.in_twins(len(edits))] * can_have
+        if can_have:
+            edits.append(edit.in_twins(len(edits)))
         return can_have
 
     def shared_out(self, edits):
@@ -573,14 +576,15 @@ class Trial:
 
     def look_at_same(self, copied, number):
         """Sees that edits that mean the same are found not refused by a copy in which real ones are."""
-        found = [it for it in copied if self.results.get(it.name, (False, ""))[1].startswith("refused")]
-        for edit in (it for it in copied if it.is_same):
-            if edit in found:
-                self.results[edit.name] = False, f"MEANS THE SAME AS BEFORE, and is found refused: {self.results[edit.name][1]}"
+        said = {it.name: self.results.get(it.name, (False, ""))[1] for it in copied}
+        found = [name for name, text in said.items() if text.startswith("refused")]
+        for name in {it.name for it in copied if it.is_same}:
+            if name in found:
+                self.results[name] = False, f"MEANS THE SAME AS BEFORE, and is found refused: {said[name]}"
             elif self.checks != number or not found:
-                self.results[edit.name] = False, "MEANS THE SAME AS BEFORE, and did not stand among refused edits in copies that count"
-            elif edit.name not in self.results:
-                self.results[edit.name] = True, f"means the same as before, and is not found refused where {len(found)} others are"
+                self.results[name] = False, "MEANS THE SAME AS BEFORE, and did not stand among refused edits in copies that count"
+            elif name not in self.results:
+                self.results[name] = True, f"means the same as before, and is not found refused where {len(found)} others are"
 
     def by_itself(self, edit):
         """Tries an edit alone and from nothing."""
