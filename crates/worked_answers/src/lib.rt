@@ -1,4 +1,5 @@
-//! Worked answers: what is found in a text, which are the tests of `abnf_lint`, and a rename that is granted keeps what its rules generate.
+//! Worked answers: the tokens of a line, what is found in a text, which are the tests of `abnf_lint`, and a rename that is granted keeps
+//! what its rules generate.
 //!
 //! They stand above the crates that they test, since a crate with tests is proved twice. What is found in a text is written with a line
 //! for each finding: its place in bytes as `LINE:START-LINE:END`, its severity as LSP 3.17 numbers it (1 error, 2 warning), its code
@@ -24,3 +25,5 @@ mod rows;
 mod shown;
 #[cfg(test)]
 mod standards;
+#[cfg(test)]
+mod tokens;

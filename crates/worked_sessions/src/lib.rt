@@ -1,4 +1,5 @@
-//! Worked sessions, by steps and on several threads: what a client sends, every byte that it is sent, and how the run ends.
+//! Worked sessions, by steps and on several threads: what a client sends, every byte that it is sent, and how the run ends. Beside them
+//! what they are made of: frames, messages, and the lists and texts that these hold.
 //!
 //! They stand above the crates that they test, since a crate with tests is proved twice. No contract says that there is memory: here each
 //! run by steps succeeds. No clause says that several threads ran, that one that waits wakes, or that all that was asked is answered: here
@@ -13,7 +14,13 @@ mod devices;
 #[cfg(test)]
 mod endings;
 #[cfg(test)]
+mod frames;
+#[cfg(test)]
+mod lists;
+#[cfg(test)]
 mod many;
+#[cfg(test)]
+mod messages;
 #[cfg(test)]
 mod overtaking;
 #[cfg(test)]

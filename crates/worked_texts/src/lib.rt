@@ -1,4 +1,4 @@
-//! Worked rows of the crates that know no grammar as a whole: lists, frames, messages, texts, tokens and blocks.
+//! Worked rows of texts: their edits and positions, the marks of their lines, and the blocks of a grammar that they are cut into.
 //!
 //! They stand above the crates that they test, since a crate with tests is proved twice.
 #![tactic(auto)]
@@ -6,16 +6,8 @@
 #[cfg(test)]
 mod blocks;
 #[cfg(test)]
-mod frames;
-#[cfg(test)]
-mod lists;
-#[cfg(test)]
 mod marks;
-#[cfg(test)]
-mod messages;
 #[cfg(test)]
 mod seams;
 #[cfg(test)]
 mod texts;
-#[cfg(test)]
-mod tokens;
