@@ -404,6 +404,10 @@ class Trial:
         is_tested = crate.name == TESTED_ON and not given.names
         self.edits = [*(self.edits_in(SAME_MEANING) if is_tested else ()), *self.edits_in(f"{crate.folder}/edits")]
 
+    def length(self):
+        """How long the trial takes beside others, by a guess."""
+        return self.crate.count(rb"\n") * len(self.edits)
+
     def edits_in(self, folder):
         for name in sorted(os.listdir(folder)) if os.path.isdir(folder) else []:
             if self.given.names and not {self.crate.name, f"{self.crate.name}/{name}"} & {*self.given.names}:
@@ -647,16 +651,25 @@ def alone(names):
 
 
 def tried(trials, crates, given, store):
-    """Tries the edits of each crate, those first whose libraries are there first, and gives whether each came to what it must."""
-    wells, running, there, gate = [], {}, set(), Gate(given.beside)
+    """Tries the edits of each crate, of those whose libraries are there the longest first, and gives whether each came to what it must."""
+    wells, running, there, gate = [], [], set(), Gate(given.beside)
+    ready, lock = [], threading.Lock()
     needed = {below for trial in trials for below in trial.crate.below()}
-    trials.sort(key=lambda it: -it.crate.count(rb"\n") * len(it.edits))
+
+    def run_longest():
+        with lock:
+            ready.sort(key=Trial.length)
+            trial = ready.pop()
+        return trial, trial.run()
+
     with concurrent.futures.ThreadPoolExecutor(given.jobs) as pool:
 
         def begin():
             for trial in [it for it in trials if there >= {*it.crate.below()}]:
                 trials.remove(trial)
-                running[pool.submit(trial.run)] = trial
+                with lock:
+                    ready.append(trial)
+                running.append(pool.submit(run_longest))
 
         begin()
         for crate in (it for it in crates if it in needed):
@@ -664,8 +677,9 @@ def tried(trials, crates, given, store):
             there.add(crate)
             begin()
         for it in concurrent.futures.as_completed(running):
-            print("\n".join(it.result()), flush=True)
-            wells += [well for well, _ in running[it].results.values()]
+            trial, said = it.result()
+            print("\n".join(said), flush=True)
+            wells += [well for well, _ in trial.results.values()]
     return wells
 
 

@@ -17,3 +17,9 @@ returns-clause-served g c = on-ok c.result_of-2.result (λ s e.
     c.args.ran.written.end c.args.ran.written.seat.sent.share.amount c.args.ran.written.seat.tickets.items c.args.ran.written.seat.notes.items (c.args.ran.written.seat.checkpoints == c.in-Ok.desk.base.checkpoints)
     c.has_met_full_session.result c.in-Ok.desk c.requires.written finished.0 c.in-Ok.ensures.limits c.in-Ok.ensures.counts.sent_is c.in-Ok.ensures.agrees.1 c.in-Ok.ensures.replies finished.1 in
     (served.0, λ q. served.1 (c.has_met_full_session.ensures ∙ q)))
+
+pub returns-in_default-clause-not_made : goal.returns-in_default-clause-not_made
+returns-in_default-clause-not_made g c = λ e. absurd (cc)
+
+pub returns-clause-not_made : goal.returns-clause-not_made
+returns-clause-not_made g c = λ e. absurd (cc)
