@@ -41,6 +41,7 @@ import importlib.machinery
 import importlib.util
 import json
 import os
+import queue
 import re
 import shutil
 import signal
@@ -653,13 +654,11 @@ def alone(names):
 def tried(trials, crates, given, store):
     """Tries the edits of each crate, of those whose libraries are there the longest first, and gives whether each came to what it must."""
     wells, running, there, gate = [], [], set(), Gate(given.beside)
-    ready, lock = [], threading.Lock()
+    ready = queue.PriorityQueue()
     needed = {below for trial in trials for below in trial.crate.below()}
 
     def run_longest():
-        with lock:
-            ready.sort(key=Trial.length)
-            trial = ready.pop()
+        trial = ready.get()[-1]
         return trial, trial.run()
 
     with concurrent.futures.ThreadPoolExecutor(given.jobs) as pool:
@@ -667,8 +666,7 @@ def tried(trials, crates, given, store):
         def begin():
             for trial in [it for it in trials if there >= {*it.crate.below()}]:
                 trials.remove(trial)
-                with lock:
-                    ready.append(trial)
+                ready.put((-trial.length(), trial.crate.name, trial))
                 running.append(pool.submit(run_longest))
 
         begin()
