@@ -17,6 +17,11 @@ pub enum Early {
 }
 
 impl From<AllocError> for Early {
+    ghost use Rattle.std.specs.Prelude.{◌≡◌};
+    ghost use Rattle.ls_threads.specs.declared.ending.Early.TheVariants.{Memory};
+
+    ghost from_gives = { λ e early. early ≡ Memory };
+
     fn from(_: AllocError) -> Early {
         Early::Memory
     }
