@@ -6,6 +6,7 @@ use Rattle.ls_server.specs.declared.serve.ServeFault.{ServeFault}
 use Rattle.ls_server.specs.declared.serve.ServeFault.TheVariants as fault
 use Rattle.ls_session.specs.declared.event.Status.{Status}
 use Rattle.ls_session.specs.declared.event.Status.TheVariants as status
+use Rattle.ls_threads.specs.declared.ending.Early.{Early}
 use Rattle.ls_threads.specs.declared.ending.Early.TheVariants as early
 use Rattle.ls_threads.specs.declared.ending.Heard.{Heard}
 use Rattle.ls_threads.specs.declared.ending.Heard.TheVariants as heard
@@ -62,6 +63,11 @@ first_of ((holds, x) ∷ rest) last = if holds then x else first_of rest last
 -- what a run answers, where all its threads could be made
 abbrev pub result_of : Heard → Wrote → Worked → Bool → Result Status ServeFault
 result_of h w k audited = first_of (causes h w k audited) (Ok (status_of h))
+
+-- how the reader broke off, by the fault that the board answered
+abbrev pub early_by : DeskFault → Early
+early_by desk.SessionFull = early.Full
+early_by fault = early.Memory
 
 -- how a worker ended, by the fault that ended its work
 abbrev pub ended_by : Option DeskFault → Worked

@@ -27,6 +27,20 @@ impl From<AllocError> for Early {
     }
 }
 
+impl From<DeskFault> for Early {
+    ghost use Rattle.std.specs.Prelude.{◌≡◌};
+    ghost use Rattle.ls_threads.specs.Ends.{early_by};
+
+    ghost from_gives = { λ fault early. early ≡ early_by fault };
+
+    fn from(fault: DeskFault) -> Early {
+        match fault {
+            DeskFault::SessionFull => Early::Full,
+            _ => Early::Memory,
+        }
+    }
+}
+
 /// How the reader ended.
 #[derive(Clone, Copy, Debug, Drop, PartialEq, Eq)]
 pub enum Heard {

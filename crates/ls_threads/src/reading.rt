@@ -69,11 +69,8 @@ impl<C: Crew> Reader<C> {
         let Some(body) = refusal_body(self.alloc, &id, fault)? else {
             return Ok(());
         };
-        match board.client(rt, &mut self.seat, ClientEvent::Say(List::from_vec(body))) {
-            Ok(_) => Ok(()),
-            Err(DeskFault::SessionFull) => Err(Early::Full),
-            Err(_) => Err(Early::Memory),
-        }
+        board.client(rt, &mut self.seat, ClientEvent::Say(List::from_vec(body)))?;
+        Ok(())
     }
 
     /// Enters an event of the client. A refused request is told so.
@@ -86,8 +83,7 @@ impl<C: Crew> Reader<C> {
         let id = event.asker()?;
         match board.client(rt, &mut self.seat, event) {
             Ok(_) => Ok(()),
-            Err(DeskFault::SessionFull) => Err(Early::Full),
-            Err(DeskFault::Memory) => Err(Early::Memory),
+            Err(fault @ (DeskFault::SessionFull | DeskFault::Memory)) => Err(fault.into()),
             Err(fault) => self.tell(rt, board, id, fault),
         }
     }
