@@ -2,13 +2,15 @@
 """Proves and links a program where it isn't built. ./build calls this with the program's name, or with none for the server; ./run with
 --and-run and the server's arguments.
 
-Standard output stays free, since under ./run it is the client's. Of crates that don't depend on each other several are
-proved at once. A build that is ended ends what it has started, however it is ended.
+Standard output stays free, since under ./run it is the client's. The crates are proved side by side in a copy of them
+(tools/side_by_side.py), and what passed there the gate needn't prove again. A build that is ended ends what it has started, however it is
+ended.
 """
 import ctypes
 import fcntl
 import hashlib
 import os
+import re
 import shutil
 import signal
 import subprocess
@@ -22,9 +24,12 @@ CRATES = os.path.join(TOP, "crates.txt")
 SERVER = "abnf_ls"
 PROGRAMS = (SERVER, "abnf_findings")
 LOG = os.path.join(OUT, "build.log")
-GIGABYTE = 10**9
-# The memory that a check takes, and what each further job of it takes.
-CHECK_BYTES, JOB_BYTES = 3 * GIGABYTE, 3 * GIGABYTE // 2
+# What of a crate's folder is proved, and what proofs and runs don't read.
+PARTS = ("proofs", "specs", "src")
+NOT_COPIED = ("out", "edits", "must-not-compile")
+# The lines that tell of a crate that its proof begins, and how it has ended.
+BEGINS = re.compile(r"begins: (\w+)")
+ENDED = re.compile(r"rt: (\w+) (proved|is kept|NOT PROVED)")
 SET_DEATH_SIGNAL = 1
 LIBC = ctypes.CDLL(None)
 
@@ -56,18 +61,33 @@ def crates_below(program):
     return below
 
 
+def lines_of(crate):
+    """How many lines the proofs of a crate have to do with."""
+    total = 0
+    for part in PARTS:
+        for folder, _, files in os.walk(os.path.join(TOP, "crates", crate, part)):
+            for name in files:
+                with open(os.path.join(folder, name), "rb") as file:
+                    total += file.read().count(b"\n")
+    return total
+
+
+def sum_of(path):
+    with open(path, "rb") as file:
+        return hashlib.sha256(file.read()).hexdigest()
+
+
 class Program:
-    """A program: where it is to lie, what the toolchain builds, and where the sum of the sources lies that it was built from."""
+    """A program: where it is to lie, and where the sum of the sources lies that it was built from."""
 
     def __init__(self, name):
         self.name, self.path = name, os.path.join(OUT, name)
-        self.linked = os.path.join(TOP, "crates", name, "out", name)
         self.built_from = f"{self.path}.sources"
 
     def sources(self):
         yield CRATES
         for name in sorted(crates_below(self.name)):
-            for part in ("proofs", "specs", "src"):
+            for part in PARTS:
                 for folder, folders, files in os.walk(os.path.join(TOP, "crates", name, part)):
                     folders.sort()
                     yield from (os.path.join(folder, it) for it in sorted(files))
@@ -88,27 +108,36 @@ class Program:
         except OSError:
             return False
 
-    def prove(self):
+    def build(self, built_from):
+        """Proves and links it in a copy of its crates, and moves it in place."""
         say(f"proving and building {self.name}, which takes some minutes the first time; the toolchain's words go to {LOG}")
-        if os.path.lexists(self.linked):
-            os.remove(self.linked)
-        with open(LOG, "wb") as log:
-            Proofs(self, log).run()
+        with tempfile.TemporaryDirectory(prefix="abnf_ls-build-") as folder, open(LOG, "wb") as log:
+            copy_crates(crates_below(self.name), folder)
+            self.install(Proofs(self.name, log).run(folder), built_from)
+        say(f"{self.path} is built; its SHA-256 sum is {sum_of(self.path)}")
 
-    def install(self, built_from):
-        """Moves the program in place. Its sum goes first and comes last, so that it never stands beside another program."""
+    def install(self, linked, built_from):
+        """Moves the program in place. The sum of its sources goes first and comes last, so that it never stands beside another program."""
         if os.path.lexists(self.built_from):
             os.remove(self.built_from)
-        shutil.copy(self.linked, self.path + ".new")
+        shutil.copy(linked, self.path + ".new")
         os.replace(self.path + ".new", self.path)
         with open(self.built_from + ".new", "w", encoding="utf-8") as file:
             file.write(built_from)
         os.replace(self.built_from + ".new", self.built_from)
 
 
-def free_bytes():
-    with open("/proc/meminfo", encoding="utf-8") as file:
-        return 1024 * next(int(line.split()[1]) for line in file if line.startswith("MemAvailable:"))
+def copy_crates(names, folder):
+    """Copies these crates to a folder as a repository of their own, so that edits don't reach what is being proved."""
+    with open(CRATES, encoding="utf-8") as file:
+        lines = [line for line in file if line.partition(":")[0].split()[:1] in [[name] for name in names]]
+    with open(os.path.join(folder, "crates.txt"), "w", encoding="utf-8") as file:
+        file.writelines(lines)
+    shutil.copy(os.path.join(TOP, "HANDLES"), folder)
+    for name in names:
+        shutil.copytree(os.path.join(TOP, "crates", name), os.path.join(folder, "crates", name), ignore=shutil.ignore_patterns(*NOT_COPIED))
+    # (the toolchain looks no further for the top of the repository)
+    os.mkdir(os.path.join(folder, ".git"))
 
 
 def end_with_parent():
@@ -117,74 +146,56 @@ def end_with_parent():
 
 
 class Proofs:
-    """The crates that are proved, those that are being proved, and those that are still to be."""
+    """The proofs of a program's crates: which are being made, which are done, and which have failed."""
 
     def __init__(self, program, log):
-        self.program, self.below, self.log = program, crates_below(program.name), log
-        self.above = {it: sum(it in below for below in self.below.values()) for it in self.below}
-        self.left = sorted(self.below, key=lambda it: -self.above[it])
-        self.running, self.done = {}, set()
-        self.processors = min(4, len(os.sched_getaffinity(0)))
+        self.program, self.below, self.log = program, crates_below(program), log
+        lines = {name: lines_of(name) for name in self.below}
+        # The lines of the longest chain of crates that begins with each, which tell how much is left.
+        self.chains = dict(lines)
+        for name in reversed([*self.below]):
+            for it in self.below[name]:
+                self.chains[it] = max(self.chains[it], lines[it] + self.chains[name])
+        self.begun, self.done, self.failed = [], set(), []
         self.start_time = time.monotonic()
 
-    def may_start(self, name):
-        # rt keeps a crate and all crates below it to itself while it works there, so crates that share one take turns.
-        held = {it for other in self.running for it in (other, *self.below[other])}
-        has_room = not self.running or free_bytes() > CHECK_BYTES
-        return self.below[name] <= self.done and not held & {name, *self.below[name]} and has_room
+    def run(self, folder):
+        """Makes them in a folder that has the crates alone, and gives the program's path there."""
+        command = [sys.executable, os.path.join(TOP, "tools", "side_by_side.py")]
+        process = subprocess.Popen(
+            command, cwd=folder, stdin=subprocess.DEVNULL, stdout=subprocess.PIPE, stderr=subprocess.STDOUT, preexec_fn=end_with_parent)
+        with process:
+            try:
+                for line in process.stdout:
+                    self.log.write(line)
+                    self.log.flush()
+                    self.read(line.decode(errors="replace"))
+            except BaseException:
+                process.terminate()
+                raise
+        linked = os.path.join(folder, "crates", self.program, "out", self.program)
+        if process.returncode or not os.path.isfile(linked):
+            stop(126, f"the build failed{f' at the crate {self.failed[0]}' if self.failed else ''}: see {LOG}")
+        return linked
 
-    def jobs(self, name):
-        """The crate that most others wait for may use all processors; those beside it use what it leaves idle."""
-        if any(self.above[it] > self.above[name] for it in self.running):
-            return 1
-        return max(1, min(self.processors, 1 + (free_bytes() - CHECK_BYTES) // JOB_BYTES))
-
-    def start_all(self):
-        for name in [*self.left]:
-            if len(self.running) < self.processors and self.may_start(name):
-                self.start(name)
-
-    def start(self, name):
-        # The toolchain has no command that links a program and doesn't run it: on no input a program ends at once.
-        verb = "run" if name == self.program.name else "lib"
-        said = tempfile.TemporaryFile()
-        command = ["rt", verb, "--jobs", str(self.jobs(name))]
-        self.left.remove(name)
-        self.running[name] = said, subprocess.Popen(
-            command, cwd=os.path.join(TOP, "crates", name), stdin=subprocess.DEVNULL, stdout=said,
-            stderr=subprocess.STDOUT, preexec_fn=end_with_parent)
-
-    def collect(self, name):
-        """Takes in a crate whose check has ended."""
-        said, process = self.running.pop(name)
-        with said:
-            said.seek(0)
-            self.log.write(b"== %b\n%b\n" % (name.encode(), said.read()))
-            self.log.flush()
-        is_good = os.path.isfile(self.program.linked) if name == self.program.name else process.returncode == 0
-        if not is_good:
-            stop(126, f"the build failed at the crate {name}: see {LOG}")
-        self.done.add(name)
+    def read(self, line):
+        """Takes in what the toolchain says of a crate."""
+        begins, ended = BEGINS.match(line), ENDED.match(line)
+        if begins:
+            self.begun.append(begins[1])
+        elif ended and ended[2].startswith("NOT"):
+            self.failed.append(ended[1])
+        elif ended and ended[1] in self.below:
+            self.done.add(ended[1])
+            self.report()
 
     def report(self):
-        minutes, seconds = divmod(int(time.monotonic() - self.start_time), 60)
-        now = f", now {', '.join(self.running)}" if self.running else ""
-        say(f"{len(self.done)} of {len(self.below)} crates after {minutes}:{seconds:02}{now}")
-
-    def run(self):
-        try:
-            self.start_all()
-            while self.running:
-                time.sleep(0.1)
-                for name in [it for it, (_, process) in self.running.items() if process.poll() is not None]:
-                    self.collect(name)
-                    self.start_all()
-                    self.report()
-        finally:
-            for _, process in self.running.values():
-                process.terminate()
-            for _, process in self.running.values():
-                process.wait()
+        passed, whole = time.monotonic() - self.start_time, max(self.chains.values())
+        left = max((self.chains[it] for it in self.below if it not in self.done), default=0)
+        minutes, seconds = divmod(int(passed), 60)
+        rest = f", about {left * passed / (whole - left) / 60:.0f} minutes left" if 0 < left < whole else ""
+        now = ", ".join(it for it in self.begun if it not in self.done)
+        say(f"{len(self.done)} of {len(self.below)} crates after {minutes}:{seconds:02}{rest}{now and f', now {now}'}")
 
 
 def end(number, _frame):
@@ -210,8 +221,7 @@ def build(program):
         while not program.is_built():
             # (taken first: what is edited from here on makes another sum)
             built_from = program.source_sum()
-            program.prove()
-            program.install(built_from)
+            program.build(built_from)
 
 
 def main(words):
