@@ -8,20 +8,17 @@ of the README's table, one reply for each request and for each body that is no m
 no more than versions. COUNT streams are made from SEED, a number.
 """
 import collections
-import concurrent.futures
 import json
-import os
 import random
 import re
 import sys
 
 import encoding_rows
+import rows
 import runs
 import session_rows
 from plain_messages import Plain
 
-TOP = os.path.dirname(os.path.dirname(os.path.abspath(__file__)))
-BUILT = os.path.join(TOP, "crates", "abnf_ls", "out", "abnf_ls")
 COUNT, SEED = 4000, 1
 # The README's table
 FAULTS = ("", "HeaderTooLong", "BadHeader", "NoLength", "TwoLengths", "BadLength", "TooLarge", "Truncated")
@@ -48,10 +45,10 @@ def is_answered(codes, allowed):
     left = collections.Counter(codes)
     left.subtract(collections.Counter(it[0] for it in allowed if len(it) == 1))
     free = [it for it in allowed if len(it) > 1]
-    return min(left.values(), default=0) >= 0 and left.total() == len(free) and all(it in free[0] for it in +left)
+    return min(left.values(), default=0) >= 0 and sum(left.values()) == len(free) and all(it in free[0] for it in +left)
 
 
-def wrong(program, stream):
+def fault_of_stream(program, stream):
     """What is wrong with a run on these bytes; None where nothing is."""
     plain = Plain(stream)
     status, said, wrote = runs.ended(program, stream)
@@ -76,8 +73,8 @@ def wrong(program, stream):
 
 
 # Messages, as they stand in the worked sessions; of the many documents of one of these a few
-ROWS = (it for rows in (session_rows, encoding_rows) for it in rows.SESSIONS + rows.REPLIES)
-MESSAGES = sorted({runs.as_bytes(it) for row in ROWS for it in row[1][:20] if len(it) < 2000})
+WORKED = session_rows.SESSIONS + session_rows.REPLIES + encoding_rows.SESSIONS + encoding_rows.REPLIES
+MESSAGES = sorted({runs.as_bytes(it) for row in WORKED for it in row[1][:20] if len(it) < 2000})
 VALUES = (
     *("true", "false", "null", "0", "-0", "1", "-1", "1.5", "1e2", "1e400", "4294967295", "4294967296", "9223372036854775807", "9223372036854775808"),
     *("-9223372036854775808", "-9223372036854775809", "18446744073709551616", '""', '"utf-8"', '"\\ud83d\\ude00"', '"\\ud83d"', '"\\u0000"', "[]", "{}"),
@@ -102,12 +99,16 @@ def long_header(dice):
     return b"x: " + b"y" * (4096 - 3 - 2 - 20 - 2 + dice.randrange(-3, 4)) + b"\r\nContent-Length: %4d\r\n\r\n"
 
 
+def some_bytes(dice, count):
+    return dice.getrandbits(8 * count).to_bytes(count, "little")
+
+
 def at_random(dice, stream):
     """These bytes with a few of them changed."""
     for _ in range(dice.choice((1, 1, 2, 5))):
         start = dice.randrange(len(stream) + 1)
         end = min(len(stream), start + dice.choice((0, 0, 1, 1, 2, 8, 40)))
-        put = dice.choice((b"", dice.choice(SCRAPS), dice.choice(SCRAPS), dice.randbytes(dice.choice((1, 2, 9))), stream[start:end] * 2))
+        put = dice.choice((b"", dice.choice(SCRAPS), dice.choice(SCRAPS), some_bytes(dice, dice.choice((1, 2, 9))), stream[start:end] * 2))
         stream = stream[:start] + put + stream[end:]
     return stream
 
@@ -139,7 +140,7 @@ def framed(dice, body, slips):
 def random_stream(dice):
     """A session of messages from the worked ones, right, mutated in its bodies, in its headers or anywhere; or bytes."""
     if dice.random() < 0.05:
-        return b"".join(dice.choice((*SCRAPS, dice.randbytes(3), *HEADERS)) for _ in range(dice.randrange(40)))
+        return b"".join(dice.choice((*SCRAPS, some_bytes(dice, 3), *HEADERS)) for _ in range(dice.randrange(40)))
     bodies = [dice.choice(MESSAGES) for _ in range(dice.choice((1, 3, 10, 30)))]
     if dice.random() < 0.9:
         bodies.insert(0, session_rows.INITIALIZE.encode())
@@ -186,7 +187,7 @@ def answers_to(count):
     return [body.encode() for body in ANSWERS[:count] if body]
 
 
-def wrong_front(program, front):
+def fault_of_front(program, front):
     """How a run on this front of the first session's bytes ended, where that was wrong."""
     status, said, wrote = runs.ended(program, runs.frames(FIRST)[:front])
     bodies, rest = runs.bodies_of(wrote)
@@ -197,19 +198,14 @@ def wrong_front(program, front):
 def cases(program, count=COUNT, seed=SEED):
     """What was tried, what was wrong with it, and what must be wrong: nothing."""
     fronts = range(len(runs.frames(FIRST)) + 1)
-    with concurrent.futures.ThreadPoolExecutor(len(os.sched_getaffinity(0))) as pool:
-        faults = [it for it in pool.map(lambda front: wrong_front(program, front), fronts) if it]
-        yield f"{len(fronts)} fronts of the first session", faults[:3], []
-        found = pool.map(lambda it: (it[0], wrong(program, it[1])), streams(count, seed))
-        yield f"{count} random streams", [it for it in found if it[1]][:3], []
+    faults = rows.side_by_side(lambda front: fault_of_front(program, front), fronts)
+    yield f"{len(faults)} fronts of the first session", [it for it in faults if it][:3], [], len(faults)
+    found = rows.side_by_side(lambda it: (it[0], fault_of_stream(program, it[1])), streams(count, seed))
+    yield f"{len(found)} random streams", [it for it in found if it[1]][:3], [], len(found)
 
 
-def main(program=BUILT, count=COUNT, seed=SEED):
-    failed = 0
-    for what, found, wanted in cases(program, int(count), int(seed)):
-        print(f"{what}: {'as it must be' if found == wanted else f'FAILED: {found}'}")
-        failed += found != wanted
-    return 1 if failed else 0
+def main(program=rows.SERVER, count=COUNT, seed=SEED):
+    return rows.told(cases(program, int(count), int(seed)))
 
 
 if __name__ == "__main__":

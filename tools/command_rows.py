@@ -1,8 +1,15 @@
+#!/usr/bin/env python3
 """Worked rows of the commands `example` and `check`: what they print and how they end.
 
-Each example is a text, a rule of it, its hover text and the certificate, or None where another certificate may stand there.
+    tools/command_rows.py [PROGRAM]
+
+runs a program that is built. Each example is a text, a rule of it, its hover text and the certificate, or None where another certificate may stand there.
 Each check is a text, a certificate, and the status with what stands on standard error and output.
 """
+import sys
+
+import rows
+from runs import ended
 
 
 def lines(*all_lines):
@@ -110,3 +117,36 @@ CHECKS = (
     ("a = a", lines("0 0 18446744073709551615 0", "1 0 18446744073709551615 0"), NO),
     ("a = a", lines("0 -", "1 -"), YES),
 )
+
+
+def example_cases(program, files):
+    """Each row's example, and the check of it."""
+    for text, rule, wanted, cert in EXAMPLES:
+        file = files.written("g.abnf", text)
+        status, said, wrote = ended(program, None, ["example", file, rule])
+        head, _, tail = wrote.decode().partition("\n\n")
+        of = f"example {rule} of {text[:40]!r}"
+        yield of, (status, said, head, tail if cert is not None else None), (0, b"", wanted, cert)
+        yield f"check of the {of}", ended(program, None, ["check", file, files.written("c", wrote)]), YES
+
+
+def check_cases(program, files):
+    """Certificates that aren't accepted, and texts that are none."""
+    for text, cert, wanted in CHECKS:
+        found = ended(program, None, ["check", files.written("g.abnf", text), files.written("c", cert)])
+        yield f"check of {cert[:40]!r} for {text!r}", found, wanted
+
+
+def cases(program):
+    """What each case is, how the program ended in it, and how it must end."""
+    with rows.files() as files:
+        yield from example_cases(program, files)
+        yield from check_cases(program, files)
+
+
+def main(words):
+    return rows.told(cases(*words or [rows.SERVER]))
+
+
+if __name__ == "__main__":
+    sys.exit(main(sys.argv[1:]))

@@ -7,16 +7,13 @@ The input is cut after each byte of the first session, once what came before it 
 status and the line are those of a cut frame, of a client that leaves, or of an exit. And the reader of the output goes away after some of its
 bytes: the next reply finds nobody, and the run ends as a failed write; where none comes, as if nothing had happened. --all tries each byte.
 """
-import concurrent.futures
-import os
 import sys
 
 import broken_input
+import rows
 import runs
 from broken_input import ANSWERS, FIRST
 
-TOP = os.path.dirname(os.path.dirname(os.path.abspath(__file__)))
-BUILT = os.path.join(TOP, "crates", "abnf_ls", "out", "abnf_ls")
 # Of the bytes of the output each so many-th is tried, and those about the ends of frames.
 STEP = 7
 TURNS = [(message, int(body is not None)) for message, body in zip(FIRST, ANSWERS)]
@@ -52,28 +49,23 @@ def output_fronts(step):
     return [it for it in range(ends[-1] + 1) if it % step == 0 or it in near]
 
 
-def wrong(program, run, fronts, each=map):
-    """Some of the runs that ended otherwise than they must."""
-    ran = each(lambda front: (front, *run(program, front)), fronts)
-    return [it for it in ran if it[1] != it[2]][:3]
+def wrong_ends(ran):
+    """Some of the runs that ended otherwise than they must: the place, the end, and that which it must have."""
+    return [(front, found, wanted) for front, (found, wanted) in ran if found != wanted][:3]
 
 
 def cases(program, step=STEP):
     """What was tried, what was wrong with it, and what must be wrong: nothing."""
-    fronts = range(len(runs.frames(FIRST)) + 1)
-    with concurrent.futures.ThreadPoolExecutor(len(os.sched_getaffinity(0))) as pool:
-        yield f"{len(fronts)} inputs that are cut", wrong(program, cut_input, fronts, pool.map), []
+    ran = rows.side_by_side(lambda front: (front, cut_input(program, front)), range(len(runs.frames(FIRST)) + 1))
+    yield f"{len(ran)} inputs that are cut", wrong_ends(ran), [], len(ran)
     # one after the other: another run that is just being started would hold the end of the pipe that is closed
-    fronts = output_fronts(step)
-    yield f"{len(fronts)} readers that go away", wrong(program, left_output, fronts), []
+    ran = [(front, left_output(program, front)) for front in output_fronts(step)]
+    yield f"{len(ran)} readers that go away", wrong_ends(ran), [], len(ran)
 
 
 def main(words):
-    programs, failed = [word for word in words if word != "--all"], 0
-    for what, found, wanted in cases(programs[0] if programs else BUILT, 1 if "--all" in words else STEP):
-        print(f"{what}: {'as it must be' if found == wanted else f'FAILED: {found}'}")
-        failed += found != wanted
-    return 1 if failed else 0
+    (program,), tries_all = rows.programs_of(words, rows.SERVER)
+    return rows.told(cases(program, 1 if tries_all else STEP))
 
 
 if __name__ == "__main__":

@@ -10,20 +10,15 @@ write that takes one byte is followed by others: nothing else is seen of these. 
 the input byte by byte, and lets each write of one byte fail.
 """
 import collections
-import concurrent.futures
+import itertools
 import json
-import os
 import sys
-import tempfile
 
-import preload
+import rows
 import runs
 from refused_sessions import CONTEXT, asks, changes, key_of
 from session_rows import EXIT, INITIALIZE, INITIALIZED, LIST, at, edit, named, opened, ranged
 
-TOP = os.path.dirname(os.path.dirname(os.path.abspath(__file__)))
-BUILT = os.path.join(TOP, "crates", "abnf_ls", "out", "abnf_ls")
-PLAIN = os.path.join(TOP, "crates", "served_plainly", "out", "served_plainly")
 # The input comes in pieces of so many bytes.
 PIECE = 8
 # Where a write takes one byte, each so many-th of them fails.
@@ -148,15 +143,17 @@ class Fault:
 
     def __init__(self, said, ends, heard=len(GIVEN), **at_calls):
         self.said, self.ends, self.heard = said, ends, heard
-        self.environment = {name.upper(): str(number) for name, number in at_calls.items()}
+        self.at_calls = at_calls
+        # what counts the calls of writes: each takes a byte, or else a whole frame
+        self.takes_bytes = "most_write" in at_calls
 
-    def wrong(self, wanted, run):
+    def fault_on_threads(self, wanted, run):
         """What is wrong with a run on several threads."""
         status, said, wrote = run
         if (fault := wanted.fault_of(wrote, self.heard)) is not None:
             return fault
         bodies, rest = runs.bodies_of(wrote)
-        if (status, said) == CLEAN and (self.ends == CLEAN or self.may_be_clean(wanted, bodies, wrote)):
+        if (status, said) == CLEAN and (self.ends == CLEAN or self.never_came(wanted, bodies, wrote)):
             return None if not rest and wanted.must() <= set(bodies) else "a reply is missing"
         if (status, said) != self.ends:
             return f"another end: {status} {said[:100]}"
@@ -164,25 +161,26 @@ class Fault:
             return "a cut frame after a read that failed"
         return None if self.ends != WRITE_FAILED or self.has_taken(wrote) else "another count of bytes than writes took"
 
-    def may_be_clean(self, wanted, bodies, wrote):
+    def never_came(self, wanted, bodies, wrote):
         """Whether the write that fails may never have come: only where the findings that may be left out are."""
-        calls = len(wrote) if "MOST_WRITE" in self.environment else len(bodies)
+        calls = len(wrote) if self.takes_bytes else len(bodies)
         return self.ends == WRITE_FAILED and calls < self.call() and len(bodies) < len(wanted.bodies(len(GIVEN)))
 
     def call(self):
-        return int(self.environment.get("FAILED_WRITE") or self.environment.get("NO_WRITE"))
+        """The write that fails or takes nothing."""
+        return self.at_calls.get("failed_write") or self.at_calls["no_write"]
 
     def has_taken(self, wrote):
         """Whether as much was written as the writes took before the one that fails."""
-        count = len(wrote) if "MOST_WRITE" in self.environment else len(runs.bodies_of(wrote)[0])
+        count = len(wrote) if self.takes_bytes else len(runs.bodies_of(wrote)[0])
         return count == self.call() - 1
 
-    def wrong_plainly(self, wanted, run):
+    def fault_on_one_thread(self, wanted, run):
         """What is wrong with a run on one thread, whose bytes are known."""
         whole = runs.frames(wanted.bodies(self.heard))
         if self.ends == WRITE_FAILED:
             count = self.call() - 1
-            whole = whole[:count] if "MOST_WRITE" in self.environment else runs.frames(wanted.bodies(self.heard)[:count])
+            whole = whole[:count] if self.takes_bytes else runs.frames(wanted.bodies(self.heard)[:count])
         return None if run == (*self.ends, whole) else f"it ended with {run[:2]} and {len(run[2])} bytes, and not with {self.ends} and {len(whole)}"
 
 
@@ -205,44 +203,38 @@ def faults(wanted, piece, step):
     yield Fault("devices at which nothing is wrong", CLEAN, failed_write=size + 1, most_write=1)
 
 
-def all_cases(program, piece, step, wrong_of):
+def all_cases(program, piece, step, fault_in):
     """What was tried, what was wrong with it, and what must be wrong: nothing."""
     wanted = Wanted(program)
     yield "the session whose devices fail", wanted.is_whole, True
-    with tempfile.TemporaryDirectory() as folder:
-        made, path = preload.library(folder, "fails_devices", LIBRARY), os.path.join(folder, "given")
-        with open(path, "wb") as file:
-            file.write(GIVEN)
+    with rows.library(LIBRARY) as made, rows.files() as files:
+        path = files.written("given", GIVEN)
 
         def ran(fault):
             with open(path, "rb") as given:
-                run = runs.ended(program, None, stdin=given, env={"LD_PRELOAD": made, **fault.environment}, seconds=SECONDS)
-            return fault.said, fault.environment, wrong_of(fault)(wanted, run)
+                run = runs.ended(program, None, stdin=given, env=rows.in_front(made, **fault.at_calls), seconds=SECONDS)
+            return fault, fault_in(fault, wanted, run)
 
-        with concurrent.futures.ThreadPoolExecutor(len(os.sched_getaffinity(0))) as pool:
-            found = list(pool.map(ran, faults(wanted, piece, step)))
-    for said in dict.fromkeys(it[0] for it in found):
-        some = [it for it in found if it[0] == said]
-        yield f"{len(some)} runs with {said}", [it[1:] for it in some if it[2]][:3], []
+        found = rows.side_by_side(ran, faults(wanted, piece, step))
+    for said in dict.fromkeys(fault.said for fault, _ in found):
+        some = [(fault.at_calls, wrong) for fault, wrong in found if fault.said == said]
+        yield f"{len(some)} runs with {said}", [it for it in some if it[1]][:3], [], len(some)
 
 
 def cases(program, piece=PIECE, step=STEP):
     """On several threads, where replies may come in any order."""
-    yield from all_cases(program, piece, step, lambda fault: fault.wrong)
+    yield from all_cases(program, piece, step, Fault.fault_on_threads)
 
 
 def plain_cases(program, piece=PIECE, step=STEP):
     """On one thread."""
-    yield from all_cases(program, piece, step, lambda fault: fault.wrong_plainly)
+    yield from all_cases(program, piece, step, Fault.fault_on_one_thread)
 
 
 def main(words):
-    failed, programs = 0, [word for word in words if word != "--all"] or [BUILT, PLAIN]
-    for program, some in zip(programs, (cases, plain_cases)):
-        for what, found, wanted in some(program, 1, 1) if "--all" in words else some(program):
-            print(f"{os.path.basename(program)}, {what}: {'as it must be' if found == wanted else f'FAILED: {found}'}")
-            failed += found != wanted
-    return 1 if failed else 0
+    (program, plain), tries_all = rows.programs_of(words, rows.SERVER, rows.PLAIN)
+    sizes = (1, 1) if tries_all else (PIECE, STEP)
+    return rows.told(itertools.chain(cases(program, *sizes), plain_cases(plain, *sizes)))
 
 
 if __name__ == "__main__":

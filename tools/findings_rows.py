@@ -7,15 +7,11 @@ runs a program that is built. Each row is a text and its lines without the name 
 """
 import os
 import sys
-import tempfile
 
-import preload
 import refused_memory
+import rows
 from runs import HUNG, ended
 
-TOP = os.path.dirname(os.path.dirname(os.path.abspath(__file__)))
-BUILT = os.path.join(TOP, "crates", "abnf_findings", "out", "abnf_findings")
-PROGRAMS = (BUILT, BUILT + ".by-rattle")
 USAGE = b"usage: abnf_findings [--strict | --rules] FILE..\n"
 DEEP = "a = " + 65 * "("
 
@@ -102,39 +98,22 @@ def printed(name, found):
     return "".join(f"{name}:{line}\n" for line in found).encode()
 
 
-class Folder:
-    def __init__(self, path):
-        self.path = path
-
-    def at(self, name):
-        return os.path.join(self.path, name)
-
-    def written(self, name, text):
-        with open(self.at(name), "wb") as file:
-            file.write(text if isinstance(text, bytes) else text.encode())
-        return self.at(name)
-
-    def sparse(self, name, size):
-        os.truncate(self.written(name, b""), size)
-        return self.at(name)
-
-
-def row_cases(program, folder):
+def row_cases(program, files):
     """Each row, from a file and from standard input, and where warnings don't pass."""
     for text, found in ROWS:
-        what, file = f"findings of {text[:40]!r}", folder.written("g.abnf", text)
+        what, file = f"findings of {text[:40]!r}", files.written("g.abnf", text)
         yield what, ended(program, None, [file]), (status_of(found, False), b"", printed(file, found))
         yield f"strict {what}", ended(program, None, ["--strict", file]), (status_of(found, True), b"", printed(file, found))
         yield f"{what}, from standard input", ended(program, text.encode(), ["-"]), (status_of(found, False), b"", printed("-", found))
 
 
-def rule_cases(program, folder):
+def rule_cases(program, files):
     """The rules of each text, and of texts beside a file that can't be read."""
     for text, found in RULE_ROWS:
-        what, file = f"rules of {text[:40]!r}", folder.written("g.abnf", text)
+        what, file = f"rules of {text[:40]!r}", files.written("g.abnf", text)
         yield what, ended(program, None, ["--rules", file]), (0, b"", printed(file, found))
         yield f"{what}, from standard input", ended(program, text.encode(), ["--rules", "-"]), (0, b"", printed("-", found))
-    good, none = folder.written("good.abnf", 'a = "x"'), folder.at("none")
+    good, none = files.written("good.abnf", 'a = "x"'), files.path("none")
     is_good = printed(good, ("1:1: a: shortest length 1: x",))
     yield "rules, and no file", ended(program, None, ["--rules", none, good]), (2, f"cannot read {none}\n".encode(), is_good)
     for arguments in (["--rules"], [good, "--rules"], ["--rules", "--strict", good]):
@@ -143,18 +122,18 @@ def rule_cases(program, folder):
 
 def example_cases(program):
     """Nothing is found in the grammars of standards, all in one run and each in its own."""
-    examples = os.path.join(TOP, "examples")
+    examples = os.path.join(rows.TOP, "examples")
     files = sorted(os.path.join(examples, it) for it in os.listdir(examples) if it.endswith(".abnf"))
     for some in (files, *([it] for it in files)):
         yield f"examples, {len(some)} of them", ended(program, None, ["--strict", *some]), (0, b"", b"")
 
 
-def file_cases(program, folder):
+def file_cases(program, files):
     """Files that can't be read or are no texts, beside others, which are told all the same."""
-    bad, good = folder.written("bad.abnf", "a = ?"), folder.written("good.abnf", 'a = "x"')
-    doubtful = folder.written("doubtful.abnf", 'a =/ "x"')
-    no_text, large = folder.written("no_text", b'a = "\xff"'), folder.sparse("large", 4_194_305)
-    widest, none = folder.written("widest.abnf", b" " * 4_194_304), folder.at("none")
+    bad, good = files.written("bad.abnf", "a = ?"), files.written("good.abnf", 'a = "x"')
+    doubtful = files.written("doubtful.abnf", 'a =/ "x"')
+    no_text, large = files.written("no_text", b'a = "\xff"'), files.sparse("large", 4_194_305)
+    widest, none = files.written("widest.abnf", b" " * 4_194_304), files.path("none")
     is_bad = printed(bad, ("1:5: error: bad character [syntax]",))
     is_doubtful = printed(doubtful, ("1:1: warning: no earlier definition of a [no-base]",))
     yield "a text of the greatest size", ended(program, None, [widest]), (0, b"", b"")
@@ -163,7 +142,7 @@ def file_cases(program, folder):
     yield "warnings alone, strict", ended(program, None, ["--strict", good, doubtful]), (1, b"", is_doubtful)
     for what, file, line in (
         ("no file", none, f"cannot read {none}"),
-        ("a folder", folder.path, f"cannot read {folder.path}"),
+        ("a folder", files.folder, f"cannot read {files.folder}"),
         ("a file that isn't UTF-8", no_text, f"not a text: {no_text}"),
         ("a file that is too large", large, f"not a text: {large}"),
         ("a file without an end", "/dev/zero", "not a text: /dev/zero"),
@@ -182,23 +161,22 @@ def refusals(program, made, words):
     """How it ends with each allocation refused in turn, and last with none refused."""
     found = []
     for number in range(1, refused_memory.MOST):
-        env = {"LD_PRELOAD": made, "REFUSED_ALLOCATION": str(number)}
-        found.append(ended(program, None, words, env=env))
+        found.append(ended(program, None, words, env=rows.in_front(made, refused_allocation=number)))
         if not found[-1][1] or found[-1][0] == HUNG:
             break
     return found
 
 
-def memory_cases(program, folder):
+def memory_cases(program, files):
     """Each allocation refused in turn: it ends with `out of memory`, and with no file half told, or as it does where nothing is refused."""
-    made = preload.library(folder.path, "refuses", refused_memory.LIBRARY)
-    doubtful, bad = folder.written("doubtful.abnf", 'a =/ "x"'), folder.written("bad.abnf", "a = b ?")
+    doubtful, bad = files.written("doubtful.abnf", 'a =/ "x"'), files.written("bad.abnf", "a = b ?")
     said = refused_memory.REFUSED + b"out of memory\n"
     for what, words, status, first, second in (
         ("findings", [doubtful, bad], 1, "1:1: warning: no earlier definition of a [no-base]", "1:7: error: bad character [syntax]"),
         ("rules", ["--rules", doubtful, bad], 0, "1:1: a: shortest length 1: x", "1:1: a: not known"),
     ):
-        before, found = printed(doubtful, (first,)), refusals(program, made, words)
+        with rows.library(refused_memory.LIBRARY) as made:
+            before, found = printed(doubtful, (first,)), refusals(program, made, words)
         whole = before + printed(bad, (second,))
         others = {*found[:-1]} - {(6, said, b""), (6, said, before), (status, refused_memory.REFUSED, whole)}
         yield f"{what}, {len(found) - 1} allocations refused in turn", (len(found) > 60, sorted(others)), (True, [])
@@ -208,18 +186,13 @@ def memory_cases(program, folder):
 def cases(program):
     """What each case is, how the program ended in it, and how it must end."""
     yield from example_cases(program)
-    with tempfile.TemporaryDirectory() as path:
-        folder = Folder(path)
+    with rows.files() as files:
         for some in (row_cases, rule_cases, file_cases, memory_cases):
-            yield from some(program, folder)
+            yield from some(program, files)
 
 
 def main(words):
-    failed = 0
-    for what, found, wanted in cases(words[0] if words else BUILT):
-        print(f"{what}: {'ended as it must' if found == wanted else f'FAILED: {found}, and not {wanted}'}")
-        failed += found != wanted
-    return 1 if failed else 0
+    return rows.told(cases(*words or [rows.FINDINGS]))
 
 
 if __name__ == "__main__":

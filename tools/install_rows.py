@@ -16,8 +16,9 @@ import sys
 import tempfile
 
 import build
+import rows
+from rows import TOP
 
-TOP = os.path.dirname(os.path.dirname(os.path.abspath(__file__)))
 PROGRAMS = ("abnf_ls", "abnf_findings")
 NEEDED = ("bash", "dirname", "env", "python3", "readlink")
 SECONDS = 60
@@ -289,12 +290,8 @@ def cases(*programs):
 
 
 def main(words):
-    failed = 0
     folder = words[0] if words else os.path.join(TOP, "out")
-    for what, found, wanted in cases(*(os.path.join(folder, it) for it in PROGRAMS)):
-        print(f"{what}: {'ended as it must' if found == wanted else f'FAILED: {found}, and not {wanted}'}")
-        failed += found != wanted
-    return 1 if failed else 0
+    return rows.told(cases(*(os.path.join(folder, it) for it in PROGRAMS)))
 
 
 if __name__ == "__main__":

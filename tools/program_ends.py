@@ -3,18 +3,22 @@
 one thread and on several; the program with its threads is refused memory, given broken input, cut off from its pipes, and has devices that fail, by
 seeded samples.
 
-    tools/program_ends.py ['N passed, M failed' ..]
+    tools/program_ends.py ['[NAME: ]N passed, M failed[, status S]' ..]
 
-No contract speaks of arguments, files and devices. Each of the two compilers' programs is run, where it is there. The last line has
-the form of that of `rt ci`, and counts what is handed in too; what is handed in and isn't of that form counts as a failure.
+No contract speaks of arguments, files and devices. Each of the two compilers' programs is run. How many rows each tool has had for each program
+is compared with counts.txt, so that none goes without a word. The last line has the form of that of `rt ci`, and counts what is handed in too: what
+is handed in and isn't of that form counts as a failure, as does a status that no failure stands for, and fewer crates or edits than counts.txt has.
 """
+import collections
+import functools
 import os
 import re
 import sys
-import tempfile
+import traceback
 
 import broken_input
 import command_rows
+import counts
 import cut_pipes
 import encoding_rows
 import failing_devices
@@ -25,16 +29,11 @@ import refused_commands
 import refused_memory
 import refused_sessions
 import refused_threads
+import rows
 import session_rows
 import threaded_sessions
 from runs import ended, frame, frames
 
-TOP = os.path.dirname(os.path.dirname(os.path.abspath(__file__)))
-BUILT = os.path.join(TOP, "crates", "abnf_ls", "out", "abnf_ls")
-PROGRAMS = (BUILT, BUILT + ".by-rattle")
-# The server on one thread, whose output is known to the last byte: the sessions run on it.
-PLAIN = os.path.join(TOP, "crates", "served_plainly", "out", "served_plainly")
-PLAIN_PROGRAMS = (PLAIN, PLAIN + ".by-rattle")
 USAGE = b"usage: abnf_ls [example FILE RULE | check FILE CERT]\n"
 
 
@@ -60,7 +59,7 @@ def long_cases(program):
     yield "more events than a journal has", (status, said, wrote == IS_NO_REQUEST * 500_001), (1, b"", True)
 
 
-def cases(program):
+def end_cases(program):
     """What each case is, how the program ended in it, and how it must end."""
     for argument in ("--stdio", b"\xff"):
         yield f"the argument {argument}", ended(program, NO_REQUEST, [argument]), (5, USAGE, b"")
@@ -82,18 +81,21 @@ def cases(program):
     os.close(folder)
     status, said, wrote = ended(program, INITIALIZE + SHUTDOWN + EXIT)
     yield "shutdown and exit", (status, said, wrote[-len(IS_SHUT_DOWN):]), (0, b"", IS_SHUT_DOWN)
-    yield from long_cases(program)
     for arguments in (["example", "x"], ["example", "x", "a", "a"], ["Example", "x", "a"], ["example", "x", b"\xff"]):
         yield f"the arguments {arguments}", ended(program, None, arguments), (5, USAGE, b"")
 
 
-def session_cases(program):
-    """What is written in each session, and how it ends; and streams whose frames are broken behind a whole one."""
-    for what, said, answered, status in session_rows.SESSIONS + encoding_rows.SESSIONS:
+def session_cases(worked, program):
+    """What is written in each of the worked sessions, and how it ends."""
+    for what, said, answered, status in worked.SESSIONS:
         yield what, ended(program, frames(said)), (status, b"", frames(answered))
-    for what, said, answered, versions in session_rows.REPLIES + encoding_rows.REPLIES:
+    for what, said, answered, versions in worked.REPLIES:
         status, line, wrote = ended(program, frames(said))
         yield what, (status, line, *threaded_sessions.split(wrote)), (1, b"", frames(answered), versions, b"")
+
+
+def frame_cases(program):
+    """Streams whose frames are broken behind a whole one, and a header part of another form."""
     before, answered = frames([session_rows.INITIALIZE]), frames([session_rows.CAPABILITIES])
     for stream, fault in session_rows.FRAMES:
         line = f"framing fault {fault}\n".encode()
@@ -102,45 +104,13 @@ def session_cases(program):
     yield "a header part of another form", other_form, (1, b"", frames([session_rows.INVALID_REQUEST]))
 
 
-class Files:
-    """Files with the bytes that they are made of, in a folder of their own."""
-
-    def __init__(self, folder):
-        self.folder = folder
-
-    def path(self, name):
-        return os.path.join(self.folder, name)
-
-    def written(self, name, text):
-        with open(self.path(name), "wb") as file:
-            file.write(text if isinstance(text, bytes) else text.encode())
-        return self.path(name)
-
-    def sparse(self, name, size):
-        os.truncate(self.written(name, b""), size)
-        return self.path(name)
-
-
-def example_cases(program, files):
-    """Each row's example, and the check of it."""
-    for text, rule, shown, cert in command_rows.EXAMPLES:
-        file = files.written("g.abnf", text)
-        status, said, wrote = ended(program, None, ["example", file, rule])
-        head, _, tail = wrote.decode().partition("\n\n")
-        of = f"example {rule} of {text[:40]!r}"
-        yield of, (status, said, head, tail if cert is not None else None), (0, b"", shown, cert)
-        yield f"check of the {of}", ended(program, None, ["check", file, files.written("c", wrote)]), (0, b"", b"yes\n")
-
-
-def check_cases(program, files):
-    """Certificates that aren't accepted, and texts that are none."""
-    for text, cert, wanted in command_rows.CHECKS:
-        found = ended(program, None, ["check", files.written("g.abnf", text), files.written("c", cert)])
-        yield f"check of {cert[:40]!r} for {text!r}", found, wanted
-
-
-def file_cases(program, files):
+def file_cases(program):
     """Files that can't be read, and files that are no texts: the grammar's come first."""
+    with rows.files() as files:
+        yield from file_rows(program, files)
+
+
+def file_rows(program, files):
     good, cert = files.written("g.abnf", 'a = "x"'), files.written("c", "0 1 0 0\n1 1 0 0\n")
     bad, no_cert = files.written("bad.abnf", b'a = "\xff"'), files.written("bad", b"\xff\n")
     large, large_cert = files.sparse("large.abnf", 4_194_305), files.sparse("large", 268_435_457)
@@ -166,58 +136,108 @@ def file_cases(program, files):
         yield f"{arguments[0]} with an output that is full", full, (2, b"write failed\n", b"")
 
 
-def random_cases(program):
-    """Answers on random texts, beside a plain reading of these, and the tokens after a rename that is granted."""
-    for encoding, count in (("utf-16", 600), ("utf-8", 300), ("utf-32", 300)):
-        session, wrong = random_texts.compared(program, 1, count, encoding)
-        yield f"{len(session.wanted)} requests about {len(session.published)} versions of {count} random texts, in {encoding}", wrong, []
-        yield f"the tokens after {len(session.renames)} renames there", session.renames.count(False), 0
+# Each program, and the tools that have cases for it, with what gives these.
+TOOLS = {
+    "abnf_ls": (
+        ("program_ends", end_cases),
+        ("program_ends", long_cases),
+        ("program_ends", file_cases),
+        ("command_rows", command_rows.cases),
+        ("threaded_sessions", threaded_sessions.cases),
+        # hostile runs
+        ("refused_threads", refused_threads.cases),
+        ("refused_commands", refused_commands.command_cases),
+        ("refused_sessions", refused_sessions.cases),
+        ("broken_input", broken_input.cases),
+        ("cut_pipes", cut_pipes.cases),
+        ("failing_devices", failing_devices.cases),
+    ),
+    "served_plainly": (
+        ("session_rows", functools.partial(session_cases, session_rows)),
+        ("encoding_rows", functools.partial(session_cases, encoding_rows)),
+        ("program_ends", frame_cases),
+        ("program_ends", long_cases),
+        ("refused_commands", refused_commands.session_cases),
+        ("failing_devices", failing_devices.plain_cases),
+        ("random_texts", random_texts.cases),
+    ),
+    "refused_memory": (("refused_memory", refused_memory.cases),),
+    "abnf_findings": (("findings_rows", findings_rows.cases),),
+}
 
 
-def plain_cases(program):
-    for some in (session_cases, long_cases, refused_commands.session_cases, failing_devices.plain_cases, random_cases):
-        yield from some(program)
+def cases_of(some, *programs):
+    """The cases that a tool has for programs. One more has failed where the tool itself does."""
+    try:
+        yield from (rows.Case(*it) for it in some(*programs))
+    except Exception as error:
+        traceback.print_exc()
+        yield rows.Case("all its cases", f"it ended at {error!r}", "as many as there are", 0)
 
 
-def all_cases(program):
-    yield from cases(program)
-    yield from refused_threads.cases(program)
-    yield from refused_commands.command_cases(program)
-    yield from threaded_sessions.cases(program)
-    for hostile in (refused_sessions, broken_input, cut_pipes, failing_devices):
-        yield from hostile.cases(program)
-    with tempfile.TemporaryDirectory() as folder:
-        files = Files(folder)
-        for some in (example_cases, check_cases, file_cases):
-            yield from some(program, files)
+def all_cases():
+    """The name of each program, that of the tool, and each case."""
+    for name, tools in TOOLS.items():
+        for path in (rows.built(name) + end for end in rows.COMPILERS):
+            program = os.path.basename(path)
+            if not os.path.isfile(path):
+                yield program, "program_ends", rows.Case("the program", f"there is none at {path}", "one", 0)
+                continue
+            for tool, some in tools:
+                yield from ((program, tool, case) for case in cases_of(some, path))
+    if os.path.isfile(rows.SERVER) and os.path.isfile(rows.FINDINGS):
+        yield from (("install", "install_rows", case) for case in cases_of(install_rows.cases, rows.SERVER, rows.FINDINGS))
 
 
-def programs_and_cases():
-    for program in filter(os.path.isfile, PROGRAMS):
-        yield from ((program, *case) for case in all_cases(program))
-    for program in filter(os.path.isfile, PLAIN_PROGRAMS):
-        yield from ((program, *case) for case in plain_cases(program))
-    for rows in (refused_memory, findings_rows):
-        for program in filter(os.path.isfile, rows.PROGRAMS):
-            yield from ((program, *case) for case in rows.cases(program))
-    if os.path.isfile(BUILT) and os.path.isfile(findings_rows.BUILT):
-        yield from (("install", *case) for case in install_rows.cases(BUILT, findings_rows.BUILT))
+class Tally:
+    """How many passed and failed; each failure has a line."""
+
+    def __init__(self):
+        self.passed = self.failed = 0
+
+    def fails(self, line):
+        print(f"program_ends: {line}")
+        self.failed += 1
+
+    def take(self, word, told):
+        """Takes in what is handed in."""
+        found = re.fullmatch(r"(?:(\w+): )?(\d+) passed, (\d+) failed(?:, status (\d+))?", word)
+        if not found:
+            self.fails(f"no counts are handed in, but {word!r}")
+            return
+        name, (passed, failed, status) = found[1], (int(it or 0) for it in found.groups()[1:])
+        self.passed, self.failed = self.passed + passed, self.failed + failed
+        if status and not failed:
+            self.fails(f"{name} ended with the status {status}")
+        if passed + failed < least(name, told):
+            self.fails(f"{name}: {passed + failed} were tried, and counts.txt has {least(name, told)}")
+
+    def run(self):
+        """Takes in all cases, and gives how many rows each tool has had for each program."""
+        found = collections.Counter()
+        for program, tool, case in all_cases():
+            print(f"{program}, {case.told()}", flush=True)
+            self.passed, self.failed = self.passed + case.is_good(), self.failed + (not case.is_good())
+            found[f"{counts.ROWS} {program} {tool}"] += case.count
+        return found
+
+
+def least(name, told):
+    """How many a tool of this name must at least tell of, by counts.txt."""
+    kinds = {"crates": ("crates",), "edits": ("edits", "same-meaning")}.get(name, ())
+    return sum(count for it, count in told.items() if it.partition(" ")[0] in kinds)
 
 
 def main(words):
-    counts = [re.fullmatch(r"(\d+) passed, (\d+) failed", it) for it in words]
-    passed = sum(int(it[1]) for it in counts if it)
-    failed = sum(int(it[2]) if it else 1 for it in counts)
-    for built in (BUILT, PLAIN, refused_memory.BUILT, findings_rows.BUILT):
-        if not os.path.isfile(built):
-            print(f"program_ends: there is no program {built}", file=sys.stderr)
-            failed += 1
-    for program, what, found, wanted in programs_and_cases():
-        is_good = found == wanted
-        print(f"{os.path.basename(program)}, {what}: {'ended as it must' if is_good else f'FAILED: {found}, and not {wanted}'}")
-        passed, failed = passed + is_good, failed + (not is_good)
-    print(f"{passed} passed, {failed} failed")
-    return 1 if failed else 0
+    told, tally = counts.parsed(counts.text_of(counts.COUNTS)), Tally()
+    for word in words:
+        tally.take(word, told)
+    found = tally.run()
+    counts.keep_rows(found)
+    for line in counts.differences(counts.of_kind(told, True), found):
+        tally.fails(line)
+    print(f"{tally.passed} passed, {tally.failed} failed")
+    return 1 if tally.failed else 0
 
 
 if __name__ == "__main__":

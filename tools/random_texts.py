@@ -9,10 +9,9 @@ version is compared. The plain reading below knows tokens, blocks and places of 
 and that of plain_findings what is wrong in a text. Then the edits of a rename that is granted are made in the text: its tokens are the same but at
 the places of the name, and at each place the same is shown as before. At last random edits are made, at positions inside characters and past the
 ends too, or of the whole text, and tokens, the outline and references are asked for again. All positions count what the session agreed on. It ends
-nonzero where an answer differs. The gate asks about 1,200 texts (tools/program_ends.py).
+nonzero where an answer differs. The gate asks about as many texts as COUNTS says.
 """
 import json
-import os
 import random
 import re
 import sys
@@ -20,11 +19,14 @@ import sys
 import encoding_rows
 import plain_findings
 import plain_rules
+import rows
 import runs
 
 # A session on many texts takes some ten seconds.
 SECONDS = 300
-TOP = os.path.dirname(os.path.dirname(os.path.abspath(__file__)))
+# How many texts there are with positions in each encoding
+COUNTS = {"utf-16": 600, "utf-8": 300, "utf-32": 300}
+SEED = 1
 CORE_RULES = "alpha bit char cr crlf ctl digit dquote hexdig htab lf lwsp octet sp vchar wsp".split()
 BASES = (("bB", "01"), ("dD", "0-9"), ("xX", "0-9A-Fa-f"))
 NUMBERS = "|".join(f"[{letter}][{digits}]+(?:(?:\\.[{digits}]+)+|-[{digits}]+)?" for letter, digits in BASES)
@@ -463,16 +465,17 @@ def compared(program, seed, count, encoding):
     return session, wrong + strays
 
 
-def main(program=os.path.join(TOP, "crates", "served_plainly", "out", "served_plainly"), seed="1", count="600", *encodings):
-    bad = 0
-    for encoding in encodings or UNITS:
-        session, wrong = compared(program, int(seed), int(count), encoding)
-        lost = session.renames.count(False)
-        versions = f"{len(session.published)} versions of {count} texts"
-        print(f"random_texts.py: {encoding}: {len(session.wanted)} requests about {versions}, {len(wrong)} answered otherwise")
-        print(f"random_texts.py: {encoding}: {len(session.renames)} renames made, {lost} with other tokens than promised")
-        bad += len(wrong) + lost
-    return 1 if bad else 0
+def cases(program, seed=SEED, counts=None):
+    """What was asked, which answers differ, and that none may; and of the renames that were made, how many lost a token."""
+    for encoding, count in (counts or COUNTS).items():
+        session, wrong = compared(program, seed, count, encoding)
+        asked, versions = len(session.wanted), len(session.published)
+        yield f"{asked} requests about {versions} versions of {count} random texts, in {encoding}", wrong, [], asked
+        yield f"the tokens after {len(session.renames)} renames there", session.renames.count(False), 0, len(session.renames)
+
+
+def main(program=rows.PLAIN, seed=SEED, count=600, *encodings):
+    return rows.told(cases(program, int(seed), dict.fromkeys(encodings or UNITS, int(count))))
 
 
 if __name__ == "__main__":

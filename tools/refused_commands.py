@@ -7,21 +7,16 @@ Each allocation is refused in turn, alone and with all that come behind it. A co
 with memory. The session is served in order: it ends with `out of memory`, and then what was written is a front of what must be, or as it does
 with memory. In either case a reply may be the error -32603, and findings may be left out: where one allocation is refused, just one of these.
 """
-import concurrent.futures
+import itertools
 import json
-import os
 import sys
-import tempfile
 
-import preload
 import refused_sessions
+import rows
 import runs
 from command_rows import TWO, TWO_LINES, lines, shown
 from session_rows import CAPABILITIES, CLEAN, DOWN, EXIT, INITIALIZE, INITIALIZED, OPEN, OUTLINE, SHUTDOWN, SYMBOLS, at, named
 
-TOP = os.path.dirname(os.path.dirname(os.path.abspath(__file__)))
-BUILT = os.path.join(TOP, "crates", "abnf_ls", "out", "abnf_ls")
-PLAIN = os.path.join(TOP, "crates", "served_plainly", "out", "served_plainly")
 OUT_OF_MEMORY = (6, refused_sessions.OUT_OF_MEMORY)
 
 CERT = lines(*TWO_LINES)
@@ -41,8 +36,7 @@ ANSWERS = (CAPABILITIES, CLEAN, OUTLINE, HOVERED, RENAMED, DOWN)
 
 def refused(program, made, arguments, given, first, last):
     """A run in which these allocations are refused."""
-    environment = {"LD_PRELOAD": made, "FIRST_REFUSED": str(first), "LAST_REFUSED": str(last)}
-    return runs.ended(program, given, arguments, env=environment)
+    return runs.ended(program, given, arguments, env=rows.in_front(made, first_refused=first, last_refused=last))
 
 
 def all_refused(program, made, arguments, given):
@@ -50,13 +44,12 @@ def all_refused(program, made, arguments, given):
     _, said, _ = refused(program, made, arguments, given, 0, 0)
     count = refused_sessions.COUNTED.search(said)
     limits = refused_sessions.limits(range(1, int(count[1]) + 1), 2**62) if count else []
-    with concurrent.futures.ThreadPoolExecutor(len(os.sched_getaffinity(0))) as pool:
-        return len(limits) // 2, list(zip(limits, pool.map(lambda it: refused(program, made, arguments, given, *it), limits)))
+    return len(limits) // 2, list(zip(limits, rows.side_by_side(lambda it: refused(program, made, arguments, given, *it), limits)))
 
 
-def wrong_command(run, status, printed):
+def is_command_wrong(run, printed):
     """Whether a command that is refused memory ended otherwise than it must."""
-    return run not in ((*OUT_OF_MEMORY, b""), (status, b"", printed))
+    return run not in ((*OUT_OF_MEMORY, b""), (0, b"", printed))
 
 
 def differences(bodies):
@@ -77,7 +70,7 @@ def differences(bodies):
     return count, len(wanted)
 
 
-def wrong_session(limits, run):
+def is_session_wrong(limits, run):
     """Whether the session, refused memory, ended otherwise than it must."""
     status, said, wrote = run
     bodies, rest = runs.bodies_of(wrote)
@@ -91,36 +84,26 @@ def wrong_session(limits, run):
 
 
 def command_cases(program):
-    with tempfile.TemporaryDirectory() as folder:
-        made = preload.library(folder, "refuses_commands", refused_sessions.LIBRARY)
-        files = [os.path.join(folder, name) for name in ("g.abnf", "c")]
-        for file, text in zip(files, (TWO, CERT)):
-            with open(file, "w", encoding="ascii", newline="") as written:
-                written.write(text)
-        for arguments, printed in ((["example", files[0], "a"], EXAMPLE), (["check", *files], b"yes\n")):
+    with rows.library(refused_sessions.LIBRARY) as made, rows.files() as files:
+        text, cert = files.written("g.abnf", TWO), files.written("c", CERT)
+        for arguments, printed in ((["example", text, "a"], EXAMPLE), (["check", text, cert], b"yes\n")):
             count, found = all_refused(program, made, arguments, None)
-            bad = [it for it in found if wrong_command(it[1], 0, printed)]
+            bad = [it for it in found if is_command_wrong(it[1], printed)]
             ends = {run[0] for _, run in found}
             yield f"{arguments[0]} with each of {count} allocations refused", (count > 20, bad[:3], 6 in ends), (True, [], True)
 
 
 def session_cases(program):
-    with tempfile.TemporaryDirectory() as folder:
-        made = preload.library(folder, "refuses_one_thread", refused_sessions.LIBRARY)
+    with rows.library(refused_sessions.LIBRARY) as made:
         count, found = all_refused(program, made, [], runs.frames(SESSION))
-    bad = [it for it in found if wrong_session(*it)]
+    bad = [it for it in found if is_session_wrong(*it)]
     errors = {number for number in (2, 4, 5) for _, run in found if refused_sessions.error(-32603, "internal error", number) in run[2]}
     yield f"a session on one thread with each of {count} allocations refused", (count > 100, bad[:3], errors), (True, [], {2, 4, 5})
 
 
 def main(words):
-    programs = [*words, *(BUILT, PLAIN)[len(words) :]]
-    failed = 0
-    for cases, program in zip((command_cases, session_cases), programs):
-        for what, found, wanted in cases(program):
-            print(f"{what}: {'as it must be' if found == wanted else f'FAILED: {found}, and not {wanted}'}")
-            failed += found != wanted
-    return 1 if failed else 0
+    (program, plain), _ = rows.programs_of(words, rows.SERVER, rows.PLAIN)
+    return rows.told(itertools.chain(command_cases(program), session_cases(plain)))
 
 
 if __name__ == "__main__":

@@ -8,19 +8,15 @@ goes through when it is made once more. A job that is refused memory is handed i
 its answer, and of findings nothing is told. Each job of the two sessions must have come to that. A small library in front of the C library's
 refuses the allocation with the number that it is told.
 """
-import concurrent.futures
 import json
 import os
 import sys
-import tempfile
 
-import preload
+import rows
 import runs
 
-TOP = os.path.dirname(os.path.dirname(os.path.abspath(__file__)))
-CRATE = os.path.join(TOP, "crates", "refused_memory")
-BUILT = os.path.join(CRATE, "out", "refused_memory")
-PROGRAMS = (BUILT, BUILT + ".by-rattle")
+# What the program prints
+PRINTED = os.path.join(rows.TOP, "crates", "refused_memory", "stdout")
 # More than it makes, and how many of these are tried at a time.
 MOST = 100_000
 TOGETHER = 64
@@ -64,15 +60,14 @@ def all_runs(program, made):
     """The status, the output and the standard error of a run with each allocation refused, and at last with none."""
 
     def run(number):
-        status, said, wrote = runs.ended(program, b"", env={"LD_PRELOAD": made, "REFUSED_ALLOCATION": str(number)})
+        status, said, wrote = runs.ended(program, b"", env=rows.in_front(made, refused_allocation=number))
         return status, wrote, said
 
-    with concurrent.futures.ThreadPoolExecutor(len(os.sched_getaffinity(0))) as pool:
-        for first in range(1, MOST, TOGETHER):
-            for ended in pool.map(run, range(first, first + TOGETHER)):
-                yield ended
-                if not ended[2] or ended[0] == runs.HUNG:
-                    return
+    for first in range(1, MOST, TOGETHER):
+        for ended in rows.side_by_side(run, range(first, first + TOGETHER)):
+            yield ended
+            if not ended[2] or ended[0] == runs.HUNG:
+                return
 
 
 def counted(calls):
@@ -87,7 +82,7 @@ def counted(calls):
     return b"%d events after %d checkpoints, 0 unsent" % (events, checkpoints)
 
 
-def with_failure(calls, number):
+def calls_where_a_job_fails(calls, number):
     """The lines of that session where the job with this number, of those that are handed in, is refused memory."""
     calls, is_asked = list(calls), REPLIES[number].startswith(b"Replied")
     handed_in = [at for at, line in enumerate(calls) if line == b"finish: Held(Reply)"]
@@ -101,14 +96,14 @@ def with_failure(calls, number):
     return calls[:at] + calls[at + 1 : end] + [b"next_out: Nothing"] + calls[end:]
 
 
-def without_answer(bodies, at):
+def bodies_where_a_job_fails(bodies, at):
     """The bodies of the session by steps where a job is refused memory, whose answer stands at this place."""
     told = json.loads(bodies[at])
     error = '{"error":{"code":-32603,"message":"internal error"},"id":%d,"jsonrpc":"2.0"}'
     return [*bodies[:at], *([(error % told["id"]).encode()] if "id" in told else []), *bodies[at + 1 :]]
 
 
-def with_failures(wanted):
+def outputs_where_a_job_fails(wanted):
     """The outputs in which one job is refused memory. The whole output must have the desk's last line by the same count, and as many bodies."""
     desk, last, others = wanted.partition(b" unsent\n")
     *calls, count = (desk + last).splitlines()
@@ -116,31 +111,27 @@ def with_failures(wanted):
     bodies, rest = runs.bodies_of(frames)
     if counted(calls) != count or (len(bodies), rest) != (BODIES, b"\n"):
         return []
-    failing = [with_failure(calls, number) for number in range(len(REPLIES))]
+    failing = [calls_where_a_job_fails(calls, number) for number in range(len(REPLIES))]
     at_desk = [b"\n".join([*it, counted(it), others]) for it in failing]
-    return at_desk + [desk + last + lines + runs.frames(without_answer(bodies, at)) + b"\n" for at in ANSWERS]
+    return at_desk + [desk + last + lines + runs.frames(bodies_where_a_job_fails(bodies, at)) + b"\n" for at in ANSWERS]
 
 
 def cases(program):
     """What was tried, what the program ended with, and what it must end with: the last run is the one in which nothing was refused."""
-    with open(os.path.join(CRATE, "stdout"), "rb") as file:
+    with open(PRINTED, "rb") as file:
         wanted = file.read()
-    with tempfile.TemporaryDirectory() as folder:
-        found = list(all_runs(program, preload.library(folder, "refuses", LIBRARY)))
-    refused, failures = len(found) - 1, with_failures(wanted)
+    with rows.library(LIBRARY) as made:
+        found = list(all_runs(program, made))
+    refused, failures = len(found) - 1, outputs_where_a_job_fails(wanted)
     others = sorted({it for it in found[:-1] if it[1] not in failures})
     yield f"{refused} allocations refused in turn", (refused > 100, others), (True, [(0, wanted, REFUSED)])
     failed = sorted({it for it in found[:-1] if it[1] in failures})
-    yield f"each of {len(failures)} jobs refused memory", failed, sorted((0, it, REFUSED) for it in failures)
+    yield f"each of {len(failures)} jobs refused memory", failed, sorted((0, it, REFUSED) for it in failures), len(failures)
     yield "no allocation refused", found[-1], (0, wanted, b"")
 
 
 def main(words):
-    failed = 0
-    for what, found, wanted in cases(words[0] if words else BUILT):
-        print(f"{what}: {'ended as it must' if found == wanted else f'FAILED: {found}, and not {wanted}'}")
-        failed += found != wanted
-    return 1 if failed else 0
+    return rows.told(cases(*words or [rows.built("refused_memory")]))
 
 
 if __name__ == "__main__":

@@ -9,20 +9,15 @@ a request; each request has one reply, and each version of a document its findin
 --all tries each.
 """
 import collections
-import concurrent.futures
 import json
-import os
 import random
 import re
 import sys
-import tempfile
 
-import preload
+import rows
 import runs
 from session_rows import EXIT, INITIALIZE, INITIALIZED, at, cancelled, edit, named, opened, ranged
 
-TOP = os.path.dirname(os.path.dirname(os.path.abspath(__file__)))
-BUILT = os.path.join(TOP, "crates", "abnf_ls", "out", "abnf_ls")
 RULES = 200
 SAMPLE, SEED = 800, 1
 # The first allocations make the board and the threads: each of them is tried.
@@ -189,8 +184,7 @@ def limits(numbers, most):
 
 def refused(program, made, first, last):
     """A run in which these allocations are refused."""
-    environment = {"LD_PRELOAD": made, "FIRST_REFUSED": str(first), "LAST_REFUSED": str(last)}
-    return runs.ended(program, GIVEN, env=environment)
+    return runs.ended(program, GIVEN, env=rows.in_front(made, first_refused=first, last_refused=last))
 
 
 def counted(program, made):
@@ -204,30 +198,23 @@ def cases(program, sample=SAMPLE, seed=SEED):
     """What was tried, what was wrong with it, and what must be wrong: nothing. Where there is no sample each allocation is refused."""
     wanted = Wanted(program)
     yield "the session that memory is refused to", wanted.is_whole, True
-    with tempfile.TemporaryDirectory() as folder:
-        made = preload.library(folder, "refuses_to_threads", LIBRARY)
+    with rows.library(LIBRARY) as made:
         count = counted(program, made)
         yield f"a session of {count} allocations", count > 1000, True
         behind = range(FIRST + 1, count + 1)
         some = behind if sample is None else random.Random(seed).sample(behind, min(sample, len(behind)))
         tries = limits([*range(1, FIRST + 1), *some], 2**62)
-        with concurrent.futures.ThreadPoolExecutor(len(os.sched_getaffinity(0))) as pool:
-            ran = list(pool.map(lambda it: refused(program, made, *it), tries))
+        ran = rows.side_by_side(lambda it: refused(program, made, *it), tries)
     faults = [(*it, fault) for it, run in zip(tries, ran) if (fault := wanted.fault(run))]
-    yield f"{len(tries)} sessions with memory refused", faults, []
+    yield f"{len(tries)} sessions with memory refused", faults, [], len(tries)
     # that the library is there: the first allocation ends the run, and some are of requests that are told so
     ends = collections.Counter(status for status, _, _ in ran)
     yield "how these end", (ran[1][0], min(ends[0], ends[6]) > 0, any(b"-32603" in wrote for _, _, wrote in ran)), (6, True, True)
 
 
 def main(words):
-    sample = None if "--all" in words else SAMPLE
-    programs = [word for word in words if word != "--all"]
-    failed = 0
-    for what, found, wanted in cases(programs[0] if programs else BUILT, sample):
-        print(f"{what}: {'as it must be' if found == wanted else f'FAILED: {found}'}")
-        failed += found != wanted
-    return 1 if failed else 0
+    (program,), tries_all = rows.programs_of(words, rows.SERVER)
+    return rows.told(cases(program, None if tries_all else SAMPLE))
 
 
 if __name__ == "__main__":

@@ -6,15 +6,11 @@
 It must end by itself as it does where memory is refused, and write nothing. A small library in front of the C library's refuses the thread
 with the number that it is told.
 """
-import os
 import sys
-import tempfile
 
-import preload
+import rows
 import runs
 
-TOP = os.path.dirname(os.path.dirname(os.path.abspath(__file__)))
-BUILT = os.path.join(TOP, "crates", "abnf_ls", "out", "abnf_ls")
 # The writer's, and those of the workers.
 THREADS = 5
 NO_REQUEST = b"Content-Length: 2\r\n\r\n{}"
@@ -37,26 +33,20 @@ int pthread_create(void *thread, const void *attributes, void *(*start)(void *),
 
 def ended(program, made, number):
     """The status, the standard error and the output of a run in which this thread is refused."""
-    status, said, wrote = runs.ended(program, NO_REQUEST, env={"LD_PRELOAD": made, "REFUSED_THREAD": str(number)})
+    status, said, wrote = runs.ended(program, NO_REQUEST, env=rows.in_front(made, refused_thread=number))
     return status, said, len(wrote)
 
 
 def cases(program):
     """What was tried, how the program ended, and how it must end: the last run is one in which no thread is refused."""
-    with tempfile.TemporaryDirectory() as folder:
-        made = preload.library(folder, "refuses_threads", LIBRARY)
+    with rows.library(LIBRARY) as made:
         for number in range(1, THREADS + 1):
             yield f"thread {number} refused", ended(program, made, number), (6, b"out of memory\n", 0)
         yield "no thread refused", ended(program, made, THREADS + 1), (1, b"", 101)
 
 
 def main(words):
-    program = words[0] if words else BUILT
-    bad = [(what, found, wanted) for what, found, wanted in cases(program) if found != wanted]
-    for what, found, wanted in bad:
-        print(f"{what}: {found}, and not {wanted}")
-    print("ok" if not bad else "FAILED")
-    return 1 if bad else 0
+    return rows.told(cases(*words or [rows.SERVER]))
 
 
 if __name__ == "__main__":

@@ -8,16 +8,14 @@ one thread. Many rows at once, each about a document of its own, have no settled
 published by its document.
 """
 import json
-import os
 import sys
 
 import encoding_rows
+import rows
 import runs
 import session_rows
 from plain_messages import id_of
 
-TOP = os.path.dirname(os.path.dirname(os.path.abspath(__file__)))
-BUILT = os.path.join(TOP, "crates", "abnf_ls", "out", "abnf_ls")
 PUBLISHED = b'"method":"textDocument/publishDiagnostics"'
 # A session may have 256 documents open, and 1,024 requests wait.
 ROWS_AT_ONCE = 100
@@ -98,10 +96,10 @@ def is_free(said):
     return said[0].count('"id":1,') == 1 and len(requests) <= 1 and all(at < request for at in changes for request in requests)
 
 
-def together(rows):
+def together(worked):
     """Rows with the same first message, in lists that one session can take."""
     by_first = {}
-    for said, answered in rows:
+    for said, answered in worked:
         if is_free(said):
             by_first.setdefault((said[0], answered[0]), []).append((said[1:], answered[1:]))
     for (first, answer), group in by_first.items():
@@ -126,10 +124,10 @@ def free_cases(program):
     for first, answer, group in together((said, answered) for _, said, answered, _ in session_rows.REPLIES + encoding_rows.REPLIES):
         ends, bodies, wanted = at_once(program, first, answer, group)
         found = [body for body in bodies if PUBLISHED not in body]
-        yield f"{len(group)} rows at once, behind {first[:90]}", (ends, found), ((1, b"", b""), wanted)
+        yield f"{len(group)} rows at once, behind {first[:90]}", (ends, found), ((1, b"", b""), wanted), len(group)
     for first, answer, group in together((said, answered) for _, said, answered, _ in session_rows.FINDINGS if len(said) == 2):
         ends, bodies, wanted = at_once(program, first, answer, group)
-        yield f"the findings of {len(group)} rows at once", (ends, bodies), ((1, b"", b""), wanted)
+        yield f"the findings of {len(group)} rows at once", (ends, bodies), ((1, b"", b""), wanted), len(group)
 
 
 def cases(program):
@@ -138,13 +136,7 @@ def cases(program):
 
 
 def main(words):
-    count = failed = 0
-    for what, found, wanted in cases(words[0] if words else BUILT):
-        count, failed = count + 1, failed + (found != wanted)
-        if found != wanted:
-            print(f"{what}: {str(found)[:2000]}, and not {str(wanted)[:2000]}")
-    print(f"{count - failed} passed, {failed} failed")
-    return 1 if failed else 0
+    return rows.told(cases(*words or [rows.SERVER]))
 
 
 if __name__ == "__main__":

@@ -1,0 +1,229 @@
+#!/usr/bin/env python3
+"""Compares how many crates, tests, edits and rows there are with counts.txt, so that none goes without a word.
+
+    tools/counts.py [--raise]
+
+counts.txt has a line for each kind of them: its name, and how many there are. What can be counted without a proof is compared before any
+proof, by this tool, and the rows that programs are run with at the gate's end, by tools/program_ends.py. A count that is lower fails, as
+something is missing, and so does one that is higher, as it could go again without a word.
+
+With --raise each count that is higher or new is put into counts.txt, the rows as the last gate found them (out/rows), and the pages' figures
+are written anew. It lowers none: what is taken away with intent is taken out of counts.txt by hand.
+
+Beside the counts it fails where a test, an edit or a crate stands where nothing looks for it, and where a page tells another figure than
+counts.txt (tools/figures.py).
+"""
+import importlib
+import os
+import re
+import sys
+
+import figures
+from rows import TOP
+
+COUNTS = os.path.join(TOP, "counts.txt")
+# The rows that the last gate found
+FOUND_ROWS = os.path.join(TOP, "out", "rows")
+ROWS = "rows"
+RAISE = "tools/counts.py --raise"
+HEAD = f"# What the gate must find, neither more nor less. `{RAISE}` puts higher counts here, and lowers none.\n"
+
+# Lists of worked rows, and numbers of cases that are made in a loop
+LISTS = (
+    *(f"{module}.{name}" for module in ("session_rows", "encoding_rows") for name in ("SESSIONS", "REPLIES")),
+    *("session_rows.FRAMES", "command_rows.EXAMPLES", "command_rows.CHECKS", "findings_rows.ROWS", "findings_rows.RULE_ROWS", "install_rows.ROWS"),
+)
+NUMBERS = (
+    *("broken_input.COUNT", "refused_sessions.FIRST", "refused_sessions.SAMPLE", "refused_threads.THREADS"),
+    *(f"random_texts.COUNTS.{encoding}" for encoding in ("utf-8", "utf-16", "utf-32")),
+)
+# The same of tests in crates: the file, and how the number stands there
+LOOPS = {
+    "random_steps.SESSIONS": ("crates/random_steps/src/replies.rt", r"(?m)^const SESSIONS: u64 = ([0-9_]+);"),
+    "random_steps.MESSAGES": ("crates/random_steps/src/replies.rt", r"(?m)^const MESSAGES: usize = ([0-9_]+);"),
+    "worked_grammars.random": ("crates/worked_grammars/src/random.rt", r"(?m)^    for _ in 0\.\.([0-9_]+) \{"),
+    "worked_texts.seams": ("crates/worked_texts/src/seams.rt", r"(?m)^    for round in 0\.\.([0-9_]+)u32 \{"),
+}
+EDITS, NO_COMPILE, SAME_MEANING = "edits", "must-not-compile", "tools/same_meaning"
+TEST = re.compile(r"(?m)^ *#\[test\]")
+# A function as tests are, with the attributes above it
+LIKE_A_TEST = re.compile(r"(?m)^((?: *#\[.*\]\n)*) *(?:pub(?:\(\w+\))? )?fn (\w+)\(\w+: HostRuntime\)")
+ROOTS = ("lib.rt", "main.rt", "mod.rt")
+
+
+def text_of(path):
+    with open(path, encoding="utf-8") as file:
+        return file.read()
+
+
+def parsed(text):
+    """The counts that a text has, by their names."""
+    lines = [line.rpartition(" ") for line in text.splitlines() if line and not line.startswith("#")]
+    return {name: int(count) for name, _, count in lines}
+
+
+def written(counts):
+    """The text that has these counts: each kind by itself."""
+    kinds = {}
+    for name, count in counts.items():
+        kinds.setdefault(name.partition(" ")[0], []).append(f"{name} {count}\n")
+    return "\n".join([HEAD, *map("".join, kinds.values())])
+
+
+def differences(told, found):
+    """A line for each count that isn't as told."""
+    for name in dict.fromkeys([*told, *found]):
+        count, wanted = found.get(name, 0), told.get(name, 0)
+        if count < wanted:
+            yield f"{name}: {count or 'none'}, and {wanted} in counts.txt: {wanted - count} missing"
+        elif count > wanted:
+            yield f"{name}: {count}, and {wanted or 'none'} in counts.txt: `{RAISE}` puts it there"
+
+
+def raised(told, found):
+    """The counts as told, with those put in that are higher or new."""
+    return {name: max(told.get(name, 0), found.get(name, 0)) for name in dict.fromkeys([*found, *told]) if name in told or found[name]}
+
+
+def of_kind(counts, is_row):
+    """The rows alone, or all but these."""
+    return {name: count for name, count in counts.items() if (name.partition(" ")[0] == ROWS) == is_row}
+
+
+def is_edit(name):
+    return name.endswith(".edit")
+
+
+def edits_in(*path):
+    folder = os.path.join(TOP, *path)
+    return sum(map(is_edit, os.listdir(folder))) if os.path.isdir(folder) else 0
+
+
+def crates():
+    """The crates of crates.txt, in its order."""
+    lines = (line.partition("#")[0] for line in text_of(os.path.join(TOP, "crates.txt")).splitlines())
+    return [line.split()[0].rstrip(":") for line in lines if ":" in line]
+
+
+def sources(crate):
+    """The files of a crate's code, by their paths from its src/."""
+    src = os.path.join(TOP, "crates", crate, "src")
+    paths = (os.path.join(at, name) for at, _, names in os.walk(src) for name in names)
+    return {os.path.relpath(path, src): text_of(path) for path in sorted(paths)}
+
+
+def number_at(name):
+    """The number or the length of the list that a tool of this module has by this name, which may be one of a table there."""
+    module, *names = name.split(".")
+    value = importlib.import_module(module)
+    for it in names:
+        value = value[it] if isinstance(value, dict) else getattr(value, it)
+    return value if isinstance(value, int) else len(value)
+
+
+def number_in(text, form):
+    found = re.findall(form, text)
+    return int(found[0].replace("_", "")) if len(found) == 1 else 0
+
+
+def of_sources():
+    """What can be counted without a proof."""
+    names = crates()
+    counts = {"crates": len(names)}
+    counts.update({f"tests {it}": sum(len(TEST.findall(text)) for text in sources(it).values()) for it in names})
+    for kind in (EDITS, NO_COMPILE):
+        counts.update({f"{kind} {it}": edits_in("crates", it, kind) for it in names})
+    counts["same-meaning"] = edits_in(SAME_MEANING)
+    counts.update({f"list {it}": number_at(it) for it in LISTS})
+    counts.update({f"cases {it}": number_at(it) for it in NUMBERS})
+    counts.update({f"cases {name}": number_in(text_of(os.path.join(TOP, path)), form) for name, (path, form) in LOOPS.items()})
+    return {name: count for name, count in counts.items() if count}
+
+
+def unmarked(texts):
+    """The functions that look like tests and aren't, in the files of a crate that has tests, by their paths."""
+    if any(map(TEST.search, texts.values())):
+        for path, text in texts.items():
+            for attributes, name in LIKE_A_TEST.findall(text):
+                if "#[test]" not in attributes:
+                    yield f"{path}: the function {name} looks like a test, and has no #[test]"
+
+
+def unread(texts):
+    """The files of a crate, by their paths, that no other one names as a module: what stands in them is no part of it."""
+    for path in texts:
+        folder, name = os.path.split(path)
+        module = os.path.basename(folder) if name == "mod.rt" else name[: -len(".rt")]
+        around = os.path.dirname(folder) if name == "mod.rt" else folder
+        parents = [os.path.join(around, it) for it in ROOTS] + ([f"{around}.rt"] if around else [])
+        named = re.compile(rf"(?m)^(?:pub(?:\(\w+\))? )?mod {re.escape(module)};")
+        if path not in ROOTS and not any(named.search(texts.get(it, "")) for it in parents):
+            yield f"{path}: no file has it as a module, so nothing reads it"
+
+
+def out_of_place(paths, names):
+    """The edits, and the crates' folders, of these paths that nothing looks for, where the crates have these names."""
+    for path in paths:
+        folder, name = os.path.split(path)
+        words = folder.split("/")
+        is_in_crate = len(words) == 3 and words[0] == "crates" and words[1] in names and words[2] in (EDITS, NO_COMPILE)
+        if is_edit(name) and not is_in_crate and folder != SAME_MEANING:
+            yield f"{path}: no edit is looked for there"
+    for name in sorted({path.split("/")[1] for path in paths if path.startswith("crates/") and path.count("/") > 1} - {*names}):
+        yield f"crates/{name}: crates.txt doesn't have it"
+
+
+def places():
+    """The paths of all files of the crates and tools, but for those that are built."""
+    for top in ("crates", "tools"):
+        for at, folders, files in os.walk(os.path.join(TOP, top)):
+            folders[:] = sorted(it for it in folders if it not in ("out", "__pycache__"))
+            yield from (os.path.relpath(os.path.join(at, it), TOP) for it in sorted(files))
+
+
+def keep_rows(found):
+    """Keeps how many rows a gate has found, for --raise."""
+    os.makedirs(os.path.dirname(FOUND_ROWS), exist_ok=True)
+    with open(FOUND_ROWS, "w", encoding="utf-8") as file:
+        file.writelines(f"{name} {count}\n" for name, count in found.items())
+
+
+def faults(told):
+    """All that isn't as counts.txt tells, or that stands where nothing looks for it."""
+    yield from differences(of_kind(told, False), of_sources())
+    names = crates()
+    yield from out_of_place([*places()], names)
+    for crate in names:
+        texts = sources(crate)
+        yield from (f"crates/{crate}/src/{it}" for some in (unmarked, unread) for it in some(texts))
+    yield from figures.faults(told)
+
+
+def raise_all(told):
+    """Puts the counts that are higher or new into counts.txt, and the figures into the pages."""
+    found = {**of_sources(), **(parsed(text_of(FOUND_ROWS)) if os.path.exists(FOUND_ROWS) else {})}
+    counts = raised(told, found)
+    with open(COUNTS, "w", encoding="utf-8") as file:
+        file.write(written(counts))
+    figures.write(counts)
+    for name in counts:
+        if counts[name] != told.get(name):
+            print(f"{name}: {told.get(name, 'none')} before, {counts[name]} now")
+    return counts
+
+
+def main(words):
+    told = parsed(text_of(COUNTS)) if os.path.exists(COUNTS) else {}
+    if words == ["--raise"]:
+        told = raise_all(told)
+    elif words:
+        sys.exit("usage: tools/counts.py [--raise]")
+    found = [*faults(told)]
+    for line in found:
+        print(f"counts: {line}")
+    print(f"counts: {'as counts.txt has them' if not found else 'FAILED'}")
+    return 1 if found else 0
+
+
+if __name__ == "__main__":
+    sys.exit(main(sys.argv[1:]))

@@ -1,0 +1,161 @@
+#!/usr/bin/env python3
+"""Worked rows of what compares counts, figures and sums: made-up inputs, and what must be said of each.
+
+    tools/counts_rows.py
+
+The gate runs them before any proof.
+"""
+import contextlib
+import io
+import sys
+
+import counts
+import figures
+import program_ends
+import rows
+import sums
+
+TOLD = {"crates": 2, "tests a": 3, "edits a": 2, "edits b": 4, "rows p tool": 7, "rows p.by-rattle tool": 7}
+RAISE = f"`{counts.RAISE}` puts it there"
+
+# What is found, what differs from TOLD, and what TOLD is raised to
+COMPARED = (
+    ("the same", {}, [], {}),
+    ("a test lost its attribute", {"tests a": 2}, ["tests a: 2, and 3 in counts.txt: 1 missing"], {}),
+    ("no edits of a crate", {"edits b": None}, ["edits b: none, and 4 in counts.txt: 4 missing"], {}),
+    ("no edits", {"edits a": None, "edits b": None}, [f"edits {it}: none, and {many} in counts.txt: {many} missing" for it, many in (("a", 2), ("b", 4))], {}),
+    ("a tool without a row", {"rows p tool": 0}, ["rows p tool: none, and 7 in counts.txt: 7 missing"], {}),
+    ("no second compiler", {"rows p.by-rattle tool": None}, ["rows p.by-rattle tool: none, and 7 in counts.txt: 7 missing"], {}),
+    ("one more", {"edits a": 3}, [f"edits a: 3, and 2 in counts.txt: {RAISE}"], {"edits a": 3}),
+    ("a new crate", {"edits c": 1}, [f"edits c: 1, and none in counts.txt: {RAISE}"], {"edits c": 1}),
+    ("one that is none", {"rows q tool": 0}, [], {}),
+    (
+        "one more and one less",
+        {"tests a": 1, "edits a": 5},
+        ["tests a: 1, and 3 in counts.txt: 2 missing", f"edits a: 5, and 2 in counts.txt: {RAISE}"],
+        {"edits a": 5},
+    ),
+)
+
+SIGNATURE = "fn goes(rt: HostRuntime) -> Result<(), Fail> {\n    Ok(())\n}\n"
+# The files of a crate, and the functions among them that look like tests and aren't
+MARKED = (
+    ("a test", {"lib.rt": f"#[test]\n{SIGNATURE}"}, []),
+    ("a test without its attribute", {"lib.rt": f"#[test]\n{SIGNATURE}", "x.rt": SIGNATURE}, ["x.rt: the function goes looks like a test, and has no #[test]"]),
+    ("a test in a comment", {"lib.rt": f"#[test]\n{SIGNATURE}\n// #[test]\n{SIGNATURE}"}, ["lib.rt: the function goes looks like a test, and has no #[test]"]),
+    ("another attribute", {"lib.rt": f"#[test]\n#[other]\n{SIGNATURE}"}, []),
+    ("a function with more arguments", {"lib.rt": f"#[test]\n{SIGNATURE}fn helps(rt: HostRuntime, at: u32) {{\n}}\n"}, []),
+    ("a crate without tests", {"main.rt": "fn main(rt: HostRuntime) -> ExitCode {\n}\n"}, []),
+)
+
+NO_MODULE = "no file has it as a module, so nothing reads it"
+# The files of a crate, and those that are no part of it
+READ = (
+    ("modules", {"lib.rt": "mod a;\n#[cfg(test)]\nmod b;\npub(crate) mod c;\n", "a.rt": "", "b.rt": "", "c.rt": ""}, []),
+    ("a file that is no module", {"lib.rt": "mod a;\n// mod b;\n", "a.rt": "", "b.rt": ""}, [f"b.rt: {NO_MODULE}"]),
+    ("a module in a folder", {"lib.rt": "mod a;\n", "a.rt": "mod b;\n", "a/b.rt": ""}, []),
+    ("a folder that is a module", {"lib.rt": "mod a;\n", "a/mod.rt": "mod b;\n", "a/b.rt": "", "a/c.rt": ""}, [f"a/c.rt: {NO_MODULE}"]),
+)
+
+# Paths of files, and what is said of those that nothing looks for, where the crates are a and b
+PLACED = (
+    ("edits in their places", ["crates/a/edits/x.edit", "crates/b/must-not-compile/x.edit", "tools/same_meaning/x.edit", "crates/a/src/lib.rt"], []),
+    ("another folder", ["crates/a/edit/x.edit"], ["crates/a/edit/x.edit: no edit is looked for there"]),
+    ("a folder below", ["crates/a/edits/more/x.edit"], ["crates/a/edits/more/x.edit: no edit is looked for there"]),
+    ("a crate that isn't told", ["crates/c/src/lib.rt"], ["crates/c: crates.txt doesn't have it"]),
+)
+
+FIGURE = figures.Figure("README.md", "| edits | {} in {} crates |", lambda told: figures.all_of(told, "edits"))
+# A page's text, what is wrong with its figure by TOLD, and the text once it is written anew
+TOLD_FIGURES = (
+    ("| edits | 6 in 2 crates |", None, "| edits | 6 in 2 crates |"),
+    ("x\n| edits | 6\n  in 2 crates |\ny", None, "x\n| edits | 6\n  in 2 crates |\ny"),
+    ("x | edits | 1,006 in 2 crates | 6", "README.md: '| edits | {} in {} crates |' has 1,006, 2, and not 6, 2", "x | edits | 6 in 2 crates | 6"),
+    ("nothing", "README.md: no places tell '| edits | {} in {} crates |', where one must", "nothing"),
+)
+UNTOLD = figures.Figure("README.md", "{} rows", figures.of("rows none"))
+
+A, B = "a" * 64, "b" * 64
+CHANGED = f"by kit 2, where sums.txt was written by kit 1: where sources, kit or compiler have changed, `{sums.WRITE}` writes the new sums"
+# The sums of sums.txt, those of the programs that are made, and what is said of these
+SUMMED = (
+    ("the same", {"p": A}, {"p": A}, []),
+    ("another program", {"p": A, "q": A}, {"p": B, "q": A}, [f"p: its sum is {B}, and {A} in sums.txt", CHANGED]),
+    ("no program", {"p": A}, {"p": None}, ["p: there is no program", CHANGED]),
+    ("no sum", {}, {"p": A}, [f"p: its sum is {A}, and none in sums.txt", CHANGED]),
+    ("a program that is gone", {"p": A, "q": A}, {"p": A}, ["q: there is no program", CHANGED]),
+)
+
+# What is handed in to the gate's last step, and how many pass and fail by it
+HANDED_IN = (
+    ("2 passed, 0 failed", (2, 0)),
+    ("2 passed, 1 failed", (2, 1)),
+    ("crates: 2 passed, 0 failed, status 0", (2, 0)),
+    ("crates: 1 passed, 1 failed, status 1", (1, 1)),
+    ("crates: 1 passed, 0 failed, status 0", (1, 1)),
+    ("edits: 6 passed, 0 failed, status 0", (6, 0)),
+    ("edits: 6 passed, 0 failed, status 1", (6, 1)),
+    ("edits: 5 passed, 0 failed, status 0", (5, 1)),
+    ("edits: 0 passed, 0 failed, status 1", (0, 2)),
+    ("edits: , status 0", (0, 1)),
+    ("", (0, 1)),
+    ("2 passed, 0 failed (a and the crates below alone: not the gate)", (0, 1)),
+)
+
+
+def compared_cases():
+    for what, changes, lines, more in COMPARED:
+        found = {name: count for name, count in {**TOLD, **changes}.items() if count is not None}
+        yield f"counts: {what}", [*counts.differences(TOLD, found)], lines
+        yield f"counts: {what}, raised", counts.raised(TOLD, found), {**TOLD, **more}
+    yield "counts: as they are written", counts.parsed(counts.written(TOLD)), TOLD
+    yield "counts: rows alone, and all others", [len(counts.of_kind(TOLD, it)) for it in (True, False)], [2, 4]
+
+
+def source_cases():
+    for what, texts, lines in MARKED:
+        yield f"tests: {what}", [*counts.unmarked(texts)], lines
+    for what, texts, lines in READ:
+        yield f"files: {what}", [*counts.unread(texts)], lines
+    for what, paths, lines in PLACED:
+        yield f"places: {what}", [*counts.out_of_place(paths, ["a", "b"])], lines
+
+
+def figure_cases():
+    for text, fault, put in TOLD_FIGURES:
+        yield f"figures: {text!r}", (FIGURE.fault(text, TOLD), FIGURE.put(text, TOLD)), (fault, put)
+    yield "figures: one that no count tells", (UNTOLD.fault("5 rows", TOLD), UNTOLD.put("5 rows", TOLD)), ("README.md: no count tells '{} rows'", "5 rows")
+
+
+def sum_cases():
+    for what, told, made, lines in SUMMED:
+        yield f"sums: {what}", sums.differences(told, "kit 1", made, "kit 2"), lines
+    yield "sums: as they are written", sums.parsed(sums.written({"p": A, "q": B}, "kit 1")), ({"p": A, "q": B}, "kit 1")
+
+
+def broken_tool(program):
+    yield "a row", program, "p"
+    raise ValueError("broken")
+
+
+def tally_cases():
+    for word, ends in HANDED_IN:
+        tally = program_ends.Tally()
+        with contextlib.redirect_stdout(io.StringIO()):
+            tally.take(word, TOLD)
+        yield f"handed in: {word!r}", (tally.passed, tally.failed), ends
+    with contextlib.redirect_stderr(io.StringIO()):
+        found = [(it.is_good(), it.count) for it in program_ends.cases_of(broken_tool, "p")]
+    yield "a tool that breaks off", found, [(True, 1), (False, 0)]
+    with contextlib.redirect_stdout(io.StringIO()):
+        ends = rows.told([]), rows.told([("a row", 1, 1)]), rows.told([("a row", 1, 2)])
+    yield "a tool that is run by hand: none, one that is good, one that isn't", ends, (1, 0, 1)
+
+
+def cases():
+    for some in (compared_cases, source_cases, figure_cases, sum_cases, tally_cases):
+        yield from some()
+
+
+if __name__ == "__main__":
+    sys.exit(rows.told(cases()))

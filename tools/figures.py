@@ -1,0 +1,135 @@
+"""The figures that README and the pages of docs/ tell, which are those of counts.txt.
+
+A figure is found by the words around it, and written anew by `tools/counts.py --raise`.
+"""
+import os
+import re
+from typing import Any, NamedTuple
+
+import failing_devices
+from rows import TOP
+
+README, GATE, TESTING = "README.md", "docs/GATE.md", "docs/TESTING.md"
+
+
+def all_of(counts, *words):
+    """The sum of the counts whose names begin with these words, and how many there are of these."""
+    found = [count for name, count in counts.items() if tuple(name.split())[: len(words)] == words]
+    return sum(found), len(found)
+
+
+class Figure(NamedTuple):
+    """Figures that stand in a page in the places of {}, and what tells them by the counts."""
+
+    page: str
+    words: str
+    told: Any
+
+    def form(self):
+        words = [re.escape(it).replace(r"\{\}", r"([0-9][0-9,]*)") for it in self.words.split()]
+        return re.compile(r"\s+".join(words))
+
+    def wanted(self, counts):
+        """The figures by the counts; None where one of these isn't there."""
+        try:
+            told = self.told(counts)
+        except KeyError:
+            return None
+        return tuple(f"{it:,}" for it in (told if isinstance(told, tuple) else (told,)))
+
+    def fault(self, text, counts):
+        """What is wrong with the figures in the page's text; None where nothing is."""
+        found, wanted = [it.groups() for it in self.form().finditer(text)], self.wanted(counts)
+        if wanted is None:
+            return f"{self.page}: no count tells '{self.words}'"
+        if len(found) != 1:
+            return f"{self.page}: {len(found) or 'no'} places tell '{self.words}', where one must"
+        return f"{self.page}: '{self.words}' has {', '.join(found[0])}, and not {', '.join(wanted)}" if found[0] != wanted else None
+
+    def put(self, text, counts):
+        """The page's text with the right figures."""
+        found = self.form().search(text)
+        for number, figure in reversed([*enumerate(self.wanted(counts) or (), 1)] if found else []):
+            text = text[: found.start(number)] + figure + text[found.end(number) :]
+        return text
+
+
+def of(name):
+    """The count of this name, for a figure."""
+    return lambda counts: counts[name]
+
+
+def sums(*names):
+    """The sum of these counts."""
+    return lambda counts: sum(counts[name] for name in names)
+
+
+def each_of(*names):
+    return lambda counts: tuple(counts[name] for name in names)
+
+
+def failing_devices_of(counts):
+    # (one row is the session at devices that don't fail)
+    return counts["rows abnf_ls failing_devices"] - 1
+
+
+SESSIONS, REPLIES = (sums(*(f"list {it}_rows.{name}" for it in ("session", "encoding"))) for name in ("SESSIONS", "REPLIES"))
+REFUSED_TO_THREADS = sums("cases refused_sessions.FIRST", "cases refused_sessions.SAMPLE")
+RANDOM_TEXTS = sums(*(f"cases random_texts.COUNTS.{it}" for it in ("utf-8", "utf-16", "utf-32")))
+FIGURES = (
+    Figure(README, "on several threads {} of some", REFUSED_TO_THREADS),
+    Figure(README, "**Devices**: {} runs in which", failing_devices_of),
+    Figure(README, "**Input**: {} random streams", of("cases broken_input.COUNT")),
+    Figure(README, "**Order**: {} random sessions", of("cases random_steps.SESSIONS")),
+    Figure(README, "**Proofs**: {} edits of code", lambda counts: all_of(counts, "edits")[0]),
+    Figure(GATE, "(../counts.txt) has {} edits in {} crates", lambda counts: all_of(counts, "edits")),
+    Figure(TESTING, "| tests of the crates | {} in {} crates |", lambda counts: all_of(counts, "tests")),
+    Figure(TESTING, "| edits that must be refused | {} in {} crates |", lambda counts: all_of(counts, "edits")),
+    Figure(TESTING, "| edits that must not compile | {} |", lambda counts: all_of(counts, "must-not-compile")[0]),
+    Figure(TESTING, "| edits that mean the same | {} |", of("same-meaning")),
+    Figure(TESTING, "| worked sessions, byte for byte | {} |", SESSIONS),
+    Figure(TESTING, "| worked replies | {} |", REPLIES),
+    Figure(TESTING, "| streams with a broken frame | {} |", of("list session_rows.FRAMES")),
+    Figure(TESTING, "| examples, each with its check | {} |", of("list command_rows.EXAMPLES")),
+    Figure(TESTING, "| checks of certificates | {} |", of("list command_rows.CHECKS")),
+    Figure(TESTING, "| texts of `abnf_findings` | {}, of rules {} |", each_of("list findings_rows.ROWS", "list findings_rows.RULE_ROWS")),
+    Figure(TESTING, "| rows of `./install` | {} |", of("rows install install_rows")),
+    Figure(TESTING, "| runs with devices that fail | {} |", failing_devices_of),
+    Figure(TESTING, "Each of its {} reads fails", lambda counts: -(-len(failing_devices.GIVEN) // failing_devices.PIECE)),
+    Figure(TESTING, "each of its {} writes fails", lambda counts: sum(map(failing_devices.leads_on, failing_devices.SESSION))),
+    Figure(TESTING, "| random texts | {} |", RANDOM_TEXTS),
+    Figure(TESTING, "| random streams | {} |", of("cases broken_input.COUNT")),
+    Figure(TESTING, "| allocations refused to threads | {} |", REFUSED_TO_THREADS),
+    Figure(TESTING, "| random sessions | {} of {} messages |", each_of("cases random_steps.SESSIONS", "cases random_steps.MESSAGES")),
+    Figure(TESTING, "| random grammars | {} |", of("cases worked_grammars.random")),
+    # (two tests each make so many)
+    Figure(TESTING, "| random edits of long texts | {} |", lambda counts: 2 * counts["cases worked_texts.seams"]),
+)
+
+
+def figures(counts):
+    """All of them, with those of each crate that has tests."""
+    tests = [name.split()[1] for name in counts if name.startswith("tests ")]
+    return [*FIGURES, *(Figure(TESTING, f"| `{it}` | {{}} |", of(f"tests {it}")) for it in tests)]
+
+
+def page(name):
+    with open(os.path.join(TOP, name), encoding="utf-8") as file:
+        return file.read()
+
+
+def faults(counts):
+    """The figures that aren't those of the counts."""
+    pages = {name: page(name) for name in (README, GATE, TESTING)}
+    return [fault for it in figures(counts) if (fault := it.fault(pages[it.page], counts))]
+
+
+def write(counts):
+    """Puts the figures by these counts into the pages."""
+    for name in (README, GATE, TESTING):
+        text = before = page(name)
+        for it in figures(counts):
+            text = it.put(text, counts) if it.page == name else text
+        if text != before:
+            with open(os.path.join(TOP, name), "w", encoding="utf-8") as file:
+                file.write(text)

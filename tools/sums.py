@@ -1,0 +1,89 @@
+#!/usr/bin/env python3
+"""Compares the programs, as they are built, with the sums in sums.txt.
+
+    tools/sums.py [--write]
+
+The same sources make the same bytes wherever they lie, with one kit. So whoever is given a program by somebody else can see whether it is the one
+whose crates are proved here: sums.txt has the SHA-256 sum of each, in the form of `sha256sum`. A sum changes with the sources of the crates and with
+the kit, whose compiler and libraries make the program. --write puts the sums of the programs that are built into sums.txt; those of one that isn't
+stay. The last line is 'N passed, M failed'.
+"""
+import hashlib
+import os
+import subprocess
+import sys
+
+from rows import FINDINGS, SERVER, TOP
+
+SUMS = os.path.join(TOP, "sums.txt")
+PROGRAMS = (SERVER, FINDINGS)
+WRITE = "tools/sums.py --write"
+BY = "# By "
+
+
+def sum_of(path):
+    """The sum of a program; None where there is none."""
+    try:
+        with open(path, "rb") as file:
+            return hashlib.sha256(file.read()).hexdigest()
+    except FileNotFoundError:
+        return None
+
+
+def kit():
+    """The kit's name, and that of its logic."""
+    return subprocess.run(["rt", "version"], stdout=subprocess.PIPE, text=True, check=True).stdout.strip()
+
+
+def parsed(text):
+    """The sums of a text by the programs' names, and the kit by which they were built."""
+    lines = text.splitlines()
+    sums = dict(reversed(line.split(maxsplit=1)) for line in lines if line and not line.startswith("#"))
+    return sums, next((line[len(BY) :] for line in lines if line.startswith(BY)), "no kit")
+
+
+def written(sums, by):
+    """The text that has these sums. What stands behind # is passed over by `sha256sum --check`."""
+    return f"{BY}{by}\n" + "".join(f"{total}  {name}\n" for name, total in sums.items())
+
+
+def difference(name, told, made):
+    """What is wrong with the sum of a program as it was made; None where nothing is."""
+    if made == told:
+        return None
+    if made is None:
+        return f"{name}: there is no program"
+    return f"{name}: its sum is {made}, and {told or 'none'} in sums.txt"
+
+
+def differences(told, by, made, now_by):
+    """A line for each sum that isn't as told; the last line is what to do."""
+    found = [line for name in dict.fromkeys([*told, *made]) if (line := difference(name, told.get(name), made.get(name)))]
+    if found:
+        found.append(f"by {now_by}, where sums.txt was written by {by}: where sources, kit or compiler have changed, `{WRITE}` writes the new sums")
+    return found
+
+
+def main(words):
+    made = {os.path.basename(path): sum_of(path) for path in PROGRAMS}
+    told, by = {}, "no kit"
+    if os.path.exists(SUMS):
+        with open(SUMS, encoding="utf-8") as file:
+            told, by = parsed(file.read())
+    if words == ["--write"]:
+        told.update({name: total for name, total in made.items() if total})
+        with open(SUMS, "w", encoding="utf-8") as file:
+            file.write(written(told, kit()))
+        by = kit()
+    elif words:
+        sys.exit("usage: tools/sums.py [--write]")
+    for line in differences(told, by, made, kit()):
+        print(f"sums: {line}")
+    passed = sum(bool(total) and told.get(name) == total for name, total in made.items())
+    failed = len({**told, **made}) - passed
+    print(f"{passed} passed, {failed} failed")
+    return 1 if failed else 0
+
+
+if __name__ == "__main__":
+    sys.exit(main(sys.argv[1:]))
