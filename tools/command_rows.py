@@ -3,8 +3,8 @@
 
     tools/command_rows.py [PROGRAM]
 
-runs a program that is built. Each example is a text, a rule of it, its hover text and the certificate, or None where another certificate may stand there.
-Each check is a text, a certificate, and the status with what stands on standard error and output.
+runs a program that is built. Each example is a text, a rule of it, its hover text and the certificate, or None where another certificate
+may stand there. Each check is a text, a certificate, and the status with what stands on standard error and output.
 """
 import sys
 

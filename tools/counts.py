@@ -7,12 +7,13 @@ counts.txt has a line for each kind of them: its name, and how many there are. W
 proof, by this tool, and the rows that programs are run with at the gate's end, by tools/program_ends.py. A count that is lower fails, as
 something is missing, and so does one that is higher, as it could go again without a word.
 
-With --raise each count that is higher or new is put into counts.txt, the rows as the last gate found them (out/rows), and the pages' figures
-are written anew. It lowers none: what is taken away with intent is taken out of counts.txt by hand.
+With --raise each count that is higher or new is put into counts.txt, the rows as the last gate found them (out/rows), and the figures in
+the pages are written anew. It lowers none: what is taken away with intent is taken out of counts.txt by hand.
 
 Beside the counts it fails where a test, an edit or a crate stands where nothing looks for it, and where a page tells another figure than
 counts.txt (tools/figures.py).
 """
+import collections
 import importlib
 import os
 import re
@@ -31,7 +32,8 @@ HEAD = f"# What the gate must find, neither more nor less. `{RAISE}` puts higher
 # Lists of worked rows, and numbers of cases that are made in a loop
 LISTS = (
     *(f"{module}.{name}" for module in ("session_rows", "encoding_rows") for name in ("SESSIONS", "REPLIES")),
-    *("session_rows.FRAMES", "command_rows.EXAMPLES", "command_rows.CHECKS", "findings_rows.ROWS", "findings_rows.RULE_ROWS", "install_rows.ROWS"),
+    *("session_rows.FRAMES", "command_rows.EXAMPLES", "command_rows.CHECKS"),
+    *("findings_rows.ROWS", "findings_rows.RULE_ROWS", "install_rows.ROWS"),
 )
 NUMBERS = (
     *("broken_input.COUNT", "refused_sessions.FIRST", "refused_sessions.SAMPLE", "refused_threads.THREADS"),
@@ -90,8 +92,8 @@ def of_kind(counts, is_row):
     return {name: count for name, count in counts.items() if (name.partition(" ")[0] == ROWS) == is_row}
 
 
-def is_edit(name):
-    return name.endswith(".edit")
+def is_edit(path):
+    return path.endswith(".edit")
 
 
 def edits_in(*path):
@@ -163,12 +165,10 @@ def unread(texts):
 
 def out_of_place(paths, names):
     """The edits, and the crates' folders, of these paths that nothing looks for, where the crates have these names."""
-    for path in paths:
-        folder, name = os.path.split(path)
-        words = folder.split("/")
-        is_in_crate = len(words) == 3 and words[0] == "crates" and words[1] in names and words[2] in (EDITS, NO_COMPILE)
-        if is_edit(name) and not is_in_crate and folder != SAME_MEANING:
-            yield f"{path}: no edit is looked for there"
+    known = {SAME_MEANING, *(f"crates/{name}/{kind}" for name in names for kind in (EDITS, NO_COMPILE))}
+    for folder, count in collections.Counter(os.path.dirname(it) for it in paths if is_edit(it)).items():
+        if folder not in known:
+            yield f"{folder}: {count} edits lie there, where nothing looks for any"
     for name in sorted({path.split("/")[1] for path in paths if path.startswith("crates/") and path.count("/") > 1} - {*names}):
         yield f"crates/{name}: crates.txt doesn't have it"
 

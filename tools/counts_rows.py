@@ -23,7 +23,12 @@ COMPARED = (
     ("the same", {}, [], {}),
     ("a test lost its attribute", {"tests a": 2}, ["tests a: 2, and 3 in counts.txt: 1 missing"], {}),
     ("no edits of a crate", {"edits b": None}, ["edits b: none, and 4 in counts.txt: 4 missing"], {}),
-    ("no edits", {"edits a": None, "edits b": None}, [f"edits {it}: none, and {many} in counts.txt: {many} missing" for it, many in (("a", 2), ("b", 4))], {}),
+    (
+        "no edits",
+        {"edits a": None, "edits b": None},
+        ["edits a: none, and 2 in counts.txt: 2 missing", "edits b: none, and 4 in counts.txt: 4 missing"],
+        {},
+    ),
     ("a tool without a row", {"rows p tool": 0}, ["rows p tool: none, and 7 in counts.txt: 7 missing"], {}),
     ("no second compiler", {"rows p.by-rattle tool": None}, ["rows p.by-rattle tool: none, and 7 in counts.txt: 7 missing"], {}),
     ("one more", {"edits a": 3}, [f"edits a: 3, and 2 in counts.txt: {RAISE}"], {"edits a": 3}),
@@ -37,12 +42,13 @@ COMPARED = (
     ),
 )
 
+UNMARKED = "the function goes looks like a test, and has no #[test]"
 SIGNATURE = "fn goes(rt: HostRuntime) -> Result<(), Fail> {\n    Ok(())\n}\n"
 # The files of a crate, and the functions among them that look like tests and aren't
 MARKED = (
     ("a test", {"lib.rt": f"#[test]\n{SIGNATURE}"}, []),
-    ("a test without its attribute", {"lib.rt": f"#[test]\n{SIGNATURE}", "x.rt": SIGNATURE}, ["x.rt: the function goes looks like a test, and has no #[test]"]),
-    ("a test in a comment", {"lib.rt": f"#[test]\n{SIGNATURE}\n// #[test]\n{SIGNATURE}"}, ["lib.rt: the function goes looks like a test, and has no #[test]"]),
+    ("a test without its attribute", {"lib.rt": f"#[test]\n{SIGNATURE}", "x.rt": SIGNATURE}, [f"x.rt: {UNMARKED}"]),
+    ("a test in a comment", {"lib.rt": f"#[test]\n{SIGNATURE}\n// #[test]\n{SIGNATURE}"}, [f"lib.rt: {UNMARKED}"]),
     ("another attribute", {"lib.rt": f"#[test]\n#[other]\n{SIGNATURE}"}, []),
     ("a function with more arguments", {"lib.rt": f"#[test]\n{SIGNATURE}fn helps(rt: HostRuntime, at: u32) {{\n}}\n"}, []),
     ("a crate without tests", {"main.rt": "fn main(rt: HostRuntime) -> ExitCode {\n}\n"}, []),
@@ -59,24 +65,26 @@ READ = (
 
 # Paths of files, and what is said of those that nothing looks for, where the crates are a and b
 PLACED = (
-    ("edits in their places", ["crates/a/edits/x.edit", "crates/b/must-not-compile/x.edit", "tools/same_meaning/x.edit", "crates/a/src/lib.rt"], []),
-    ("another folder", ["crates/a/edit/x.edit"], ["crates/a/edit/x.edit: no edit is looked for there"]),
-    ("a folder below", ["crates/a/edits/more/x.edit"], ["crates/a/edits/more/x.edit: no edit is looked for there"]),
+    ("edits in their places", ["crates/a/edits/x.edit", "crates/b/must-not-compile/x.edit", "tools/same_meaning/x.edit"], []),
+    ("other files", ["crates/a/src/lib.rt", "crates/a/edits/README.md", "tools/counts.py"], []),
+    ("another folder", ["crates/a/edit/x.edit", "crates/a/edit/y.edit"], ["crates/a/edit: 2 edits lie there, where nothing looks for any"]),
+    ("a folder below", ["crates/a/edits/more/x.edit"], ["crates/a/edits/more: 1 edits lie there, where nothing looks for any"]),
     ("a crate that isn't told", ["crates/c/src/lib.rt"], ["crates/c: crates.txt doesn't have it"]),
 )
 
 FIGURE = figures.Figure("README.md", "| edits | {} in {} crates |", lambda told: figures.all_of(told, "edits"))
+WRONG = "README.md: '| edits | {} in {} crates |' has 1,006, 2, and not 6, 2"
 # A page's text, what is wrong with its figure by TOLD, and the text once it is written anew
 TOLD_FIGURES = (
     ("| edits | 6 in 2 crates |", None, "| edits | 6 in 2 crates |"),
     ("x\n| edits | 6\n  in 2 crates |\ny", None, "x\n| edits | 6\n  in 2 crates |\ny"),
-    ("x | edits | 1,006 in 2 crates | 6", "README.md: '| edits | {} in {} crates |' has 1,006, 2, and not 6, 2", "x | edits | 6 in 2 crates | 6"),
+    ("x | edits | 1,006 in 2 crates | 6", WRONG, "x | edits | 6 in 2 crates | 6"),
     ("nothing", "README.md: no places tell '| edits | {} in {} crates |', where one must", "nothing"),
 )
 UNTOLD = figures.Figure("README.md", "{} rows", figures.of("rows none"))
 
 A, B = "a" * 64, "b" * 64
-CHANGED = f"by kit 2, where sums.txt was written by kit 1: where sources, kit or compiler have changed, `{sums.WRITE}` writes the new sums"
+CHANGED = f"built by kit 2, and sums.txt written by kit 1; where code, kit or compiler have changed, `{sums.WRITE}` writes it anew"
 # The sums of sums.txt, those of the programs that are made, and what is said of these
 SUMMED = (
     ("the same", {"p": A}, {"p": A}, []),
@@ -124,7 +132,8 @@ def source_cases():
 def figure_cases():
     for text, fault, put in TOLD_FIGURES:
         yield f"figures: {text!r}", (FIGURE.fault(text, TOLD), FIGURE.put(text, TOLD)), (fault, put)
-    yield "figures: one that no count tells", (UNTOLD.fault("5 rows", TOLD), UNTOLD.put("5 rows", TOLD)), ("README.md: no count tells '{} rows'", "5 rows")
+    found = UNTOLD.fault("5 rows", TOLD), UNTOLD.put("5 rows", TOLD)
+    yield "figures: one that no count tells", found, ("README.md: no count tells '{} rows'", "5 rows")
 
 
 def sum_cases():

@@ -1,13 +1,14 @@
 #!/usr/bin/env python3
-"""Runs the programs that `rt ci` has built as a user would, and checks how they end: status, line and what they wrote. The worked sessions run on
-one thread and on several; the program with its threads is refused memory, given broken input, cut off from its pipes, and has devices that fail, by
-seeded samples.
+"""Runs the programs that `rt ci` has built as a user would, and checks how they end: status, line and what they wrote. The worked sessions
+run on one thread and on several; the program with its threads is refused memory, given broken input, cut off from its pipes, and has
+devices that fail, by seeded samples.
 
     tools/program_ends.py ['[NAME: ]N passed, M failed[, status S]' ..]
 
-No contract speaks of arguments, files and devices. Each of the two compilers' programs is run. How many rows each tool has had for each program
-is compared with counts.txt, so that none goes without a word. The last line has the form of that of `rt ci`, and counts what is handed in too: what
-is handed in and isn't of that form counts as a failure, as does a status that no failure stands for, and fewer crates or edits than counts.txt has.
+No contract speaks of arguments, files and devices. Each of the two compilers' programs is run. How many rows each tool has had for each
+program is compared with counts.txt, so that none goes without a word. The last line has the form of that of `rt ci`, and counts what is
+handed in too. What is handed in and isn't of that form counts as a failure, as does a status that no failure stands for, and fewer crates
+or edits than counts.txt has.
 """
 import collections
 import functools

@@ -1,7 +1,8 @@
-"""What the tools of rows share: the programs, runs side by side, files and libraries that last as long as a tool works, and how cases are told.
+"""What the tools of rows share: the programs, runs side by side, files and libraries that last as long as a tool works, and how cases are
+told.
 
-A case is what is tried, what was found and what must be found. Where it stands for more than one run it says for how many; where the program
-itself settles how many these are, it counts as one, and the tool has a least count of its own.
+A case is what is tried, what was found and what must be found. Where it stands for more than one run it says for how many; where the
+program itself settles how many these are, it counts as one, and the tool has a least count of its own.
 """
 import concurrent.futures
 import contextlib

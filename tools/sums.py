@@ -3,10 +3,10 @@
 
     tools/sums.py [--write]
 
-The same sources make the same bytes wherever they lie, with one kit. So whoever is given a program by somebody else can see whether it is the one
-whose crates are proved here: sums.txt has the SHA-256 sum of each, in the form of `sha256sum`. A sum changes with the sources of the crates and with
-the kit, whose compiler and libraries make the program. --write puts the sums of the programs that are built into sums.txt; those of one that isn't
-stay. The last line is 'N passed, M failed'.
+With one kit the same sources make the same bytes wherever they lie. So whoever is given a program by somebody else can see whether it is
+the one whose crates are proved here: sums.txt has the SHA-256 sum of each, in the form of `sha256sum`. A sum changes with the code of the
+crates and with the kit, whose compiler and libraries make the program. --write puts the sums of the programs that are built into
+sums.txt, and leaves that of one that isn't as it is. The last line is 'N passed, M failed'.
 """
 import hashlib
 import os
@@ -60,7 +60,7 @@ def differences(told, by, made, now_by):
     """A line for each sum that isn't as told; the last line is what to do."""
     found = [line for name in dict.fromkeys([*told, *made]) if (line := difference(name, told.get(name), made.get(name)))]
     if found:
-        found.append(f"by {now_by}, where sums.txt was written by {by}: where sources, kit or compiler have changed, `{WRITE}` writes the new sums")
+        found.append(f"built by {now_by}, and sums.txt written by {by}; where code, kit or compiler have changed, `{WRITE}` writes it anew")
     return found
 
 
