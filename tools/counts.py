@@ -92,13 +92,9 @@ def of_kind(counts, is_row):
     return {name: count for name, count in counts.items() if (name.partition(" ")[0] == ROWS) == is_row}
 
 
-def is_edit(path):
-    return path.endswith(".edit")
-
-
-def edits_in(*path):
+def files_in(*path, end=".edit"):
     folder = os.path.join(TOP, *path)
-    return sum(map(is_edit, os.listdir(folder))) if os.path.isdir(folder) else 0
+    return sum(it.endswith(end) for it in os.listdir(folder)) if os.path.isdir(folder) else 0
 
 
 def crates():
@@ -134,8 +130,9 @@ def of_sources():
     counts = {"crates": len(names)}
     counts.update({f"tests {it}": sum(len(TEST.findall(text)) for text in sources(it).values()) for it in names})
     for kind in (EDITS, NO_COMPILE):
-        counts.update({f"{kind} {it}": edits_in("crates", it, kind) for it in names})
-    counts["same-meaning"] = edits_in(SAME_MEANING)
+        counts.update({f"{kind} {it}": files_in("crates", it, kind) for it in names})
+    counts["same-meaning"] = files_in(SAME_MEANING)
+    counts["examples"] = files_in("examples", end=".abnf")
     counts.update({f"list {it}": number_at(it) for it in LISTS})
     counts.update({f"cases {it}": number_at(it) for it in NUMBERS})
     counts.update({f"cases {name}": number_in(text_of(os.path.join(TOP, path)), form) for name, (path, form) in LOOPS.items()})
@@ -166,7 +163,7 @@ def unread(texts):
 def out_of_place(paths, names):
     """The edits, and the crates' folders, of these paths that nothing looks for, where the crates have these names."""
     known = {SAME_MEANING, *(f"crates/{name}/{kind}" for name in names for kind in (EDITS, NO_COMPILE))}
-    for folder, count in collections.Counter(os.path.dirname(it) for it in paths if is_edit(it)).items():
+    for folder, count in collections.Counter(os.path.dirname(it) for it in paths if it.endswith(".edit")).items():
         if folder not in known:
             yield f"{folder}: {count} edits lie there, where nothing looks for any"
     for name in sorted({path.split("/")[1] for path in paths if path.startswith("crates/") and path.count("/") > 1} - {*names}):

@@ -81,7 +81,7 @@ TOLD_FIGURES = (
     ("x | edits | 1,006 in 2 crates | 6", WRONG, "x | edits | 6 in 2 crates | 6"),
     ("nothing", "README.md: no places tell '| edits | {} in {} crates |', where one must", "nothing"),
 )
-UNTOLD = figures.Figure("README.md", "{} rows", figures.of("rows none"))
+UNTOLD = figures.Figure("README.md", "{} rows", figures.count_of("rows none"))
 
 A, B = "a" * 64, "b" * 64
 CHANGED = f"built by kit 2, and sums.txt written by kit 1; where code, kit or compiler have changed, `{sums.WRITE}` writes it anew"

@@ -54,17 +54,17 @@ class Figure(NamedTuple):
         return text
 
 
-def of(name):
+def count_of(name):
     """The count of this name, for a figure."""
     return lambda counts: counts[name]
 
 
-def sums(*names):
+def sum_of(*names):
     """The sum of these counts."""
     return lambda counts: sum(counts[name] for name in names)
 
 
-def each_of(*names):
+def counts_of(*names):
     return lambda counts: tuple(counts[name] for name in names)
 
 
@@ -73,35 +73,35 @@ def failing_devices_of(counts):
     return counts["rows abnf_ls failing_devices"] - 1
 
 
-SESSIONS, REPLIES = (sums(*(f"list {it}_rows.{name}" for it in ("session", "encoding"))) for name in ("SESSIONS", "REPLIES"))
-REFUSED_TO_THREADS = sums("cases refused_sessions.FIRST", "cases refused_sessions.SAMPLE")
-RANDOM_TEXTS = sums(*(f"cases random_texts.COUNTS.{it}" for it in ("utf-8", "utf-16", "utf-32")))
+SESSIONS, REPLIES = (sum_of(*(f"list {it}_rows.{name}" for it in ("session", "encoding"))) for name in ("SESSIONS", "REPLIES"))
+REFUSED_TO_THREADS = sum_of("cases refused_sessions.FIRST", "cases refused_sessions.SAMPLE")
+RANDOM_TEXTS = sum_of(*(f"cases random_texts.COUNTS.{it}" for it in ("utf-8", "utf-16", "utf-32")))
 FIGURES = (
     Figure(README, "on several threads {} of some", REFUSED_TO_THREADS),
     Figure(README, "**Devices**: {} runs in which", failing_devices_of),
-    Figure(README, "**Input**: {} random streams", of("cases broken_input.COUNT")),
-    Figure(README, "**Order**: {} random sessions", of("cases random_steps.SESSIONS")),
+    Figure(README, "**Input**: {} random streams", count_of("cases broken_input.COUNT")),
+    Figure(README, "**Order**: {} random sessions", count_of("cases random_steps.SESSIONS")),
     Figure(README, "**Proofs**: {} edits of code", lambda counts: all_of(counts, "edits")[0]),
     Figure(GATE, "(../counts.txt) has {} edits in {} crates", lambda counts: all_of(counts, "edits")),
     Figure(TESTING, "| tests of the crates | {} in {} crates |", lambda counts: all_of(counts, "tests")),
     Figure(TESTING, "| edits that must be refused | {} in {} crates |", lambda counts: all_of(counts, "edits")),
     Figure(TESTING, "| edits that must not compile | {} |", lambda counts: all_of(counts, "must-not-compile")[0]),
-    Figure(TESTING, "| edits that mean the same | {} |", of("same-meaning")),
+    Figure(TESTING, "| edits that mean the same | {} |", count_of("same-meaning")),
     Figure(TESTING, "| worked sessions, byte for byte | {} |", SESSIONS),
     Figure(TESTING, "| worked replies | {} |", REPLIES),
-    Figure(TESTING, "| streams with a broken frame | {} |", of("list session_rows.FRAMES")),
-    Figure(TESTING, "| examples, each with its check | {} |", of("list command_rows.EXAMPLES")),
-    Figure(TESTING, "| checks of certificates | {} |", of("list command_rows.CHECKS")),
-    Figure(TESTING, "| texts of `abnf_findings` | {}, of rules {} |", each_of("list findings_rows.ROWS", "list findings_rows.RULE_ROWS")),
-    Figure(TESTING, "| rows of `./install` | {} |", of("rows install install_rows")),
+    Figure(TESTING, "| streams with a broken frame | {} |", count_of("list session_rows.FRAMES")),
+    Figure(TESTING, "| examples, each with its check | {} |", count_of("list command_rows.EXAMPLES")),
+    Figure(TESTING, "| checks of certificates | {} |", count_of("list command_rows.CHECKS")),
+    Figure(TESTING, "| texts of `abnf_findings` | {}, of rules {} |", counts_of("list findings_rows.ROWS", "list findings_rows.RULE_ROWS")),
+    Figure(TESTING, "| rows of `./install` | {} |", count_of("rows install install_rows")),
     Figure(TESTING, "| runs with devices that fail | {} |", failing_devices_of),
     Figure(TESTING, "Each of its {} reads fails", lambda counts: -(-len(failing_devices.GIVEN) // failing_devices.PIECE)),
     Figure(TESTING, "each of its {} writes fails", lambda counts: sum(map(failing_devices.leads_on, failing_devices.SESSION))),
     Figure(TESTING, "| random texts | {} |", RANDOM_TEXTS),
-    Figure(TESTING, "| random streams | {} |", of("cases broken_input.COUNT")),
+    Figure(TESTING, "| random streams | {} |", count_of("cases broken_input.COUNT")),
     Figure(TESTING, "| allocations refused to threads | {} |", REFUSED_TO_THREADS),
-    Figure(TESTING, "| random sessions | {} of {} messages |", each_of("cases random_steps.SESSIONS", "cases random_steps.MESSAGES")),
-    Figure(TESTING, "| random grammars | {} |", of("cases worked_grammars.random")),
+    Figure(TESTING, "| random sessions | {} of {} messages |", counts_of("cases random_steps.SESSIONS", "cases random_steps.MESSAGES")),
+    Figure(TESTING, "| random grammars | {} |", count_of("cases worked_grammars.random")),
     # (two tests each make so many)
     Figure(TESTING, "| random edits of long texts | {} |", lambda counts: 2 * counts["cases worked_texts.seams"]),
 )
@@ -110,7 +110,7 @@ FIGURES = (
 def figures(counts):
     """All of them, with those of each crate that has tests."""
     tests = [name.split()[1] for name in counts if name.startswith("tests ")]
-    return [*FIGURES, *(Figure(TESTING, f"| `{it}` | {{}} |", of(f"tests {it}")) for it in tests)]
+    return [*FIGURES, *(Figure(TESTING, f"| `{it}` | {{}} |", count_of(f"tests {it}")) for it in tests)]
 
 
 def page(name):
