@@ -111,16 +111,18 @@ def sources(crate):
 
 
 def number_at(name):
-    """The number or the length of the list that a tool of this module has by this name, which may be one of a table there."""
+    """The number or the length of the list that a tool of this module has by this name, which may be one of a table there; 0 of none."""
     module, *names = name.split(".")
     value = importlib.import_module(module)
     for it in names:
-        value = value[it] if isinstance(value, dict) else getattr(value, it)
+        value = value.get(it, 0) if isinstance(value, dict) else getattr(value, it, 0)
     return value if isinstance(value, int) else len(value)
 
 
-def number_in(text, form):
-    found = re.findall(form, text)
+def number_in(path, form):
+    """The number that stands once in a file in this form; 0 where none does."""
+    path = os.path.join(TOP, path)
+    found = re.findall(form, text_of(path)) if os.path.exists(path) else []
     return int(found[0].replace("_", "")) if len(found) == 1 else 0
 
 
@@ -135,7 +137,7 @@ def of_sources():
     counts["examples"] = files_in("examples", end=".abnf")
     counts.update({f"list {it}": number_at(it) for it in LISTS})
     counts.update({f"cases {it}": number_at(it) for it in NUMBERS})
-    counts.update({f"cases {name}": number_in(text_of(os.path.join(TOP, path)), form) for name, (path, form) in LOOPS.items()})
+    counts.update({f"cases {name}": number_in(path, form) for name, (path, form) in LOOPS.items()})
     return {name: count for name, count in counts.items() if count}
 
 
