@@ -1,0 +1,184 @@
+"""Copies of a crate in which many edits stand, each in a function, or a twin of one, of its own."""
+import copy
+import os
+import shutil
+import tempfile
+
+from edits.files import read, text_of, write
+from edits.functions import FUNCTION, without_body
+from edits.kit import PARTS, RT
+
+# The proof of a function that is left out.
+HOLE = """use Rattle.{crate}.proofs.{module}.Statement.{{statement}}
+
+pub {name}_spec : {{M : Type 1}} → statement M
+{name}_spec = ?
+"""
+
+
+class Edit:
+    """An edit, and the functions whose bodies alone it changes, or none where it changes something else."""
+
+    def __init__(self, file, source, is_same):
+        self.file, self.name, self.is_same, self.twins = file, os.path.basename(file), is_same, {}
+        self.texts, others, self.why = read(file, source.folder)
+        self.functions, self.checked = source.changed(self.texts), others["checked"]
+        unknown = [it for it in self.checked if not source.has_function(it)]
+        if not self.why and unknown:
+            self.why = f"the crate has no function {unknown[0]}, which its line 'checked:' names"
+        elif not self.why and self.checked and self.functions:
+            self.why = "its line 'checked:' isn't read, since it changes bodies of functions alone"
+
+    def in_twins(self, number):
+        """The same edit, of twins of its functions in place of these."""
+        made = copy.copy(self)
+        made.twins = {it: f"{it}_twin{number}" for it in self.functions}
+        made.functions = {*made.twins.values()}
+        return made
+
+
+class Copy:
+    """Edits that stand in one copy, and the functions that stand there as they are and must be proved.
+
+    It may have counted, and edits in it been found refused.
+    """
+
+    def __init__(self, edits, whole=()):
+        self.edits, self.whole, self.has_counted, self.refused = edits, {*whole}, False, set()
+
+    def bases(self):
+        """The functions that twins were made of: each stands as it is, beside its twins."""
+        return {name for it in self.edits for name in it.twins}
+
+    def edited(self):
+        return {name for it in self.edits for name in it.functions}
+
+    def is_direct(self):
+        return any(it.functions and not it.twins for it in self.edits)
+
+
+def copied(folder, to):
+    """Copies what a check reads of a crate."""
+    for part in PARTS:
+        if os.path.isdir(f"{folder}/{part}"):
+            shutil.copytree(f"{folder}/{part}", f"{to}/{part}")
+
+
+def room():
+    """A temporary folder to check something in. (tools/gate_minutes.py tells checks of edits by its name.)"""
+    return tempfile.TemporaryDirectory(prefix=f"rt-edit-{os.getpid()}-")
+
+
+def are_made(edits, folder):
+    """Makes edits in a copy's folder, one after the other, but for those of twins. Gives whether each could be made."""
+    for edit in (it for it in edits if not it.twins):
+        texts, why = RT.read_edit(edit.file, folder)
+        if why:
+            return False
+        for path, text in texts.items():
+            write(f"{folder}/{path}", text)
+    return True
+
+
+class Maker:
+    """Makes the copies of one crate."""
+
+    def __init__(self, source, is_unedited):
+        self.source, self.is_unedited = source, is_unedited
+
+    def are_apart(self, edits):
+        """Whether each of these edits can be made where the others are."""
+        with tempfile.TemporaryDirectory() as folder:
+            for path in {path for edit in edits for path in edit.texts}:
+                os.makedirs(os.path.dirname(f"{folder}/{path}"), exist_ok=True)
+                shutil.copyfile(f"{self.source.folder}/{path}", f"{folder}/{path}")
+            return are_made(edits, folder)
+
+    def is_added(self, edits, edit):
+        """Adds an edit to those of a copy, if there is room: in functions that none of them changes, and made where the others are."""
+        has_room = not any(edit.functions & it.functions for it in edits) and self.are_apart([*edits, edit])
+        if has_room:
+            edits.append(edit)
+        return has_room
+
+    def shared_out(self, edits, whole):
+        """The copies for edits of bodies. In the first one all are in twins that can have some, and all functions stand as they are.
+
+        In the others edits are of the functions themselves. The functions that are edited there, and those that are to stand whole, must be
+        proved in the first.
+        """
+        twins = [it.in_twins(number) for number, it in enumerate(edits) if self.source.without_twins.isdisjoint(it.functions)]
+        direct = [it for it in edits if not self.source.without_twins.isdisjoint(it.functions)]
+        others = []
+        for edit in direct:
+            if not any(self.is_added(it, edit) for it in others):
+                others.append([edit])
+        # (those that mean the same stand in each copy, and real ones beside them)
+        if any(it.is_same for it in edits):
+            for some in others or [others.append([]) or others[0]]:
+                for edit in sorted(edits, key=lambda it: not it.is_same):
+                    if edit not in some:
+                        self.is_added(some, edit)
+        whole = {*whole, *(name for some in others for it in some for name in it.functions)}
+        return [*([Copy(twins, whole)] if twins or whole else []), *(Copy(it) for it in others)]
+
+    def make_twins(self, folder, edit):
+        """Makes an edit in twins of its functions, each of which stands behind the function itself and has a copy of its answers."""
+        for path, text in edit.texts.items():
+            text = text_of(f"{self.source.folder}/{path}") if self.is_unedited else text
+            twins = {self.source.name_of(it, path): it for it in FUNCTION.finditer(text)}
+
+            def with_twin(it):
+                name = self.source.name_of(it, path)
+                if name not in edit.twins:
+                    return it[0]
+                twin, short = twins[name], edit.twins[name].rpartition("::")[2]
+                return f"{it[0]}\n\n{text[twin.start() : twin.start(3)]}{short}{text[twin.end(3) : twin.end()]}"
+
+            write(f"{folder}/{path}", FUNCTION.sub(with_twin, text_of(f"{folder}/{path}")))
+        for name, twin in edit.twins.items():
+            own, other = (f"{folder}/proofs/{it.replace('::', '/')}" for it in (name, twin))
+            for file in os.listdir(own) if os.path.isdir(own) else []:
+                os.makedirs(other, exist_ok=True)
+                inside, beside = (f"proofs.{it.replace('::', '.')}." for it in (name, twin))
+                write(f"{other}/{file}", text_of(f"{own}/{file}").replace(inside, beside))
+
+    def leave_out(self, folder, functions):
+        """Takes all functions but these out of a copy's folder, so that the prover spends little on them.
+
+        In place of a body stands one that never returns, and in place of its proof a hole: what calls the function is proved against its
+        contract, as before.
+        """
+        source, left = self.source, {*self.source.bodies()} - {*functions}
+        for path, (_, bodies) in source.files.items():
+            if not left.isdisjoint(bodies):
+                text = text_of(f"{folder}/{path}")
+                write(f"{folder}/{path}", FUNCTION.sub(lambda it: without_body(it) if source.name_of(it, path) in left else it[0], text))
+        for name in left:
+            at, short = f"{folder}/proofs/{name.replace('::', '/')}", name.rpartition("::")[2]
+            shutil.rmtree(at, ignore_errors=True)
+            os.makedirs(at)
+            write(f"{at}/Proof.antt", HOLE.format(crate=source.name, module=name.replace("::", "."), name=short))
+
+    def witness(self, functions):
+        """A function beside these that a copy leaves whole, so that it must be proved there: that with the shortest body of some lines."""
+        bodies = {name: body for name, body in self.source.bodies().items() if name not in functions}
+        return sorted((it for it in bodies if bodies[it].count("\n") > 3), key=lambda it: len(bodies[it]))[:1]
+
+    def make(self, folder, made, named=()):
+        """Makes a copy in a folder. Gives whether that could be, the flags of its check, and the functions that must be proved in it.
+
+        Beside what is edited, and what stands whole, the named functions are checked; where there is none of these, all of the crate.
+        """
+        copied(self.source.folder, folder)
+        if not self.is_unedited and not are_made(made.edits, folder):
+            return False, [], []
+        if not made.edited() | made.whole | {*named}:
+            return True, [], []
+        for edit in (it for it in made.edits if it.twins):
+            self.make_twins(folder, edit)
+        stand = {*made.edited(), *made.whole, *made.bases(), *named}
+        witness = self.witness(stand)
+        self.leave_out(folder, {*stand, *witness})
+        flags = ["--allow-holes", *(word for name in sorted({*stand, *witness}) for word in ("--only", name))]
+        return True, flags, [*made.whole, *made.bases(), *witness]
