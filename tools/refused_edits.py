@@ -92,17 +92,22 @@ def alone(names):
     return RT.where_disk_lasts(RT.edits_alone, names)
 
 
+def untested(trials, folder):
+    """Why this tool wouldn't be tried with the edits of this folder, which mean the same, or None."""
+    same, among = edits_in(folder)[0], [edit for trial in trials for edit in trial.edits if edit.is_same]
+    if not same or len(same) != len(among):
+        return f"this tool isn't tried: of the {len(same)} edits of tools/same_meaning {len(among)} stand among those of {TESTED_ON}"
+    if not any(it.functions for it in among) or not any(it.checked for it in among):
+        return "this tool isn't tried: tools/same_meaning wants edits of bodies, and one of a definition with a line 'checked:'"
+    return None
+
+
 def unread(trials, crates, names):
     """What is said of all that no trial would read: folders, names that fit nothing, a self-test that would try nothing."""
     said = [f"{at}: {why}" for at, why in unread_folders(TOP, [it.name for it in crates])]
-    good, bad = edits_in(SAME_MEANING)
-    said += [f"tools/same_meaning/{it}: {BAD_NAME}" for it in bad]
-    if not names:
-        same = [edit for trial in trials for edit in trial.edits if edit.is_same]
-        if not good or len(same) != len(good):
-            said.append(f"this tool isn't tried: of the {len(good)} edits of tools/same_meaning {len(same)} stand among those of {TESTED_ON}")
-        elif not any(it.checked for it in same) or all(it.checked for it in same):
-            said.append("this tool isn't tried: tools/same_meaning wants edits of bodies, and one of a definition with a line 'checked:'")
+    said += [f"tools/same_meaning/{it}: {BAD_NAME}" for it in edits_in(SAME_MEANING)[1]]
+    why = None if names else untested(trials, SAME_MEANING)
+    said += [why] if why else []
     known = {it.crate.name for it in trials if it.edits} | {f"{it.crate.name}/{edit.name}" for it in trials for edit in it.edits}
     said += [f"{it}: there is no such edit, and no crate of this name that has edits" for it in names if it not in known]
     return said if any(it.edits for it in trials) else [*said, "there are no edits"]

@@ -114,11 +114,11 @@ class Maker:
             if not any(self.is_added(it, edit) for it in others):
                 others.append([edit])
         # (those that mean the same stand in each copy, and real ones beside them)
-        if any(it.is_same for it in edits):
-            for some in others or [others.append([]) or others[0]]:
-                for edit in sorted(edits, key=lambda it: not it.is_same):
-                    if edit not in some:
-                        self.is_added(some, edit)
+        same_first = sorted(edits, key=lambda it: not it.is_same) if any(it.is_same for it in edits) else []
+        others = others or [[]] * bool(same_first)
+        for some in others:
+            for edit in (it for it in same_first if it not in some):
+                self.is_added(some, edit)
         whole = {*whole, *(name for some in others for it in some for name in it.functions)}
         return [*([Copy(twins, whole)] if twins or whole else []), *(Copy(it) for it in others)]
 

@@ -1,0 +1,380 @@
+#!/usr/bin/env python3
+"""Worked rows of how tools/refused_edits.py comes to a verdict: made-up logs, edits and provers. Nothing is proved, so it takes seconds.
+
+    tools/verdict_rows.py
+
+The last line is 'N passed, M failed'. The prover of the last rows is played: what it says of a function rests on a word in its body.
+"""
+import argparse
+import contextlib
+import os
+import re
+import signal
+import sys
+import tempfile
+
+from edits import checks
+from edits.files import edits_in, lines_of, unread_folders, write
+from edits.functions import is_in
+from edits.store import KINDS, NoStore, Store
+from edits.trial import Trial
+from edits.verdict import BOUND_TEXT, TIMED_OUT, is_at_a_bound, read_check, refusal, verdict_alone, why_unclean
+from refused_edits import untested
+
+END, WHOLE_END = "only=3 holes=9", "logic=not-proved"
+F, G, H, TWIN = "fn made::f: ", "fn made::g: ", "fn made::h: ", "fn made::f_twin0: "
+DONE, HOLE, WAITS = "no holes", "depends on a hole in `made::k`", "not proved; it calls `made::f`, which is not proved"
+GOAL = "note: src/lib.rt:{}:5: it is not proved: a ≡ b"
+TWINS_GOAL, FS_GOAL, GS_GOAL = GOAL.format(12), GOAL.format(2), GOAL.format(22)
+BREAK = "note: what antt said of a `search` in the proof that rattle made: src/lib.rt:12:5: error: `search`: give the call less to do"
+ANSWER = "proofs/f_twin0/Answers.antt:3:1: error: `returns`: the sides differ"
+NO_NAME = "proofs/f_twin0/Answers.antt:3:1: error: `returns`: `goal` has no field `loop`"
+LEMMA = "proofs/Laws.antt:3:1: error: `law`: the sides differ"
+STALE = "proofs/f_twin0/Answers.antt:1:1: error: module `Rattle-low-specs` was made from other text. Run the lower steps again"
+# Of a copy in which f_twin0 is edited, and f and g stand as they are.
+CLEAN = [f"{F}{DONE}", TWINS_GOAL, f"{TWIN}not proved", f"{G}{HOLE}", END]
+
+# What a log of the copy shows of f_twin0: that it is refused, by its bound alone (BOUND), or nothing (KEPT); or the copy doesn't count (NONE).
+REFUSED, BOUND, KEPT, NONE = "refused", "bound", "kept", "none"
+LOGS = (
+    ("a goal of the edited function", 1, CLEAN, REFUSED),
+    ("an answer that isn't one", 1, [f"{F}{DONE}", ANSWER, f"{TWIN}not proved", f"{G}{HOLE}", END], REFUSED),
+    ("nothing is wrong", 1, [f"{F}{DONE}", f"{TWIN}{DONE}", f"{G}{HOLE}", END], KEPT),
+    ("nothing is wrong, and no hole is left", 0, [f"{F}{DONE}", f"{TWIN}{DONE}", f"{G}{DONE}", END], KEPT),
+    ("only a name is gone", 1, [f"{F}{DONE}", NO_NAME, f"{TWIN}not proved", f"{G}{HOLE}", END], KEPT),
+    ("it waits for what it calls", 1, [f"{F}{DONE}", f"{TWIN}{WAITS}", f"{G}{HOLE}", END], KEPT),
+    ("a search broke off", 1, [f"{F}{DONE}", BREAK, f"{TWIN}not proved", f"{G}{HOLE}", END], BOUND),
+    ("a search broke off, and its goal is told too", 1, [f"{F}{DONE}", BREAK, TWINS_GOAL, f"{TWIN}not proved", f"{G}{HOLE}", END], BOUND),
+    ("a search broke off beside a false goal", 1, [f"{F}{DONE}", BREAK, GOAL.format(13), f"{TWIN}not proved", f"{G}{HOLE}", END], REFUSED),
+    ("status 0 beside a fault", 0, CLEAN, NONE),
+    ("status 2", 2, CLEAN, NONE),
+    ("status 3", 3, CLEAN, NONE),
+    ("a signal", -signal.SIGSEGV, CLEAN, NONE),
+    ("it was killed", -signal.SIGKILL, CLEAN, NONE),
+    ("it took too long", TIMED_OUT, CLEAN, NONE),
+    ("a stale library", 1, [f"{F}{DONE}", STALE, f"{TWIN}not proved", f"{G}{HOLE}", END], NONE),
+    ("the log is cut", 1, CLEAN[:-1], NONE),
+    ("the log is cut within its last line", 1, [*CLEAN[:-1], "on"], NONE),
+    ("no log", 1, [], NONE),
+    ("a goal, and no line of its function", 1, [f"{F}{DONE}", f"{G}{HOLE}", TWINS_GOAL, END], NONE),
+    ("a goal of another function", 1, [f"{F}{DONE}", GS_GOAL, f"{TWIN}not proved", f"{G}{HOLE}", END], NONE),
+    ("a function's line that can't be read", 1, [f"{F}{DONE}", TWINS_GOAL, "fn made: f_twin0 not proved", f"{G}{HOLE}", END], NONE),
+    ("an error in the source", 1, [*CLEAN[:-1], "src/lib.rt:12:5: error: `f_twin0`: no such name", END], NONE),
+    ("an error of no known form", 1, [*CLEAN[:-1], "proofs/f_twin0/Answers.antt:3:1: error: a bracket is missing", END], NONE),
+    ("the function without its edit fails", 1, [FS_GOAL, f"{F}not proved", *CLEAN[1:]], NONE),
+    ("the function without its edit isn't told of", 1, CLEAN[1:], NONE),
+    ("the function without its edit waits", 1, [f"{F}{WAITS}", *CLEAN[1:]], NONE),
+    ("the function without its edit can't be told", 1, [f"{F}could not tell", *CLEAN[1:]], NONE),
+    ("the witness fails", 1, [*CLEAN[:3], GS_GOAL, f"{G}not proved", END], NONE),
+    ("the witness has no proof", 1, [*CLEAN[:3], f"{G}no proof: its file is missing", END], NONE),
+    ("a lemma fails", 1, [*CLEAN[:-1], LEMMA, END], NONE),
+    ("the edited function can't be told", 1, [f"{F}{DONE}", f"{TWIN}could not tell", f"{G}{HOLE}", END], KEPT),
+)
+ALONE = (
+    ("refused", "refused, as it must be: note: ..", TWINS_GOAL, False, True),
+    ("refused", "refused, as it must be: note: ..", BREAK, False, BOUND_TEXT),
+    ("limit", "refused, as it must be (only by a limit of the prover, which gave no verdict): ..", "", False, "refused, as it must be (only by a limit"),
+    ("missed", "NOT REFUSED: the crate is still proved with this edit", "", False, False),
+    ("unsure", "NOT TRIED: its check ended with status 3", "", False, False),
+    ("bad", "BAD EDIT: it did not reach the prover", "", False, False),
+    ("refused", "refused, as it must be: note: ..", TWINS_GOAL, True, False),
+    ("limit", "refused, as it must be (only by a limit of the prover)", "", True, False),
+    ("missed", "NOT REFUSED: the crate is still proved with this edit", "", True, True),
+    ("unsure", "NOT TRIED: its check ended with status 3", "", True, False),
+    ("bad", "BAD EDIT: it did not reach the prover", "", True, False),
+)
+PAIR = "old: a\nnew: b\n"
+# Edits, and whether all of them is read.
+TEXTS = (
+    (f"file: src/lib.rt\n{PAIR}", True),
+    (f"checked: f\nfile: src/lib.rt\n{PAIR}{PAIR}file: specs/A.antt\n{PAIR}", True),
+    ("file: src/lib.rt\nold: a\nnew:\n", True),
+    (f"file: src/lib.rt\n{PAIR}checked: f\n", True),
+    ("", False),
+    ("file: src/lib.rt\n", False),
+    (PAIR, False),
+    (f"file: src/lib.rt\n{PAIR}New: c\n", False),
+    (f"file: src/lib.rt\n{PAIR}old:c\nnew: d\n", False),
+    (f"file: src/lib.rt\n{PAIR}new: c\n", False),
+    ("file: src/lib.rt\nold: a\nold: b\nnew: c\n", False),
+    (f"file: src/lib.rt\n{PAIR}old: c\n", False),
+    (f"file: src/lib.rt\nfile: src/main.rt\n{PAIR}", False),
+    (f"file: src/lib.rt\n{PAIR}file: src/main.rt\n", False),
+    (f"file: src/lib.rt\n{PAIR}\n", False),
+    (f"file: src/lib.rt\n{PAIR}# a remark\n", False),
+    (f"file: src/lib.rt\n{PAIR}and more of b\n", False),
+    (f"error: borrow-e0505\nfile: src/lib.rt\n{PAIR}", False),
+    (f"checked: \nfile: src/lib.rt\n{PAIR}", False),
+)
+
+
+def function_at(path, line):
+    """The functions of the made-up logs: f from line 1 on, f_twin0 from 11, g from 21."""
+    return [], "f" if line < 11 else "f_twin0" if line < 21 else "g"
+
+
+def shown_by(status, log):
+    said, why = read_check(status, "\n".join(log) + "\n", "made", function_at)
+    why = why or why_unclean(said, lambda name: is_in(name, {"f_twin0"}), ("f", "g"))
+    if why:
+        return NONE
+    text = refusal(said.faults.get("f_twin0", []))
+    return KEPT if not text else BOUND if is_at_a_bound(text) else REFUSED
+
+
+def logs():
+    for name, status, log, wanted in LOGS:
+        yield f"a log: {name}", shown_by(status, log), wanted
+    # of an edit of a function itself a caller waits, and the copy counts; where nothing is edited so, it doesn't
+    said, why = read_check(1, f"{FS_GOAL}\n{F}not proved\n{G}{WAITS}\n{END}\n", "made", function_at)
+    for is_direct, wanted in ((True, None), (False, "g isn't edited and isn't shown to be proved")):
+        yield f"a caller waits, {is_direct}", why or why_unclean(said, lambda name: name == "f", ("g",), is_direct), wanted
+
+
+def alone():
+    for kind, text, log, is_same, wanted in ALONE:
+        is_well, said = verdict_alone(kind, text, log, is_same)
+        yield f"alone: {kind}, {is_same}", said[: len(wanted)] if is_well and isinstance(wanted, str) else is_well, wanted
+        if is_well and not is_same:
+            yield f"alone: {kind} at a bound", is_at_a_bound(said), isinstance(wanted, str)
+
+
+def texts():
+    for text, wanted in TEXTS:
+        yield f"an edit: {text!r}", not lines_of(text, ("file", "old", "new", "checked"))[1], wanted
+    yield "an edit that must not compile", lines_of(f"error: e\nfile: src/lib.rt\n{PAIR}", ("file", "old", "new", "error"))[1], None
+    with tempfile.TemporaryDirectory() as at:
+        os.makedirs(f"{at}/crates/made/edits/more")
+        os.makedirs(f"{at}/crates/made/edit")
+        os.makedirs(f"{at}/crates/other/edits")
+        for name in ("a.edit", "b.md", "c.edits", "d", "README.md"):
+            write(f"{at}/crates/made/edits/{name}", "")
+        yield "files", edits_in(f"{at}/crates/made/edits"), (["a.edit"], ["b.md", "c.edits", "d", "more"])
+        yield "folders", [it for it, _ in unread_folders(at, ["made"])], ["crates/made/edit", "crates/other"]
+
+
+SOURCE = """pub fn f(a: u8) -> u8
+    ensures { result ≡ a }
+{
+    let b = a;
+    b
+}
+
+pub fn g(a: u8) -> u8
+    ensures { result ≡ a }
+{
+    f(a)
+}
+
+pub fn h(a: u8) -> u8
+    ensures { result ≡ word }
+{
+    let b = a;
+    let c = b;
+    let d = c;
+    d
+}
+
+pub fn law()
+    ensures { word ≡ 1 }
+{}
+
+impl Clone for Made {
+    fn clone(&self) -> Made {
+        let made = self.0;
+        Made(made)
+    }
+}
+"""
+# The edits of the made-up crate; those that mean the same hold no word that the played prover refuses.
+EDITS = {
+    "f_first": "file: src/lib.rt\nold:     b\nnew:     b + broken\n",
+    "f_second": "file: src/lib.rt\nold:     b\nnew:     b + hard\n",
+    "g_first": "file: src/lib.rt\nold:     f(a)\nnew:     broken(a)\n",
+    "clone_first": "file: src/lib.rt\nold:         Made(made)\nnew:         Made(broken)\n",
+    "word_first": "checked: law\nfile: specs/Words.antt\nold: word = 1\nnew: word = broken\n",
+}
+SAME = {
+    "f_same": "file: src/lib.rt\nold:     b\nnew:     b + 0\n",
+    "word_same": "checked: law\nfile: specs/Words.antt\nold: word = 1\nnew: word = 0 + 1\n",
+}
+
+
+class Crate:
+    """As much of a crate as a trial asks for."""
+
+    name = "made"
+
+    def __init__(self, folder):
+        self.folder = folder
+
+    def count(self, pattern):
+        return 1
+
+    def below(self):
+        return []
+
+
+class Prover:
+    """A played prover. It finds goals in functions whose bodies have the word broken; what it does else, a row says."""
+
+    def __init__(self, **faults):
+        self.faults, self.specs = faults, ""
+
+    def lines_of(self, name, text):
+        """What it says of a function, and whether that is a fault."""
+        last = name.rpartition("::")[2]
+        found = re.search(rf"(?m)^ *(?:pub )?fn {last}\(.*(?:\n(?! *(?:pub )?fn ).*)*", text)
+        bad = re.search("broken|hard", found[0]) if found else None
+        is_law = last == "law"
+        if is_law and "broken" in self.specs or last in self.faults.get("fails", ()) or (self.faults.get("refuses_twins") and "_twin" in last):
+            number = text.count("\n", 0, found.start()) + 1
+            return [f"note: src/lib.rt:{number}:1: it is not proved: {last}", f"fn made::{name}: not proved"]
+        if bad and not self.faults.get("finds_nothing"):
+            number = text.count("\n", 0, found.start() + bad.start()) + 1
+            why = "error: `search`: give the call less to do" if bad[0] == "hard" else "it is not proved"
+            return [f"note: src/lib.rt:{number}:1: {why}", f"fn made::{name}: not proved"]
+        return [f"fn made::{name}: no holes"]
+
+    def checked(self, crate, folder, flags, kept=None):
+        with open(f"{folder}/src/lib.rt", encoding="utf-8") as file:
+            text = file.read()
+        with open(f"{folder}/specs/Words.antt", encoding="utf-8") as file:
+            self.specs = file.read()
+        names = [it for word, it in zip(flags, flags[1:]) if word == "--only"]
+        said = [line for it in names or ("f", "g", "h", "law", "MadeClone::clone") for line in self.lines_of(it, text)]
+        is_bad = any("not proved" in it for it in said)
+        last = "only=1 holes=1" if names else "logic=not-proved" if is_bad else "logic=proved"
+        if self.faults.get("stale"):
+            said.append(STALE)
+        status = self.faults.get("status", 1 if names or is_bad else 0)
+        return checks.Ended(status if names or not self.faults.get("in_copies") else int(is_bad), "\n".join([*said, last]) + "\n")
+
+
+ALL = {*EDITS, *SAME}
+# How the prover is played, which edits come to what they must, which of them only at a bound, and how many are tried alone.
+PLAYED = (
+    ("it is right", {}, ALL, {"f_second"}, 1),
+    ("it finds nothing", {"finds_nothing": True}, {"word_first", "word_same"}, set(), 5),
+    ("it refuses each twin", {"refuses_twins": True}, ALL - {"f_same"}, set(), 1),
+    ("f is never proved", {"fails": ("f",)}, {*EDITS}, set(), 4),
+    ("the law is never proved", {"fails": ("law",)}, {*EDITS}, {"f_second"}, 2),
+    ("the witness is never proved", {"fails": ("h",)}, {*EDITS}, set(), 5),
+    ("status 3 of each check", {"status": 3}, set(), set(), 5),
+    ("status 3 of each copy", {"status": 3, "in_copies": True}, {*EDITS}, {"f_second"}, 5),
+    ("each check takes too long", {"status": TIMED_OUT}, set(), set(), 0),
+    ("a library is stale", {"stale": True}, set(), set(), 0),
+)
+
+
+@contextlib.contextmanager
+def made_crate(store=None, is_kept=False, is_unedited=False, **provers_faults):
+    """A made-up crate's trial, with a played prover."""
+    was = checks.checked, checks.MEMORY
+    with tempfile.TemporaryDirectory() as at:
+        for path, text in (("src/lib.rt", SOURCE), ("specs/Words.antt", "word : Nat\nword = 1\n")):
+            os.makedirs(os.path.dirname(f"{at}/made/{path}"), exist_ok=True)
+            write(f"{at}/made/{path}", text)
+        for folder, found in ((f"{at}/made/edits", EDITS), (f"{at}/same", SAME)):
+            os.makedirs(folder)
+            for name, text in found.items():
+                write(f"{folder}/{name}.edit", text)
+        given = argparse.Namespace(names=[], unedited=is_unedited, kept=is_kept, log=None, top=at)
+        checks.checked, checks.MEMORY = Prover(**provers_faults).checked, argparse.Namespace(of=lambda crate: contextlib.nullcontext())
+        try:
+            yield Trial(Crate(f"{at}/made"), given, store or NoStore(), f"{at}/same")
+        finally:
+            checks.checked, checks.MEMORY = was
+
+
+def played():
+    for name, faults, wanted, at_a_bound, alone_wanted in PLAYED:
+        with made_crate(**faults) as trial:
+            yield f"the edits of the played crate: {name}", trial.unfit(), []
+            said = trial.run()[-1]
+            yield f"a played prover, alone: {name}", int(re.search(r"(\d+) alone", said)[1]), alone_wanted
+            well = {it[: -len(".edit")] for it, (is_well, _) in trial.results.items() if is_well}
+            bound = {it[: -len(".edit")] for it, (is_well, text) in trial.results.items() if is_well and is_at_a_bound(text)}
+            yield f"a played prover: {name}", well, wanted
+            yield f"a played prover, at a bound: {name}", bound, at_a_bound
+            yield f"a played prover, all edits: {name}", len(trial.results), len(ALL)
+
+
+def unedited():
+    """With no edit made all copies must be proved."""
+    for fails, wanted in (((), True), (("f",), False), (("law",), False), (("clone",), False), (("h",), False)):
+        with made_crate(is_unedited=True, fails=fails) as trial:
+            trial.run()
+            yield f"unedited: {fails}", all(is_well for is_well, _ in trial.results.values()), wanted
+
+
+def self_test():
+    """It is a fault where no edits of the same meaning stand in a trial, or not of both kinds."""
+    with made_crate() as trial, tempfile.TemporaryDirectory() as empty:
+        same = f"{trial.given.top}/same"
+        yield "the tool is tried", untested([trial], same), None
+        yield "no edits of the same meaning", bool(untested([trial], empty)), True
+        yield "no crate to try it on", bool(untested([], same)), True
+        for name in SAME:
+            os.rename(f"{same}/{name}.edit", f"{same}/other")
+            lacking = Trial(trial.crate, trial.given, NoStore(), same)
+            yield f"the same meaning without {name}", bool(untested([lacking], same)), True
+            os.rename(f"{same}/other", f"{same}/{name}.edit")
+
+
+class Memory(NoStore):
+    """A store that notes what it is to keep."""
+
+    def __init__(self):
+        self.kept = []
+
+    def name(self, crate, edit):
+        return edit.name
+
+    def keep(self, crate, edits, shown):
+        self.kept += [edit.name[: -len(".edit")] for edit, _ in edits.values()]
+
+
+class Kept:
+    """As much of the store of `rt` as names ask for."""
+
+    def of_edit(self, edit, total):
+        return f"{os.path.basename(edit)} {total}"
+
+    def key(self, crate):
+        return "the crate"
+
+
+def remembered():
+    """An edit that means the same has another name in the store than one that must be refused, and what is kept of one is none of the other."""
+    for is_kept, faults, wanted in ((False, {}, ALL), (False, {"fails": ("f",)}, {*EDITS}), (True, {}, set())):
+        with made_crate(Memory(), is_kept, **faults) as trial:
+            trial.run()
+            yield f"what is kept: {is_kept}, {faults}", {*trial.store.kept}, wanted
+    store = Store.__new__(Store)
+    with tempfile.TemporaryDirectory() as store.folder, made_crate() as trial:
+        store.kept, store.lock, store.tools = Kept(), contextlib.nullcontext(), "the tools"
+        edit = trial.edits[0]
+        names = set()
+        for edit.is_same in (False, True):
+            names.add(store.name(trial.crate, edit))
+        yield "names of what is kept", len(names), 2
+        store.kept.at = store.folder
+        os.makedirs(f"{store.folder}/edits")
+        write(f"{store.folder}/edits/n", f'{{"edit": "n", "kind": "{KINDS[True]}", "text": "t"}}')
+        yield "what is kept of the same meaning", (store.told("n", True), store.told("n", False), store.told("m", True)), ("t", None, None)
+
+
+def main():
+    results = []
+    for rows in (logs, alone, texts, played, unedited, self_test, remembered):
+        for name, found, wanted in rows():
+            results.append(found == wanted)
+            if found != wanted:
+                print(f"{name}: {found}, and not {wanted}")
+    print(f"{results.count(True)} passed, {results.count(False)} failed")
+    return 0 if results and all(results) else 1
+
+
+if __name__ == "__main__":
+    sys.exit(main())
