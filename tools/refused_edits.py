@@ -95,7 +95,7 @@ def alone(names):
 def untested(trials, folder):
     """Why this tool wouldn't be tried with the edits of this folder, which mean the same, or None."""
     same, among = edits_in(folder)[0], [edit for trial in trials for edit in trial.edits if edit.is_same]
-    if not same or len(same) != len(among):
+    if len(same) != len(among):
         return f"this tool isn't tried: of the {len(same)} edits of tools/same_meaning {len(among)} stand among those of {TESTED_ON}"
     if not any(it.functions for it in among) or not any(it.checked for it in among):
         return "this tool isn't tried: tools/same_meaning wants edits of bodies, and one of a definition with a line 'checked:'"

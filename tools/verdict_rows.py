@@ -219,15 +219,17 @@ class Prover:
     """A played prover. It finds goals in functions whose bodies have the word broken; what it does else, a row says."""
 
     def __init__(self, **faults):
-        self.faults, self.specs = faults, ""
+        self.faults, self.specs, self.is_copy = faults, "", False
 
     def lines_of(self, name, text):
         """What it says of a function, and whether that is a fault."""
         last = name.rpartition("::")[2]
         found = re.search(rf"(?m)^ *(?:pub )?fn {last}\(.*(?:\n(?! *(?:pub )?fn ).*)*", text)
         bad = re.search("broken|hard", found[0]) if found else None
-        is_law = last == "law"
-        if is_law and "broken" in self.specs or last in self.faults.get("fails", ()) or (self.faults.get("refuses_twins") and "_twin" in last):
+        is_beside = "broken" in self.specs and last in ("law", *self.faults.get("fails_beside", ()))
+        if self.is_copy and last in self.faults.get("hides", ()):
+            return []
+        if is_beside or last in self.faults.get("fails", ()) or (self.faults.get("refuses_twins") and "_twin" in last):
             number = text.count("\n", 0, found.start()) + 1
             return [f"note: src/lib.rt:{number}:1: it is not proved: {last}", f"fn made::{name}: not proved"]
         if bad and not self.faults.get("finds_nothing"):
@@ -242,6 +244,7 @@ class Prover:
         with open(f"{folder}/specs/Words.antt", encoding="utf-8") as file:
             self.specs = file.read()
         names = [it for word, it in zip(flags, flags[1:]) if word == "--only"]
+        self.is_copy = bool(names)
         said = [line for it in names or ("f", "g", "h", "law", "MadeClone::clone") for line in self.lines_of(it, text)]
         is_bad = any("not proved" in it for it in said)
         last = "only=1 holes=1" if names else "logic=not-proved" if is_bad else "logic=proved"
@@ -260,6 +263,10 @@ PLAYED = (
     ("f is never proved", {"fails": ("f",)}, {*EDITS}, set(), 4),
     ("the law is never proved", {"fails": ("law",)}, {*EDITS}, {"f_second"}, 2),
     ("the witness is never proved", {"fails": ("h",)}, {*EDITS}, set(), 5),
+    ("the witness fails beside the broken word", {"fails_beside": ("h",)}, ALL, {"f_second"}, 2),
+    ("f isn't told of in copies", {"hides": ("f",)}, {*EDITS}, {"f_second"}, 4),
+    ("the law isn't told of in copies", {"hides": ("law",)}, {*EDITS}, {"f_second"}, 2),
+    ("the witness isn't told of in copies", {"hides": ("h",)}, {*EDITS}, {"f_second"}, 5),
     ("status 3 of each check", {"status": 3}, set(), set(), 5),
     ("status 3 of each copy", {"status": 3, "in_copies": True}, {*EDITS}, {"f_second"}, 5),
     ("each check takes too long", {"status": TIMED_OUT}, set(), set(), 0),
