@@ -31,8 +31,8 @@ checkout, which runs as long as FILE is there, and writes to it: the edits of a 
 `rt must-fail` itself.
 
 What an edit came to is kept as `rt ci` keeps such, outside the checkout, by a sum over these tools, the edit, whether it must be refused,
-the crate and the libraries below it, and isn't sought again; but nothing is kept with --kept. Where the kit's `rt` keeps nothing, nothing is
-kept. The last line is 'N passed, M failed'.
+the crate and the libraries below it, and isn't sought again; but nothing is kept with --kept, or where the kit's `rt` keeps nothing. The
+last line is 'N passed, M failed'.
 """
 import argparse
 import concurrent.futures
@@ -44,6 +44,7 @@ import signal
 import sys
 import tempfile
 import time
+import traceback
 
 from edits import checks
 from edits.files import BAD_NAME, edits_in, unread_folders
@@ -61,7 +62,8 @@ TESTED_ON = "abnf_token"
 @contextlib.contextmanager
 def own_folder():
     """The folder of all that this run makes, which is removed however the run ends."""
-    RT.sweep() if hasattr(RT, "sweep") else None
+    if DOES_KEEP:
+        RT.sweep()
     at = tempfile.tempdir = tempfile.mkdtemp(prefix=f"rt-edits-{os.getpid()}-")
 
     def end(number, _):
@@ -120,7 +122,11 @@ def tried(trials, crates, given, libraries):
 
     def run_longest():
         trial = ready.get()[-1]
-        return trial, trial.run()
+        try:
+            return trial, trial.run()
+        except Exception:  # noqa: BLE001 (whatever it is, the other crates' edits are tried)
+            trial.not_tried(trial.edits, "this tool failed")
+            return trial, [traceback.format_exc(), *trial.told()]
 
     with concurrent.futures.ThreadPoolExecutor(given.jobs) as pool:
 

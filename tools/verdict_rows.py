@@ -34,7 +34,7 @@ STALE = "proofs/f_twin0/Answers.antt:1:1: error: module `Rattle-low-specs` was m
 # Of a copy in which f_twin0 is edited, and f and g stand as they are.
 CLEAN = [f"{F}{DONE}", TWINS_GOAL, f"{TWIN}not proved", f"{G}{HOLE}", END]
 
-# What a log of the copy shows of f_twin0: that it is refused, by its bound alone (BOUND), or nothing (KEPT); or the copy doesn't count (NONE).
+# What a log of the copy shows of f_twin0: that it is refused, maybe at a bound alone, or nothing (KEPT); or the copy doesn't count (NONE).
 REFUSED, BOUND, KEPT, NONE = "refused", "bound", "kept", "none"
 LOGS = (
     ("a goal of the edited function", 1, CLEAN, REFUSED),
@@ -73,7 +73,7 @@ LOGS = (
 ALONE = (
     ("refused", "refused, as it must be: note: ..", TWINS_GOAL, False, True),
     ("refused", "refused, as it must be: note: ..", BREAK, False, BOUND_TEXT),
-    ("limit", "refused, as it must be (only by a limit of the prover, which gave no verdict): ..", "", False, "refused, as it must be (only by a limit"),
+    ("limit", "refused, as it must be (only by a limit of the prover, ..)", "", False, "refused, as it must be (only by a limit"),
     ("missed", "NOT REFUSED: the crate is still proved with this edit", "", False, False),
     ("unsure", "NOT TRIED: its check ended with status 3", "", False, False),
     ("bad", "BAD EDIT: it did not reach the prover", "", False, False),
@@ -353,7 +353,7 @@ class Kept:
 
 
 def remembered():
-    """An edit that means the same has another name in the store than one that must be refused, and what is kept of one is none of the other."""
+    """An edit that means the same has another name in the store than one that must be refused, and is told nothing that is kept of one."""
     for is_kept, faults, wanted in ((False, {}, ALL), (False, {"fails": ("f",)}, {*EDITS}), (True, {}, set())):
         with made_crate(Memory(), is_kept, **faults) as trial:
             trial.run()

@@ -9,20 +9,20 @@ import shutil
 import subprocess
 import time
 
+from edits.kit import crates_of
+
 PATH = "{}/crates/{}/out/rlib/{}.rlib"
 
 
 def copy_crates(top, to):
     """Copies what a check reads of a checkout, without what stands in out/."""
+    # (it is the top of a repository, for `rt`)
     os.makedirs(f"{to}/.git")
-    shutil.copytree(f"{top}/crates", f"{to}/crates", symlinks=True, ignore=lambda at, _: {"out"} & {*os.listdir(at)} if is_crate(top, at) else ())
+    made_there = {os.path.join(top, "crates", it): ["out"] for it in os.listdir(f"{top}/crates")}
+    shutil.copytree(f"{top}/crates", f"{to}/crates", symlinks=True, ignore=lambda at, _: made_there.get(at, []))
     for it in ("crates.txt", "HANDLES"):
         if os.path.isfile(f"{top}/{it}"):
             shutil.copyfile(f"{top}/{it}", f"{to}/{it}")
-
-
-def is_crate(top, folder):
-    return os.path.dirname(folder) == f"{top}/crates"
 
 
 class Gate:
@@ -52,7 +52,7 @@ class Libraries:
     """The libraries of a copy of a checkout's crates."""
 
     def __init__(self, top, store, gate):
-        self.top, self.store, self.gate = top, store, gate
+        self.top, self.store, self.gate, self.theirs = top, store, gate, {}
 
     def is_copied(self, crate):
         """Takes over the library that stands in the checkout, unless that changes meanwhile. Gives whether it could."""
@@ -72,7 +72,8 @@ class Libraries:
         """Waits until the gate has proved a crate, and takes its library over. Gives whether it could. Those below it are there."""
         while True:
             is_running = self.gate.is_running()
-            if self.store.gives(crate) or self.gate.has_proved(crate) and self.is_copied(crate):
+            # (behind its end other libraries may stand in the checkout again)
+            if self.store.gives(crate) or is_running and self.gate.has_proved(crate) and self.is_copied(crate):
                 return True
             if not is_running:
                 return False
@@ -95,5 +96,7 @@ class Libraries:
                 yield it, is_there
 
     def is_built(self, crate):
-        """Builds a library in the checkout, unless it stands there."""
-        return subprocess.run(["rt", "lib"], cwd=f"{self.top}/crates/{crate.name}", check=False).returncode == 0
+        """Builds a library in the checkout, unless it stands there. Gives whether it does."""
+        self.theirs = self.theirs or {it.name: it for it in crates_of(self.top)}
+        theirs = self.theirs[crate.name]
+        return theirs.is_built() or subprocess.run(["rt", "lib"], cwd=theirs.folder, check=False).returncode == 0

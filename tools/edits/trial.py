@@ -190,6 +190,7 @@ class Trial:
         alone = [it for it in left if it.name not in self.results]
         for edit in alone:
             self.by_itself(edit)
+        self.not_tried(left, "nothing came of it")
         if not self.given.kept:
             self.store.keep(self.crate, {names[it]: (it, self.results[it.name][1]) for it in left if self.results[it.name][0]}, self.shown)
         earlier = len(names) - len(left)
