@@ -25,7 +25,7 @@ copies of abnf_token among its own, and must be found not refused; and one of th
 Before any proof it looks whether each edit can be made, since its words must stand once in the code, and tries none where one can't. With
 --fit that is all it does. With --unedited the copies are checked with no edit made, and all of them must be proved.
 
-All this is done on a copy of the crates in a temporary folder, which has its own libraries. With --beside it works beside an `rt ci` in this
+All this is done on a copy of the crates in a temporary folder, with its own libraries. With --beside it works beside an `rt ci` in this
 checkout, which runs as long as FILE is there, and writes to it: the edits of a crate are tried once the libraries below it are proved. With
 --kept the first check of a crate begins with what `rt check` kept of it, and not from nothing. With --alone each edit is tried by
 `rt must-fail` itself.
