@@ -135,7 +135,9 @@ def copy_crates(names, folder):
         file.writelines(lines)
     shutil.copy(os.path.join(TOP, "HANDLES"), folder)
     for name in names:
-        shutil.copytree(os.path.join(TOP, "crates", name), os.path.join(folder, "crates", name), ignore=shutil.ignore_patterns(*NOT_COPIED))
+        crate = os.path.join(TOP, "crates", name)
+        # (a module may have the name of such a folder)
+        shutil.copytree(crate, os.path.join(folder, "crates", name), ignore=lambda at, _: NOT_COPIED if at == crate else ())
     # (the toolchain looks no further for the top of the repository)
     os.mkdir(os.path.join(folder, ".git"))
 

@@ -10,28 +10,20 @@ beside it take one job each, with less priority. All else is `rt ci`'s own, and 
 Before a proof begins, a line `begins: CRATE` tells it.
 """
 import concurrent.futures
-import importlib.machinery
-import importlib.util
 import os
-import shutil
 import sys
 import threading
+
+from edits.kit import RT
 
 # A proof with this share of the longest chain behind it is of the chain: it would soon be what all wait for.
 OF_THE_CHAIN = 0.6
 # What a job beyond the first adds to the memory that a proof takes.
 MEMORY_OF_A_JOB = 0.6
 MOST_JOBS = 4
+# The share of the free memory that proofs may take: some take a fifth more than is told of them.
+SHARE_OF_MEMORY = 0.85
 LESS_PRIORITY = 10
-
-
-def toolchain():
-    """The toolchain's `rt`, as a module."""
-    sys.dont_write_bytecode = True
-    loader = importlib.machinery.SourceFileLoader("rt", os.path.realpath(shutil.which("rt") or sys.exit("there is no command rt")))
-    module = importlib.util.module_from_spec(importlib.util.spec_from_loader("rt", loader))
-    loader.exec_module(module)
-    return module
 
 
 class Task:
@@ -108,10 +100,9 @@ class Lanes:
 
 
 def main():
-    rt = toolchain()
-    if hasattr(rt, "in_lanes"):
-        rt.in_lanes = lambda tasks: Lanes(tasks, rt.processors(), 0.85 * rt.free()).run()
-    return rt.main(["ci", *sys.argv[1:]])
+    if hasattr(RT, "in_lanes"):
+        RT.in_lanes = lambda tasks: Lanes(tasks, RT.processors(), SHARE_OF_MEMORY * RT.free()).run()
+    return RT.main(["ci", *sys.argv[1:]])
 
 
 if __name__ == "__main__":
