@@ -16,6 +16,7 @@ import tempfile
 from edits import checks
 from edits.files import edits_in, lines_of, unread_folders, write
 from edits.functions import is_in
+from edits.libraries import Gate, Libraries
 from edits.store import KINDS, NoStore, Store
 from edits.trial import Trial
 from edits.verdict import BOUND_TEXT, TIMED_OUT, is_at_a_bound, read_check, refusal, verdict_alone, why_unclean
@@ -372,9 +373,32 @@ def remembered():
         yield "what is kept of the same meaning", (store.told("n", True), store.told("n", False), store.told("m", True)), ("t", None, None)
 
 
+def libraries():
+    """Beside a gate a library comes from the store, or from out/ while the gate runs and has told that it is proved."""
+    rows = (
+        ("the store has it", "", True, True, True),
+        ("it is proved, and not kept", "rt: made proved\n", True, False, True),
+        ("it was proved, and something else may stand there", "rt: made proved\n", False, False, False),
+        ("it isn't proved", "rt: made NOT PROVED\n", False, False, False),
+        ("its tests are proved", "rt: made: its tests are proved\n", False, False, False),
+    )
+    for name, log, is_running, is_kept, wanted in rows:
+        with tempfile.TemporaryDirectory() as at:
+            crate = Crate(f"{at}/copy/made")
+            crate.rlib = f"{at}/copy/made/out/rlib/made.rlib"
+            os.makedirs(f"{at}/crates/made/out/rlib/made.rlib")
+            write(f"{at}/crates/made/out/rlib/made.rlib/format", "of the checkout")
+            write(f"{at}/log", log)
+            gate, store = Gate(f"{at}/log"), NoStore()
+            store.gives = lambda crate: is_kept
+            os.rename(f"{at}/log", f"{at}/log" if is_running else f"{at}/ended")
+            found = [is_there for _, is_there in Libraries(at, store, gate).arriving([crate])]
+            yield f"libraries: {name}", (found, os.path.isfile(f"{crate.rlib}/format")), ([wanted], wanted and not is_kept)
+
+
 def main():
     results = []
-    for rows in (logs, alone, texts, played, unedited, self_test, remembered):
+    for rows in (logs, alone, texts, played, unedited, self_test, remembered, libraries):
         for name, found, wanted in rows():
             results.append(found == wanted)
             if found != wanted:
