@@ -36,7 +36,7 @@ LISTS = (
     *("findings_rows.ROWS", "findings_rows.RULE_ROWS", "install_rows.ROWS"),
 )
 NUMBERS = (
-    *("broken_input.COUNT", "refused_sessions.FIRST", "refused_sessions.SAMPLE", "refused_threads.THREADS"),
+    *("broken_input.COUNT", "refused_sessions.FIRST", "refused_sessions.SAMPLE", "refused_threads.THREADS", "shaken_threads.COUNT"),
     *(f"random_texts.COUNTS.{encoding}" for encoding in ("utf-8", "utf-16", "utf-32")),
 )
 # The same of tests in crates: the file, and how the number stands there

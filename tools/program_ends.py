@@ -1,7 +1,7 @@
 #!/usr/bin/env python3
 """Runs the programs that `rt ci` has built as a user would, and checks how they end: status, line and what they wrote. The worked sessions
-run on one thread and on several; the program with its threads is refused memory, given broken input, cut off from its pipes, and has
-devices that fail, by seeded samples.
+run on one thread and on several; the program with its threads is refused memory, given broken input, cut off from its pipes, has
+devices that fail and threads that are shaken, by seeded samples.
 
     tools/program_ends.py ['[NAME: ]N passed, M failed[, status S]' ..]
 
@@ -32,6 +32,7 @@ import refused_sessions
 import refused_threads
 import rows
 import session_rows
+import shaken_threads
 import threaded_sessions
 from runs import ended, frame, frames
 
@@ -152,6 +153,7 @@ TOOLS = {
         ("broken_input", broken_input.cases),
         ("cut_pipes", cut_pipes.cases),
         ("failing_devices", failing_devices.cases),
+        ("shaken_threads", shaken_threads.cases),
     ),
     "served_plainly": (
         ("session_rows", functools.partial(session_cases, session_rows)),

@@ -19,18 +19,14 @@ import random
 import re
 import subprocess
 import sys
-import tempfile
 import time
 
-import preload
+import rows
 import runs
 from random_texts import FRAGMENTS, NEW_NAMES, random_text
 from refused_sessions import error, grammar, key_of
 from refused_threads import THREADS
 
-TOP = os.path.dirname(os.path.dirname(os.path.abspath(__file__)))
-BUILT = os.path.join(TOP, "crates", "abnf_ls", "out", "abnf_ls")
-PLAIN = os.path.join(TOP, "crates", "served_plainly", "out", "served_plainly")
 COUNT, SEED = 600, 1
 # A session that takes longer hangs.
 SECONDS = 20
@@ -507,25 +503,19 @@ def told(sessions):
     return counts
 
 
-def cases(program, count=COUNT, seed=SEED, plain=PLAIN):
+def cases(program, count=COUNT, seed=SEED, plain=rows.PLAIN):
     """What was tried, what was wrong with it, and what must be wrong: nothing."""
-    with tempfile.TemporaryDirectory() as folder:
-        made = preload.library(folder, "shakes_threads", LIBRARY)
-        with concurrent.futures.ThreadPoolExecutor(AT_ONCE * len(os.sched_getaffinity(0))) as pool:
-            sessions = list(pool.map(lambda number: tried(program, plain, made, f"{seed} {number}"), range(count)))
+    with rows.library(LIBRARY) as made, concurrent.futures.ThreadPoolExecutor(AT_ONCE * len(os.sched_getaffinity(0))) as pool:
+        sessions = list(pool.map(lambda number: tried(program, plain, made, f"{seed} {number}"), range(count)))
     faults = [(it.number, it.way, it.fault) for it in sessions if it.fault]
-    yield f"{count} sessions with shaken threads", faults[:3], []
+    yield f"{count} sessions with shaken threads", faults[:3], [], count
     counts = told(sessions)
     listed = ", ".join(f"{number} {kind}" for kind, number in counts.items())
     yield f"what there was in these: {listed}", [kind for kind, number in counts.items() if number == 0], []
 
 
-def main(program=BUILT, count=COUNT, seed=SEED, plain=PLAIN):
-    failed = 0
-    for what, found, wanted in cases(program, int(count), seed, plain):
-        print(f"{what}: {'as it must be' if found == wanted else f'FAILED: {found}'}")
-        failed += found != wanted
-    return 1 if failed else 0
+def main(program=rows.SERVER, count=COUNT, seed=SEED, plain=rows.PLAIN):
+    return rows.told(cases(program, int(count), seed, plain))
 
 
 if __name__ == "__main__":
