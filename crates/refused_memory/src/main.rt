@@ -1,4 +1,4 @@
-//! Calls, a session at a desk, call by call, and a session by steps, which go on where memory is refused once.
+//! Calls, a session at a desk, call by call, one at a board, and a session by steps, which go on where memory is refused once.
 //!
 //! It prints what they answer. A call that is refused memory must leave what it was given as it was, a desk by the whole of its journal and of
 //! the state from which that began; it is made once more, and the session goes on. A job that is refused memory is handed in as it is. So it
@@ -6,7 +6,9 @@
 //! a refused call has left a trace. `tools/refused_memory.py` has each allocation refused in turn.
 #![tactic(auto)]
 
+mod board;
 mod call;
+mod certs;
 mod same;
 mod script;
 mod single;
@@ -98,5 +100,7 @@ fn main(rt: HostRuntime) -> io::Result<()> {
     drop(twin);
     played?;
     single::made(&rt)?;
+    certs::told(&rt)?;
+    board::run(&rt)?;
     steps::run(&rt)
 }

@@ -2,7 +2,7 @@
 
 use crate::call::Call;
 
-pub const SCRIPT: [Call; 35] = [
+pub const SCRIPT: [Call; 54] = [
     Call::Open("a = \"x\""),
     Call::Take,
     Call::Finish,
@@ -42,5 +42,28 @@ pub const SCRIPT: [Call; 35] = [
     Call::NextOut,
     Call::NextOut,
     Call::NextOut,
+    Call::NextOut,
+    // The journal begins anew with an open, over what a closed document left.
+    Call::Open("a = \"w\""),
+    Call::Hover(6),
+    Call::Rename(7),
+    Call::Take,
+    // It does with a change, over a document and three jobs, one of which is taken. The change ends that one and the rename.
+    Call::Change("a = \"vv\""),
+    Call::Finish,
+    Call::Take,
+    Call::GiveBack,
+    Call::Take,
+    // It does with a close, over a document, two jobs and a reply. The hover waits on.
+    Call::Close,
+    Call::Cancel(6),
+    Call::Finish,
+    Call::NextOut,
+    Call::Say,
+    // It does with an open, over two replies.
+    Call::Open(""),
+    Call::NextOut,
+    Call::NextOut,
+    Call::Close,
     Call::NextOut,
 ];

@@ -1,11 +1,9 @@
 //! Calls that stand alone. Each is made once more where memory is refused; what it was given must be as before then.
 
-use abnf_cert::{CertFault, read_cert};
 use ls_frame::{FrameFault, Framer};
 use ls_lists::{List, Text};
-use ls_server::{check_text, example_text};
 use ls_text::{Edit, Encoding, Position, Range, Snapshot, TextFault};
-use std::alloc::Global;
+use std::alloc::{AllocError, Global};
 use std::io;
 
 /// Two frames, in pieces.
@@ -63,13 +61,30 @@ fn frames(rt: &HostRuntime) -> io::Result<()> {
 /// A text with a character of two UTF-16 units.
 const TEXT: &str = ";\u{1F600}z";
 
-fn of(alloc: Global, text: &str) -> Result<Snapshot, TextFault> {
+/// The snapshot of a text.
+pub fn of(alloc: Global, text: &str) -> Result<Snapshot, TextFault> {
     Snapshot::of_text(alloc, String::from_str(alloc, text)?)
 }
 
-fn insertion(alloc: Global, character: u32, text: &str) -> Result<Edit, TextFault> {
-    let at = Position { line: 0, character };
-    let range = Some(Range { start: at, end: at });
+// The same, made once more where memory is refused.
+fn opened(alloc: Global, text: &str) -> Result<Snapshot, TextFault> {
+    match of(alloc, text) {
+        Err(TextFault::Memory) => of(alloc, text),
+        made => made,
+    }
+}
+
+// Puts a text in the place of a line's characters from one on up to another.
+fn edit(alloc: Global, line: u32, from: u32, to: u32, text: &str) -> Result<Edit, TextFault> {
+    let start = Position {
+        line,
+        character: from,
+    };
+    let end = Position {
+        line,
+        character: to,
+    };
+    let range = Some(Range { start, end });
     let text = Text::from_str(alloc, text)?;
     Ok(Edit { range, text })
 }
@@ -77,8 +92,8 @@ fn insertion(alloc: Global, character: u32, text: &str) -> Result<Edit, TextFaul
 // Inserts `a` inside of the character, which is before it, and then `b` behind it.
 fn edited(alloc: Global, text: &Snapshot) -> Result<Snapshot, TextFault> {
     let mut edits = List::new(alloc);
-    edits.push(insertion(alloc, 2, "a")?)?;
-    edits.push(insertion(alloc, 4, "b")?)?;
+    edits.push(edit(alloc, 0, 2, 2, "a")?)?;
+    edits.push(edit(alloc, 0, 4, 4, "b")?)?;
     text.apply(edits.as_slice(), Encoding::Utf16)
 }
 
@@ -97,10 +112,7 @@ fn is_edited(alloc: Global, text: &Snapshot) -> Option<bool> {
 
 fn texts(rt: &HostRuntime) -> io::Result<()> {
     let alloc = rt.alloc();
-    let text = match of(alloc, TEXT) {
-        Err(TextFault::Memory) => of(alloc, TEXT),
-        made => made,
-    };
+    let text = opened(alloc, TEXT);
     let is_right = match &text {
         Ok(text) => is_edited(alloc, text),
         Err(_) => None,
@@ -109,55 +121,67 @@ fn texts(rt: &HostRuntime) -> io::Result<()> {
     println!(rt; "apply: {is_right:?}")
 }
 
-const GRAMMAR: &str = "a = b / \"x\"\nb = a";
-
-const CERT: &[u8] = b"0 1 0 1\n1 1 2 0\n2 1 0 0\n3 1 1 0\n4 1 1 0\n";
-
-const EXAMPLE: &str =
-    "shortest length 1\nexample x\n\n0 1 0 1\n1 1 2 0\n2 1 0 0\n3 1 1 0\n4 1 1 0\n";
-
-// How many entries a certificate has, by its text.
-fn entries(alloc: Global) -> Result<usize, CertFault> {
-    Ok(read_cert(alloc, CERT)?.entries().len())
+// Whether a text is this one, in so many lines. None where memory is refused twice.
+fn is_text(text: &Snapshot, wanted: &str, lines: usize) -> Option<bool> {
+    let whole = match text.to_text() {
+        Err(AllocError) if text.line_count() == lines => text.to_text(),
+        whole => whole,
+    };
+    Some(whole.ok()?.as_str() == wanted && text.line_count() == lines)
 }
 
-fn checked(alloc: Global) -> Result<bool, CertFault> {
-    check_text(alloc, &grammar(alloc)?, CERT)
+// Puts a text in the place of the first so many characters of line 1.
+fn replaced(alloc: Global, text: &Snapshot, end: u32, new: &str) -> Result<Snapshot, TextFault> {
+    let mut edits = List::new(alloc);
+    edits.push(edit(alloc, 1, 0, end, new)?)?;
+    text.apply(edits.as_slice(), Encoding::Utf16)
 }
 
-fn grammar(alloc: Global) -> Result<Snapshot, CertFault> {
-    of(alloc, GRAMMAR).map_err(|_| CertFault::Memory)
+// Whether that edit of this text, which has so many lines, leaves a CR and an LF that are one line end. None where memory is refused twice, or
+// the text isn't as before.
+fn is_joined(
+    alloc: Global,
+    text: &Snapshot,
+    before: &str,
+    lines: usize,
+    end: u32,
+    new: &str,
+) -> Option<bool> {
+    let made = match replaced(alloc, text, end, new) {
+        Err(TextFault::Memory) if is_text(text, before, lines) == Some(true) => {
+            replaced(alloc, text, end, new)
+        }
+        made => made,
+    };
+    Some(is_text(&made.ok()?, "a\r\n", 2)? && is_text(text, before, lines)?)
 }
 
-fn is_example(alloc: Global) -> Result<bool, CertFault> {
-    match example_text(alloc, &grammar(alloc)?, "a") {
-        Ok(example) => Ok(example.as_str() == EXAMPLE),
-        Err(_) => Err(CertFault::Memory),
-    }
-}
-
-fn certs(rt: &HostRuntime) -> io::Result<()> {
+fn seam(
+    rt: &HostRuntime,
+    before: &str,
+    lines: usize,
+    end: u32,
+    new: &str,
+) -> io::Result<()> {
     let alloc = rt.alloc();
-    let entries = match entries(alloc) {
-        Err(CertFault::Memory) => self::entries(alloc),
-        read => read,
+    let text = opened(alloc, before);
+    let is_right = match &text {
+        Ok(text) => is_joined(alloc, text, before, lines, end, new),
+        Err(_) => None,
     };
-    let checked = match checked(alloc) {
-        Err(CertFault::Memory) => self::checked(alloc),
-        answer => answer,
-    };
-    let example = match is_example(alloc) {
-        Err(CertFault::Memory) => is_example(alloc),
-        answer => answer,
-    };
-    println!(rt; "read_cert: {entries:?}")?;
-    println!(rt; "check_text: {checked:?}")?;
-    println!(rt; "example_text: {example:?}")
+    drop(text);
+    println!(rt; "to_text: {is_right:?}")
+}
+
+// LF is put behind a CR, and what stands between the two is deleted.
+fn seams(rt: &HostRuntime) -> io::Result<()> {
+    seam(rt, "a\r", 2, 0, "\n")?;
+    seam(rt, "a\rb\n", 3, 1, "")
 }
 
 /// Makes the calls, and prints what they answer.
 pub fn made(rt: &HostRuntime) -> io::Result<()> {
     frames(rt)?;
     texts(rt)?;
-    certs(rt)
+    seams(rt)
 }

@@ -108,6 +108,7 @@ fn has_tokens(line: &str, rows: &[Row]) -> bool {
 
 #[test]
 fn lines(rt: HostRuntime) {
+    assert!(rt; LINES.len() >= 17);
     for (line, rows) in LINES {
         assert!(rt; has_tokens(line, rows), "{line}");
     }
@@ -127,6 +128,7 @@ const NUMBERS: &[(&str, u32, Option<u32>)] = &[
 
 #[test]
 fn values(rt: HostRuntime) {
+    assert!(rt; NUMBERS.len() >= 8);
     for (digits, base, value) in NUMBERS {
         assert!(rt; number_of(digits, *base) == *value, "{digits}");
     }

@@ -54,7 +54,7 @@ fn sends<C: Crew, R: Wait>(
     }
 }
 
-// The workers' seats as they come back, and whether the second hover was answered before the first.
+// The workers' seats as they come back, and whether the second hover was answered before the first, and both workers have worked up to the end.
 #[derive(Drop)]
 struct Worked<C: Crew> {
     writer: WriterSeat<C>,
@@ -87,12 +87,15 @@ fn run_workers<'a, C: Crew + Send + Sync, R: Threads + Wait + Sync>(
         let first = sends(rt, board, &mut writer, 2, 1);
         board.stop(rt, Stop::Drain);
         let mut workers = Vec::new(alloc);
+        let mut worked = true;
         for handle in handles {
-            if workers.push(handle.join(rt).0).is_err() {
+            let (seat, fault) = handle.join(rt);
+            worked = worked && fault.is_none();
+            if workers.push(seat).is_err() {
                 return None;
             }
         }
-        let overtaken = second && first;
+        let overtaken = second && first && worked && workers.len() == 2;
         Some(Worked {
             writer,
             workers,

@@ -25,7 +25,17 @@ impl Gate for Open {
 // How many events of each kind there were: of the client, taken, returned, finished and sent.
 type Counts = (u64, u64, u64, u64, u64);
 
-// Whether the board is closed with these counts.
+// Whether so many replies can be sent still, and no more.
+fn sends_rest(desk: &mut Desk, count: u64) -> bool {
+    for _ in 0..count {
+        if desk.next_out().is_none() {
+            return false;
+        }
+    }
+    desk.next_out().is_none()
+}
+
+// Whether the board is closed with these counts, and its desk then sends what is unsent, also where the session is full.
 fn closes<C: Crew>(
     board: Board<C>,
     client: ClientSeat<C>,
@@ -36,10 +46,11 @@ fn closes<C: Crew>(
     requires { (C.workers ≡ C.parts) × (0 < C.parts) }
 {
     match board.close(client, writer, workers) {
-        Ok(desk) => {
+        Ok(mut desk) => {
             let found = counts(&desk);
+            let sends_rest = sends_rest(&mut desk, wanted.3.saturating_sub(wanted.4));
             drop(desk);
-            found == wanted
+            found == wanted && sends_rest
         }
         Err(fault) => {
             drop(fault);

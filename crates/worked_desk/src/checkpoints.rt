@@ -3,15 +3,29 @@
 use super::answers::sends_hover;
 use super::steps::{change, finish, hover, opened, take, tells_findings};
 use ls_desk::{Counts, Desk, DeskFault, Event, Kept};
+use ls_session::body_of;
 use std::alloc::Global;
 use std::test::Fail;
+
+/// The whole reply to the hover with the id 2: 180 bytes.
+const HOVERED: &str =
+    r#"{"id":2,"jsonrpc":"2.0","result":{"contents":{"kind":"plaintext","value":"shortest length 1\nexample x"},"range":{"end":{"character":1,"line":0},"start":{"character":0,"line":0}}}}"#;
+
+// Whether the oldest reply has this body.
+fn says(desk: &Desk, alloc: Global, wanted: &str) -> Result<bool, DeskFault> {
+    match desk.out_at(0) {
+        Some(out) => Ok(body_of(alloc, out)?.as_slice() == wanted.as_bytes()),
+        None => Ok(false),
+    }
+}
 
 // A hover over the first rule is answered for version 1, by its example `x`, and the answer is sent.
 fn tells_hover(desk: &mut Desk, alloc: Global) -> Result<bool, DeskFault> {
     let asked = hover(desk, alloc, 2)? == 2;
     let job = take(desk)?;
     let kept = finish(desk, alloc, job);
-    Ok(asked && kept? == Kept::Reply && sends_hover(desk, 1, 120))
+    let says = says(desk, alloc, HOVERED);
+    Ok(asked && kept? == Kept::Reply && says? && sends_hover(desk, 1, 120))
 }
 
 fn is_second_half(journal: &[Event]) -> bool {
@@ -43,6 +57,7 @@ fn by_a_request(rt: HostRuntime) -> Result<(), Fail> {
     let open = desk.base().documents.as_slice().len();
     let waiting = desk.base().waiting.as_slice().len();
     drop(desk);
+    assert_eq!(rt; HOVERED.len(), 180);
     assert!(rt; begun? && told? && half);
     assert!(rt; most == 4 && none == 0 && checkpoints == 1);
     assert!(rt; open == 1 && waiting == 0);

@@ -1,10 +1,13 @@
 //! Runs that are refused come back.
 
+use super::cancels::taken;
 use super::steps::{
-    DESKS, START, change, close, comes_back, nth_desk, open, opened, symbols, take,
+    DESKS, START, change, close, comes_back, finish, leaves, nth_desk, open, opened, symbols, take,
 };
 use ls_answers::{Ask, Done, Job, run};
-use ls_desk::{Desk, DeskFault, Kept, SharedSnapshot};
+use ls_desk::{Counts, Desk, DeskFault, Kept, SharedSnapshot};
+use ls_lists::List;
+use ls_rpc::Id;
 use ls_text::{Encoding, Snapshot, TextFault};
 use std::alloc::Global;
 use std::test::Fail;
@@ -144,6 +147,48 @@ fn of_a_full_session(rt: HostRuntime) -> Result<(), Fail> {
     drop(desk);
     assert!(rt; full?);
     assert!(rt; changed == Err(DeskFault::SessionFull));
+    Ok(())
+}
+
+// Four events and a reply fill it: an open, a request, a take, and a finish, which keeps the findings. The request still waits.
+fn fills(desk: &mut Desk, alloc: Global) -> Result<bool, DeskFault> {
+    let version = open(desk, alloc, "a = \"x\"")?;
+    let ticket = symbols(desk, alloc, 2)?;
+    let job = take(desk)?;
+    let kept = finish(desk, alloc, job)?;
+    Ok(version == 1 && ticket == 2 && kept == Kept::Reply && desk.unsent() == 1)
+}
+
+// Whether a full session refuses each call that would write an event, but a send.
+fn refuses_all(desk: &mut Desk, alloc: Global) -> Result<bool, DeskFault> {
+    let full = DeskFault::SessionFull;
+    let changed = change(desk, alloc, "") == Err(full);
+    let closed = close(desk, alloc) == Err(full);
+    let asked = symbols(desk, alloc, 3) == Err(full);
+    let cancelled = desk.cancel(&Id::Number(2)) == Err(full);
+    let said = desk.say(List::from_slice(alloc, b"{}")?) == Err(full);
+    let taken = taken(desk) == Err(full);
+    Ok(changed && closed && asked && cancelled && said && taken)
+}
+
+#[test]
+fn of_all_but_sends_in_a_full_session(rt: HostRuntime) -> Result<(), Fail> {
+    let mut desk = Desk::new(rt.alloc(), 1, 5);
+    let full = fills(&mut desk, rt.alloc());
+    let refused = refuses_all(&mut desk, rt.alloc());
+    let sent = leaves(&mut desk) && !leaves(&mut desk);
+    let again = refuses_all(&mut desk, rt.alloc());
+    let counts = desk.counts();
+    drop(desk);
+    assert!(rt; full? && refused? && sent && again?);
+    let want = Counts {
+        client: 2,
+        took: 1,
+        returned: 0,
+        finished: 1,
+        sent: 1,
+    };
+    assert!(rt; counts == want);
     Ok(())
 }
 

@@ -80,7 +80,7 @@ fn has_all(alloc: Global, grammar: &Grammar<'_>, checks: &[Check]) -> Result<boo
             return Ok(false);
         }
     }
-    Ok(true)
+    Ok(!checks.is_empty())
 }
 
 fn is_so(alloc: Global, text: &Snapshot, checks: &[Check]) -> Result<bool, AllocError> {
@@ -94,7 +94,7 @@ pub(crate) fn snapshot(alloc: Global, text: &str) -> Result<Snapshot, TextFault>
     Snapshot::of_text(alloc, String::from_str(alloc, text)?)
 }
 
-/// Whether all this holds of the grammar of a text.
+/// Whether all this, which is something, holds of the grammar of a text.
 pub(crate) fn holds(alloc: Global, text: &str, checks: &[Check]) -> Result<bool, TextFault> {
     Ok(is_so(alloc, &snapshot(alloc, text)?, checks)?)
 }

@@ -10,25 +10,25 @@ use ls_text::Snapshot;
 use std::alloc::{AllocError, Global};
 use std::test::Fail;
 
-/// Whether the certificate of least lengths is accepted and has the entries by rounds, and each other one is refused that has a wrong
-/// entry in place of one of these.
-fn is_least(alloc: Global, grammar: &Grammar<'_>) -> Result<bool, AllocError> {
+/// How many entries the certificate of least lengths has. It is accepted and has the entries by rounds, and each other one is refused that has
+/// a wrong entry in place of one of these; else there is none.
+fn least_of(alloc: Global, grammar: &Grammar<'_>) -> Result<Option<usize>, AllocError> {
     let cert = least(alloc, grammar)?;
     if !check(grammar, &cert) || !are_by_rounds(alloc, grammar, cert.entries())? {
-        return Ok(false);
+        return Ok(None);
     }
     all_refused(alloc, grammar, cert.entries())
 }
 
-fn has_least_of(alloc: Global, text: &Snapshot) -> Result<bool, AllocError> {
+fn least_in(alloc: Global, text: &Snapshot) -> Result<Option<usize>, AllocError> {
     let grammar = Grammar::of(alloc, text)?;
-    let is_least = is_least(alloc, &grammar);
+    let least = least_of(alloc, &grammar);
     drop(grammar);
-    is_least
+    least
 }
 
-/// Whether this holds of the grammar of a text.
-pub(crate) fn has_least(alloc: Global, text: &str) -> Result<bool, Fail> {
+/// The same of the grammar of a text.
+pub(crate) fn entries_of(alloc: Global, text: &str) -> Result<Option<usize>, Fail> {
     let text = snapshot(alloc, text)?;
-    Ok(has_least_of(alloc, &text)?)
+    Ok(least_in(alloc, &text)?)
 }

@@ -324,6 +324,7 @@ const ROWS: &[(&str, &[Check])] = &[
 
 #[test]
 fn grammars_of_texts(rt: HostRuntime) -> Result<(), TextFault> {
+    assert!(rt; ROWS.len() >= 12);
     for (text, checks) in ROWS {
         assert!(rt; holds(rt.alloc(), text, checks)?, "{text}");
     }

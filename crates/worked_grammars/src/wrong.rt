@@ -88,16 +88,16 @@ fn are_refused(
     Ok(true)
 }
 
-/// Whether each wrong entry of each node is refused, where all others are right.
+/// Of how many nodes each wrong entry is refused, where all others are right. None where one is accepted.
 pub(crate) fn all_refused(
     alloc: Global,
     grammar: &Grammar<'_>,
     entries: &[Entry],
-) -> Result<bool, AllocError> {
+) -> Result<Option<usize>, AllocError> {
     for number in 0..entries.len() {
         if !are_refused(alloc, grammar, entries, number)? {
-            return Ok(false);
+            return Ok(None);
         }
     }
-    Ok(true)
+    Ok(Some(entries.len()))
 }

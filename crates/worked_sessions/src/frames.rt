@@ -96,6 +96,7 @@ const STREAMS: &[(&[Step<'static>], &[&[u8]])] = &[
 
 #[test]
 fn streams(rt: HostRuntime) {
+    assert!(rt; STREAMS.len() >= 4);
     for (steps, contents) in STREAMS {
         assert!(rt; takes(rt.alloc(), steps, contents));
     }
@@ -121,6 +122,7 @@ fn has_fault(alloc: Global, piece: &[u8], fault: FrameFault) -> bool {
 
 #[test]
 fn faults(rt: HostRuntime) {
+    assert!(rt; FAULTS.len() >= 6);
     for (piece, fault) in FAULTS {
         assert!(rt; has_fault(rt.alloc(), piece.as_bytes(), *fault), "{piece}");
     }

@@ -50,6 +50,7 @@ fn has_kind(alloc: Global, body: &str, kind: &str) -> Result<bool, Memory> {
 
 #[test]
 fn bodies(rt: HostRuntime) -> Result<(), Memory> {
+    assert!(rt; BODIES.len() >= 4);
     for (body, kind) in BODIES {
         assert!(rt; has_kind(rt.alloc(), body, kind)?, "{body}");
     }

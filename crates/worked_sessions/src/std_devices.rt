@@ -35,21 +35,24 @@ impl Read for SteppingReader {
     }
 }
 
-/// Takes one byte at a time, and counts its flushes.
+/// Takes one byte at a time, and counts its writes and its flushes.
 #[derive(Drop)]
 pub struct SteppingWriter {
     pub bytes: Vec<u8>,
-    pub calls: u64,
-    /// The number of the write that fails, from 1; 0 for none.
-    pub fails_at: u64,
+    pub writes: u64,
     pub flushes: u64,
+    /// The numbers of the write and of the flush that fail, from 1; 0 for none.
+    pub write_fails_at: u64,
+    pub flush_fails_at: u64,
+    /// How they fail.
+    pub kind: ErrorKind,
 }
 
 impl Write for SteppingWriter {
     fn write(&mut self, buf: &[u8]) -> io::Result<usize> {
-        self.calls = self.calls.saturating_add(1);
-        if self.calls == self.fails_at {
-            return Err(io::Error::from(ErrorKind::BrokenPipe));
+        self.writes = self.writes.saturating_add(1);
+        if self.writes == self.write_fails_at {
+            return Err(io::Error::from(self.kind));
         }
         let count = buf.len().min(1);
         self.bytes.extend_from_slice(&buf[..count])?;
@@ -58,6 +61,9 @@ impl Write for SteppingWriter {
 
     fn flush(&mut self) -> io::Result<()> {
         self.flushes = self.flushes.saturating_add(1);
+        if self.flushes == self.flush_fails_at {
+            return Err(io::Error::from(self.kind));
+        }
         Ok(())
     }
 }

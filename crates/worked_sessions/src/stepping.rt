@@ -7,9 +7,10 @@ use super::bodies::{
 };
 use super::sessions::Open;
 use super::std_devices::{SteppingReader, SteppingWriter};
-use ls_server::{ReadFrom, ServeFault, Status, WriteTo, serve_plain};
+use ls_server::{DeviceFault, ReadFrom, ServeFault, Sink, Status, WriteTo, serve_plain};
 use ls_threads::{Served, serve_threads};
 use std::alloc::Global;
+use std::io::ErrorKind;
 use std::sync::Wait;
 use std::test::Fail;
 use std::thread::Threads;
@@ -18,6 +19,11 @@ use std::thread::Threads;
 const STEP: usize = 100;
 
 const SAID: [&str; 5] = [INITIALIZE, OPEN, SYMBOLS, SHUTDOWN, EXIT];
+
+/// How a device fails. One that is interrupted may be called again; a writer isn't.
+const BROKEN: ErrorKind = ErrorKind::BrokenPipe;
+
+const KINDS: [ErrorKind; 2] = [BROKEN, ErrorKind::Interrupted];
 
 /// What each of these leads to, but the last one.
 const ANSWERED: [&str; 4] = [CAPABILITIES, NOTHING_WRONG, OUTLINE, DOWN];
@@ -60,7 +66,19 @@ fn served<R: Threads + Wait + Sync>(
     left_by(answer, sink)
 }
 
-// Serves the first session. The numbers are those of the read that is interrupted, of the read that fails and of the write that fails.
+// A writer. The numbers are those of the write and of the flush that fail so.
+fn writer(alloc: Global, write: u64, flush: u64, kind: ErrorKind) -> SteppingWriter {
+    SteppingWriter {
+        bytes: Vec::new(alloc),
+        writes: 0,
+        flushes: 0,
+        write_fails_at: write,
+        flush_fails_at: flush,
+        kind,
+    }
+}
+
+// Serves the first session. The numbers are those of the read that is interrupted, and of the read, the write and the flush that fail.
 fn first_session<R: Threads + Wait + Sync>(
     rt: &R,
     alloc: Global,
@@ -68,6 +86,8 @@ fn first_session<R: Threads + Wait + Sync>(
     interrupted_at: u64,
     read: u64,
     write: u64,
+    flush: u64,
+    kind: ErrorKind,
 ) -> Result<Left, Fail>
     requires { workers ≤ 8 }
 {
@@ -79,12 +99,7 @@ fn first_session<R: Threads + Wait + Sync>(
         interrupted_at,
         fails_at: read,
     };
-    let writer = SteppingWriter {
-        bytes: Vec::new(alloc),
-        calls: 0,
-        fails_at: write,
-        flushes: 0,
-    };
+    let writer = writer(alloc, write, flush, kind);
     Ok(served(rt, alloc, reader, writer, workers))
 }
 
@@ -95,7 +110,7 @@ fn a_read_is_interrupted(rt: HostRuntime) -> Result<(), Fail> {
     let wanted = sorted(alloc, &frames(alloc, &ANSWERED)?)?;
     for workers in [0, 1, 4] {
         for read in 1..7 {
-            let left = first_session(&rt, alloc, workers, read, 0, 0)?;
+            let left = first_session(&rt, alloc, workers, read, 0, 0, 0, BROKEN)?;
             assert!(rt; left.answer == Ok(Status::Clean));
             assert!(rt; sorted(alloc, &left.bytes)? == wanted);
             assert_eq!(rt; left.flushes, 4);
@@ -132,7 +147,7 @@ fn a_read_of_std_fails(rt: HostRuntime) -> Result<(), Fail> {
     for workers in [0, 1, 4] {
         let mut heard = 0_usize;
         for read in 1..7 {
-            let left = first_session(&rt, alloc, workers, 0, read, 0)?;
+            let left = first_session(&rt, alloc, workers, 0, read, 0, 0, BROKEN)?;
             assert!(rt; is_told_of_read(alloc, &left, workers, heard)?);
             heard = heard.saturating_add(STEP);
         }
@@ -140,17 +155,54 @@ fn a_read_of_std_fails(rt: HostRuntime) -> Result<(), Fail> {
     Ok(())
 }
 
-// As many bytes have been taken as writes came before the one that fails: frames of what is answered, and a front of one more.
+// As many bytes have been taken as writes came before the one that fails or is interrupted: frames of what is answered, and a front of one more.
 #[test]
 fn a_write_of_std_fails(rt: HostRuntime) -> Result<(), Fail> {
     let alloc = rt.alloc();
-    for workers in [0, 1, 4] {
-        for write in [1, 2, 24, 503, 504, 505, 645, 700, 900, 942] {
-            let left = first_session(&rt, alloc, workers, 0, 0, write)?;
-            assert!(rt; left.answer == Err(ServeFault::Write));
-            assert_eq!(rt; left.bytes.len() as u64, write - 1);
-            assert!(rt; are_frames_of(alloc, &left.bytes, &ANSWERED)?);
+    for kind in KINDS {
+        for workers in [0, 1, 4] {
+            for write in [1, 2, 24, 503, 504, 505, 645, 700, 900, 942] {
+                let left = first_session(&rt, alloc, workers, 0, 0, write, 0, kind)?;
+                assert!(rt; left.answer == Err(ServeFault::Write));
+                assert_eq!(rt; left.bytes.len() as u64, write - 1);
+                assert!(rt; are_frames_of(alloc, &left.bytes, &ANSWERED)?);
+            }
         }
     }
     Ok(())
+}
+
+// As many whole frames have been taken as the number of the flush that fails or is interrupted, and nothing behind them.
+#[test]
+fn a_flush_of_std_fails(rt: HostRuntime) -> Result<(), Fail> {
+    let alloc = rt.alloc();
+    for kind in KINDS {
+        for workers in [0, 1, 4] {
+            for flush in 1..5 {
+                let left = first_session(&rt, alloc, workers, 0, 0, 0, flush, kind)?;
+                assert!(rt; left.answer == Err(ServeFault::Write));
+                assert_eq!(rt; left.flushes, flush);
+                assert_eq!(rt; sorted(alloc, &left.bytes)?.len() as u64, flush);
+                assert!(rt; are_frames_of(alloc, &left.bytes, &ANSWERED)?);
+            }
+        }
+    }
+    Ok(())
+}
+
+// Whether a write is answered by `Failed` where its writer fails so, and a flush too, and the sink says that it has failed.
+fn is_failed(alloc: Global, kind: ErrorKind) -> bool {
+    let mut sink = WriteTo::new(writer(alloc, 1, 0, kind));
+    let written = sink.write(b"x") == Err(DeviceFault::Failed) && sink.failed;
+    let mut sink = WriteTo::new(writer(alloc, 0, 1, kind));
+    let taken = sink.write(b"x") == Ok(1) && !sink.failed;
+    let flushed = sink.flush() == Err(DeviceFault::Failed) && sink.failed && sink.unflushed;
+    written && taken && flushed
+}
+
+#[test]
+fn a_writer_of_std_fails(rt: HostRuntime) {
+    for kind in KINDS {
+        assert!(rt; is_failed(rt.alloc(), kind));
+    }
 }

@@ -167,6 +167,7 @@ const TEXTS: &[(&str, Want)] = &[
 
 #[test]
 fn blocks_of_texts(rt: HostRuntime) -> Result<(), TextFault> {
+    assert!(rt; TEXTS.len() >= 33);
     for (text, want) in TEXTS {
         assert!(rt; holds(rt.alloc(), text, *want)?, "{text}");
     }
@@ -207,6 +208,7 @@ const CUTS: &[(&str, &[(usize, usize)])] = &[
 
 #[test]
 fn cuts_of_texts(rt: HostRuntime) -> Result<(), TextFault> {
+    assert!(rt; CUTS.len() >= 6);
     for (text, rows) in CUTS {
         assert!(rt; has_bounds(rt.alloc(), text, rows)?, "{text}");
     }
@@ -248,6 +250,7 @@ const NESTED: &[(Nested, Want)] = &[
 
 #[test]
 fn nested_brackets(rt: HostRuntime) -> Result<(), TextFault> {
+    assert!(rt; NESTED.len() >= 5);
     for (row, want) in NESTED {
         let text = nested(rt.alloc(), *row)?;
         assert!(rt; holds(rt.alloc(), text.as_str(), *want)?, "{text}");

@@ -211,12 +211,15 @@ impl Both {
     }
 }
 
-// Five thousand edits in turn.
+// Five thousand edits in turn, of a text that has the lines of two chunks at least.
 fn agree(rt: &impl Abort, alloc: Global, reopens: bool) -> Result<(), TextFault> {
     let mut both = Both::new(alloc)?;
+    let mut least = usize::MAX;
     for round in 0..5_000u32 {
         assert!(rt; both.agrees(alloc, round, reopens)?, "edit {round}");
+        least = least.min(both.text.line_count());
     }
+    assert!(rt; least > MOST_LINES as usize);
     Ok(())
 }
 

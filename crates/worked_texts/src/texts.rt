@@ -21,6 +21,7 @@ const LINE_COUNTS: &[(&str, usize)] = &[
 
 #[test]
 fn counts_lines(rt: HostRuntime) -> Result<(), TextFault> {
+    assert!(rt; LINE_COUNTS.len() >= 8);
     for (text, lines) in LINE_COUNTS {
         assert!(rt;
             snapshot(rt.alloc(), text)?.line_count() == *lines,
@@ -30,14 +31,14 @@ fn counts_lines(rt: HostRuntime) -> Result<(), TextFault> {
     Ok(())
 }
 
-/// Whether a text has these lines, by number.
+/// Whether a text has these lines, by number. There are some.
 fn has_lines(text: &Snapshot, lines: &[(usize, Option<&str>)]) -> bool {
     for (at, line) in lines {
         if text.line(*at) != *line {
             return false;
         }
     }
-    true
+    lines.len() >= 6
 }
 
 const LINES: &[(usize, Option<&str>)] = &[
@@ -112,7 +113,7 @@ fn has_ranges(text: &Snapshot, encoding: Encoding, ranges: &[Ends]) -> bool {
             return false;
         }
     }
-    true
+    ranges.len() >= 4
 }
 
 #[test]
@@ -198,7 +199,7 @@ fn has_offsets(text: &Snapshot, encoding: Encoding, rows: &[Behind]) -> bool {
             return false;
         }
     }
-    true
+    rows.len() >= 6
 }
 
 fn has_positions(text: &Snapshot, encoding: Encoding, rows: &[(usize, (u32, u32))]) -> bool {
@@ -207,7 +208,7 @@ fn has_positions(text: &Snapshot, encoding: Encoding, rows: &[(usize, (u32, u32)
             return false;
         }
     }
-    true
+    rows.len() >= 5
 }
 
 fn has_all_offsets(text: &Snapshot) -> bool {
@@ -254,7 +255,7 @@ fn has_places(text: &Snapshot) -> bool {
             return false;
         }
     }
-    true
+    PLACES.len() >= 9
 }
 
 #[test]
@@ -433,6 +434,7 @@ fn becomes(alloc: Global, row: &Row) -> Result<bool, TextFault> {
 
 #[test]
 fn applies_edits(rt: HostRuntime) -> Result<(), TextFault> {
+    assert!(rt; EDITS.len() >= 13);
     for row in EDITS {
         assert!(rt; becomes(rt.alloc(), row)?, "{}", row.3);
     }
@@ -456,6 +458,7 @@ fn puts(alloc: Global, encoding: Encoding, units: u32, wanted: &str) -> Result<b
 
 #[test]
 fn applies_edits_in_each_encoding(rt: HostRuntime) -> Result<(), TextFault> {
+    assert!(rt; PUTS.len() >= 6);
     for (encoding, units, wanted) in PUTS {
         assert!(rt; puts(rt.alloc(), *encoding, *units, wanted)?, "{wanted}");
     }
@@ -636,20 +639,26 @@ impl Plain {
     }
 }
 
-/// Whether random edits of a random text give the text, and the lines, of a plain cut of the whole result.
-fn is_plain(alloc: Global, dice: &mut Dice) -> Result<bool, TextFault> {
+/// How many random edits of a random text give the text, and the lines, of a plain cut of the whole result. None where they give others.
+fn plain_edits(alloc: Global, dice: &mut Dice) -> Result<Option<usize>, TextFault> {
     let before = random_text(alloc, dice)?;
     let encoding = random_encoding(dice);
     let mut plain = Plain::new(alloc, before.as_str(), encoding)?;
     plain.edit_some(alloc, dice)?;
-    plain.agrees(alloc, before.as_str())
+    let agrees = plain.agrees(alloc, before.as_str())?;
+    Ok(agrees.then_some(plain.edits.len()))
 }
 
 #[test]
 fn agrees_with_a_plain_cut(rt: HostRuntime) -> Result<(), TextFault> {
     let mut dice = Dice::new();
+    let mut edits = 0_usize;
     for round in 0..500u32 {
-        assert!(rt; is_plain(rt.alloc(), &mut dice)?, "round {round}");
+        match plain_edits(rt.alloc(), &mut dice)? {
+            Some(count) => edits = edits.saturating_add(count),
+            None => panic!(rt; "round {round}"),
+        }
     }
+    assert!(rt; edits >= 500);
     Ok(())
 }
