@@ -27,7 +27,7 @@ from random_texts import FRAGMENTS, NEW_NAMES, random_text
 from refused_sessions import error, grammar, key_of
 from refused_threads import THREADS
 
-COUNT, SEED = 600, 1
+COUNT, SEED = 1000, 1
 # A session that takes longer hangs.
 SECONDS = 20
 # Sessions sleep more than they work, so there are more at once than processors.
@@ -92,7 +92,7 @@ static unsigned long dice(unsigned long sides) {
 static void begin(unsigned long number) {
   state = (seed + number) * 0xD1342543DE82EF95 | 1;
   dice(2);
-  pace = (unsigned long[]){2, 8, 32, 128}[dice(4)];
+  pace = (unsigned long[]){16, 64, 128, 224}[dice(4)];
 }
 
 static int is_shaken(void) {
@@ -113,7 +113,7 @@ static void pause_at(int kind) {
 }
 
 static void pause_at_allocation(void) {
-  if (is_shaken() && dice(32) == 0) pause_at(AT_ALLOCATION);
+  if (is_shaken() && dice(8) == 0) pause_at(AT_ALLOCATION);
 }
 
 void *malloc(unsigned long size) {
@@ -171,13 +171,13 @@ static void late(void) {
 }
 
 static long futex(long word, long command, long value, long span, long other, long bits) {
-  long asked = command & COMMAND;
+  long asked = command & COMMAND, waits = asked == WAIT || asked == WAIT_BITSET;
   pause_at(AT_FUTEX);
+  if (waits && dice(6) == 0) return early(word, command, value);
   if (asked == WAKE || asked == WAKE_BITSET) late();
-  if (asked != WAIT && asked != WAIT_BITSET) return kernel(FUTEX, word, command, value, span, other, bits);
-  if (dice(6) == 0) return early(word, command, value);
   long result = kernel(FUTEX, word, command, value, span, other, bits);
-  late();
+  if (waits) late();
+  pause_at(AT_FUTEX);
   return result;
 }
 
