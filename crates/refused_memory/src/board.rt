@@ -117,13 +117,14 @@ fn answered<C: Crew, R: Wait>(
     entered(rt, alloc, board, client, does).ok()
 }
 
-fn played<C: Crew>(
+fn played<C: Crew, R: Wait>(
     rt: &HostRuntime,
+    waits: &R,
     board: &Board<C>,
     client: &mut ClientSeat<C>,
 ) -> io::Result<()> {
     for does in SESSION {
-        let answer = answered(rt, rt.alloc(), board, client, does);
+        let answer = answered(waits, rt.alloc(), board, client, does);
         println!(rt; "client: {answer:?}")?;
     }
     Ok(())
@@ -153,14 +154,19 @@ fn closed<C: Crew>(
 
 fn tell(rt: &HostRuntime, closed: Option<(u64, u64, usize)>) -> io::Result<()> {
     match closed {
-        Some((events, checkpoints, unsent)) =>
-            println!(rt; "close: {events} events, {checkpoints} checkpoints, unsent {unsent}"),
+        Some((events, checkpoints, unsent)) => println!(rt;
+            "close: {events} events, {checkpoints} checkpoints, unsent {unsent}"
+        ),
         None => println!(rt; "close: refused"),
     }
 }
 
 // Plays the session at a board with one worker. Nothing is printed where memory for the board is refused.
-fn session<C: Crew>(rt: &HostRuntime, blanks: Blanks) -> Result<io::Result<()>, AllocError>
+fn session<C: Crew, R: Wait>(
+    rt: &HostRuntime,
+    waits: &R,
+    blanks: Blanks,
+) -> Result<io::Result<()>, AllocError>
     requires names { (blanks.client.name ≡ C.client) × (blanks.took.name ≡ C.took) × (blanks.returned.name ≡ C.returned) × (blanks.finished.name ≡ C.finished) × (blanks.sent.name ≡ C.sent) }
     requires parts { (blanks.client.parts ≡ 1) × (blanks.took.parts ≡ C.parts) × (blanks.returned.parts ≡ C.parts) × (blanks.finished.parts ≡ C.parts) × (blanks.sent.parts ≡ 1) }
     requires workers { (C.workers ≡ 1) × (C.parts ≡ 1) }
@@ -169,7 +175,7 @@ fn session<C: Crew>(rt: &HostRuntime, blanks: Blanks) -> Result<io::Result<()>, 
     let alloc = rt.alloc();
     let desk = Desk::new(alloc, 1, 1_000_000);
     let (board, mut client, writer, workers) = Board::<C>::new(alloc, blanks, 1, desk, 1)?;
-    let played = played(rt, &board, &mut client);
+    let played = played(rt, waits, &board, &mut client);
     let closed = closed(board, client, writer, workers);
     Ok(match played {
         Ok(()) => tell(rt, closed),
@@ -177,10 +183,10 @@ fn session<C: Crew>(rt: &HostRuntime, blanks: Blanks) -> Result<io::Result<()>, 
     })
 }
 
-/// Plays the session, and prints what the board answers.
-pub fn run(rt: &HostRuntime) -> io::Result<()> {
-    let ended = match session::<Brand>(rt, Blanks::new(1)) {
-        Err(AllocError) => session::<Brand>(rt, Blanks::new(1)),
+/// Plays the session, and prints what the board answers. The second handle is the one to wait by.
+pub fn run<R: Wait>(rt: &HostRuntime, waits: &R) -> io::Result<()> {
+    let ended = match session::<Brand, R>(rt, waits, Blanks::new(1)) {
+        Err(AllocError) => session::<Brand, R>(rt, waits, Blanks::new(1)),
         ended => ended,
     };
     match ended {

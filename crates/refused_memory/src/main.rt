@@ -101,6 +101,6 @@ fn main(rt: HostRuntime) -> io::Result<()> {
     played?;
     single::made(&rt)?;
     certs::told(&rt)?;
-    board::run(&rt)?;
+    board::run(&rt, &rt)?;
     steps::run(&rt)
 }

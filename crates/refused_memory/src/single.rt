@@ -156,13 +156,7 @@ fn is_joined(
     Some(is_text(&made.ok()?, "a\r\n", 2)? && is_text(text, before, lines)?)
 }
 
-fn seam(
-    rt: &HostRuntime,
-    before: &str,
-    lines: usize,
-    end: u32,
-    new: &str,
-) -> io::Result<()> {
+fn seam(rt: &HostRuntime, before: &str, lines: usize, end: u32, new: &str) -> io::Result<()> {
     let alloc = rt.alloc();
     let text = opened(alloc, before);
     let is_right = match &text {
