@@ -5,20 +5,20 @@ use ls_server::{Ending, serve_limited, serve_plain};
 use std::alloc::{AllocError, Global};
 use std::test::Fail;
 
-const INITIALIZE: &str = r#"{"jsonrpc":"2.0","id":1,"method":"initialize","params":{}}"#;
+pub(crate) const INITIALIZE: &str = r#"{"jsonrpc":"2.0","id":1,"method":"initialize","params":{}}"#;
 
 const SHUTDOWN: &str = r#"{"jsonrpc":"2.0","id":3,"method":"shutdown"}"#;
 
 const EXIT: &str = r#"{"jsonrpc":"2.0","method":"exit"}"#;
 
 /// The answer to `initialize` with id 1: 480 bytes.
-const CAPABILITIES: &str =
+pub(crate) const CAPABILITIES: &str =
     r#"{"id":1,"jsonrpc":"2.0","result":{"capabilities":{"codeActionProvider":true,"definitionProvider":true,"documentSymbolProvider":true,"hoverProvider":true,"positionEncoding":"utf-16","referencesProvider":true,"renameProvider":true,"semanticTokensProvider":{"full":true,"legend":{"tokenModifiers":["definition","defaultLibrary"],"tokenTypes":["type","string","number","operator","comment","macro"]}},"textDocumentSync":{"change":2,"openClose":true}},"serverInfo":{"name":"abnf_ls"}}}"#;
 
 const DOWN: &str = r#"{"id":3,"jsonrpc":"2.0","result":null}"#;
 
 /// The frames of these bodies, one after the other.
-fn frames(alloc: Global, bodies: &[&str]) -> Result<Vec<u8>, AllocError> {
+pub(crate) fn frames(alloc: Global, bodies: &[&str]) -> Result<Vec<u8>, AllocError> {
     let mut bytes = Vec::new(alloc);
     for body in bodies {
         let header = format!(in alloc; "Content-Length: {}\r\n\r\n", body.len())?;

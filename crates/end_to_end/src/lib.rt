@@ -1,4 +1,5 @@
-//! What crosses the crates: the events of a session and their bodies, a job and its answer, the texts of the commands, devices that fail.
+//! What crosses the crates: the events of a session and their bodies, a job and its answer, the texts of the commands, devices that fail, and
+//! sessions that are full.
 //!
 //! The crates below prove what each call answers. Here is shown, with worked values, that the calls succeed where memory is ample, which
 //! no contract can show. Whole sessions, as bytes, run through the built program (`tools/session_rows.py`).
@@ -13,5 +14,7 @@ mod commands;
 mod devices;
 #[cfg(test)]
 mod failing;
+#[cfg(test)]
+mod full;
 
 pub use devices::{FailingSink, FailingSource};

@@ -87,10 +87,19 @@ impl Conversation {
         requires { (0 < max_journal) × (max_journal ≤ 1000000) }
         ensures { result ≡ record begun { max_journal = max_journal } }
     {
+        Conversation::with_limits(alloc, max_journal, MOST_EVENTS)
+    }
+
+    /// The same, for so many events and unsent replies together.
+    pub fn with_limits(alloc: Global, max_journal: usize, max_events: u64) -> Conversation
+        requires journal { (0 < max_journal) × (max_journal ≤ 1000000) }
+        requires events { (0 < max_events) × (max_events ≤ 18446744073709551614) }
+        ensures { result ≡ record begun { max_journal = max_journal; max_events = max_events } }
+    {
         Conversation {
             alloc,
             session: Session::new(alloc),
-            desk: Desk::new(alloc, max_journal, MOST_EVENTS),
+            desk: Desk::new(alloc, max_journal, max_events),
             held: Vec::new(alloc),
             status: None,
         }
