@@ -144,6 +144,7 @@ on B J C D W v t O longest most room e D' W' v' t' O' room' kept late stepped us
         tickets = let a = kept.tickets in let b = stepped.tickets in omega arith;
         checkpoints = kept.checkpoints;
         earlier = let a = kept.earlier in omega arith;
+        first_is = kept.first_is;
         begun = λ h. absurd (push-some J e h);
         least = kept.least;
         most = kept.most;
@@ -206,6 +207,7 @@ anew B J C D W v t O longest most room e D' W' v' t' O' room' kept long stepped 
         tickets = let a = kept.tickets in let b = stepped.tickets in omega arith;
         checkpoints = let a = kept.checkpoints in let b = kept.least in omega arith;
         earlier = omega arith;
+        first_is = λ h. absurd (omega (arith, h));
         begun = λ h. absurd (push-some [] e h);
         least = kept.least;
         most = kept.most;
@@ -276,7 +278,7 @@ enters B J C D W v t O longest most room x e B' J' C' D' W' v' t' O' room' kept 
   most_journal = refl;
   state = g.state;
   counts = sym g.kept.counts_are ∙ (g.counts ∙ ap (λ (c : Counts). count_one c e) kept.counts_are);
-  sound = record { past = g.kept.past; legal = g.kept.legal; cut = g.kept.cut; outs = g.kept.outs };
+  sound = record { past = g.kept.past; first_is = g.kept.first_is; legal = g.kept.legal; cut = g.kept.cut; outs = g.kept.outs };
 }
 
 -- nothing has changed, but there is room
@@ -300,6 +302,7 @@ kept-room B J C D W v t O longest most room J' D' W' O' room' kept same_d same_w
       tickets = kept.tickets;
       checkpoints = kept.checkpoints;
       earlier = kept.earlier;
+      first_is = kept.first_is;
       begun = kept.begun;
       least = kept.least;
       most = kept.most;

@@ -151,6 +151,7 @@ kept-start B J C D W O longest most room b j c d w o least some few =
       tickets = omega arith;
       checkpoints = omega arith;
       earlier = omega arith;
+      first_is = λ h. refl;
       begun = λ h. refl;
       least = least;
       most = few;

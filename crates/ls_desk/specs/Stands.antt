@@ -17,7 +17,7 @@ use Rattle.ls_machine.specs.declared.state.Entry.TheVariants.{Body, Failure, Out
 use Rattle.ls_machine.specs.declared.state.State.{State}
 use Rattle.ls_desk.specs.Anew.{base_after, journal_after}
 use Rattle.ls_machine.specs.Machine.{IsPossible, step, is_ended, content_modified, internal_error}
-use Rattle.ls_machine.specs.Counts.{count_one, counted, is_client, total}
+use Rattle.ls_machine.specs.Counts.{count_one, counted, first, is_client, total}
 use Rattle.ls_machine.specs.Journal.{replay_from, IsCutAt, IsLegalFrom, IsPast}
 use Rattle.ls_machine.specs.Laws.{WasEntryCurrent}
 
@@ -98,9 +98,11 @@ finished w done = if is_none done.answer then failed internal_error w else (out_
 -- ---- what holds of every desk
 
 -- Some legal list of events led to the base. From there on the journal is legal, with all events counted against the limit, no client's event
--- stands in it at the place `max_journal` or later, and the replies stand for the unsent entries.
+-- stands in it at the place `max_journal` or later, and the replies stand for the unsent entries. Until there is a checkpoint the journal begins
+-- where the session does.
 pub record IsSound (d : Seen) : Type 0 where
   pub past : (past : List Event) × IsPast d.max_events d.base past
+  pub first_is : d.base.checkpoints ≡ 0 → d.base ≡ first
   pub legal : IsLegalFrom d.max_events (total d.base.counts) d.base.state d.journal
   pub cut : IsCutAt d.max_journal d.journal
   pub outs : AreOutsFor (state_of d).unsent d.outbox

@@ -31,7 +31,7 @@ use Rattle.ls_machine.proofs.Ordered.{Fits, fits-start, fits-step, found-current
 count-cons : {X : Type 0} (p : X → Bool) (x : X) (xs : List X) → count_by p (x ∷ xs) ≡ cond (p x) 1 0 + count_by p xs
 count-cons p x xs = omega (arith, sum_by-append (λ y. cond (p y) 1 0) (x ∷ []) xs)
 
-count-append : {X : Type 0} (p : X → Bool) (xs ys : List X) → count_by p (xs ++ ys) ≡ count_by p xs + count_by p ys
+pub count-append : {X : Type 0} (p : X → Bool) (xs ys : List X) → count_by p (xs ++ ys) ≡ count_by p xs + count_by p ys
 count-append p xs ys = sum_by-append (λ y. cond (p y) 1 0) xs ys
 
 count-last : {X : Type 0} (p : X → Bool) (xs : List X) (x : X) → count_by p (xs ++ x ∷ []) ≡ count_by p xs + cond (p x) 1 0
@@ -549,13 +549,13 @@ grows s (Returned ticket) = omega arith
 grows s (Finished ticket failed) = omega arith
 grows s (Sent ticket) = omega arith
 
-grows-from : (s : State) (es : List Event) → s.next_ticket ≤ (replay_from s es).next_ticket
+pub grows-from : (s : State) (es : List Event) → s.next_ticket ≤ (replay_from s es).next_ticket
 unfolding replay_from
 grows-from s [] = omega arith
 grows-from s (e ∷ es) = let a = grows s e in let b = grows-from (step s e) es in omega arith
 
 -- one event gives a ticket
-one-giver : (s : State) (b c : List Event) (x y : Event) (l m : List Event) (t : ℕ) → b ++ x ∷ l ≡ c ++ y ∷ m
+pub one-giver : (s : State) (b c : List Event) (x y : Event) (l m : List Event) (t : ℕ) → b ++ x ∷ l ≡ c ++ y ∷ m
     → (replay_from s b).next_ticket ≡ t → (step (replay_from s b) x).next_ticket ≡ t + 1
     → (replay_from s c).next_ticket ≡ t → (step (replay_from s c) y).next_ticket ≡ t + 1
     → x ≡ y
@@ -581,12 +581,12 @@ one-giver s (w ∷ b) (z ∷ c) x y l m t same x_is x_next y_is y_next =
     (ap (λ (e : Event). (replay_from (step s e) c).next_ticket) first ∙ y_is)
     (ap (λ (e : Event). (step (replay_from (step s e) c) y).next_ticket) first ∙ y_next)
 
-legal-before : (most n : ℕ) (s : State) (es fs : List Event) → IsLegalFrom most n s (es ++ fs) → IsLegalFrom most n s es
+pub legal-before : (most n : ℕ) (s : State) (es fs : List Event) → IsLegalFrom most n s (es ++ fs) → IsLegalFrom most n s es
 unfolding IsLegalFrom
 legal-before most n s [] fs legal = tt
 legal-before most n s (e ∷ es) fs legal = (legal.0, legal.1, legal-before most (n + 1) (step s e) es fs legal.2)
 
-legal-at : (most n : ℕ) (s : State) (es : List Event) (e : Event) (fs : List Event) → IsLegalFrom most n s (es ++ e ∷ fs) → IsPossible (replay_from s es) e
+pub legal-at : (most n : ℕ) (s : State) (es : List Event) (e : Event) (fs : List Event) → IsLegalFrom most n s (es ++ e ∷ fs) → IsPossible (replay_from s es) e
 unfolding IsLegalFrom replay_from
 legal-at most n s [] e fs legal = legal.0
 legal-at most n s (x ∷ es) e fs legal = legal-at most (n + 1) (step s x) es e fs legal.2
@@ -596,11 +596,11 @@ asked-gives s id None question links h = absurd (cc)
 asked-gives s id (Some d) question links h = refl
 
 -- a request gets the next ticket
-record Gives (s : State) (id : Id) (uri : List ℕ) (question : Ask) (links : Bool) (ticket : ℕ) : Type 0 where
+pub record Gives (s : State) (id : Id) (uri : List ℕ) (question : Ask) (links : Bool) (ticket : ℕ) : Type 0 where
   pub is : ticket ≡ s.next_ticket
   pub next : (step s (Asked id uri question links ticket)).next_ticket ≡ s.next_ticket + 1
 
-gives : (s : State) (id : Id) (uri : List ℕ) (question : Ask) (links : Bool) (ticket : ℕ) → IsPossible s (Asked id uri question links ticket) → Gives s id uri question links ticket
+pub gives : (s : State) (id : Id) (uri : List ℕ) (question : Ask) (links : Bool) (ticket : ℕ) → IsPossible s (Asked id uri question links ticket) → Gives s id uri question links ticket
 unfolding step IsPossible
 gives s id uri question links ticket possible = record { is = possible.3; next = asked-gives s id (document_of uri s.documents) question links possible.0 }
 
@@ -632,7 +632,7 @@ above : (s : State) (e : Event) (later : List Event) (ticket n : ℕ) → ticket
 unfolding replay_from
 above s e later ticket n is next all = let up = grows-from (step s e) later in omega arith
 
-low-start : (es : List Event) → 1 ≤ (replay es).next_ticket
+pub low-start : (es : List Event) → 1 ≤ (replay es).next_ticket
 low-start es = grows-from start es
 
 pub requests-once : RequestsAreKeptOnce

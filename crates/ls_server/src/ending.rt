@@ -26,7 +26,7 @@ pub enum Ending {
     /// A file is too large, or the one with the grammar isn't UTF-8.
     NotText(Text),
     Certificate(CertFault),
-    /// What was done at the desk isn't what its journal has.
+    /// What was done at the desk isn't what its journal has, or something was left undone.
     HasStrayed,
     Usage,
     OutOfMemory,

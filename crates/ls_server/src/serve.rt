@@ -30,7 +30,7 @@ pub enum ServeFault {
     Read,
     #[error("the sink failed")]
     Write,
-    /// What was done at the desk isn't what its journal has. Only a run by several threads tests that.
+    /// What was done at the desk isn't what its journal has, or something was left undone. Only a run by several threads tests that.
     #[error("strayed")]
     Strayed,
     #[error("out of memory")]

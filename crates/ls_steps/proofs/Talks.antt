@@ -40,7 +40,7 @@ use Rattle.ls_steps.proofs.Entries.{first-cause}
 
 pub sound-start : (longest most : ℕ) → IsSound (record { base = first; journal = []; outbox = []; max_journal = longest; max_events = most })
 unfolding IsLegalFrom IsCutAt replay_from AreOutsFor
-sound-start longest most = record { past = ([], past-first most); legal = tt; cut = tt; outs = tt }
+sound-start longest most = record { past = ([], past-first most); first_is = λ h. refl; legal = tt; cut = tt; outs = tt }
 
 outs-none : (es : List Entry) → AreOutsFor es [] → es ≡ []
 unfolding AreOutsFor

@@ -51,12 +51,13 @@ pub record Heard (e : ClientEvent) (answer : ClientAnswer) (before after : Seen)
 abbrev pub IsHeard : ClientEvent → ClientAnswer → ToldClient → ToldClient → Type 0
 IsHeard e answer old new = (before after : Seen) × Heard e answer before after old new
 
--- what the seats were told is what the desk's journal has, and what it sent
-abbrev pub AgreesAll : Seen → List Event → ℕ → List ℕ → List Noted → Type 0
-AgreesAll desk list seen tickets notes =
+-- what the seats were told is what the desk's journal has, how many checkpoints there were, and what was sent since the last
+abbrev pub AgreesAll : Seen → List Event → ℕ → ℕ → List ℕ → List Noted → Type 0
+AgreesAll desk list checkpoints seen tickets notes =
     Agrees desk.journal list (since desk.base.checkpoints seen tickets) × (sent_by desk ≡ since desk.base.checkpoints seen notes)
+    × (desk.base.checkpoints ≡ checkpoints)
 
 -- Why a board isn't closed: the seats aren't all its own; or they are, with these counts, and a list wasn't the journal's, at a checkpoint or now.
 abbrev pub HasCause : Type 0 → (Seen → Type 0) → ToldClient → ℕ → List ℕ → List Noted → SeatFault → Type 0
 HasCause AreOwn HasCounts client seen tickets notes SeatMissing = AreOwn → ⊥
-HasCause AreOwn HasCounts client seen tickets notes (Strayed desk) = AreOwn × HasCounts desk × (IsTrue client.strayed ⊎ (AgreesAll desk client.list seen tickets notes → ⊥))
+HasCause AreOwn HasCounts client seen tickets notes (Strayed desk) = AreOwn × HasCounts desk × (IsTrue client.strayed ⊎ (AgreesAll desk client.list client.checkpoints seen tickets notes → ⊥))

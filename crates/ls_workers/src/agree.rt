@@ -91,19 +91,23 @@ fn since<'t, T>(desk: &Desk, seen: u64, list: &'t [T]) -> &'t [T]
     }
 }
 
-/// Whether the seats' lists are what the journal of a desk has, and what it sent, of which these are the notes.
+/// Whether the seats' lists are what the journal of a desk has, and what it sent, of which these are the notes, and there were so many
+/// checkpoints.
 pub fn agrees_all(
     desk: &Desk,
     left: &[Noted],
     list: &[Event],
+    checkpoints: u64,
     seen: u64,
     tickets: &[u64],
     notes: &[Noted],
 ) -> bool
     requires { left.now ≡ sent_by desk.now }
-    ensures { IsTrue result ↔ AgreesAll desk.now list.now seen tickets.now notes.now }
+    ensures { IsTrue result ↔ AgreesAll desk.now list.now checkpoints seen tickets.now notes.now }
 {
     let tickets = since(desk, seen, tickets);
     let notes = since(desk, seen, notes);
-    agrees(desk.journal(), list, tickets) && same_notes(left, notes)
+    agrees(desk.journal(), list, tickets)
+        && same_notes(left, notes)
+        && desk.checkpoints() == checkpoints
 }

@@ -11,7 +11,7 @@ ghost use Rattle.ls_workers.specs.Seats.{Heard, since};
 ghost use Rattle.ls_workers.specs.Sent.{noted_of, sent_by};
 ghost use Rattle.ls_workers.specs.Ends.{is_over, ended_by, first_waiting, is_first, has_job, has_job_for, has_news};
 
-use crate::calls::{enter, finish, give_back, is_long, next_out, strays, take};
+use crate::calls::{count_none, enter, finish, give_back, is_long, next_out, strays, take};
 use crate::ledgers::{Crew, OfClient, OfFinished, OfReturned, OfSent, OfTook};
 use crate::lists::{write_event, write_reply};
 use crate::notes::filled;
@@ -20,7 +20,7 @@ use crate::seats::{ClientSeat, WorkerSeat, WriterSeat};
 use ls_answers::{Done, Job};
 use ls_desk::{Desk, DeskFault, Event, Kept, Out, ticket_of};
 use ls_machine::{ClientAnswer, ClientEvent};
-use std::alloc::AllocError as Memory;
+use std::alloc::{AllocError as Memory, Global};
 use std::sync::ledger::{Book, Share};
 
 /// How a board ends.
@@ -61,10 +61,41 @@ pub struct Behind<C: Crew> {
 }
 
 impl<C: Crew> Behind<C> {
+    /// What lies behind the lock of a new board, over a desk on which nothing has happened: the board hasn't ended.
+    pub fn new(
+        alloc: Global,
+        desk: Desk,
+        asked: Book<OfClient<C>>,
+        took: Book<OfTook<C>>,
+        returned: Book<OfReturned<C>>,
+        finished: Book<OfFinished<C>>,
+        sent: Book<OfSent<C>>,
+    ) -> Behind<C>
+        requires empty { desk.journal ≡ [] }
+        requires limits { HasLimits C.max_journal C.max_events desk }
+        requires none { (asked.total ≡ 0) × (took.total ≡ 0) × (returned.total ≡ 0) × (finished.total ≡ 0) × (sent.total ≡ 0) }
+        ensures stop { result.stop ≡ None }
+        ensures desk { result.desk ≡ desk }
+    {
+        count_none(&desk);
+        Behind {
+            desk,
+            asked,
+            took,
+            returned,
+            finished,
+            sent,
+            left: Vec::new(alloc),
+            stop: None,
+            idle: [false; 8],
+        }
+    }
+
     /// Ends the board, unless it has ended at once.
     pub fn stop(&mut self, stop: Stop)
         ensures stop { self.new.stop ≡ ended_by self.old.stop stop }
         ensures desk { self.new.desk ≡ self.old.desk }
+        ensures idle { self.new.idle ≡ self.old.idle }
     {
         if !self.is_over() {
             self.stop = Some(stop);
@@ -169,6 +200,7 @@ impl<C: Crew> Behind<C> {
         ensures cause { IfErr result (λ fault. RefusesEvent (client_fault self.old.desk event) self.old.desk self.new.desk fault) }
         ensures refused { IfErr result (λ fault. may_refuse event fault ≡ true) }
         ensures mark { seat.new.mark ≡ seat.old.mark }
+        ensures ends { (self.new.stop ≡ self.old.stop) × (self.new.idle ≡ self.old.idle) }
     {
         let Behind {
             desk,
@@ -202,6 +234,7 @@ impl<C: Crew> Behind<C> {
         ensures refused { IfErr result (λ fault. is_shortage fault ≡ true) }
         ensures others { (seat.new.returned.share.amount ≡ seat.old.returned.share.amount) × (seat.new.finished.share.amount ≡ seat.old.finished.share.amount) }
         ensures kept { (seat.new.mark ≡ seat.old.mark) × (seat.new.number ≡ seat.old.number) }
+        ensures ends { (self.new.stop ≡ self.old.stop) × (self.new.idle ≡ self.old.idle) }
     {
         if self.is_over() || !self.desk.has_queued() {
             return Ok(None);
@@ -226,6 +259,7 @@ impl<C: Crew> Behind<C> {
         ensures refused { IfErr result (λ fault. may_refuse_return fault ≡ true) }
         ensures others { (seat.new.took.share.amount ≡ seat.old.took.share.amount) × (seat.new.finished.share.amount ≡ seat.old.finished.share.amount) }
         ensures kept { (seat.new.mark ≡ seat.old.mark) × (seat.new.number ≡ seat.old.number) }
+        ensures ends { (self.new.stop ≡ self.old.stop) × (self.new.idle ≡ self.old.idle) }
     {
         let Behind { desk, returned, .. } = self;
         give_back(desk, ticket)?;
@@ -248,6 +282,7 @@ impl<C: Crew> Behind<C> {
         ensures refused { IfErr result (λ refused. may_refuse_run refused.0 ≡ true) }
         ensures others { (seat.new.took.share.amount ≡ seat.old.took.share.amount) × (seat.new.returned.share.amount ≡ seat.old.returned.share.amount) }
         ensures kept { (seat.new.mark ≡ seat.old.mark) × (seat.new.number ≡ seat.old.number) }
+        ensures ends { (self.new.stop ≡ self.old.stop) × (self.new.idle ≡ self.old.idle) }
     {
         let Behind { desk, finished, .. } = self;
         let kept = finish(desk, done)?;
@@ -274,6 +309,7 @@ impl<C: Crew> Behind<C> {
         ensures same { OnErr result ((self.new.desk ≡ self.old.desk) × (self.new.sent.total ≡ self.old.sent.total)) }
         ensures nothing { IfOk result (λ next. IfNone next ((self.new.desk ≡ self.old.desk) × (self.new.sent.total ≡ self.old.sent.total) × ((is_over self.old.stop ≡ true) ⊎ (self.old.desk.outbox ≡ [])))) }
         ensures mark { seat.new.mark ≡ seat.old.mark }
+        ensures ends { (self.new.stop ≡ self.old.stop) × (self.new.idle ≡ self.old.idle) }
     {
         if self.is_over() || self.desk.unsent() == 0 {
             return Ok(None);

@@ -11,7 +11,6 @@ ghost use Rattle.ls_machine.specs.Client.{IsAllowed};
 
 use crate::agree::agrees_all;
 use crate::behind::{Behind, SeatFault, Stop};
-use crate::calls::count_none;
 use crate::crew::{are_all, gathered, seats_of};
 use crate::ledgers::{Blanks, Crew, OfClient, OfFinished, OfReturned, OfSent, OfTook};
 use crate::seats::{ClientSeat, WorkerSeat, WriterSeat};
@@ -73,18 +72,15 @@ impl<C: Crew> Board<C> {
         let (finished_book, finished) = finished.open::<OfFinished<C>>();
         let (sent_book, sent) = sent.open::<OfSent<C>>();
         let seats = seats_of(alloc, mark, workers, took, returned, finished)?;
-        count_none(&desk);
-        let behind = Behind {
+        let behind = Behind::new(
+            alloc,
             desk,
-            asked: asked_book,
-            took: took_book,
-            returned: returned_book,
-            finished: finished_book,
-            sent: sent_book,
-            left: Vec::new(alloc),
-            stop: None,
-            idle: [false; 8],
-        };
+            asked_book,
+            took_book,
+            returned_book,
+            finished_book,
+            sent_book,
+        );
         let board = Board {
             mark,
             workers,
@@ -236,7 +232,8 @@ impl<C: Crew> Board<C> {
     }
 
     /// Takes all seats back, and gives the desk, which has the limits of the one that the board was made over. There were as many events of each kind as the seats counted, and its journal has the client's
-    /// events since the last checkpoint with the answers that its seat was given, and the tickets that the writer's seat was given since.
+    /// events since the last checkpoint with the answers that its seat was given, and the tickets that the writer's seat was given since. There were
+    /// as many checkpoints as the client's seat has seen.
     ///
     /// `SeatMissing`: a seat isn't of this board, or not all workers' are here. `Strayed`: the seats are all here, and the journal isn't what
     /// they were told, now or at a checkpoint. It waits for nothing, and takes no memory.
@@ -254,6 +251,7 @@ impl<C: Crew> Board<C> {
             writer.sent.share.amount desk) }
         ensures agrees { IfOk result (λ desk. Agrees desk.journal client.list.items (since desk.base.checkpoints writer.checkpoints writer.tickets.items)) }
         ensures replies { IfOk result (λ desk. sent_by desk ≡ since desk.base.checkpoints writer.checkpoints writer.notes.items) }
+        ensures checkpoints { IfOk result (λ desk. desk.base.checkpoints ≡ client.checkpoints) }
         ensures strayed { OnOk result (client.strayed ≡ false) }
         ensures limits { IfOk result (λ desk. HasLimits C.max_journal C.max_events desk) }
         ensures err { IfErr result (λ fault. HasCause ((client.mark ≡ self.mark) × (writer.mark ≡ self.mark)
@@ -271,7 +269,7 @@ impl<C: Crew> Board<C> {
             mark: _,
             asked,
             list,
-            checkpoints: _,
+            checkpoints: made,
             strayed,
         } = client;
         let WriterSeat {
@@ -293,7 +291,7 @@ impl<C: Crew> Board<C> {
             &mut finished,
             &mut sent,
         );
-        if strayed || !agrees_all(&desk, &left, &list, checkpoints, &tickets, &notes) {
+        if strayed || !agrees_all(&desk, &left, &list, made, checkpoints, &tickets, &notes) {
             return Err(SeatFault::Strayed(desk));
         }
         Ok(desk)

@@ -1,6 +1,6 @@
 //! What a worker does.
-ghost use Rattle.std.specs.Prelude.{◌≡◌, IfSome, true};
-ghost use Rattle.ls_workers.specs.Refusals.{ends_work};
+ghost use Rattle.std.specs.Prelude.{◌≡◌, IfNone, IfSome, true};
+ghost use Rattle.ls_workers.specs.Refusals.{ends_work, may_refuse_run};
 
 use crate::board::Board;
 use crate::ledgers::Crew;
@@ -14,6 +14,15 @@ use std::sync::Wait;
 pub trait Gate {
     /// Lets the worker that took the job with this ticket pass. No lock is held. It may wait.
     fn pass<R: Wait>(&self, rt: &R, ticket: u64);
+}
+
+/// What a refusal of a run means for whoever ran the job: nothing where the job had ended meanwhile, and else it ends the work.
+fn ended_by(fault: DeskFault) -> Option<DeskFault>
+    requires { may_refuse_run fault ≡ true }
+    ensures ended { IfSome result (λ ended. (ended ≡ fault) × (ends_work ended ≡ true)) }
+    ensures none { IfNone result (fault ≡ DeskFault.UnknownTicket) }
+{
+    (fault != DeskFault::UnknownTicket).then_some(fault)
 }
 
 /// Passes the gate with a job, runs it if it is still wanted and brings it back. What ended the work, if something did: the session is full,
@@ -36,12 +45,12 @@ fn run_one<C: Crew, R: Wait, G: Gate>(
     let Err((fault, _)) = board.finish(rt, seat, run(alloc, job)) else {
         return None;
     };
-    (fault != DeskFault::UnknownTicket).then_some(fault)
+    ended_by(fault)
 }
 
 /// Works at a board through a seat: takes a job, passes the gate, runs the job if it is still wanted and brings it back, until there is
-/// none. The seat comes back, and what ended the work early: the session is full, the desk doesn't know what ran (`OtherText`), or memory
-/// was refused. Where a job ended meanwhile its run is dropped.
+/// none. A seat with the same mark and number comes back, and what ended the work early: the session is full, the desk doesn't know what ran
+/// (`OtherText`), or memory was refused. Where a job ended meanwhile its run is dropped.
 ///
 /// It waits for jobs, and for the lock.
 pub fn work<C: Crew, R: Wait, G: Gate>(
