@@ -4,3 +4,4 @@ pub mod Hearing
 pub mod Pieces
 pub mod Input
 pub mod Told
+pub mod Settled

@@ -40,18 +40,24 @@ has_met_full_session (heard.Broken early.Full) k = true
 has_met_full_session h worked.Full = true
 has_met_full_session h k = false
 
+-- the reader ended by itself
+abbrev pub is_ended : Heard → Bool
+is_ended (heard.Ended s) = true
+is_ended _ = false
+
 -- the reader's own status
 abbrev pub status_of : Heard → Status
 status_of (heard.Ended s) = s
 status_of _ = status.Unclean
 
 -- the causes that hold, in the order of this table: each with what it makes of the run
-abbrev pub causes : Heard → Wrote → Worked → Bool → List (Bool × Result Status ServeFault)
-causes h w k audited =
+abbrev pub causes : Heard → Wrote → Worked → Bool → Bool → List (Bool × Result Status ServeFault)
+causes h w k audited settled =
     (is_read h, Err fault.Read)
     ∷ (has_failed w, Err fault.Write)
     ∷ (not audited || has_strayed k, Err fault.Strayed)
     ∷ (lacked_memory h w k, Err fault.Memory)
+    ∷ (not settled, Err fault.Strayed)
     ∷ (has_met_full_session h k, Ok status.Full)
     ∷ []
 
@@ -61,8 +67,8 @@ first_of [] last = last
 first_of ((holds, x) ∷ rest) last = if holds then x else first_of rest last
 
 -- what a run answers, where all its threads could be made
-abbrev pub result_of : Heard → Wrote → Worked → Bool → Result Status ServeFault
-result_of h w k audited = first_of (causes h w k audited) (Ok (status_of h))
+abbrev pub result_of : Heard → Wrote → Worked → Bool → Bool → Result Status ServeFault
+result_of h w k audited settled = first_of (causes h w k audited settled) (Ok (status_of h))
 
 -- how the reader broke off, by the fault that the board answered
 abbrev pub early_by : DeskFault → Early

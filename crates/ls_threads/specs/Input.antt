@@ -62,3 +62,7 @@ HearsInput input left stage old (heard.Ended status) after new = (read : List �
     ⊎ (IsAtEnd left × ((rest : List ℕ) × HearsMore [] read stage old rest after new × (status ≡ end_status None rest))))
 HearsInput input left stage old heard.Failed after new = (read : List ℕ) × (rest : List ℕ) × Consumes input left read × HearsMore [] read stage old rest after new
 HearsInput input left stage old (heard.Broken early) after new = (read : List ℕ) × Consumes input left read × HearsSome [] read stage old new
+
+-- the same, whatever stage the session is left in
+abbrev pub HasHeard : Option (List ℕ) → Option (List ℕ) → Stage → ToldClient → Heard → ToldClient → Type 0
+HasHeard input left stage old end new = (after : Stage) × HearsInput input left stage old end after new

@@ -2,4 +2,6 @@ pub mod Audit
 pub mod Ends
 pub mod Input
 pub mod Reading
+pub mod Served
+pub mod Settled
 pub mod Writing

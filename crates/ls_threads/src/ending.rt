@@ -1,6 +1,6 @@
 //! How the threads end, and what that makes of the run.
 ghost use Rattle.std.specs.Prelude.{◌≡◌};
-ghost use Rattle.ls_threads.specs.Ends.{ended_by, has_met_full_session, result_of, worse};
+ghost use Rattle.ls_threads.specs.Ends.{ended_by, has_met_full_session, is_ended, result_of, worse};
 
 use ls_desk::DeskFault;
 use ls_server::{ServeFault, Status};
@@ -118,15 +118,26 @@ pub fn has_met_full_session(heard: Heard, worked: Worked) -> bool
     }
 }
 
-/// What a run answers whose threads could all be made: of several faults the one that comes first in [`ServeFault`], else `Full`, else the
-/// reader's status. `audited` says that the board was closed and gave its desk.
+/// Whether the reader ended by itself: neither the source nor another thread broke it off.
+pub fn is_ended(heard: Heard) -> bool
+    ensures { result ≡ is_ended heard }
+{
+    match heard {
+        Heard::Ended(_) => true,
+        Heard::Failed | Heard::Broken(_) => false,
+    }
+}
+
+/// What a run answers whose threads could all be made: of several faults the one that comes first in [`ServeFault`], then `Strayed` where the
+/// desk isn't as such ends leave it (`settled`), else `Full`, else the reader's status. `audited` says that the board was closed and gave its desk.
 pub fn result_of(
     heard: Heard,
     wrote: Wrote,
     worked: Worked,
     audited: bool,
+    settled: bool,
 ) -> Result<Status, ServeFault>
-    ensures { result ≡ result_of heard wrote worked audited }
+    ensures { result ≡ result_of heard wrote worked audited settled }
 {
     if let Heard::Failed = heard {
         return Err(ServeFault::Read);
@@ -141,6 +152,7 @@ pub fn result_of(
         (_, _, Worked::Strayed) => Err(ServeFault::Strayed),
         (Heard::Broken(Early::Memory), _, _) | (_, Wrote::Memory, _) | (_, _, Worked::Memory) =>
             Err(ServeFault::Memory),
+        _ if !settled => Err(ServeFault::Strayed),
         (Heard::Broken(Early::Full), _, _) | (_, _, Worked::Full) => Ok(Status::Full),
         (Heard::Ended(status), _, Worked::All) => Ok(status),
         (_, _, Worked::All) => Ok(Status::Unclean),

@@ -1,6 +1,8 @@
 //! The run: the threads are made, joined, and their board is closed.
 ghost use denote.Param.Send.{IsSend};
-ghost use Rattle.std.specs.Prelude.{◌≡◌, ◌+◌, ◌<◌, ◌≤◌, ◌==◌, ◌||◌, Bool, OnOk, [], false, sum_by, true, vec_len};
+ghost use Rattle.std.specs.Prelude.{◌≡◌, ◌+◌, ◌<◌, ◌≤◌, ◌==◌, ◌||◌, Bool, IfOk, OnOk, [], false, sum_by, true, vec_len};
+ghost use Rattle.std.specs.Io.KnownBytes.{Appends};
+ghost use Rattle.ls_session.specs.declared.session.Stage.TheVariants.{BeforeInitialize};
 ghost use Rattle.ls_desk.specs.Stands.{Seen};
 ghost use Rattle.ls_workers.specs.Count.{Counts};
 ghost use Rattle.ls_workers.specs.Jobs.{HasLimits};
@@ -8,11 +10,15 @@ ghost use Rattle.ls_workers.specs.Seats.{AreAll, HasCause};
 ghost use Rattle.ls_workers.specs.declared.behind.SeatFault.{SeatFault};
 ghost use Rattle.ls_threads.specs.Audit.{IsAudited};
 ghost use Rattle.ls_threads.specs.Ends.{has_cause, has_failed, has_met_full_session, result_of};
-ghost use Rattle.ls_threads.specs.Writing.{HasWritten, IsFinished, IsServed};
+ghost use Rattle.ls_threads.specs.Input.{HasHeard};
+ghost use Rattle.ls_threads.specs.Served.{IsServed, told_nothing};
+ghost use Rattle.ls_threads.specs.Settled.{is_settled};
+ghost use Rattle.ls_threads.specs.Writing.{HasWritten, IsFinished, WritesFrames};
 
 use crate::ending::{Early, Heard, Worked, Wrote, has_met_full_session, result_of};
 use crate::halt::halt;
 use crate::reading::Reader;
+use crate::settling::is_settled;
 use crate::working::work_on;
 use crate::writing::{Writer, Writes, Written, write_rest};
 use ls_desk::Desk;
@@ -66,7 +72,9 @@ struct Unread<C: Crew, I: Source> {
 
 impl<C: Crew, I: Source> Unread<C, I> {
     /// Reads up to the end, and ends the board as that asks for.
-    fn read_up<R: Wait>(self, rt: &R, board: &Board<C>, halted: &AtomicU64) -> ReadUp<C, I> {
+    fn read_up<R: Wait>(self, rt: &R, board: &Board<C>, halted: &AtomicU64) -> ReadUp<C, I>
+        ensures { HasHeard (I.remaining self.source) (I.remaining result.source) self.reader.session (record { list = self.reader.seat.list.items; checkpoints = self.reader.seat.checkpoints; strayed = self.reader.seat.strayed }) result.end (record { list = result.seat.list.items; checkpoints = result.seat.checkpoints; strayed = result.seat.strayed }) }
+    {
         let Unread {
             mut reader,
             mut source,
@@ -81,7 +89,9 @@ impl<C: Crew, I: Source> Unread<C, I> {
     }
 
     /// Reads nothing, where memory for the threads was refused.
-    fn given_up(self) -> ReadUp<C, I> {
+    fn given_up(self) -> ReadUp<C, I>
+        ensures { HasHeard (I.remaining self.source) (I.remaining result.source) self.reader.session (record { list = self.reader.seat.list.items; checkpoints = self.reader.seat.checkpoints; strayed = self.reader.seat.strayed }) result.end (record { list = result.seat.list.items; checkpoints = result.seat.checkpoints; strayed = result.seat.strayed }) }
+    {
         let Unread { reader, source } = self;
         let Reader { seat, .. } = reader;
         ReadUp {
@@ -104,7 +114,9 @@ struct Done<C: Crew, I: Source> {
 
 impl<C: Crew, I: Source> Done<C, I> {
     /// Nothing was read, and nobody has worked.
-    fn nothing(unread: Unread<C, I>, workers: Vec<WorkerSeat<C>>) -> Done<C, I> {
+    fn nothing(unread: Unread<C, I>, workers: Vec<WorkerSeat<C>>) -> Done<C, I>
+        ensures { HasHeard (I.remaining unread.source) (I.remaining result.read.source) unread.reader.session (record { list = unread.reader.seat.list.items; checkpoints = unread.reader.seat.checkpoints; strayed = unread.reader.seat.strayed }) result.read.end (record { list = result.read.seat.list.items; checkpoints = result.read.seat.checkpoints; strayed = result.read.seat.strayed }) }
+    {
         Done {
             read: unread.given_up(),
             workers,
@@ -130,47 +142,55 @@ fn read_and_work<
     seats: Vec<WorkerSeat<C>>,
     gate: &'a G,
     halted: &'a AtomicU64,
-) -> Done<C, I> {
-    thread::scope(thread::scope_env(), rt, |scope| {
-        let (Ok(mut handles), Ok(mut workers)) = (
-            Vec::with_capacity(alloc, seats.len()),
-            Vec::with_capacity(alloc, seats.len()),
-        ) else {
-            halt(rt, board, halted);
-            return Done::nothing(unread, seats);
-        };
-        let mut seats = seats;
-        let mut worked = Worked::All;
-        let mut made = true;
-        'seats: while let Some(seat) = seats.pop() {
-            match scope.spawn(move || work_on(rt, alloc, board, seat, gate, halted)) {
-                Ok(handle) => handles.push_reserved(handle),
-                Err(refused) => {
-                    halt(rt, board, halted);
-                    made = false;
-                    let (seat, fault) = (refused.value)();
-                    worked = worked.and(Worked::by(fault));
-                    workers.push_reserved(seat);
+) -> Done<C, I>
+    ensures { HasHeard (I.remaining unread.source) (I.remaining result.read.source) unread.reader.session (record { list = unread.reader.seat.list.items; checkpoints = unread.reader.seat.checkpoints; strayed = unread.reader.seat.strayed }) result.read.end (record { list = result.read.seat.list.items; checkpoints = result.read.seat.checkpoints; strayed = result.read.seat.strayed }) }
+{
+    thread::scope(
+        thread::scope_env(),
+        rt,
+        |scope| -> Done<C, I>
+            ensures { HasHeard (I.remaining unread.source) (I.remaining result.read.source) unread.reader.session (record { list = unread.reader.seat.list.items; checkpoints = unread.reader.seat.checkpoints; strayed = unread.reader.seat.strayed }) result.read.end (record { list = result.read.seat.list.items; checkpoints = result.read.seat.checkpoints; strayed = result.read.seat.strayed }) }
+        {
+            let (Ok(mut handles), Ok(mut workers)) = (
+                Vec::with_capacity(alloc, seats.len()),
+                Vec::with_capacity(alloc, seats.len()),
+            ) else {
+                halt(rt, board, halted);
+                return Done::nothing(unread, seats);
+            };
+            let mut seats = seats;
+            let mut worked = Worked::All;
+            let mut made = true;
+            'seats: while let Some(seat) = seats.pop() {
+                match scope.spawn(move || work_on(rt, alloc, board, seat, gate, halted)) {
+                    Ok(handle) => handles.push_reserved(handle),
+                    Err(refused) => {
+                        halt(rt, board, halted);
+                        made = false;
+                        let (seat, fault) = (refused.value)();
+                        worked = worked.and(Worked::by(fault));
+                        workers.push_reserved(seat);
+                    }
                 }
             }
-        }
-        let read = if made {
-            unread.read_up(rt, board, halted)
-        } else {
-            unread.given_up()
-        };
-        'handles: while let Some(handle) = handles.pop() {
-            let (seat, fault) = handle.join(rt);
-            worked = worked.and(Worked::by(fault));
-            workers.push_reserved(seat);
-        }
-        Done {
-            read,
-            workers,
-            worked,
-            made,
-        }
-    })
+            let read = if made {
+                unread.read_up(rt, board, halted)
+            } else {
+                unread.given_up()
+            };
+            'handles: while let Some(handle) = handles.pop() {
+                let (seat, fault) = handle.join(rt);
+                worked = worked.and(Worked::by(fault));
+                workers.push_reserved(seat);
+            }
+            Done {
+                read,
+                workers,
+                worked,
+                made,
+            }
+        },
+    )
 }
 
 /// What all threads leave.
@@ -200,7 +220,8 @@ fn run_threads<
     halted: &'a AtomicU64,
 ) -> Ran<C, I, W>
     requires none { (writer.seat.sent.share.amount ≡ 0) × (writer.seat.tickets.items ≡ []) × (writer.seat.notes.items ≡ []) }
-    ensures written { HasWritten (W.contents writer.sink) (W.contents result.written.sink) result.written.end result.written.seat.sent.share.amount result.written.seat.tickets.items result.written.seat.notes.items }
+    ensures written { HasWritten (W.contents writer.sink) (W.contents result.written.sink) (W.unflushed writer.sink) (W.unflushed result.written.sink) result.written.end result.written.seat.sent.share.amount result.written.seat.tickets.items result.written.seat.notes.items }
+    ensures heard { HasHeard (I.remaining unread.source) (I.remaining result.done.read.source) unread.reader.session (record { list = unread.reader.seat.list.items; checkpoints = unread.reader.seat.checkpoints; strayed = unread.reader.seat.strayed }) result.done.read.end (record { list = result.done.read.seat.list.items; checkpoints = result.done.read.seat.checkpoints; strayed = result.done.read.seat.strayed }) }
 {
     thread::scope(
         thread::scope_env(),
@@ -208,7 +229,8 @@ fn run_threads<
         |scope| -> Ran<C, I, W>
             requires send { IsSend C.row }
             requires none { (writer.seat.sent.share.amount ≡ 0) × (writer.seat.tickets.items ≡ []) × (writer.seat.notes.items ≡ []) }
-            ensures { HasWritten (W.contents writer.sink) (W.contents result.written.sink) result.written.end result.written.seat.sent.share.amount result.written.seat.tickets.items result.written.seat.notes.items }
+            ensures written { HasWritten (W.contents writer.sink) (W.contents result.written.sink) (W.unflushed writer.sink) (W.unflushed result.written.sink) result.written.end result.written.seat.sent.share.amount result.written.seat.tickets.items result.written.seat.notes.items }
+            ensures heard { HasHeard (I.remaining unread.source) (I.remaining result.done.read.source) unread.reader.session (record { list = unread.reader.seat.list.items; checkpoints = unread.reader.seat.checkpoints; strayed = unread.reader.seat.strayed }) result.done.read.end (record { list = result.done.read.seat.list.items; checkpoints = result.done.read.seat.checkpoints; strayed = result.done.read.seat.strayed }) }
         {
             let promise = Writes(Snapshot::of(&writer.sink));
             match scope.spawn_with(promise, move || writer.write_on(rt, alloc, board, halted)) {
@@ -234,6 +256,9 @@ fn finished<W: Sink>(alloc: Global, desk: Desk, sink: &mut W, full: bool, wrote:
     ensures failed { W.failed sink.new ≡ has_failed result }
     ensures all { result ≡ Wrote.All → (wrote ≡ Wrote.All) × IsFinished full desk (W.contents sink.old) (W.contents sink.new) }
     ensures kept { full ≡ false → result ≡ wrote }
+    ensures frames { WritesFrames (has_failed result) (W.contents sink.old) (W.contents sink.new) }
+    ensures still { has_failed wrote ≡ true → (result ≡ Wrote.Failed) × Appends (W.contents sink.old) (W.contents sink.new) [] }
+    ensures flushed { W.unflushed sink.old ≡ false → has_failed result ≡ false → W.unflushed sink.new ≡ false }
 {
     let mut desk = desk;
     let _sound = desk.journal();
@@ -258,20 +283,25 @@ fn finished<W: Sink>(alloc: Global, desk: Desk, sink: &mut W, full: bool, wrote:
     }
 }
 
-/// Closes the board, and answers for the run: `Strayed` only where the board can't be closed with these seats, or a worker has strayed. Once the
-/// session is full the desk's unsent replies are written, whatever else was met, unless the sink has failed.
+/// Closes the board, and answers for the run: `Strayed` only where the board can't be closed with these seats, its desk isn't as these ends leave
+/// it, or a worker has strayed. Once the session is full the desk's unsent replies are written, whatever else was met, unless the sink has failed.
 fn closed<C: Crew, I: Source + Drop, W: Sink + Drop>(
     alloc: Global,
     board: Board<C>,
+    input: Snapshot<I>,
     begun: Snapshot<W>,
     ran: Ran<C, I, W>,
 ) -> Served<I, W>
     requires parts { (C.workers ≡ C.parts) × (0 < C.parts) }
-    requires written { HasWritten (W.contents begun.value) (W.contents ran.written.sink) ran.written.end ran.written.seat.sent.share.amount ran.written.seat.tickets.items ran.written.seat.notes.items }
+    requires limit { C.max_events ≡ MOST_EVENTS }
+    requires written { HasWritten (W.contents begun.value) (W.contents ran.written.sink) (W.unflushed begun.value) (W.unflushed ran.written.sink) ran.written.end ran.written.seat.sent.share.amount ran.written.seat.tickets.items ran.written.seat.notes.items }
+    requires heard { HasHeard (I.remaining input.value) (I.remaining ran.done.read.source) BeforeInitialize told_nothing ran.done.read.end (record { list = ran.done.read.seat.list.items; checkpoints = ran.done.read.seat.checkpoints; strayed = ran.done.read.seat.strayed }) }
     ensures read { result.answer ≡ Err ServeFault.Read → (I.failed result.source || (I.reads result.source + 1 == 1099511627776)) ≡ true }
     ensures write { result.answer ≡ Err ServeFault.Write → W.failed result.sink ≡ true }
+    ensures frames { WritesFrames (W.failed result.sink) (W.contents begun.value) (W.contents result.sink) }
+    ensures flushed { W.unflushed begun.value ≡ false → W.failed result.sink ≡ false → W.unflushed result.sink ≡ false }
     ensures not_made { ran.done.made ≡ false → result.answer ≡ Err ServeFault.Memory }
-    ensures causes { ran.done.made ≡ true → (wrote : Wrote) × (audited : Bool) × ((result.answer ≡ result_of ran.done.read.end wrote ran.done.worked audited) × (W.failed result.sink ≡ has_failed wrote)
+    ensures causes { ran.done.made ≡ true → (wrote : Wrote) × (audited settled : Bool) × ((result.answer ≡ result_of ran.done.read.end wrote ran.done.worked audited settled) × (W.failed result.sink ≡ has_failed wrote)
         × (has_met_full_session ran.done.read.end ran.done.worked ≡ false → wrote ≡ ran.written.end)
         × (audited ≡ false → (fault : SeatFault) × HasCause ((ran.done.read.seat.mark ≡ board.mark) × (ran.written.seat.mark ≡ board.mark)
         × AreAll (λ seat. seat.mark) (λ seat. seat.number) board.mark board.workers ran.done.workers.items)
@@ -279,13 +309,18 @@ fn closed<C: Crew, I: Source + Drop, W: Sink + Drop>(
         (sum_by (λ seat. seat.returned.share.amount) ran.done.workers.items) (sum_by (λ seat. seat.finished.share.amount) ran.done.workers.items)
         ran.written.seat.sent.share.amount desk × HasLimits C.max_journal C.max_events desk)
         (record { list = ran.done.read.seat.list.items; checkpoints = ran.done.read.seat.checkpoints; strayed = ran.done.read.seat.strayed })
-        ran.written.seat.checkpoints ran.written.seat.tickets.items ran.written.seat.notes.items fault)) }
+        ran.written.seat.checkpoints ran.written.seat.tickets.items ran.written.seat.notes.items fault)
+        × (audited ≡ true → settled ≡ false → (desk : Seen) × HasLimits C.max_journal C.max_events desk × IsAudited ran.done.read.seat.asked.share.amount
+        (sum_by (λ seat. seat.took.share.amount) ran.done.workers.items) (sum_by (λ seat. seat.returned.share.amount) ran.done.workers.items)
+        (sum_by (λ seat. seat.finished.share.amount) ran.done.workers.items) ran.written.seat.sent.share.amount
+        ran.done.read.seat.list.items ran.written.seat.checkpoints ran.written.seat.tickets.items desk
+        × (is_settled C.max_events ran.done.read.end ran.done.worked desk ≡ false))) }
     ensures audited { OnOk result.answer ((desk : Seen) × HasLimits C.max_journal C.max_events desk × IsAudited ran.done.read.seat.asked.share.amount
         (sum_by (λ seat. seat.took.share.amount) ran.done.workers.items) (sum_by (λ seat. seat.returned.share.amount) ran.done.workers.items)
         (sum_by (λ seat. seat.finished.share.amount) ran.done.workers.items) ran.written.seat.sent.share.amount
-        ran.done.read.seat.list.items ran.written.seat.checkpoints ran.written.seat.tickets.items desk) }
-    ensures served { OnOk result.answer ((served : IsServed C.max_journal C.max_events (W.contents begun.value) (W.contents result.sink))
-        × (has_met_full_session ran.done.read.end ran.done.worked ≡ true → served.desk.outbox ≡ [])) }
+        ran.done.read.seat.list.items ran.written.seat.checkpoints ran.written.seat.tickets.items desk
+        × (is_settled C.max_events ran.done.read.end ran.done.worked desk ≡ true)) }
+    ensures served { IfOk result.answer (λ status. IsServed C.max_journal C.max_events status (I.remaining input.value) (I.remaining result.source) (W.contents begun.value) (W.contents result.sink)) }
 {
     let Ran { done, written } = ran;
     let Done {
@@ -309,12 +344,13 @@ fn closed<C: Crew, I: Source + Drop, W: Sink + Drop>(
     }
     let Ok(desk) = board.close(seat, writer, workers) else {
         return Served {
-            answer: result_of(end, wrote, worked, false),
+            answer: result_of(end, wrote, worked, false, false),
             source,
             sink,
         };
     };
     let _sound = desk.journal();
+    let settled = is_settled(&desk, MOST_EVENTS, end, worked);
     let wrote = finished(
         alloc,
         desk,
@@ -323,7 +359,7 @@ fn closed<C: Crew, I: Source + Drop, W: Sink + Drop>(
         wrote,
     );
     Served {
-        answer: result_of(end, wrote, worked, true),
+        answer: result_of(end, wrote, worked, true, settled),
         source,
         sink,
     }
@@ -356,7 +392,9 @@ fn serve<
     requires sink { W.failed sink ≡ false }
     ensures read { result.answer ≡ Err ServeFault.Read → (I.failed result.source || (I.reads result.source + 1 == 1099511627776)) ≡ true }
     ensures write { result.answer ≡ Err ServeFault.Write → W.failed result.sink ≡ true }
-    ensures served { OnOk result.answer (IsServed max_journal MOST_EVENTS (W.contents sink) (W.contents result.sink)) }
+    ensures frames { WritesFrames (W.failed result.sink) (W.contents sink) (W.contents result.sink) }
+    ensures flushed { W.unflushed sink ≡ false → W.failed result.sink ≡ false → W.unflushed result.sink ≡ false }
+    ensures served { IfOk result.answer (λ status. IsServed max_journal MOST_EVENTS status (I.remaining source) (I.remaining result.source) (W.contents sink) (W.contents result.sink)) }
 {
     let desk = Desk::new(alloc, max_journal, MOST_EVENTS);
     let Ok((board, client, writer, seats)) = Board::<C>::new(alloc, blanks, MARK, desk, workers)
@@ -367,6 +405,7 @@ fn serve<
             sink,
         };
     };
+    let input = Snapshot::of(&source);
     let begun = Snapshot::of(&sink);
     let session = Session::new(alloc);
     let reader = Reader {
@@ -378,14 +417,19 @@ fn serve<
     let unread = Unread { reader, source };
     let writer = Writer { seat: writer, sink };
     let ran = run_threads(rt, alloc, &board, unread, writer, seats, gate, &halted);
-    closed(alloc, board, begun, ran)
+    closed(alloc, board, input, begun, ran)
 }
 
 /// Serves one client with 1 to 8 workers, each in a thread of its own, and gives the source and the sink back.
 ///
-/// The answer is `Ok` only where the board was closed, and its journal is what the seats were told; what was written are then the frames of the
-/// replies that left. `Read`: the source failed, or was read one time less than [`ls_server::READS_END`]. `Write`: the sink failed. `Strayed`: the
-/// board wasn't closed, or the desk didn't know what ran. `Memory`: an allocation was refused, or a thread couldn't be made.
+/// With `Ok` there is a desk with a legal journal. Its client's events since its last checkpoint are what the messages of the input left, in
+/// their order. What was written are the frames of as many replies as it sent, of which the last are its own but for their answers. The status
+/// is how the reader ended, no job waits and no reply is unsent; or it says that the session is full, and this desk nearly is.
+///
+/// `Read`: the source failed, or was read one time less than [`ls_server::READS_END`]. `Write`: the sink failed. `Strayed`: the board wasn't
+/// closed, the desk didn't know what ran, or something was left undone. `Memory`: an allocation was refused, or a thread couldn't be made.
+/// With any answer what was written are whole frames, and a front of one more only where the sink failed; and where it held nothing back and
+/// hasn't failed, it holds nothing back.
 ///
 /// Each worker passes the gate between the take of a job and its run.
 pub fn serve_threads<
@@ -400,7 +444,9 @@ pub fn serve_threads<
     requires sink { W.failed sink ≡ false }
     ensures read { result.answer ≡ Err ServeFault.Read → (I.failed result.source || (I.reads result.source + 1 == 1099511627776)) ≡ true }
     ensures write { result.answer ≡ Err ServeFault.Write → W.failed result.sink ≡ true }
-    ensures served { OnOk result.answer (IsServed MOST_JOURNAL MOST_EVENTS (W.contents sink) (W.contents result.sink)) }
+    ensures frames { WritesFrames (W.failed result.sink) (W.contents sink) (W.contents result.sink) }
+    ensures flushed { W.unflushed sink ≡ false → W.failed result.sink ≡ false → W.unflushed result.sink ≡ false }
+    ensures served { IfOk result.answer (λ status. IsServed MOST_JOURNAL MOST_EVENTS status (I.remaining source) (I.remaining result.source) (W.contents sink) (W.contents result.sink)) }
 {
     serve_with_journal(rt, alloc, source, sink, workers, gate, MOST_JOURNAL)
 }
@@ -427,7 +473,9 @@ pub fn serve_with_journal<
     requires sink { W.failed sink ≡ false }
     ensures read { result.answer ≡ Err ServeFault.Read → (I.failed result.source || (I.reads result.source + 1 == 1099511627776)) ≡ true }
     ensures write { result.answer ≡ Err ServeFault.Write → W.failed result.sink ≡ true }
-    ensures served { OnOk result.answer (IsServed max_journal MOST_EVENTS (W.contents sink) (W.contents result.sink)) }
+    ensures frames { WritesFrames (W.failed result.sink) (W.contents sink) (W.contents result.sink) }
+    ensures flushed { W.unflushed sink ≡ false → W.failed result.sink ≡ false → W.unflushed result.sink ≡ false }
+    ensures served { IfOk result.answer (λ status. IsServed max_journal MOST_EVENTS status (I.remaining source) (I.remaining result.source) (W.contents sink) (W.contents result.sink)) }
 {
     serve::<Brand, R, I, W, G>(
         rt,

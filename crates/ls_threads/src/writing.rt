@@ -34,20 +34,23 @@ pub struct Written<C: Crew, W: Sink> {
     pub ghost failed: { W.failed sink ≡ has_failed end },
 }
 
-/// What a writer's thread promises of a sink that it was given: what it wrote there are the frames of the replies that its seat was given.
+/// What a writer's thread promises of a sink that it was given: what it wrote there are the frames of as many replies as its seat was given.
 #[derive(Drop)]
 pub struct Writes<W>(pub Snapshot<W>);
 
 impl<C: Crew, W: Sink> Promise<Written<C, W>> for Writes<W> {
-    ghost kept_by = { λ promise left. HasWritten (W.contents promise.0.value) (W.contents left.sink) left.end left.seat.sent.share.amount left.seat.tickets.items left.seat.notes.items };
+    ghost kept_by = { λ promise left. HasWritten (W.contents promise.0.value) (W.contents left.sink) (W.unflushed promise.0.value) (W.unflushed left.sink) left.end left.seat.sent.share.amount left.seat.tickets.items left.seat.notes.items };
 }
 
-/// Writes the frame of a reply, and hands it on. `All`: all of it was written and handed on. Else a front of it was written.
+/// Writes the frame of a reply, and flushes it. `All`: all of it was written. `Failed`: a front of it was. `Memory`: nothing was. A sink that held
+/// nothing back and doesn't fail holds nothing back.
 pub fn put<W: Sink>(alloc: Global, sink: &mut W, out: Out) -> Wrote
     requires { W.failed sink.old ≡ false }
     ensures failed { W.failed sink.new ≡ has_failed result }
     ensures all { result ≡ Wrote.All → Appends (W.contents sink.old) (W.contents sink.new) (frame_for out) }
     ensures front { AppendsFront (W.contents sink.old) (W.contents sink.new) (frame_for out) }
+    ensures none { result ≡ Wrote.Memory → Appends (W.contents sink.old) (W.contents sink.new) [] }
+    ensures flushed { W.unflushed sink.old ≡ false → has_failed result ≡ false → W.unflushed sink.new ≡ false }
 {
     let Ok(frame) = framed(alloc, out) else {
         return Wrote::Memory;
@@ -73,7 +76,7 @@ impl<C: Crew, W: Sink> Writer<C, W> {
         halted: &AtomicU64,
     ) -> Written<C, W>
         requires none { (self.seat.sent.share.amount ≡ 0) × (self.seat.tickets.items ≡ []) × (self.seat.notes.items ≡ []) }
-        ensures { HasWritten (W.contents self.sink) (W.contents result.sink) result.end result.seat.sent.share.amount result.seat.tickets.items result.seat.notes.items }
+        ensures { HasWritten (W.contents self.sink) (W.contents result.sink) (W.unflushed self.sink) (W.unflushed result.sink) result.end result.seat.sent.share.amount result.seat.tickets.items result.seat.notes.items }
     {
         let Writer { mut seat, mut sink } = self;
         for _ in rt.forever() {
@@ -112,7 +115,9 @@ impl<C: Crew, W: Sink> Writer<C, W> {
 pub fn write_rest<W: Sink>(alloc: Global, desk: &mut Desk, sink: &mut W) -> Wrote
     requires { W.failed sink.old ≡ false }
     ensures failed { W.failed sink.new ≡ has_failed result }
-    ensures all { result ≡ Wrote.All → HasTold desk.old desk.new (W.contents sink.old) (W.contents sink.new) × (desk.new.outbox ≡ []) }
+    ensures told { HasTold result desk.old desk.new (W.contents sink.old) (W.contents sink.new) }
+    ensures all { result ≡ Wrote.All → desk.new.outbox ≡ [] }
+    ensures flushed { W.unflushed sink.old ≡ false → has_failed result ≡ false → W.unflushed sink.new ≡ false }
 {
     'replies: while let Some(out) = desk.next_out() {
         match put(alloc, sink, out) {

@@ -2,9 +2,9 @@
 //! what they are made of: frames, messages, and the lists and texts that these hold.
 //!
 //! They stand above the crates that they test, since a crate with tests is proved twice. No contract says that there is memory: here each
-//! run by steps succeeds. No clause says that several threads ran, that one that waits wakes, or that all that was asked is answered: here
-//! each session is served by 1, 2, 4 and 8 workers, and one of them can only end where a hover is answered while another worker holds an
-//! earlier one.
+//! run by steps succeeds. No clause says that several threads ran, that one that waits wakes, or that a run ends, and ends well: here each
+//! session is served by 1, 2, 4 and 8 workers, and one of them can only end where a hover is answered while another worker holds an earlier
+//! one.
 #![tactic(auto)]
 
 #[cfg(test)]

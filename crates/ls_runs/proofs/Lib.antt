@@ -1,0 +1,3 @@
+pub mod Askers
+pub mod Answered
+pub mod Whole
