@@ -19,12 +19,13 @@ from edits.functions import is_in
 from edits.libraries import Gate, Libraries
 from edits.store import KINDS, NoStore, Store
 from edits.trial import Trial
-from edits.verdict import BOUND_TEXT, TIMED_OUT, is_at_a_bound, read_check, refusal, verdict_alone, why_unclean
+from edits.verdict import BOUND_TEXT, TIMED_OUT, against, against_named, is_at_a_bound, read_check, refusal, verdict_alone, why_unclean
 from refused_edits import untested
 
 END, WHOLE_END = "only=3 holes=9", "logic=not-proved"
 F, G, H, TWIN = "fn made::f: ", "fn made::g: ", "fn made::h: ", "fn made::f_twin0: "
 DONE, HOLE, WAITS = "no holes", "depends on a hole in `made::k`", "not proved; it calls `made::f`, which is not proved"
+OWN_HOLE = "depends on a hole in `Rattle.made.proofs.f.Proof.f_spec`"
 GOAL = "note: src/lib.rt:{}:5: it is not proved: a ≡ b"
 TWINS_GOAL, FS_GOAL, GS_GOAL = GOAL.format(12), GOAL.format(2), GOAL.format(22)
 BREAK = "note: what antt said of a `search` in the proof that rattle made: src/lib.rt:12:5: error: `search`: give the call less to do"
@@ -69,6 +70,8 @@ LOGS = (
     ("the witness fails", 1, [*CLEAN[:3], GS_GOAL, f"{G}not proved", END], NONE),
     ("the witness has no proof", 1, [*CLEAN[:3], f"{G}no proof: its file is missing", END], NONE),
     ("a lemma fails", 1, [*CLEAN[:-1], LEMMA, END], NONE),
+    ("the function without its edit is left out", 1, [f"{F}{OWN_HOLE}", *CLEAN[1:]], NONE),
+    ("a search gave up", 1, [f"{F}{DONE}", f"{TWINS_GOAL}; `search` gave up at one of its limits", *CLEAN[2:]], BOUND),
     ("the edited function can't be told", 1, [f"{F}{DONE}", f"{TWIN}could not tell", f"{G}{HOLE}", END], KEPT),
 )
 ALONE = (
@@ -119,7 +122,7 @@ def shown_by(status, log):
     why = why or why_unclean(said, lambda name: is_in(name, {"f_twin0"}), ("f", "g"))
     if why:
         return NONE
-    text = refusal(said.faults.get("f_twin0", []))
+    text = refusal(against(said, {"f_twin0"}))
     return KEPT if not text else BOUND if is_at_a_bound(text) else REFUSED
 
 
@@ -130,6 +133,14 @@ def logs():
     said, why = read_check(1, f"{FS_GOAL}\n{F}not proved\n{G}{WAITS}\n{END}\n", "made", function_at)
     for is_direct, wanted in ((True, None), (False, "g isn't edited and isn't shown to be proved")):
         yield f"a caller waits, {is_direct}", why or why_unclean(said, lambda name: name == "f", ("g",), is_direct), wanted
+
+
+    # an edit that names f is refused where f isn't proved, as it has a goal of its own or stands on a lemma that fails
+    stands = f"{F}not proved; it stands on `Rattle.made.proofs.Laws.law`, which antt refuses"
+    for fs_line, wanted in ((stands, 1), (f"{F}{DONE}", 0), (f"{F}could not tell", 0)):
+        said, why = read_check(1, "\n".join([LEMMA, fs_line, f"{G}{HOLE}", END]), "made", function_at)
+        yield f"a lemma, {fs_line}", (why, len(against_named(said, ["f"]))), (None, wanted)
+        yield f"a lemma, {fs_line}, and all is checked", len(against_named(said, [])), 1
 
 
 def alone():

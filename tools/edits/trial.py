@@ -8,7 +8,7 @@ import threading
 from edits import checks, copies, kit
 from edits.files import BAD_NAME, edits_in, write
 from edits.functions import Source, is_in
-from edits.verdict import TIMED_OUT, IS_FINAL, read_check, refusal, verdict_alone, why_unclean
+from edits.verdict import IS_FINAL, TIMED_OUT, against, against_named, is_lemma, read_check, refusal, verdict_alone, why_unclean
 
 SAME = "MEANS THE SAME AS BEFORE"
 # What rattle said in the last check of each thread that `rt` asked for.
@@ -79,7 +79,8 @@ class Trial:
             said, why = read_check(ended.returncode, ended.stdout, self.crate.name, lambda *at: self.source.function_at(folder, *at))
             edited = made.edited() | self.source.with_cycles(named)
             if flags and not why:
-                why = why_unclean(said, lambda name: is_in(name, edited), whole, made.is_direct())
+                # (what a function stands on that an edit of something else names may be lemmas of that)
+                why = why_unclean(said, lambda name: is_in(name, edited) or bool(named) and is_lemma(name), whole, made.is_direct())
             if self.given.log:
                 with open(f"{self.given.log}/{self.crate.name}", "a", encoding="utf-8") as it:
                     names = " ".join(it.name for it in made.edits)
@@ -104,7 +105,7 @@ class Trial:
             for edit in made.edits:
                 # (that of which an edit is a fault must be proved without it)
                 if (edit.twins.keys() or edit.functions) <= self.shown:
-                    self.judge(made, edit, [line for name, lines in said.faults.items() if is_in(name, edit.functions) for line in lines])
+                    self.judge(made, edit, against(said, edit.functions))
         elif why in IS_FINAL:
             self.not_tried(made.edits, f"of its copy, {why}")
         elif len(made.edits) > 1:
@@ -120,7 +121,7 @@ class Trial:
             self.not_tried([edit], f"of its copy, {why}")
         elif not why and {*edit.checked} <= self.shown:
             made.has_counted = True
-            self.judge(made, edit, [line for lines in said.faults.values() for line in lines])
+            self.judge(made, edit, against_named(said, edit.checked))
         if edit.is_same and not made.has_counted:
             self.results[edit.name] = False, f"{SAME}, and its copy doesn't count: {why or 'what it names is not shown to be proved'}"
 

@@ -6,6 +6,7 @@ or an error was read, and its last line is that of a check that went to its end.
 import collections
 import re
 
+from edits.functions import is_in
 from edits.kit import IS_REFUSED, MISSED, REFUSED, RTLIB
 
 # The status of a check that was killed since it took too long: rattle's own are 0 to 3.
@@ -20,7 +21,7 @@ GOAL = re.compile(
     r"note: (?:what antt said of a `search` in the proof that rattle made: )?(?:\./)?(src/[^:]*):(\d+):(\d+): "
     r"(?:it is not proved|`search` found no proof|error: `[^`]*`: give the call less to do)"
 )
-BROKE_OFF = re.compile(r"error: `[^`]*`: give the call less to do")
+BROKE_OFF = re.compile(r"error: `[^`]*`: give the call less to do|`search` gave up at one of its limits")
 ERROR = re.compile(r"(?:\./)?(\S+?):\d+:\d+: error: (`[^`]*`(?:: | is not admitted)|\d+ declarations? that depend|module `)?")
 PROOF_FILE = re.compile(r"proofs/(.*)/(Answers|Proof|Invariants)\.antt")
 # What is proved, or was where the holes that it rests on are filled.
@@ -55,9 +56,10 @@ class Said:
             self.untold.add(name)
         elif goals or not PROVED.match(told) and not WAITS.match(told):
             self.faults[name] += goals or [f"fn {name}: {told}"]
-        elif PROVED.match(told):
+        elif PROVED.match(told) and f".proofs.{name.replace('::', '.')}.Proof." not in told:
             self.proved.add(name)
         else:
+            # (or its proof itself is left out)
             self.waiting.add(name)
 
 
@@ -118,6 +120,22 @@ def why_unclean(said, is_edited, whole, is_direct=False):
     shown = said.proved | (said.waiting if is_direct else set())
     lacking = sorted({*whole} - shown)
     return f"{lacking[0]} isn't edited and isn't shown to be proved" if lacking else None
+
+
+def against(said, functions):
+    """What is said against an edit of these functions' bodies."""
+    return [line for name, lines in said.faults.items() if is_in(name, functions) for line in lines]
+
+
+def against_named(said, named):
+    """What is said against an edit of something else: all, also of lemmas, unless the functions that it names are proved, or can't be told."""
+    is_open = not named or {*named} - said.proved and said.untold.isdisjoint(named)
+    return [line for lines in said.faults.values() for line in lines] if is_open else []
+
+
+def is_lemma(name):
+    """Whether a fault is one of a file of lemmas."""
+    return name.startswith("proofs/")
 
 
 def refusal(lines):
