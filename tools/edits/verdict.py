@@ -128,7 +128,7 @@ def against(said, functions):
 
 
 def against_named(said, named):
-    """What is said against an edit of something else: all, also of lemmas, unless the functions that it names are proved, or can't be told."""
+    """What is said against an edit of something else: all, also of lemmas, unless what it names is proved or can't be told."""
     is_open = not named or {*named} - said.proved and said.untold.isdisjoint(named)
     return [line for lines in said.faults.values() for line in lines] if is_open else []
 
