@@ -151,7 +151,8 @@ def refusal(lines):
 def verdict_alone(kind, text, log, is_same):
     """Whether it is well what an edit came to alone and from nothing, and what to say of it."""
     if is_same:
-        return kind == MISSED, text if kind == MISSED else f"MEANS THE SAME AS BEFORE, and alone it came to: {text}"
+        is_well = kind == MISSED
+        return is_well, "means the same as before, and is not refused alone" if is_well else f"MEANS THE SAME AS BEFORE, and alone: {text}"
     shown = refusal([it for it in log.split("\n") if GOAL.match(it) or ERROR.match(it)]) or ""
     return kind in IS_REFUSED, shown if kind == REFUSED and shown.startswith(BOUND_TEXT) else text
 
