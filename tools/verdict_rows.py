@@ -20,7 +20,7 @@ from edits.libraries import Gate, Libraries
 from edits.store import KINDS, NoStore, Store
 from edits.trial import Trial
 from edits.verdict import BOUND_TEXT, TIMED_OUT, against, against_named, is_at_a_bound, read_check, refusal, verdict_alone, why_unclean
-from refused_edits import untested
+from refused_edits import unread, untested
 
 END, WHOLE_END = "only=3 holes=9", "logic=not-proved"
 F, G, H, TWIN = "fn made::f: ", "fn made::g: ", "fn made::h: ", "fn made::f_twin0: "
@@ -334,6 +334,8 @@ def self_test():
         yield "the tool is tried", untested([trial], same), None
         yield "no edits of the same meaning", bool(untested([trial], empty)), True
         yield "no crate to try it on", bool(untested([], same)), True
+        for names, wanted in (([], True), (["made"], False)):
+            yield f"the tool is tried, {names}", any("isn't tried" in it for it in unread([trial], [], names)), wanted
         for name in SAME:
             os.rename(f"{same}/{name}.edit", f"{same}/other")
             lacking = Trial(trial.crate, trial.given, NoStore(), same)
@@ -392,6 +394,7 @@ def libraries():
         ("it was proved, and something else may stand there", "rt: made proved\n", False, False, False),
         ("it isn't proved", "rt: made NOT PROVED\n", False, False, False),
         ("its tests are proved", "rt: made: its tests are proved\n", False, False, False),
+        ("it isn't proved yet, and then the gate ends", "rt: low proved\n", None, False, False),
     )
     for name, log, is_running, is_kept, wanted in rows:
         with tempfile.TemporaryDirectory() as at:
@@ -402,7 +405,8 @@ def libraries():
             write(f"{at}/log", log)
             gate, store = Gate(f"{at}/log"), NoStore()
             store.gives = lambda crate: is_kept
-            os.rename(f"{at}/log", f"{at}/log" if is_running else f"{at}/ended")
+            states = [True, False] if is_running is None else [is_running]
+            gate.is_running = lambda: states.pop(0)
             found = [is_there for _, is_there in Libraries(at, store, gate).arriving([crate])]
             yield f"libraries: {name}", (found, os.path.isfile(f"{crate.rlib}/format")), ([wanted], wanted and not is_kept)
 
