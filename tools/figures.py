@@ -81,6 +81,7 @@ FIGURES = (
     Figure(README, "**Devices**: {} runs in which", failing_devices_of),
     Figure(README, "**Input**: {} random streams", count_of("cases broken_input.COUNT")),
     Figure(README, "**Order**: {} random sessions", count_of("cases random_steps.SESSIONS")),
+    Figure(README, "{} random sessions they are shaken", count_of("cases shaken_threads.COUNT")),
     Figure(README, "**Proofs**: {} edits of code", lambda counts: all_of(counts, "edits")[0]),
     Figure(GATE, "(../counts.txt) has {} edits in {} crates", lambda counts: all_of(counts, "edits")),
     Figure(TESTING, "| tests of the crates | {} in {} crates |", lambda counts: all_of(counts, "tests")),
@@ -101,6 +102,7 @@ FIGURES = (
     Figure(TESTING, "| random streams | {} |", count_of("cases broken_input.COUNT")),
     Figure(TESTING, "| allocations refused to threads | {} |", REFUSED_TO_THREADS),
     Figure(TESTING, "| random sessions | {} of {} messages |", counts_of("cases random_steps.SESSIONS", "cases random_steps.MESSAGES")),
+    Figure(TESTING, "| sessions with shaken threads | {} |", count_of("cases shaken_threads.COUNT")),
     Figure(TESTING, "| random grammars | {} |", count_of("cases worked_grammars.random")),
     # (two tests each make so many)
     Figure(TESTING, "| random edits of long texts | {} |", lambda counts: 2 * counts["cases worked_texts.seams"]),
