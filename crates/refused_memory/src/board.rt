@@ -183,10 +183,14 @@ fn session<C: Crew, R: Wait>(
     })
 }
 
+fn begun<R: Wait>(rt: &HostRuntime, waits: &R) -> Result<io::Result<()>, AllocError> {
+    session::<Brand, R>(rt, waits, Blanks::new(1))
+}
+
 /// Plays the session, and prints what the board answers. The second handle is the one to wait by.
 pub fn run<R: Wait>(rt: &HostRuntime, waits: &R) -> io::Result<()> {
-    let ended = match session::<Brand, R>(rt, waits, Blanks::new(1)) {
-        Err(AllocError) => session::<Brand, R>(rt, waits, Blanks::new(1)),
+    let ended = match begun(rt, waits) {
+        Err(AllocError) => begun(rt, waits),
         ended => ended,
     };
     match ended {
