@@ -37,6 +37,7 @@ KINDS = (
     *("pauses at futex calls", "pauses at allocations", "pauses at reads", "pauses at writes"),
     *("waits that return early", "wake-ups that come late", "short reads", "short writes", "threads begun", "threads ended"),
 )
+AT_WAITS = ("pauses at futex calls", "waits that return early", "wake-ups that come late")
 COUNTED = re.compile(rb"shaken((?: [0-9]+)*)\n")
 
 # The program ends by _exit. A wait that returns early says that it was woken, or interrupted, at once or after a little while.
@@ -503,6 +504,12 @@ def told(sessions):
     return counts
 
 
+def out_of_reach(program):
+    """The kinds that there can't be: a program of Rattle's own compiler waits by system calls of its own, before which no library stands."""
+    with open(program, "rb") as file:
+        return [] if b"\0syscall\0" in file.read() else [*AT_WAITS]
+
+
 def cases(program, count=COUNT, seed=SEED, plain=rows.PLAIN):
     """What was tried, what was wrong with it, and what must be wrong: nothing."""
     with rows.library(LIBRARY) as made, concurrent.futures.ThreadPoolExecutor(AT_ONCE * len(os.sched_getaffinity(0))) as pool:
@@ -511,7 +518,7 @@ def cases(program, count=COUNT, seed=SEED, plain=rows.PLAIN):
     yield f"{count} sessions with shaken threads", faults[:3], [], count
     counts = told(sessions)
     listed = ", ".join(f"{number} {kind}" for kind, number in counts.items())
-    yield f"what there was in these: {listed}", [kind for kind, number in counts.items() if number == 0], []
+    yield f"what there was in these: {listed}", [kind for kind, number in counts.items() if number == 0], out_of_reach(program)
 
 
 def main(program=rows.SERVER, count=COUNT, seed=SEED, plain=rows.PLAIN):
