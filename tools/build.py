@@ -195,7 +195,8 @@ class Proofs:
         passed, whole = time.monotonic() - self.start_time, max(self.chains.values())
         left = max((self.chains[it] for it in self.below if it not in self.done), default=0)
         minutes, seconds = divmod(int(passed), 60)
-        rest = f", about {left * passed / (whole - left) / 60:.0f} minutes left" if 0 < left < whole else ""
+        rest = round(left * passed / (whole - left) / 60) if left < whole else 0
+        rest = f", about {rest} minutes left" if rest > 1 else ", a minute or less left" if left else ""
         now = ", ".join(it for it in self.begun if it not in self.done)
         say(f"{len(self.done)} of {len(self.below)} crates after {minutes}:{seconds:02}{rest}{now and f', now {now}'}")
 

@@ -80,7 +80,8 @@ class Lanes:
             if has_less:
                 os.setpriority(os.PRIO_PROCESS, threading.get_native_id(), LESS_PRIORITY)
             if task.lines and task.key[1] == "proof":
-                print(f"begins: {task.key[0]}", flush=True)
+                # (at once, since other threads write too)
+                os.write(sys.stdout.fileno(), f"begins: {task.key[0]}\n".encode())
             try:
                 future.set_result(task.call(self.given, jobs))
             except BaseException as error:
