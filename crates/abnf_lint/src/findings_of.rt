@@ -8,6 +8,7 @@ ghost use Rattle.abnf_names.specs.Excerpts.{HasSections, excerpt};
 ghost use Rattle.abnf_lint.specs.Findings as spec;
 ghost use Rattle.abnf_lint.specs.Passes as passes;
 ghost use Rattle.abnf_lint.specs.Order.{AreOrdered};
+ghost use Rattle.abnf_lint.specs.Unproductive.{AreUnproductive};
 
 use crate::block::{Seen, push_block};
 use crate::finding::Finding;
@@ -139,6 +140,25 @@ fn in_order(found: List<Finding>) -> Result<List<Finding>, AllocError>
     Ok(List::from_vec(found))
 }
 
+/// What is found in a grammar's text, by line, start and row of the table, where it is marked of each rule whether it is unproductive:
+/// whether it generates no string and leads to no prose and no faulty block.
+///
+/// # Errors
+///
+/// Where an allocation is refused.
+pub fn findings_marked(
+    alloc: Global,
+    grammar: &Grammar,
+    marks: &[bool],
+) -> Result<List<Finding>, AllocError>
+    requires { AreUnproductive grammar.now.rules marks.now }
+    ensures { IfOk result (λ found. spec.AreFindings grammar.now.text found) }
+{
+    let found = candidates(alloc, grammar, marks, grammar.sections())?;
+    let found = in_order(found)?;
+    Ok(found)
+}
+
 /// What is found in a grammar's text, by line, start and row of the table. The certificate must be accepted for the grammar: a rule
 /// is unproductive exactly where it generates no string and leads to no prose and no faulty block.
 ///
@@ -150,7 +170,5 @@ pub fn findings(alloc: Global, grammar: &Grammar, cert: &Cert) -> Result<List<Fi
     ensures { IfOk result (λ found. spec.AreFindings grammar.now.text found) }
 {
     let marks = unproductive_rules(alloc, grammar, cert)?;
-    let found = candidates(alloc, grammar, marks.as_slice(), grammar.sections())?;
-    let found = in_order(found)?;
-    Ok(found)
+    findings_marked(alloc, grammar, marks.as_slice())
 }

@@ -13,7 +13,7 @@ mod message;
 mod unproductive;
 
 pub use finding::{Code, Finding};
-pub use findings_of::findings;
+pub use findings_of::{findings, findings_marked};
 pub use laws::{
     findings_are_the_rows, findings_are_unique, findings_ascend, ordered_rows_are_findings,
 };

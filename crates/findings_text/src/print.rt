@@ -6,9 +6,9 @@ ghost use Rattle.findings_text.specs.Print.{IsPrinted, finding_line};
 
 use crate::line::push_line;
 use crate::outcome::{Outcome, outcome_of};
-use abnf_least::least;
-use abnf_lint::{Finding, findings};
+use abnf_lint::Finding;
 use abnf_names::Grammar;
+use abnf_productive::findings_in;
 use ls_lists::{List, Text};
 use ls_text::{Encoding, Ruler, Snapshot};
 use std::alloc::{AllocError as Memory, Global};
@@ -21,20 +21,12 @@ pub struct Printed {
     pub outcome: Outcome,
 }
 
-/// The findings in the text of a grammar.
-fn found_by(alloc: Global, grammar: &Grammar) -> Result<List<Finding>, Memory>
-    ensures { IfOk result (λ found. AreFindings grammar.now.text found) }
-{
-    let cert = least(alloc, grammar)?;
-    findings(alloc, grammar, &cert)
-}
-
 /// The findings of a text. Its grammar is let go here.
 fn found_in(alloc: Global, text: &Snapshot) -> Result<List<Finding>, Memory>
     ensures { IfOk result (λ found. AreFindings text.now found) }
 {
     let grammar = Grammar::of(alloc, text)?;
-    let found = found_by(alloc, &grammar);
+    let found = findings_in(alloc, &grammar);
     drop(grammar);
     found
 }

@@ -1,12 +1,11 @@
 //! What is wrong or doubtful in a text, as a client is told.
 ghost use Rattle.std.specs.Prelude.{◌≡◌, IfOk, map};
-ghost use Rattle.abnf_lint.specs.Findings.{AreFindings};
 ghost use Rattle.ls_answers.specs.Diagnostics.{AreDiagnostics, diagnostic_of};
 
 use crate::answer::Diagnostic;
-use abnf_least::least;
-use abnf_lint::{Finding, findings};
+use abnf_lint::Finding;
 use abnf_names::Grammar;
+use abnf_productive::findings_in;
 use ls_lists::List;
 use ls_text::{Encoding, Ruler, Snapshot};
 use std::alloc::{AllocError as Memory, Global};
@@ -21,16 +20,8 @@ pub fn diagnostics(
 ) -> Result<List<Diagnostic>, Memory>
     ensures { IfOk result (λ diagnostics. AreDiagnostics encoding grammar.now.text diagnostics) }
 {
-    let found = found_in(alloc, grammar)?;
+    let found = findings_in(alloc, grammar)?;
     told(alloc, grammar.source(), encoding, found.as_slice())
-}
-
-/// The findings of a grammar's text.
-fn found_in(alloc: Global, grammar: &Grammar) -> Result<List<Finding>, Memory>
-    ensures { IfOk result (λ found. AreFindings grammar.now.text found) }
-{
-    let cert = least(alloc, grammar)?;
-    findings(alloc, grammar, &cert)
 }
 
 /// Findings with their ranges and messages.

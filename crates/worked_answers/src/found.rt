@@ -3,6 +3,7 @@
 use abnf_least::least;
 use abnf_lint::{Finding, Severity, findings};
 use abnf_names::Grammar;
+use abnf_productive::findings_in;
 use ls_lists::List;
 use ls_text::{Place, Snapshot};
 use std::alloc::{AllocError, Global};
@@ -44,15 +45,18 @@ fn told(alloc: Global, found: &[Finding]) -> Result<String, AllocError> {
     Ok(told)
 }
 
-fn found_in(alloc: Global, grammar: &Grammar<'_>) -> Result<List<Finding>, AllocError> {
+fn found_by_cert(alloc: Global, grammar: &Grammar<'_>) -> Result<List<Finding>, AllocError> {
     let cert = least(alloc, grammar)?;
     findings(alloc, grammar, &cert)
 }
 
+/// Whether just this is found, with a certificate and without one.
 fn tells(alloc: Global, grammar: &Grammar<'_>, want: &str) -> Result<bool, AllocError> {
-    let found = found_in(alloc, grammar)?;
-    let told = told(alloc, found.as_slice())?;
-    Ok(told.as_str() == want)
+    let found = findings_in(alloc, grammar)?;
+    let by_cert = found_by_cert(alloc, grammar)?;
+    let found = told(alloc, found.as_slice())?;
+    let by_cert = told(alloc, by_cert.as_slice())?;
+    Ok(found.as_str() == want && by_cert.as_str() == want)
 }
 
 /// Whether just this is found in a text.

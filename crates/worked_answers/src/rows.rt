@@ -42,6 +42,22 @@ fn rules_that_generate_nothing(rt: HostRuntime) -> Result<(), Fail> {
     Ok(())
 }
 
+/// Each rule leads to the other end of what is left, so that of sweeps in either order each finds one more.
+const TO_AND_FRO: &str =
+    "a = x\nb = w\nc = v\nd = u\ne = t\nf = s\ng = r\nh = q\ni = p\nj = o\nk = n\nl = m\nm = \"x\"\nn = l\no = k\np = j\nq = i\nr = h\ns = g\nt = f\nu = e\nv = d\nw = c\nx = b\nz = z";
+
+#[test]
+fn references_to_and_fro(rt: HostRuntime) -> Result<(), Fail> {
+    assert!(rt;
+        finds(
+            rt.alloc(),
+            TO_AND_FRO,
+            "24:0-24:1 2 unproductive rule z generates nothing\n"
+        )?
+    );
+    Ok(())
+}
+
 #[test]
 fn names_that_stand_for_nothing(rt: HostRuntime) -> Result<(), Fail> {
     assert!(rt;

@@ -1,0 +1,5 @@
+pub mod Law
+pub mod Sound
+pub mod Closed
+pub mod Nodes
+pub mod Roots

@@ -1,0 +1,47 @@
+//! What is found in a text, by which of its rules generate anything.
+
+ghost use Rattle.std.specs.Prelude.{◌≡◌, ◌<◌, ◌↔◌, IfOk, IsTrue, length};
+ghost use Rattle.abnf_lint.specs.Findings.{AreFindings};
+ghost use Rattle.abnf_lint.specs.Unproductive.{AreUnproductive, IsUnproductive};
+ghost use Rattle.abnf_productive.specs.Marks.{IsProductive};
+
+use crate::productive::productive_rules;
+use abnf_lint::{Finding, findings_marked};
+use abnf_names::Grammar;
+use abnf_parts::RuleNo;
+use ls_lists::List;
+use std::alloc::{AllocError, Global};
+
+/// Whether a rule generates nothing and everything is known of it, by whether it generates anything.
+fn is_unproductive(grammar: &Grammar, rule: RuleNo, is_productive: bool) -> bool
+    requires rule { rule < length grammar.now.rules }
+    requires productive { IsTrue is_productive ↔ IsProductive grammar.now.rules rule }
+    ensures { IsTrue result ↔ IsUnproductive grammar.now.rules rule }
+{
+    !is_productive && !grammar.reaches_opaque(rule)
+}
+
+/// Of each rule whether it generates nothing and everything is known of it.
+fn unproductive_rules(alloc: Global, grammar: &Grammar) -> Result<Vec<bool>, AllocError>
+    ensures { IfOk result (λ marks. AreUnproductive grammar.now.rules marks.items) }
+{
+    let productive = productive_rules(alloc, grammar)?;
+    let mut marks = Vec::with_capacity(alloc, productive.len())?;
+    for r in 0..productive.len() {
+        marks.push(is_unproductive(grammar, RuleNo::new(r), productive[r]))?;
+    }
+    Ok(marks)
+}
+
+/// What is found in a grammar's text, by line, start and row of the table. A rule is unproductive exactly where it generates no
+/// string and leads to no prose and no faulty block.
+///
+/// # Errors
+///
+/// Where an allocation is refused.
+pub fn findings_in(alloc: Global, grammar: &Grammar) -> Result<List<Finding>, AllocError>
+    ensures { IfOk result (λ found. AreFindings grammar.now.text found) }
+{
+    let marks = unproductive_rules(alloc, grammar)?;
+    findings_marked(alloc, grammar, marks.as_slice())
+}
