@@ -3,3 +3,4 @@ pub mod Sound
 pub mod Closed
 pub mod Nodes
 pub mod Roots
+pub mod Exist

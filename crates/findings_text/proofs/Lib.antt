@@ -1,4 +1,3 @@
-pub mod Findings
 pub mod Grown
 pub mod PrintLaws
 pub mod HeadLaws

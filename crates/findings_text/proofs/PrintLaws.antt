@@ -6,7 +6,7 @@ use Rattle.abnf_lint.proofs.OneFinding.{findings_unique}
 use Rattle.findings_text.specs.declared.print.Printed.{Printed}
 use Rattle.findings_text.specs.Outcomes.{outcome_of}
 use Rattle.findings_text.specs.Print.{IsPrinted, finding_line}
-use Rattle.findings_text.proofs.Findings.{some_findings}
+use Rattle.abnf_productive.proofs.Exist.{some_findings}
 
 -- what is printed of these findings
 abbrev printed_of : List ℕ → List ℕ → List Finding → Printed

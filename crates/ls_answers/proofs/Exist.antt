@@ -24,7 +24,7 @@ use Rattle.abnf_cert.specs.declared.entry.Entry.{Entry}
 use Rattle.abnf_least.specs.declared.shortest.Shortest.{Shortest}
 use Rattle.abnf_least.specs.declared.shortest.Shortest.TheVariants.{Shown, Long, Huge, Nothing, NotKnown}
 use Rattle.abnf_least.proofs.SomeShown.{certificate_of, some_shown}
-use Rattle.ls_answers.proofs.Findings.{some_findings}
+use Rattle.abnf_productive.proofs.Exist.{some_findings}
 use Rattle.ls_answers.specs.Answers.{IsAnswer}
 use Rattle.ls_answers.specs.Diagnostics.{AreDiagnostics, diagnostic_of}
 use Rattle.ls_answers.specs.Hover.{shown_text}

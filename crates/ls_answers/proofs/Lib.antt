@@ -2,7 +2,6 @@ pub mod Outlines
 pub mod Definitions
 pub mod HoverLaws
 pub mod OneAnswer
-pub mod Findings
 pub mod Exist
 pub mod HoverTexts
 pub mod OneList

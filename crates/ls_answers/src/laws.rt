@@ -2,8 +2,6 @@
 ghost use Rattle.std.specs.Prelude.{◌≡◌, ◌<◌, ◌^◌, All, List, ℕ, length};
 ghost use Rattle.std.specs.Char.{IsScalar};
 ghost use Rattle.ls_text.specs.declared.position.Encoding.{Encoding};
-ghost use Rattle.abnf_lint.specs.Findings.{AreFindings};
-ghost use Rattle.abnf_lint.specs.declared.finding.Finding.{Finding};
 ghost use Rattle.ls_answers.specs.Answers.{IsAnswer, without_cert};
 ghost use Rattle.ls_answers.specs.Hover.{AtMostOneHoverText, HoverTextsExist};
 ghost use Rattle.ls_answers.specs.RenameKeeps.{KeepsIfRenamed};
@@ -37,9 +35,4 @@ pub fn hover_texts_are_unique()
 /// Of each rule of the grammar of a text, and of a name that stands for none, a text is shown.
 pub fn hover_texts_exist()
     ensures { HoverTextsExist }
-{}
-
-/// Each text of fewer than 2^62 characters has its findings, and so each text of a document, which has at most 4,194,304 bytes.
-pub fn findings_exist()
-    ensures { (text : List ℕ) → length text < 2 ^ 62 → (found : List Finding) × AreFindings text found }
 {}

@@ -28,6 +28,6 @@ pub use ask::Ask;
 pub use hover::hover_text;
 pub use job::{Done, Job, run};
 pub use laws::{
-    answers_are_unique, answers_exist, findings_exist, hover_texts_are_unique, hover_texts_exist,
+    answers_are_unique, answers_exist, hover_texts_are_unique, hover_texts_exist,
     renames_keep_the_grammar,
 };
