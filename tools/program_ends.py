@@ -1,7 +1,7 @@
 #!/usr/bin/env python3
 """Runs the programs that `rt ci` has built as a user would, and checks how they end: status, line and what they wrote. The worked sessions
-run on one thread and on several; the program with its threads is refused memory, given broken input, cut off from its pipes, has
-devices that fail and threads that are shaken, by seeded samples.
+run on one thread and on several, and so does what is typed; the program with its threads is refused memory, given broken input, cut off
+from its pipes, has devices that fail and threads that are shaken, by seeded samples.
 
     tools/program_ends.py ['[NAME: ]N passed, M failed[, status S]' ..]
 
@@ -30,6 +30,7 @@ import refused_commands
 import refused_memory
 import refused_sessions
 import refused_threads
+import replayed_typing
 import rows
 import session_rows
 import shaken_threads
@@ -154,6 +155,7 @@ TOOLS = {
         ("cut_pipes", cut_pipes.cases),
         ("failing_devices", failing_devices.cases),
         ("shaken_threads", shaken_threads.cases),
+        ("replayed_typing", replayed_typing.cases),
     ),
     "served_plainly": (
         ("session_rows", functools.partial(session_cases, session_rows)),
@@ -163,6 +165,7 @@ TOOLS = {
         ("refused_commands", refused_commands.session_cases),
         ("failing_devices", failing_devices.plain_cases),
         ("random_texts", random_texts.cases),
+        ("replayed_typing", replayed_typing.plain_cases),
     ),
     "refused_memory": (("refused_memory", refused_memory.cases),),
     "abnf_findings": (("findings_rows", findings_rows.cases),),
