@@ -81,10 +81,10 @@ def erased(line, character):
                   contentChanges=[{"range": {"start": start, "end": end}, "text": ""}])
 
 
-def questions(text, end=None):
+def questions(text, end=None, line=0):
     """What is asked about a text, each by its name, and how many of that it is: about the last name of its first line, which ends the line or
-    at this place in it, and a character typed behind it and erased again."""
-    at = {"line": 0, "character": len(text.split("\n", 1)[0]) if end is None else end}
+    at this place in it or in another, and a character typed behind it and erased again."""
+    at = {"line": line, "character": len(text.split("\n", 1)[0]) if end is None else end}
     return {
         "opening": (CLOSED + opened(text), 1),
         "keystroke": (typed(**at) + erased(**at), 2),
@@ -148,9 +148,14 @@ def instructions(command, given):
     return int(re.search(rb"Collected : (\d+)", ran.stderr)[1])
 
 
+def count_one(command, begin, asked, count):
+    """How many instructions a server takes for one of what is asked, of which there are so many."""
+    return (instructions(command, begin + asked * 3 + END) - instructions(command, begin + asked + END)) / 2 / count
+
+
 def count_asked(name, begin, asked, count, commands):
     """One line: how many instructions each server takes for what is asked, of which there are so many; the program first."""
-    costs = [(instructions(it, begin + asked * 3 + END) - instructions(it, begin + asked + END)) / 2 / count for it in commands]
+    costs = [count_one(it, begin, asked, count) for it in commands]
     said = [f"{name:<40}"] + [f"{cost:13,.0f}" + ("" if cost is costs[0] else f" ({costs[0] / cost:.2f})") for cost in costs]
     print("  ".join(said), flush=True)
 
@@ -165,15 +170,20 @@ def compare_instructions(names, commands):
     count_asked("a request that is refused", INITIALIZE, request(9, "barrier") * 100, 100, commands)
 
 
+def built_plain(folder):
+    """The server in plain Rust, built into a folder."""
+    plain = os.path.join(folder, "plain")
+    subprocess.run(["rustc", *FLAGS, SOURCE, "-o", plain], check=True)
+    return plain
+
+
 def main():
     how = compare_instructions if "--instructions" in sys.argv[1:2] else compare
     others = sys.argv[3 if how is compare_instructions else 2:]
     if others:
         return how([PROGRAM, *others], [[PROGRAM], *map(shlex.split, others)])
     with tempfile.TemporaryDirectory() as folder:
-        plain = os.path.join(folder, "plain")
-        subprocess.run(["rustc", *FLAGS, SOURCE, "-o", plain], check=True)
-        return how([PROGRAM, "plain Rust"], [[PROGRAM], [plain]])
+        return how([PROGRAM, "plain Rust"], [[PROGRAM], [built_plain(folder)]])
 
 
 if __name__ == "__main__":
