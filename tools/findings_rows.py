@@ -12,7 +12,7 @@ import refused_memory
 import rows
 from runs import HUNG, ended
 
-USAGE = b"usage: abnf_findings [--strict | --rules] FILE..\n"
+USAGE = b"usage: abnf_findings [--strict | --rules] [--format abnf | markdown] FILE..\n"
 DEEP = "a = " + 65 * "("
 
 ROWS = (
@@ -87,6 +87,44 @@ RULE_ROWS = (
     ),
 )
 
+NO_GRAMMAR = ("1:1: warning: no grammar in this draft [no-grammar]",)
+
+# Drafts in Markdown (CommonMark 0.31, section 4.5), with what is found in them, and the lines of their rules. All stands where the draft
+# has it.
+DRAFT_ROWS = (
+    ("", NO_GRAMMAR, ()),
+    ("# A title\n\n    a = ?\n", NO_GRAMMAR, ()),
+    (
+        "# A title\n\n```abnf\na = nope\n```\n",
+        ("4:1: warning: rule a generates nothing [unproductive]", "4:5: error: undefined rule nope [undefined]"),
+        ("4:1: a: generates nothing",),
+    ),
+    # tildes, a word in capitals with no blank before it, and an indentation of the block's own
+    ('~~~ABNF\n  a = "x"\n  b = ?\n~~~', ("3:7: error: bad character [syntax]",), ("2:3: a: shortest length 1: x", "3:3: b: not known")),
+    # two blocks with other indentations, of which the second uses a name of the first and adds to it
+    (
+        '``` abnf\na = "xx"\n```\nand\n~~~~ abnf title\n    b = a c\n    a =/ "y"\n~~~~\n',
+        ("6:5: warning: rule b generates nothing [unproductive]", "6:11: error: undefined rule c [undefined]"),
+        ("2:1: a: shortest length 1: y", "6:5: b: generates nothing"),
+    ),
+    # a fence in a list, whose indentation goes; a line with less of it stands at the left
+    ("- an item\n\n  ```abnf\n  a = ?\n  ```\n", ("4:7: error: bad character [syntax]",), ("4:3: a: not known",)),
+    ('   ```abnf\n   a = "x"\n b = ?\n   ```\n', ("3:6: error: bad character [syntax]",), ("2:4: a: shortest length 1: x", "3:2: b: not known")),
+    # line ends, and characters outside ASCII before the block and in it
+    ("\u00e9\U0001f600\r\n```abnf\r\na = <\u00e9> nope\r\n```\r\n", ("3:9: error: undefined rule nope [undefined]",), ("3:1: a: not known",)),
+    # a fence without an end, and one whose end is longer; what is no end
+    ("```abnf\na = (b", ("2:5: error: bracket not closed [syntax]",), ("2:1: a: not known",)),
+    ('```abnf\na = "x"\n`````\nb = ?\n', (), ("2:1: a: shortest length 1: x",)),
+    ('````abnf\na = "x"\n```\n````\n', ("3:1: error: rule name expected [syntax]",), ("2:1: a: shortest length 1: x",)),
+    # other blocks, and what stands in them
+    ("````text\n```abnf\na = ?\n```\n````\n", NO_GRAMMAR, ()),
+    ("```abnf-like\na = ?\n```\n", NO_GRAMMAR, ()),
+    ("``` abnf `\na = ?\n```\n", NO_GRAMMAR, ()),
+    ("``abnf\na = ?\n``\n", NO_GRAMMAR, ()),
+    # a block without rules
+    ("```abnf\n```\n", (), ()),
+)
+
 
 def status_of(found, strict):
     if any(": error: " in line for line in found):
@@ -118,6 +156,29 @@ def rule_cases(program, files):
     yield "rules, and no file", ended(program, None, ["--rules", none, good]), (2, f"cannot read {none}\n".encode(), is_good)
     for arguments in (["--rules"], [good, "--rules"], ["--rules", "--strict", good]):
         yield f"the arguments {arguments}", ended(program, None, arguments), (5, USAGE, b"")
+
+
+def draft_cases(program, files):
+    """Each draft, by its name or by the format that is told, and its rules; and the options that tell a format."""
+    for text, found, told in DRAFT_ROWS:
+        what, file = f"the draft {text[:40]!r}", files.written("draft.md", text)
+        yield what, ended(program, None, [file]), (status_of(found, False), b"", printed(file, found))
+        yield f"strict {what}", ended(program, None, ["--format", "markdown", "--strict", file]), (status_of(found, True), b"", printed(file, found))
+        from_input = ended(program, text.encode(), ["--format", "markdown", "-"])
+        yield f"{what}, from standard input", from_input, (status_of(found, False), b"", printed("-", found))
+        yield f"rules of {what}", ended(program, None, ["--rules", file]), (0, b"", printed(file, told))
+    for name in ("a.mkd", "a.markdown"):
+        file = files.written(name, "```abnf\na = ?\n```\n")
+        yield f"a draft {name}", ended(program, None, [file]), (1, b"", printed(file, ("2:5: error: bad character [syntax]",)))
+    for name in ("a.abnf", "md", "a.md.txt", "a.MD"):
+        file = files.written(name, "a = ?\n")
+        yield f"a grammar {name}", ended(program, None, [file]), (1, b"", printed(file, ("1:5: error: bad character [syntax]",)))
+    plain, good = files.written("plain.md", 'a = "x"'), files.written("good.abnf", 'a = "x"')
+    yield "a grammar in spite of its name", ended(program, None, ["--format", "abnf", plain]), (0, b"", b"")
+    yield "a draft behind a grammar", ended(program, None, [good, plain]), (0, b"", printed(plain, NO_GRAMMAR))
+    for words in ("--format", "--format abnf", "--format xml", "--format Abnf", "--format abnf --format abnf", "--format --strict"):
+        yield f"the arguments {words} and a file", ended(program, None, [*words.split(), *[good] * (words != "--format abnf")]), (5, USAGE, b"")
+    yield "a format behind a file", ended(program, None, [good, "--format", "abnf"]), (5, USAGE, b"")
 
 
 def example_cases(program):
@@ -187,7 +248,7 @@ def cases(program):
     """What each case is, how the program ended in it, and how it must end."""
     yield from example_cases(program)
     with rows.files() as files:
-        for some in (row_cases, rule_cases, file_cases, memory_cases):
+        for some in (row_cases, rule_cases, draft_cases, file_cases, memory_cases):
             yield from some(program, files)
 
 

@@ -2,10 +2,9 @@
 #![tactic(auto)]
 
 use findings_text::{
-    Ending, FileFault, Outcome, Snapshot, Text, ending_of, fault_line, is_option, print_findings,
-    print_rules, read_text,
+    Ending, FileFault, Format, Outcome, Snapshot, Text, ending_of, fault_line, is_option, print_as,
+    print_rules_as, read_text,
 };
-use std::alloc::AllocError;
 use std::io::{ErrorKind, Write};
 use std::process::ExitCode;
 use std::{env, fs, io};
@@ -19,42 +18,76 @@ enum Asked {
     Rules,
 }
 
-impl Asked {
-    /// What an option asks for, if it is one that there is.
-    fn of(option: &str) -> Option<Asked> {
+/// What the arguments say.
+#[derive(Drop)]
+struct Arguments {
+    asked: Asked,
+    /// What all files are written in, where their names don't tell it.
+    format: Option<Format>,
+    files: Vec<String>,
+}
+
+impl Arguments {
+    /// Takes an option. None stands behind a file, each stands once, and of `--strict` and `--rules` there is one.
+    fn option(&mut self, option: &str) -> Result<(), Ending> {
+        if !self.files.is_empty() {
+            return Err(Ending::Usage);
+        }
         match option {
-            "--strict" => Some(Asked::StrictFindings),
-            "--rules" => Some(Asked::Rules),
-            _ => None,
+            "--strict" if self.asked == Asked::Findings => self.asked = Asked::StrictFindings,
+            "--rules" if self.asked == Asked::Findings => self.asked = Asked::Rules,
+            "--format" if self.format.is_none() => {}
+            _ => return Err(Ending::Usage),
+        }
+        Ok(())
+    }
+
+    /// Takes the format that is named behind `--format`.
+    fn format(&mut self, name: &str) -> Result<(), Ending> {
+        match Format::named(name) {
+            Some(format) => self.format = Some(format),
+            None => return Err(Ending::Usage),
+        }
+        Ok(())
+    }
+
+    /// The format of a file: that which is told for all, else that of its name.
+    fn format_of(&self, file: &str) -> Format {
+        match self.format {
+            Some(format) => format,
+            None => Format::of_file(file),
         }
     }
 }
 
-/// What the first argument asks for, and the files behind it. An argument that isn't UTF-8 is refused as an unknown option is.
-fn arguments(rt: &HostRuntime) -> Result<(Asked, Vec<String>), Ending> {
-    let arguments = match env::args(rt) {
-        Ok(arguments) => arguments.skip(1),
+/// What the arguments ask for.
+fn arguments_of(rt: &HostRuntime) -> Result<Arguments, Ending> {
+    let given = match env::args(rt) {
+        Ok(given) => given.skip(1),
         Err(error) if error.kind() == ErrorKind::OutOfMemory => return Err(Ending::OutOfMemory),
         Err(_) => return Err(Ending::Usage),
     };
-    let mut asked = Asked::Findings;
-    let mut files = Vec::new(rt.alloc());
-    for (at, argument) in arguments.enumerate() {
-        if !is_option(argument.as_str()) {
-            if files.push(argument).is_err() {
-                return Err(Ending::OutOfMemory);
-            }
-            continue;
+    let mut arguments = Arguments {
+        asked: Asked::Findings,
+        format: None,
+        files: Vec::new(rt.alloc()),
+    };
+    let mut awaits_format = false;
+    for argument in given {
+        if awaits_format {
+            arguments.format(argument.as_str())?;
+            awaits_format = false;
+        } else if is_option(argument.as_str()) {
+            arguments.option(argument.as_str())?;
+            awaits_format = argument.as_str() == "--format";
+        } else if arguments.files.push(argument).is_err() {
+            return Err(Ending::OutOfMemory);
         }
-        asked = match Asked::of(argument.as_str()) {
-            Some(option) if at == 0 => option,
-            _ => return Err(Ending::Usage),
-        };
     }
-    if files.is_empty() {
+    if awaits_format || arguments.files.is_empty() {
         return Err(Ending::Usage);
     }
-    Ok((asked, files))
+    Ok(arguments)
 }
 
 /// The text of a file, or of standard input for `-`.
@@ -79,29 +112,31 @@ fn tell_fault(rt: &HostRuntime, fault: FileFault, file: &str) -> Result<Outcome,
     Ok(Outcome::NotRead)
 }
 
-/// What is printed of a text, and how the file went.
+/// What is printed of a file, and how it went.
 fn printed(
     rt: &HostRuntime,
-    asked: Asked,
+    arguments: &Arguments,
     file: &str,
     text: &Snapshot,
-) -> Result<(Text, Outcome), AllocError> {
-    if asked == Asked::Rules {
-        let lines = print_rules(rt.alloc(), file, text)?;
+) -> Result<(Text, Outcome), FileFault> {
+    let format = arguments.format_of(file);
+    if arguments.asked == Asked::Rules {
+        let lines = print_rules_as(rt.alloc(), file, format, text)?;
         return Ok((lines, Outcome::Clean));
     }
-    let printed = print_findings(rt.alloc(), file, text)?;
+    let printed = print_as(rt.alloc(), file, format, text)?;
     Ok((printed.lines, printed.outcome))
 }
 
 /// Prints what is asked of a file.
-fn tell(rt: &HostRuntime, asked: Asked, file: &str) -> Result<Outcome, Ending> {
+fn tell(rt: &HostRuntime, arguments: &Arguments, file: &str) -> Result<Outcome, Ending> {
     let text = match text_at(rt, file) {
         Ok(text) => text,
         Err(fault) => return tell_fault(rt, fault, file),
     };
-    let Ok((lines, outcome)) = printed(rt, asked, file, &text) else {
-        return Err(Ending::OutOfMemory);
+    let (lines, outcome) = match printed(rt, arguments, file, &text) {
+        Ok(printed) => printed,
+        Err(fault) => return tell_fault(rt, fault, file),
     };
     let mut writer = io::writer(rt);
     match writer.write_all(lines.as_str().as_bytes()) {
@@ -112,15 +147,15 @@ fn tell(rt: &HostRuntime, asked: Asked, file: &str) -> Result<Outcome, Ending> {
 
 /// Does what the arguments ask for.
 fn run(rt: &HostRuntime) -> Result<Ending, Ending> {
-    let (asked, files) = arguments(rt)?;
+    let arguments = arguments_of(rt)?;
     let mut outcomes = Vec::new(rt.alloc());
-    for file in &files {
-        let outcome = tell(rt, asked, file.as_str())?;
+    for file in &arguments.files {
+        let outcome = tell(rt, &arguments, file.as_str())?;
         if outcomes.push(outcome).is_err() {
             return Err(Ending::OutOfMemory);
         }
     }
-    let is_strict = asked == Asked::StrictFindings;
+    let is_strict = arguments.asked == Asked::StrictFindings;
     Ok(ending_of(is_strict, outcomes.as_slice()))
 }
 

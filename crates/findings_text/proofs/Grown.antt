@@ -1,17 +1,13 @@
 -- A text to which parts are appended one by one grows by all of them.
 use Rattle.std.proofs.Common.{◌≡◌, ◌∙◌, ℕ, List, [], ◌∷◌, ◌++◌, ap, append_assoc}
 use Rattle.std.specs.Prelude.{codes}
-use Rattle.ls_text.specs.Lines.{units}
-use Rattle.ls_text.specs.Positions.{place_start, position_of}
-use Rattle.ls_text.specs.declared.position.Encoding.{Encoding}
-use Rattle.ls_text.specs.declared.position.Encoding.TheVariants.{Utf32}
 use Rattle.ls_text.specs.declared.position.Position.{Position}
 use Rattle.abnf_lint.specs.declared.finding.Finding.{Finding}
 use Rattle.abnf_lint.specs.Messages.{code_text, message_of, severity_of}
 use Rattle.abnf_names.specs.Places.{Named}
-use Rattle.findings_text.specs.Print.{begin_of, finding_line, place_text, severity_text}
+use Rattle.findings_text.specs.Print.{line_at, place_text, severity_text}
 use Rattle.abnf_least.specs.declared.shortest.Shortest.{Shortest}
-use Rattle.findings_text.specs.Rules.{known_text, rule_line}
+use Rattle.findings_text.specs.Rules.{known_text, rule_line_at}
 
 -- what has grown by some, and then by more
 more : (old some part was now : List ℕ) → was ≡ old ++ some → now ≡ was ++ part → now ≡ old ++ (some ++ part)
@@ -29,19 +25,15 @@ eight old a b c d e f g h s1 s2 s3 s4 s5 s6 s7 s8 e1 e2 e3 e4 e5 e6 e7 e8 =
     (more old (a ++ b) c s2 s3
     (more old a b s1 s2 e1 e2) e3) e4) e5) e6) e7) e8
 
--- where a finding begins, by the units of an encoding
-abbrev pub begin_by : Encoding → List ℕ → Finding → Position
-begin_by encoding text finding = position_of (units encoding) text (place_start text finding.place)
-
 -- the line of a finding, appended part by part
-pub line_grown : (file text : List ℕ) (finding : Finding) (begin : Position) → begin ≡ begin_of text finding
+pub line_grown : (file : List ℕ) (finding : Finding) (begin : Position)
     → (old p s m c : List ℕ) → p ≡ place_text begin → s ≡ severity_text (severity_of finding.code) → m ≡ message_of finding.code finding.name → c ≡ code_text finding.code
     → (s1 s2 s3 s4 s5 s6 s7 s8 : List ℕ)
     → s1 ≡ old ++ file → s2 ≡ s1 ++ p → s3 ≡ s2 ++ s → s4 ≡ s3 ++ codes ": " → s5 ≡ s4 ++ m → s6 ≡ s5 ++ codes " [" → s7 ≡ s6 ++ c → s8 ≡ s7 ++ (codes "]" ++ 10 ∷ [])
-    → s8 ≡ old ++ finding_line file text finding
-line_grown file text finding begin at old p s m c is_p is_s is_m is_c s1 s2 s3 s4 s5 s6 s7 s8 e1 e2 e3 e4 e5 e6 e7 e8 =
+    → s8 ≡ old ++ line_at file begin finding
+line_grown file finding begin old p s m c is_p is_s is_m is_c s1 s2 s3 s4 s5 s6 s7 s8 e1 e2 e3 e4 e5 e6 e7 e8 =
     eight old file p s (codes ": ") m (codes " [") c (codes "]" ++ 10 ∷ []) s1 s2 s3 s4 s5 s6 s7 s8 e1 e2 e3 e4 e5 e6 e7 e8
-    ∙ (λ i. old ++ (file ++ (is_p ∙ ap place_text at) i ++ is_s i ++ codes ": " ++ is_m i ++ codes " [" ++ is_c i ++ (codes "]" ++ 10 ∷ [])))
+    ∙ (λ i. old ++ (file ++ is_p i ++ is_s i ++ codes ": " ++ is_m i ++ codes " [" ++ is_c i ++ (codes "]" ++ 10 ∷ [])))
 
 six : (old a b c d e f s1 s2 s3 s4 s5 s6 : List ℕ) → s1 ≡ old ++ a → s2 ≡ s1 ++ b → s3 ≡ s2 ++ c → s4 ≡ s3 ++ d → s5 ≡ s4 ++ e → s6 ≡ s5 ++ f → s6 ≡ old ++ (a ++ b ++ c ++ d ++ e ++ f)
 six old a b c d e f s1 s2 s3 s4 s5 s6 e1 e2 e3 e4 e5 e6 =
@@ -51,16 +43,12 @@ six old a b c d e f s1 s2 s3 s4 s5 s6 e1 e2 e3 e4 e5 e6 =
     (more old (a ++ b) c s2 s3
     (more old a b s1 s2 e1 e2) e3) e4) e5) e6
 
--- where a rule is defined, by the units of an encoding
-abbrev pub head_by : Encoding → List ℕ → Named → Position
-head_by encoding text head = position_of (units encoding) text (place_start text head.place)
-
 -- the line of a rule, appended part by part
-pub rule_line_grown : (file text : List ℕ) (head : Named) (shown : Shortest) (begin : Position) → begin ≡ head_by Utf32 text head
+pub rule_line_grown : (file : List ℕ) (head : Named) (shown : Shortest) (begin : Position)
     → (old p k : List ℕ) → p ≡ place_text begin → k ≡ known_text shown
     → (s1 s2 s3 s4 s5 s6 : List ℕ)
     → s1 ≡ old ++ file → s2 ≡ s1 ++ p → s3 ≡ s2 ++ head.text → s4 ≡ s3 ++ codes ": " → s5 ≡ s4 ++ k → s6 ≡ s5 ++ 10 ∷ []
-    → s6 ≡ old ++ rule_line file text head shown
-rule_line_grown file text head shown begin at old p k is_p is_k s1 s2 s3 s4 s5 s6 e1 e2 e3 e4 e5 e6 =
+    → s6 ≡ old ++ rule_line_at file begin head shown
+rule_line_grown file head shown begin old p k is_p is_k s1 s2 s3 s4 s5 s6 e1 e2 e3 e4 e5 e6 =
     six old file p head.text (codes ": ") k (10 ∷ []) s1 s2 s3 s4 s5 s6 e1 e2 e3 e4 e5 e6
-    ∙ (λ i. old ++ (file ++ (is_p ∙ ap place_text at) i ++ head.text ++ codes ": " ++ is_k i ++ 10 ∷ []))
+    ∙ (λ i. old ++ (file ++ is_p i ++ head.text ++ codes ": " ++ is_k i ++ 10 ∷ []))

@@ -3,3 +3,4 @@ pub mod PrintLaws
 pub mod HeadLaws
 pub mod RuleLines
 pub mod RuleLaws
+pub mod DraftLaws

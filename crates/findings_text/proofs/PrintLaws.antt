@@ -10,7 +10,7 @@ use Rattle.abnf_productive.proofs.Exist.{some_findings}
 
 -- what is printed of these findings
 abbrev printed_of : List ℕ → List ℕ → List Finding → Printed
-printed_of file text found = record { lines = flat_map (finding_line file text) found; outcome = outcome_of found }
+printed_of file text found = record { lines = flat_map (finding_line (λ at. at) file text) found; outcome = outcome_of found }
 
 is_that : (file text : List ℕ) (printed : Printed) (is : IsPrinted file text printed) → printed ≡ printed_of file text is.found
 is_that file text printed is = (λ i. record { lines = is.lines_are i; outcome = is.outcome_is i })

@@ -1,4 +1,6 @@
 pub mod Outcomes
 pub mod Print
+pub mod Drafts
 pub mod Endings
 pub mod Rules
+pub mod Formats

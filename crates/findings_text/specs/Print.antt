@@ -29,15 +29,27 @@ counted_text n = codes ":" ++ decimal (n + 1)
 abbrev pub place_text : Position → List ℕ
 place_text at = counted_text at.line ++ counted_text at.character ++ codes ": "
 
--- FILE:LINE:COLUMN: severity: message [code], and LF
-abbrev pub finding_line : List ℕ → List ℕ → Finding → List ℕ
-finding_line file text finding =
-    file ++ place_text (begin_of text finding) ++ severity_text (severity_of finding.code) ++ codes ": "
+-- FILE:LINE:COLUMN: severity: message [code], and LF, of a finding that begins at this position
+abbrev pub line_at : List ℕ → Position → Finding → List ℕ
+line_at file at finding =
+    file ++ place_text at ++ severity_text (severity_of finding.code) ++ codes ": "
     ++ message_of finding.code finding.name ++ codes " [" ++ code_text finding.code ++ (codes "]" ++ 10 ∷ [])
 
--- This is printed of a text in a file with this name: the lines of its findings, in their order.
-pub record IsPrinted (file text : List ℕ) (printed : Printed) : Type 0 where
+-- where in the file stands what has this position in the grammar's text
+abbrev pub Locator : Type 0
+Locator = Position → Position
+
+-- the line of a finding, which is told where it stands in the file
+abbrev pub finding_line : Locator → List ℕ → List ℕ → Finding → List ℕ
+finding_line locate file text finding = line_at file (locate (begin_of text finding)) finding
+
+-- This is printed of a grammar's text from a file with this name: the lines of its findings, in their order.
+pub record IsPrintedFrom (locate : Locator) (file text : List ℕ) (printed : Printed) : Type 0 where
   pub found : List Finding
   pub of_text : AreFindings text found
-  pub lines_are : printed.lines ≡ flat_map (finding_line file text) found
+  pub lines_are : printed.lines ≡ flat_map (finding_line locate file text) found
   pub outcome_is : printed.outcome ≡ outcome_of found
+
+-- the same of a file that is the text
+abbrev pub IsPrinted : List ℕ → List ℕ → Printed → Type 0
+IsPrinted file text printed = IsPrintedFrom (λ at. at) file text printed

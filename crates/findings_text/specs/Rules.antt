@@ -6,6 +6,7 @@ use Rattle.abnf_token.specs.Folded.{lowercase}
 use Rattle.ls_text.specs.Lines.{units}
 use Rattle.ls_text.specs.Positions.{place_start, position_of}
 use Rattle.ls_text.specs.declared.position.Encoding.TheVariants.{Utf32}
+use Rattle.ls_text.specs.declared.position.Position.{Position}
 use Rattle.abnf_parts.specs.Names.{Name, rule_number}
 use Rattle.abnf_names.specs.Places.{Named, named_at}
 use Rattle.abnf_names.specs.Rules.{Grammar, IsGrammar}
@@ -14,7 +15,7 @@ use Rattle.abnf_least.specs.Shown.{IsShown}
 use Rattle.abnf_least.specs.declared.shortest.Shortest.{Shortest}
 use Rattle.abnf_least.specs.declared.shortest.Shortest.TheVariants.{Shown, Long, Huge, Nothing, NotKnown}
 use Rattle.findings_text.specs.declared.rules.Head.{Head}
-use Rattle.findings_text.specs.Print.{place_text}
+use Rattle.findings_text.specs.Print.{Locator, place_text}
 
 -- what is known of the shortest strings of a rule
 abbrev pub known_text : Shortest → List ℕ
@@ -25,9 +26,16 @@ known_text Nothing = codes "generates nothing"
 known_text NotKnown = codes "not known"
 
 -- FILE:LINE:COLUMN: NAME: what is known, and LF
-abbrev pub rule_line : List ℕ → List ℕ → Named → Shortest → List ℕ
-rule_line file text head shown =
-    file ++ place_text (position_of (units Utf32) text (place_start text head.place)) ++ head.text ++ codes ": " ++ known_text shown ++ 10 ∷ []
+abbrev pub rule_line_at : List ℕ → Position → Named → Shortest → List ℕ
+rule_line_at file at head shown = file ++ place_text at ++ head.text ++ codes ": " ++ known_text shown ++ 10 ∷ []
+
+-- where a place that defines a rule begins
+abbrev pub head_begin : List ℕ → Named → Position
+head_begin text head = position_of (units Utf32) text (place_start text head.place)
+
+-- the line of a rule, which is told where it is defined in the file
+abbrev pub rule_line : Locator → List ℕ → List ℕ → Named → Shortest → List ℕ
+rule_line locate file text head shown = rule_line_at file (locate (head_begin text head)) head shown
 
 -- the number of the rule that a place defines, if it does
 abbrev pub defined_at : List Name → Named → Option ℕ
@@ -48,20 +56,26 @@ heads names [] = []
 heads names (n ∷ ns) = ahead n (defined_at names n) (heads names ns)
 
 -- the line of the rule of a head, by what is shown of the rule
-abbrev pub IsRuleLine : List ℕ → Grammar → Named × ℕ → List ℕ → Type 0
-IsRuleLine file g head line = (shown : Shortest) × IsShown g.rules head.1 shown × (line ≡ rule_line file g.text head.0 shown)
+abbrev pub IsRuleLine : Locator → List ℕ → Grammar → Named × ℕ → List ℕ → Type 0
+IsRuleLine locate file g head line = (shown : Shortest) × IsShown g.rules head.1 shown × (line ≡ rule_line locate file g.text head.0 shown)
 
 -- the lines of the rules of these heads, one after the other
-abbrev pub AreRuleLines : List ℕ → Grammar → List (Named × ℕ) → List ℕ → Type 0
-AreRuleLines file g [] lines = lines ≡ []
-AreRuleLines file g (head ∷ heads) lines = (line : List ℕ) × (rest : List ℕ) × IsRuleLine file g head line × AreRuleLines file g heads rest × (lines ≡ line ++ rest)
+abbrev pub AreRuleLines : Locator → List ℕ → Grammar → List (Named × ℕ) → List ℕ → Type 0
+AreRuleLines locate file g [] lines = lines ≡ []
+AreRuleLines locate file g (head ∷ heads) lines =
+    (line : List ℕ) × (rest : List ℕ) × IsRuleLine locate file g head line × AreRuleLines locate file g heads rest × (lines ≡ line ++ rest)
 
--- This is printed of the rules of a text in a file with this name: a line for each rule that it defines, at the first place that does.
-pub record ArePrintedRules (file text lines : List ℕ) : Type 0 where
+-- This is printed of the rules of a grammar's text from a file with this name: a line for each rule that it defines, at the first place
+-- that does.
+pub record ArePrintedRulesFrom (locate : Locator) (file text lines : List ℕ) : Type 0 where
   pub grammar : Grammar
   pub of_text : grammar.text ≡ text
   pub right : IsGrammar grammar
-  pub lines_are : AreRuleLines file grammar (heads grammar.names grammar.places) lines
+  pub lines_are : AreRuleLines locate file grammar (heads grammar.names grammar.places) lines
+
+-- the same of a file that is the text
+abbrev pub ArePrintedRules : List ℕ → List ℕ → List ℕ → Type 0
+ArePrintedRules file text lines = ArePrintedRulesFrom (λ at. at) file text lines
 
 -- ---- how the code finds the heads
 

@@ -40,7 +40,8 @@ impl Ending {
         match self {
             Ending::Good | Ending::Found | Ending::NotRead => "",
             Ending::WriteFailed => "write failed",
-            Ending::Usage => "usage: abnf_findings [--strict | --rules] FILE..",
+            Ending::Usage =>
+                "usage: abnf_findings [--strict | --rules] [--format abnf | markdown] FILE..",
             Ending::OutOfMemory => "out of memory",
         }
     }

@@ -4,15 +4,20 @@
 //! [`Ending`] of a run follows from the outcomes of its files. [`print_rules`] gives a line for each rule instead, as specs/Rules has it.
 #![tactic(auto)]
 
+mod draft;
 mod ending;
+mod format;
 mod laws;
 mod line;
 mod outcome;
 mod print;
 mod rule_line;
 mod rules;
+mod source;
 
+pub use draft::{print_draft, print_draft_rules};
 pub use ending::{Ending, fault_line, is_option};
+pub use format::{Format, print_as, print_rules_as};
 pub use laws::{
     heads_are_first, printed_rules_are_unique, printed_rules_exist, printed_texts_are_unique,
     printed_texts_exist,

@@ -1,11 +1,10 @@
 //! The line of a finding.
 
 ghost use Rattle.std.specs.Prelude.{◌≡◌, ◌++◌, IfOk, OnOk, string_bytes};
-ghost use Rattle.ls_text.specs.declared.position.Encoding.TheVariants.{Utf32};
-ghost use Rattle.findings_text.specs.Print.{counted_text, finding_line, place_text, severity_text};
+ghost use Rattle.findings_text.specs.Print.{counted_text, line_at, place_text, severity_text};
 
 use abnf_lint::{Finding, Severity};
-use ls_text::{Position, Ruler};
+use ls_text::Position;
 use std::alloc::{AllocError as Memory, Global};
 
 /// How grave a finding is, in a word.
@@ -37,20 +36,17 @@ pub(crate) fn place_text(alloc: Global, at: Position) -> Result<String, Memory>
     Ok(text)
 }
 
-/// Appends the line of a finding in a file with this name. The ruler counts characters.
-pub fn push_line(
+/// Appends the line of a finding in a file with this name, which begins at this position.
+pub(crate) fn push_line(
     lines: &mut String,
     alloc: Global,
     file: &str,
-    ruler: &mut Ruler<'_>,
+    at: Position,
     finding: &Finding,
 ) -> Result<(), Memory>
-    requires { ruler.old.encoding ≡ Utf32 }
-    ensures text { ruler.new ≡ ruler.old }
-    ensures line { OnOk result (string_bytes lines.new ≡ string_bytes lines.old ++ finding_line file.now ruler.old.text finding.now) }
+    ensures { OnOk result (string_bytes lines.new ≡ string_bytes lines.old ++ line_at file.now at finding.now) }
 {
-    let begin = ruler.range_of(&finding.place).start;
-    let place = place_text(alloc, begin)?;
+    let place = place_text(alloc, at)?;
     let message = finding.message(alloc)?;
     lines.push_str(file)?;
     lines.push_str(place.as_str())?;

@@ -2,10 +2,12 @@
 
 ghost use Rattle.std.specs.Prelude.{◌≡◌, IfOk, flat_map, string_bytes};
 ghost use Rattle.abnf_lint.specs.Findings.{AreFindings};
-ghost use Rattle.findings_text.specs.Print.{IsPrinted, finding_line};
+ghost use Rattle.findings_text.specs.Drafts.{IsTextOf, located};
+ghost use Rattle.findings_text.specs.Print.{IsPrinted, IsPrintedFrom, finding_line};
 
 use crate::line::push_line;
 use crate::outcome::{Outcome, outcome_of};
+use crate::source::{Source, located};
 use abnf_lint::Finding;
 use abnf_names::Grammar;
 use abnf_productive::findings_in;
@@ -31,16 +33,43 @@ fn found_in(alloc: Global, text: &Snapshot) -> Result<List<Finding>, Memory>
     found
 }
 
-/// The lines of findings in a text.
-fn lines_of(alloc: Global, file: &str, text: &Snapshot, found: &[Finding]) -> Result<String, Memory>
-    ensures { IfOk result (λ lines. string_bytes lines ≡ flat_map (finding_line file.now text.now) found.now) }
+/// The lines of findings in a grammar's text.
+fn lines_of(
+    alloc: Global,
+    file: &str,
+    source: Source<'_>,
+    text: &Snapshot,
+    found: &[Finding],
+) -> Result<String, Memory>
+    requires { IsTextOf source text.now }
+    ensures { IfOk result (λ lines. string_bytes lines ≡ flat_map (finding_line (located source.entry) file.now text.now) found.now) }
 {
     let mut ruler = Ruler::new(text, Encoding::Utf32);
     let mut lines = String::new(alloc);
     for finding in found {
-        push_line(&mut lines, alloc, file, &mut ruler, finding)?;
+        let begin = ruler.range_of(&finding.place).start;
+        let at = located(source, text, begin);
+        push_line(&mut lines, alloc, file, at, finding)?;
     }
     Ok(lines)
+}
+
+/// What is printed of a grammar's text from a file with this name: each finding in a line, in the order of the text.
+pub(crate) fn print_from(
+    alloc: Global,
+    file: &str,
+    source: Source<'_>,
+    text: &Snapshot,
+) -> Result<Printed, Memory>
+    requires { IsTextOf source text.now }
+    ensures { IfOk result (λ printed. IsPrintedFrom (located source.entry) file.now text.now printed) }
+{
+    let found = found_in(alloc, text)?;
+    let lines = lines_of(alloc, file, source, text, found.as_slice())?;
+    Ok(Printed {
+        lines: Text::new(lines),
+        outcome: outcome_of(found.as_slice()),
+    })
 }
 
 /// What is printed of a text in a file with this name: each finding in a line, in the order of the text. Lines and columns count from 1,
@@ -50,10 +79,5 @@ fn lines_of(alloc: Global, file: &str, text: &Snapshot, found: &[Finding]) -> Re
 pub fn print_findings(alloc: Global, file: &str, text: &Snapshot) -> Result<Printed, Memory>
     ensures { IfOk result (λ printed. IsPrinted file.now text.now printed) }
 {
-    let found = found_in(alloc, text)?;
-    let lines = lines_of(alloc, file, text, found.as_slice())?;
-    Ok(Printed {
-        lines: Text::new(lines),
-        outcome: outcome_of(found.as_slice()),
-    })
+    print_from(alloc, file, Source::File, text)
 }

@@ -2,14 +2,13 @@
 
 ghost use Rattle.std.specs.Prelude.{◌≡◌, ◌++◌, IfOk, OnOk, codes, string_bytes};
 ghost use Rattle.std.specs.Fmt.{decimal};
-ghost use Rattle.ls_text.specs.declared.position.Encoding.TheVariants.{Utf32};
 ghost use Rattle.abnf_names.specs.Places.{named_at};
-ghost use Rattle.findings_text.specs.Rules.{known_text, rule_line};
+ghost use Rattle.findings_text.specs.Rules.{known_text, rule_line_at};
 
 use crate::line::place_text;
 use abnf_least::{Shortest, render};
 use abnf_names::Spot;
-use ls_text::Ruler;
+use ls_text::Position;
 use std::alloc::{AllocError as Memory, Global};
 
 /// What is said of an example that is shown.
@@ -39,21 +38,18 @@ fn known_text(alloc: Global, shown: &Shortest) -> Result<String, Memory>
     }
 }
 
-/// Appends the line of a rule of which this is shown, at the place that defines it. The ruler counts characters.
-pub fn push_rule_line(
+/// Appends the line of a rule of which this is shown, with the position at which it is defined.
+pub(crate) fn push_rule_line(
     lines: &mut String,
     alloc: Global,
     file: &str,
-    ruler: &mut Ruler<'_>,
+    at: Position,
     head: &Spot<'_>,
     shown: &Shortest,
 ) -> Result<(), Memory>
-    requires { ruler.old.encoding ≡ Utf32 }
-    ensures text { ruler.new ≡ ruler.old }
-    ensures line { OnOk result (string_bytes lines.new ≡ string_bytes lines.old ++ rule_line file.now ruler.old.text (named_at head.now) shown.now) }
+    ensures { OnOk result (string_bytes lines.new ≡ string_bytes lines.old ++ rule_line_at file.now at (named_at head.now) shown.now) }
 {
-    let begin = ruler.range_of(&head.place).start;
-    let place = place_text(alloc, begin)?;
+    let place = place_text(alloc, at)?;
     let known = known_text(alloc, shown)?;
     lines.push_str(file)?;
     lines.push_str(place.as_str())?;

@@ -3,9 +3,11 @@
 ghost use Rattle.std.specs.Prelude.{◌≡◌, ◌<◌, All, IfOk, IfSome, length, map, string_bytes};
 ghost use Rattle.abnf_cert.specs.Accepted.{IsAccepted};
 ghost use Rattle.abnf_names.specs.Places.{named_at};
+ghost use Rattle.findings_text.specs.Drafts.{IsTextOf, located};
 ghost use Rattle.findings_text.specs.Rules as spec;
 
 use crate::rule_line::push_rule_line;
+use crate::source::{Source, located};
 use abnf_cert::Cert;
 use abnf_least::{example, least};
 use abnf_names::{Grammar, RuleNo, Spot};
@@ -67,31 +69,58 @@ fn heads_of<'t>(alloc: Global, grammar: &Grammar<'t>) -> Result<List<Head<'t>>, 
 fn rule_lines<'t>(
     alloc: Global,
     file: &str,
+    source: Source<'_>,
     grammar: &Grammar<'t>,
     cert: &Cert,
     heads: &[Head<'t>],
 ) -> Result<String, Memory>
+    requires text { IsTextOf source grammar.now.text }
     requires accepted { IsAccepted grammar.now.rules cert.now }
     requires within { All (λ head. head.rule < length grammar.now.rules) heads.now }
-    ensures { IfOk result (λ lines. spec.AreRuleLines file.now grammar.now (map spec.head_at heads.now) (string_bytes lines)) }
+    ensures { IfOk result (λ lines. spec.AreRuleLines (located source.entry) file.now grammar.now (map spec.head_at heads.now) (string_bytes lines)) }
 {
-    let mut ruler = Ruler::new(grammar.source(), Encoding::Utf32);
+    let text = grammar.source();
+    let mut ruler = Ruler::new(text, Encoding::Utf32);
     let mut lines = String::new(alloc);
     for head in heads {
         let shown = example(alloc, grammar, cert, head.rule)?;
-        push_rule_line(&mut lines, alloc, file, &mut ruler, &head.spot, &shown)?;
+        let begin = ruler.range_of(&head.spot.place).start;
+        let at = located(source, text, begin);
+        push_rule_line(&mut lines, alloc, file, at, &head.spot, &shown)?;
     }
     Ok(lines)
 }
 
 /// The lines of the rules of a grammar.
-fn printed_by(alloc: Global, file: &str, grammar: &Grammar) -> Result<Text, Memory>
-    ensures { IfOk result (λ lines. spec.AreRuleLines file.now grammar.now (spec.heads grammar.now.names grammar.now.places) lines) }
+fn printed_by(
+    alloc: Global,
+    file: &str,
+    source: Source<'_>,
+    grammar: &Grammar,
+) -> Result<Text, Memory>
+    requires { IsTextOf source grammar.now.text }
+    ensures { IfOk result (λ lines. spec.AreRuleLines (located source.entry) file.now grammar.now (spec.heads grammar.now.names grammar.now.places) lines) }
 {
     let cert = least(alloc, grammar)?;
     let heads = heads_of(alloc, grammar)?;
-    let lines = rule_lines(alloc, file, grammar, &cert, heads.as_slice())?;
+    let lines = rule_lines(alloc, file, source, grammar, &cert, heads.as_slice())?;
     Ok(Text::new(lines))
+}
+
+/// What is printed of the rules of a grammar's text from a file with this name.
+pub(crate) fn print_rules_from(
+    alloc: Global,
+    file: &str,
+    source: Source<'_>,
+    text: &Snapshot,
+) -> Result<Text, Memory>
+    requires { IsTextOf source text.now }
+    ensures { IfOk result (λ lines. spec.ArePrintedRulesFrom (located source.entry) file.now text.now lines) }
+{
+    let grammar = Grammar::of(alloc, text)?;
+    let lines = printed_by(alloc, file, source, &grammar);
+    drop(grammar);
+    lines
 }
 
 /// What is printed of the rules of a text in a file with this name: each rule that it defines in a line, with what is known of its
@@ -101,8 +130,5 @@ fn printed_by(alloc: Global, file: &str, grammar: &Grammar) -> Result<Text, Memo
 pub fn print_rules(alloc: Global, file: &str, text: &Snapshot) -> Result<Text, Memory>
     ensures { IfOk result (λ lines. spec.ArePrintedRules file.now text.now lines) }
 {
-    let grammar = Grammar::of(alloc, text)?;
-    let lines = printed_by(alloc, file, &grammar);
-    drop(grammar);
-    lines
+    print_rules_from(alloc, file, Source::File, text)
 }

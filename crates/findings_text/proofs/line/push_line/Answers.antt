@@ -1,13 +1,12 @@
 use Rattle.std.proofs.Common.{◌∙◌, ap}
 use Rattle.std.specs.Prelude.{string_bytes}
 use Rattle.findings_text.specs.Print.{severity_text}
-use Rattle.findings_text.proofs.Grown.{begin_by, line_grown}
+use Rattle.findings_text.proofs.Grown.{line_grown}
 use Rattle.findings_text.proofs.line.push_line.Goals as goal
 
-pub returns-clause-line : goal.returns-clause-line
-returns-clause-line c =
-    line_grown c.args.file.now c.args.ruler.now.text c.args.finding.now c.range_of.result.start
-    (ap (λ r. r.start) c.range_of.ensures.range ∙ ap (λ e. begin_by e c.args.ruler.now.text c.args.finding.now) c.requires)
+pub returns : goal.returns
+returns c =
+    line_grown c.args.file.now c.args.finding.now c.args.at
     (string_bytes c.args.lines.now) c.as_str.result.now c.severity_text.result.now c.as_str-2.result.now c.text.result.now
     (c.as_str.ensures.value ∙ c.in_ok-place.ensures) (c.severity_text.ensures ∙ ap severity_text c.severity.ensures) (c.as_str-2.ensures ∙ c.in_ok-message.ensures) c.text.ensures
     (string_bytes c.push_str.new.self) (string_bytes c.push_str-2.new.self) (string_bytes c.push_str-3.new.self) (string_bytes c.push_str-4.new.self)

@@ -1,0 +1,49 @@
+-- What is printed of the findings in a draft: each at the place where it begins there.
+use Rattle.std.specs.Prelude.{◌≡◌, ℕ, List, [], ◌∷◌, ◌++◌, codes, length, slice_get}
+use Rattle.std.specs.Option.{option_map_or}
+use Rattle.ls_text.specs.Lines.{offset_of, units}
+use Rattle.ls_text.specs.Positions.{position_of}
+use Rattle.ls_text.specs.declared.position.Encoding.TheVariants.{Utf32}
+use Rattle.ls_text.specs.declared.position.Position.{Position}
+use Rattle.origins.specs.Origins.{Sourced, characters}
+use Rattle.findings_text.specs.declared.outcome.Outcome.TheVariants.{Warnings}
+use Rattle.findings_text.specs.declared.print.Printed.{Printed}
+use Rattle.findings_text.specs.declared.source.Source.{Source}
+use Rattle.findings_text.specs.declared.source.Source.TheVariants.{Draft, File}
+use Rattle.findings_text.specs.Print.{IsPrintedFrom, Locator}
+use Rattle.findings_text.specs.Rules.{ArePrintedRulesFrom}
+
+-- the offset in a draft of what has this offset in its grammar; past the grammar's end it is the draft's end
+abbrev pub origin_at : List ℕ → List Sourced → ℕ → ℕ
+origin_at draft grammar o = option_map_or (λ c. c.1) (slice_get grammar o) (length draft)
+
+-- where in the draft stands what has this position in its grammar
+abbrev pub draft_position : List ℕ → List Sourced → Position → Position
+draft_position draft grammar at =
+    position_of (units Utf32) draft (origin_at draft grammar (offset_of (units Utf32) (characters grammar) at.line at.character))
+
+-- the line of a draft with no block of grammar
+abbrev pub no_grammar_line : List ℕ → List ℕ
+no_grammar_line file = file ++ (codes ":1:1: warning: no grammar in this draft [no-grammar]" ++ 10 ∷ [])
+
+-- This is printed of a draft with this grammar: its findings, each where it stands in the draft, or, where it has no block of grammar,
+-- a warning.
+abbrev pub IsPrintedDraft : List ℕ → List ℕ → List Sourced → Printed → Type 0
+IsPrintedDraft file draft [] printed = (printed.lines ≡ no_grammar_line file) × (printed.outcome ≡ Warnings)
+IsPrintedDraft file draft (c ∷ cs) printed = IsPrintedFrom (draft_position draft (c ∷ cs)) file (characters (c ∷ cs)) printed
+
+-- This is printed of the rules of a draft with this grammar.
+abbrev pub ArePrintedDraftRules : List ℕ → List ℕ → List Sourced → List ℕ → Type 0
+ArePrintedDraftRules file draft grammar lines = ArePrintedRulesFrom (draft_position draft grammar) file (characters grammar) lines
+
+-- ---- how the code tells
+
+-- where what stands in the text of a source stands in the file
+abbrev pub located : Source → Locator
+located File at = at
+located (Draft draft grammar) at = draft_position draft.now grammar.now at
+
+-- the text is that of the source
+abbrev pub IsTextOf : Source → List ℕ → Type 0
+IsTextOf File text = Unit {0}
+IsTextOf (Draft draft grammar) text = text ≡ characters grammar.now

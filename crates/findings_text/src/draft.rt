@@ -1,0 +1,89 @@
+//! What is printed of a draft.
+
+ghost use Rattle.std.specs.Prelude.{◌≡◌, IfOk};
+ghost use Rattle.origins.specs.Origins.{characters};
+ghost use Rattle.findings_text.specs.Drafts as spec;
+
+use crate::outcome::Outcome;
+use crate::print::{Printed, print_from};
+use crate::rules::print_rules_from;
+use crate::source::Source;
+use ls_lists::Text;
+use ls_text::{Snapshot, TextFault};
+use origins::Gathered;
+use std::alloc::{AllocError as Memory, Global};
+use text_files::FileFault;
+
+/// The text of a grammar that was gathered.
+fn text_of(alloc: Global, grammar: &Gathered) -> Result<Snapshot, FileFault>
+    ensures { IfOk result (λ text. text ≡ characters grammar.now) }
+{
+    let Ok(text) = String::from_str(alloc, grammar.as_str()) else {
+        return Err(FileFault::Memory);
+    };
+    match Snapshot::of_text(alloc, text) {
+        Ok(text) => Ok(text),
+        Err(TextFault::TooLarge) => Err(FileFault::NotText),
+        Err(TextFault::Memory) => Err(FileFault::Memory),
+    }
+}
+
+/// The line of a draft with no block of grammar.
+fn no_grammar(alloc: Global, file: &str) -> Result<Printed, Memory>
+    ensures { IfOk result (λ printed. (printed.lines ≡ spec.no_grammar_line file.now) × (printed.outcome ≡ Outcome.Warnings)) }
+{
+    let mut lines = String::from_str(alloc, file)?;
+    lines.push_str(":1:1: warning: no grammar in this draft [no-grammar]\n")?;
+    Ok(Printed {
+        lines: Text::new(lines),
+        outcome: Outcome::Warnings,
+    })
+}
+
+/// What is printed of a draft in a file with this name, where this is the draft's grammar: each finding in a line, at the place where it
+/// begins in the draft. Lines and columns count from 1, and columns count characters.
+///
+/// # Errors
+///
+/// `NotText` where the grammar is larger than a text may be, and `Memory`.
+pub fn print_draft(
+    alloc: Global,
+    file: &str,
+    draft: &Snapshot,
+    grammar: &Gathered,
+) -> Result<Printed, FileFault>
+    ensures { IfOk result (λ printed. spec.IsPrintedDraft file.now draft.now grammar.now printed) }
+{
+    let printed = match grammar.origin_of(0) {
+        None => no_grammar(alloc, file),
+        Some(_) => {
+            let text = text_of(alloc, grammar)?;
+            print_from(alloc, file, Source::Draft(draft, grammar), &text)
+        }
+    };
+    match printed {
+        Ok(printed) => Ok(printed),
+        Err(_) => Err(FileFault::Memory),
+    }
+}
+
+/// What is printed of the rules of a draft in a file with this name, where this is the draft's grammar: each rule that it defines in a
+/// line, at the first place of the draft that does.
+///
+/// # Errors
+///
+/// As [`print_draft`].
+pub fn print_draft_rules(
+    alloc: Global,
+    file: &str,
+    draft: &Snapshot,
+    grammar: &Gathered,
+) -> Result<Text, FileFault>
+    ensures { IfOk result (λ lines. spec.ArePrintedDraftRules file.now draft.now grammar.now lines) }
+{
+    let text = text_of(alloc, grammar)?;
+    match print_rules_from(alloc, file, Source::Draft(draft, grammar), &text) {
+        Ok(lines) => Ok(lines),
+        Err(_) => Err(FileFault::Memory),
+    }
+}

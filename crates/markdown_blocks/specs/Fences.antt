@@ -1,0 +1,116 @@
+-- The blocks of ABNF in a text in Markdown: fenced code blocks as CommonMark 0.31, section 4.5, has them. But a fence may stand behind any
+-- indentation, since it can be part of a list's item; indentation is SP and HTAB, each of width one.
+use Rattle.std.specs.Prelude.{ℕ, suc, ◌+◌, min, Bool, not, ◌&&◌, ◌||◌, ◌==◌, nat_le, Option, Some, None, List, [], ◌∷◌, ◌++◌, length, drop, slice_index, if◌then◌else◌}
+use Rattle.std.specs.Option.{option_map}
+use Rattle.std.specs.List.{list_all, list_any, prefix_len, take_while}
+use Rattle.ls_text.specs.Lines.{ends_line}
+use Rattle.origins.specs.Origins.{Sourced, Block, from, is_blank, is_break}
+use Rattle.markdown_blocks.specs.declared.fence.Fence.{Fence}
+
+-- ---- the lines of a text
+
+-- a line with its line end, and the offset at which it begins
+abbrev pub Line : Type 0
+Line = ℕ × List ℕ
+
+-- lines with a character before the first, at this offset
+abbrev pub put_first : ℕ → ℕ → List Line → List Line
+put_first at c [] = (at, c ∷ []) ∷ []
+put_first at c (l ∷ ls) = (at, c ∷ l.1) ∷ ls
+
+-- the lines of a text that begins at this offset; none is empty
+unfoldable pub lines_from : ℕ → List ℕ → List Line
+lines_from at [] = []
+lines_from at (c ∷ t) = if ends_line c t then (at, c ∷ []) ∷ lines_from (suc at) t else put_first at c (lines_from (suc at) t)
+
+-- how many characters the first line has, with its line end
+unfoldable pub line_len : List ℕ → ℕ
+line_len [] = 0
+line_len (c ∷ t) = if ends_line c t then 1 else suc (line_len t)
+
+-- a line without its line end
+abbrev pub without_end : List ℕ → List ℕ
+without_end line = take_while (λ c. not (is_break c)) line
+
+-- how many blanks a line begins with
+abbrev pub blanks : List ℕ → ℕ
+blanks line = prefix_len is_blank line
+
+abbrev pub without_blanks : List ℕ → List ℕ
+without_blanks line = drop (blanks line) line
+
+-- how many of these characters a line begins with
+abbrev pub marks : ℕ → List ℕ → ℕ
+marks mark line = prefix_len (λ c. c == mark) line
+
+-- ---- fences
+
+-- `a` with a small or a capital letter, and so on
+abbrev pub is_letter : ℕ → ℕ → ℕ → Bool
+is_letter small capital c = c == small || c == capital
+
+-- `abnf` in any case of letters
+abbrev pub is_abnf_word : List ℕ → Bool
+is_abnf_word word =
+    length word == 4 && is_letter 97 65 (slice_index word 0) && is_letter 98 66 (slice_index word 1) && is_letter 110 78 (slice_index word 2) && is_letter 102 70 (slice_index word 3)
+
+-- whether the first word of an info string is `abnf`
+abbrev pub is_abnf : List ℕ → Bool
+is_abnf info = is_abnf_word (take_while (λ c. not (is_blank c)) (without_blanks info))
+
+-- Backticks, with no backtick in the info string, or tildes
+abbrev pub may_open : ℕ → List ℕ → Bool
+may_open mark info = mark == 126 || (mark == 96 && not (list_any (λ c. c == 96) info))
+
+-- the fence that a line opens, by the line without its indentation: at least three marks, and then the info string
+abbrev pub fence_of : ℕ → ℕ → List ℕ → Option Fence
+fence_of indent mark line =
+    if nat_le 3 (marks mark line) && may_open mark (drop (marks mark line) line) then Some (record {
+      indent = indent;
+      mark = mark;
+      count = marks mark line;
+      is_abnf = is_abnf (drop (marks mark line) line);
+    })
+    else None
+
+abbrev pub opening : List ℕ → Option Fence
+opening line = fence_of (blanks line) (slice_index (without_blanks line) 0) (without_blanks line)
+
+-- whether a line closes what a fence opened: at least as many of its marks, and only blanks behind them
+abbrev pub closes : Fence → List ℕ → Bool
+closes fence line =
+    let rest = without_blanks line in
+    nat_le fence.count (marks fence.mark rest) && list_all is_blank (drop (marks fence.mark rest) rest)
+
+-- ---- blocks
+
+-- a line of the content without the fence's indentation, as far as the line has it
+abbrev pub content_of : Fence → Line → List Sourced
+content_of fence line =
+    let gone = min fence.indent (blanks line.1) in
+    from (line.0 + gone) (drop gone line.1)
+
+-- a fence that is open, and the content behind it so far
+abbrev pub Open : Type 0
+Open = Fence × List Sourced
+
+-- the block that ends at an offset, if it is ABNF
+abbrev pub ended : Open → ℕ → List Block
+ended opened end = if (opened.0).is_abnf then record { content = opened.1; end = end } ∷ [] else []
+
+-- the blocks of these lines, up to the end of the text: outside of blocks, or behind an open fence
+unfoldable pub blocks : ℕ → Option Open → List Line → List Block
+blocks end None [] = []
+blocks end None (l ∷ ls) = blocks end (option_map (λ fence. (fence, [])) (opening (without_end l.1))) ls
+blocks end (Some opened) [] = ended opened end
+blocks end (Some opened) (l ∷ ls) =
+    if closes opened.0 (without_end l.1) then ended opened l.0 ++ blocks end None ls
+    else blocks end (Some (opened.0, opened.1 ++ content_of opened.0 l)) ls
+
+-- the blocks of ABNF in a draft
+abbrev pub markdown_blocks : List ℕ → List Block
+markdown_blocks draft = blocks (length draft) None (lines_from 0 draft)
+
+-- the state of a reader: the open fence, and what was gathered behind it
+abbrev pub reading : Option Fence → List Sourced → Option Open
+reading fence content = option_map (λ f. (f, content)) fence

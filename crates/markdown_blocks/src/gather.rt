@@ -1,0 +1,107 @@
+//! The blocks of a draft, gathered.
+
+ghost use Rattle.std.specs.Prelude.{◌≡◌, ℕ, ◌+◌, ◌<◌, ◌≤◌, ◌^◌, List, [], ◌∷◌, ◌++◌, IfOk, OnOk, length};
+ghost use Rattle.origins.specs.Origins.{from, grammar_of};
+ghost use Rattle.markdown_blocks.specs.Fences.{Line, blocks, content_of, ended, markdown_blocks, reading};
+
+use crate::fence::{Fence, opening};
+use crate::line::{blanks, line_len, without_end};
+use ls_text::Snapshot;
+use origins::Gathered;
+use std::alloc::{AllocError, Global};
+
+// Adds characters that stand in a row in the draft, from an offset on.
+fn put_row(block: &mut Gathered, row: &[char], at: usize) -> Result<(), AllocError>
+    requires { at + length row.now < 2 ^ 64 }
+    ensures { OnOk result (block.new ≡ block.old ++ from at row.now) }
+{
+    for (i, c) in row.iter().enumerate() {
+        block.put(*c, at + i)?;
+    }
+    Ok(())
+}
+
+// Adds a line of a block's content.
+fn put_line(block: &mut Gathered, fence: Fence, line: &[char], at: usize) -> Result<(), AllocError>
+    requires { at + length line.now < 2 ^ 64 }
+    ensures { OnOk result (block.new ≡ block.old ++ content_of fence (at, line.now)) }
+{
+    let gone = fence.indent.min(blanks(line));
+    put_row(block, &line[gone..], at + gone)
+}
+
+// Adds a block that ends at an offset, if it is ABNF.
+fn end_block(
+    grammar: &mut Gathered,
+    block: &Gathered,
+    fence: Fence,
+    end: usize,
+) -> Result<(), AllocError>
+    ensures { OnOk result (grammar.new ≡ grammar.old ++ grammar_of (ended (fence, block.now) end)) }
+{
+    if fence.is_abnf {
+        grammar.add_block(block, end)?;
+    }
+    Ok(())
+}
+
+// Reads a line outside of blocks, or behind an open fence, and returns the fence that is open then.
+fn read_line(
+    grammar: &mut Gathered,
+    block: &mut Gathered,
+    fence: Option<Fence>,
+    line: &[char],
+    at: usize,
+) -> Result<Option<Fence>, AllocError>
+    requires { at + length line.now < 2 ^ 64 }
+    ensures { IfOk result (λ next. (end : ℕ) (ls : List Line) → grammar.new ++ grammar_of (blocks end (reading next block.new) ls) ≡ grammar.old ++ grammar_of (blocks end (reading fence block.old) ((at, line.now) ∷ ls))) }
+{
+    let text = without_end(line);
+    let Some(open) = fence else {
+        block.clear();
+        return Ok(opening(text));
+    };
+    if open.closes(text) {
+        end_block(grammar, block, open, at)?;
+        return Ok(None);
+    }
+    if open.is_abnf {
+        put_line(block, open, line, at)?;
+    }
+    Ok(fence)
+}
+
+// Gathers the grammar of a text.
+fn gather(alloc: Global, text: &[char]) -> Result<Gathered, AllocError>
+    ensures { IfOk result (λ g. g ≡ grammar_of (markdown_blocks text.now)) }
+{
+    let mut grammar = Gathered::new(alloc);
+    let mut block = Gathered::new(alloc);
+    let mut fence: Option<Fence> = None;
+    let mut rest = text;
+    let mut at = 0;
+    'lines: while !rest.is_empty() {
+        let (line, behind) = rest.split_at(line_len(rest));
+        fence = read_line(&mut grammar, &mut block, fence, line, at)?;
+        at += line.len();
+        rest = behind;
+    }
+    if let Some(open) = fence {
+        end_block(&mut grammar, &block, open, at)?;
+    }
+    Ok(grammar)
+}
+
+/// The grammar of all blocks of ABNF in a draft in Markdown, one behind the other, with the offset of each character in the draft.
+///
+/// # Errors
+///
+/// Where an allocation is refused.
+pub fn gather_markdown(alloc: Global, draft: &Snapshot) -> Result<Gathered, AllocError>
+    ensures { IfOk result (λ g. g ≡ grammar_of (markdown_blocks draft.now)) }
+{
+    let text = draft.to_text()?;
+    let characters: Vec<char> = text.as_str().chars().collect(alloc)?;
+    let grammar = gather(alloc, characters.as_slice())?;
+    Ok(grammar)
+}

@@ -1,0 +1,81 @@
+//! The parts of a line.
+
+ghost use Rattle.std.specs.Prelude.{◌≡◌, ◌≤◌, length, not};
+ghost use Rattle.std.specs.List.{list_all, prefix_len, take_while};
+ghost use Rattle.ls_text.specs.Lines.{ends_line};
+ghost use Rattle.origins.specs.Origins.{is_blank, is_break};
+ghost use Rattle.markdown_blocks.specs.Fences.{blanks, line_len, marks, without_end};
+
+use origins::{is_blank, is_break};
+
+// Whether a line ends with a character, before the rest of the text.
+fn ends_line(c: char, rest: &[char]) -> bool
+    ensures { result ≡ ends_line c rest.now }
+{
+    c == '\n' || (c == '\r' && !matches!(rest, ['\n', ..]))
+}
+
+// How many characters the first line of a text has, with its line end.
+pub fn line_len(text: &[char]) -> usize
+    ensures { result ≡ line_len text.now }
+{
+    for (at, c) in text.iter().enumerate() {
+        if ends_line(*c, &text[at + 1..]) {
+            return at + 1;
+        }
+    }
+    text.len()
+}
+
+// Whether all characters are blanks.
+pub fn are_blank(text: &[char]) -> bool
+    ensures { result ≡ list_all is_blank text.now }
+{
+    text.iter().all(|c| is_blank(*c))
+}
+
+// How many blanks a line begins with.
+pub fn blanks(line: &[char]) -> usize
+    ensures count { result ≡ blanks line.now }
+    ensures within { result ≤ length line.now }
+{
+    line.iter().take_while(|c| is_blank(**c)).count()
+}
+
+// How many of these characters a line begins with.
+pub fn marks(mark: char, line: &[char]) -> usize
+    ensures count { result ≡ marks mark line.now }
+    ensures within { result ≤ length line.now }
+{
+    line.iter().take_while(|c| **c == mark).count()
+}
+
+// How many characters the first word of a text has, at whose front no blanks stand.
+fn word_len(text: &[char]) -> usize
+    ensures count { result ≡ prefix_len (λ c. not (is_blank c)) text.now }
+    ensures within { result ≤ length text.now }
+{
+    text.iter().take_while(|c| !is_blank(**c)).count()
+}
+
+// How many characters a line has before its line end.
+fn text_len(line: &[char]) -> usize
+    ensures count { result ≡ prefix_len (λ c. not (is_break c)) line.now }
+    ensures within { result ≤ length line.now }
+{
+    line.iter().take_while(|c| !is_break(**c)).count()
+}
+
+// The first word of a text, at whose front no blanks stand.
+pub fn first_word(text: &[char]) -> &[char]
+    ensures { result.now ≡ take_while (λ c. not (is_blank c)) text.now }
+{
+    &text[..word_len(text)]
+}
+
+// A line without its line end.
+pub fn without_end(line: &[char]) -> &[char]
+    ensures { result.now ≡ without_end line.now }
+{
+    &line[..text_len(line)]
+}

@@ -1,0 +1,68 @@
+-- Laws of the indent of a block, and of the characters without it.
+use Rattle.std.proofs.Common.{◌≡◌, ℕ, suc, ◌+◌, ◌<◌, ◌≤◌, true, false, List, [], ◌∷◌, ◌++◌, length, drop, get_or, refl, sym, ap, subst, inl, inr, ◌∙◌, arith}
+use Rattle.std.specs.Prelude.{Option, Some, None, IfSome, nat_eq}
+use Rattle.std.proofs.lemmas.List.{append-nil, at_drop_more, drop_all, length_push}
+use Rattle.std.specs.List.{enumerate_from}
+use Rattle.std.proofs.lemmas.List.FromFn.{get_or-enumerate_from, length-enumerate_from}
+use Rattle.std.proofs.lemmas.Bool.Decides.{eqb_tells}
+use Rattle.origins.specs.Origins.{Sourced, first_indent, is_blank, is_break, left_aligned}
+use Rattle.origins.specs.Runs.{placed}
+
+-- a character of a text, and what is left behind it
+pub left_at : (cs : List ℕ) (n c : ℕ) → (n < length cs) × (c ≡ get_or cs n c) → drop n cs ≡ c ∷ drop (n + 1) cs
+left_at cs n c here = at_drop_more (λ ds. ds) cs n c here.0 ∙ ap (λ d. d ∷ drop (n + 1) cs) (sym here.1)
+
+-- ---- the indent by one character more
+
+module _ (c : ℕ) (cs : List ℕ) where
+  pub indent-break : (front : Option ℕ) → is_break c ≡ true → first_indent front (c ∷ cs) ≡ first_indent (Some 0) cs
+  indent-break None e = rw e refl
+  indent-break (Some n) e = rw e refl
+
+  pub indent-comment : is_break c ≡ false → first_indent None (c ∷ cs) ≡ first_indent None cs
+  indent-comment e = rw e refl
+
+  pub indent-blank : (n : ℕ) → is_break c ≡ false → is_blank c ≡ true → first_indent (Some n) (c ∷ cs) ≡ first_indent (Some (n + 1)) cs
+  indent-blank n e b = rw (e, b) (ap (λ m. first_indent (Some m) cs) (let same : suc n ≡ n + 1 = omega arith in same))
+
+  pub indent-semicolon : (n : ℕ) → is_break c ≡ false → is_blank c ≡ false → nat_eq c 59 ≡ true → first_indent (Some n) (c ∷ cs) ≡ first_indent None cs
+  indent-semicolon n e b s = rw (e, b, s) refl
+
+  pub indent-content : (n : ℕ) → is_break c ≡ false → is_blank c ≡ false → (c ≡ 59 → ⊥) → first_indent (Some n) (c ∷ cs) ≡ n
+  indent-content n e b s = let other : nat_eq c 59 ≡ false = elim (eqb_tells c 59) [ inl x ↦ absurd (s x.1) | inr x ↦ x.0 ] in rw (e, b, other) refl
+
+pub indent-end : (front : Option ℕ) → first_indent front [] ≡ 0
+indent-end None = refl
+indent-end (Some n) = refl
+
+pub indent-more : (cs yielded : List ℕ) (c : ℕ) (front next : Option ℕ) {whole : ℕ} → (length yielded < length cs) × (c ≡ get_or cs (length yielded) c) → ((ds : List ℕ) → first_indent front (c ∷ ds) ≡ first_indent next ds) → first_indent front (drop (length yielded) cs) ≡ whole → first_indent next (drop (length (yielded ++ c ∷ [])) cs) ≡ whole
+indent-more cs yielded c front next here step was =
+    ap (λ n. first_indent next (drop n cs)) (length_push yielded c) ∙ sym (step (drop (length yielded + 1) cs)) ∙ ap (first_indent front) (sym (left_at cs (length yielded) c here)) ∙ was
+
+pub IfSome-at : (o : Option ℕ) (P : ℕ → Type 0) (n : ℕ) → o ≡ Some n → IfSome o P → P n
+IfSome-at o P n is h = subst (λ p. IfSome p P) is h
+
+-- ---- the characters without the indent, by one more
+
+pub enumerated : (cs : List ℕ) (yielded : List (ℕ × ℕ)) (p : ℕ × ℕ) → (length yielded < length (enumerate_from 0 cs)) × (p ≡ get_or (enumerate_from 0 cs) (length yielded) p) → (p.0 ≡ length yielded) × (drop (length yielded) cs ≡ p.1 ∷ drop (length yielded + 1) cs)
+enumerated cs yielded p here =
+    let lt : length yielded < length cs = omega (arith, here.0, length-enumerate_from 0 cs) in
+    let is : p ≡ (0 + length yielded, get_or cs (length yielded) p.1) = here.1 ∙ get_or-enumerate_from 0 cs (length yielded) p lt in
+    (ap (λ q. q.0) is ∙ (let e : 0 + length yielded ≡ length yielded = omega arith in e), left_at cs (length yielded) p.1 (lt, ap (λ q. q.1) is))
+
+placed-left : (f : ℕ → ℕ) (n : ℕ) (cs : List ℕ) (c : ℕ) → drop n cs ≡ c ∷ drop (n + 1) cs → placed f n (drop n cs) ≡ (c, f n) ∷ placed f (n + 1) (drop (n + 1) cs)
+unfolding placed
+placed-left f n cs c is = ap (placed f n) is ∙ ap (λ m. (c, f n) ∷ placed f m (drop (n + 1) cs)) (let e : suc n ≡ n + 1 = omega arith in e)
+
+pub aligned-more : (f : ℕ → ℕ) (cs : List ℕ) (base left next : ℕ) (old new whole : List Sourced) (yielded : List (ℕ × ℕ)) (p : ℕ × ℕ) (at : ℕ) → drop (length yielded) cs ≡ p.1 ∷ drop (length yielded + 1) cs → at ≡ f (length yielded) → ((ds : List Sourced) → new ++ left_aligned base next ds ≡ old ++ left_aligned base left ((p.1, at) ∷ ds)) → old ++ left_aligned base left (placed f (length yielded) (drop (length yielded) cs)) ≡ whole → new ++ left_aligned base next (placed f (length (yielded ++ p ∷ [])) (drop (length (yielded ++ p ∷ [])) cs)) ≡ whole
+aligned-more f cs base left next old new whole yielded p at here place step was =
+    let n = length yielded in
+    ap (λ m. new ++ left_aligned base next (placed f m (drop m cs))) (length_push yielded p)
+    ∙ step (placed f (n + 1) (drop (n + 1) cs))
+    ∙ ap (λ a. old ++ left_aligned base left ((p.1, a) ∷ placed f (n + 1) (drop (n + 1) cs))) place
+    ∙ ap (λ ds. old ++ left_aligned base left ds) (sym (placed-left f n cs p.1 here))
+    ∙ was
+
+pub aligned-end : (f : ℕ → ℕ) (cs : List ℕ) (base left n : ℕ) (to : List Sourced) {whole : List Sourced} → length cs ≤ n → to ++ left_aligned base left (placed f n (drop n cs)) ≡ whole → to ≡ whole
+unfolding placed
+aligned-end f cs base left n to le was = sym (append-nil to) ∙ ap (λ ds. to ++ left_aligned base left (placed f n ds)) (sym (drop_all n cs le)) ∙ was

@@ -1,0 +1,158 @@
+//! Characters that are gathered from a draft.
+
+ghost use Rattle.std.specs.Prelude.{◌≡◌, ◌^◌, ◌<◌, List, [], ◌∷◌, ◌++◌, IfOk, OnOk, length};
+ghost use Rattle.std.specs.Option.{option_map};
+ghost use Rattle.std.specs.List.{slice_get};
+ghost use Rattle.std.specs.Str.{chars};
+ghost use Rattle.origins.specs.Origins as spec;
+ghost use Rattle.origins.specs.Runs.{AreRuns, origin_at, placed};
+
+use crate::aligned::{first_indent, is_blank, is_break};
+use crate::runs::{Run, START, continue_at, forward, run_of};
+use std::alloc::{AllocError, Global};
+use std::marker::Model;
+
+/// Characters that are gathered from a draft, in their order here. Contracts see each with the offset at which it begins in the draft,
+/// which counts characters.
+#[derive(Drop)]
+pub struct Gathered {
+    text: String,
+    count: usize,
+    runs: Vec<Run>,
+}
+
+impl Model for Gathered {
+    ghost use Rattle.std.specs.Prelude.{List, string_bytes};
+    ghost use Rattle.std.specs.Str.{chars};
+    ghost use Rattle.origins.specs.Origins.{Sourced};
+
+    ghost Value = { List Sourced };
+
+    ghost use Rattle.origins.specs.Runs.{placed, origin_at, IsHeld};
+
+    ghost view = { λ g. placed (origin_at g.runs.items) 0 (chars (string_bytes g.text)) };
+
+    ghost invariant = { λ g. IsHeld (string_bytes g.text) g.count g.runs.items };
+}
+
+// The number of characters.
+fn char_count(text: &str) -> usize
+    ensures { result ≡ length (chars text.now) }
+{
+    text.chars().count()
+}
+
+impl Gathered {
+    /// No characters.
+    pub fn new(alloc: Global) -> Gathered
+        ensures { result ≡ [] }
+    {
+        Gathered {
+            text: String::new(alloc),
+            count: 0,
+            runs: Vec::new(alloc),
+        }
+    }
+
+    /// Adds characters that stand in a row in the draft, from this offset on.
+    ///
+    /// # Errors
+    ///
+    /// Where an allocation is refused. So is an offset that no text in memory has, from 2^63 on.
+    pub fn copy(&mut self, text: &str, at: usize) -> Result<(), AllocError>
+        ensures { OnOk result (self.new ≡ self.old ++ spec.from at (chars text.now)) }
+    {
+        continue_at(&mut self.runs, self.count, at)?;
+        self.text.push_str(text)?;
+        self.count += char_count(text);
+        Ok(())
+    }
+
+    /// Adds one character, whatever stands for it in the draft at this offset.
+    ///
+    /// # Errors
+    ///
+    /// As [`copy`](Gathered::copy).
+    pub fn put(&mut self, character: char, at: usize) -> Result<(), AllocError>
+        ensures { OnOk result (self.new ≡ self.old ++ (character, at) ∷ []) }
+    {
+        continue_at(&mut self.runs, self.count, at)?;
+        self.text.push(character)?;
+        self.count += 1;
+        Ok(())
+    }
+
+    /// Adds a block that ends at this offset of the draft: without its base indent, and with a line end at its end.
+    ///
+    /// # Errors
+    ///
+    /// As [`copy`](Gathered::copy).
+    pub fn add_block(&mut self, block: &Gathered, end: usize) -> Result<(), AllocError>
+        ensures { OnOk result (self.new ≡ self.old ++ spec.aligned (record { content = block.now; end = end })) }
+    {
+        let base = first_indent(block.text.as_str());
+        put_aligned(self, block.text.as_str(), block.runs.as_slice(), base)?;
+        self.put('\n', end)?;
+        Ok(())
+    }
+
+    /// No characters, with the room of these.
+    pub fn clear(&mut self)
+        ensures { self.new ≡ [] }
+    {
+        self.text.clear();
+        self.count = 0;
+        self.runs.clear();
+    }
+
+    /// The characters alone.
+    pub fn as_str(&self) -> &str
+        ensures { chars result.now ≡ spec.characters self.now }
+    {
+        self.text.as_str()
+    }
+
+    /// Where a character begins in the draft; `None` behind the last one.
+    pub fn origin_of(&self, offset: usize) -> Option<usize>
+        ensures { result ≡ option_map (λ c. c.1) (slice_get self.now offset) }
+    {
+        if offset < self.count {
+            Some(run_of(self.runs.as_slice(), offset).origin_of(offset))
+        } else {
+            None
+        }
+    }
+}
+
+// Adds a character unless it is a blank of the base indent, of which `left` may still go. What may go behind it is returned.
+fn put_behind(
+    to: &mut Gathered,
+    c: char,
+    at: usize,
+    base: usize,
+    left: usize,
+) -> Result<usize, AllocError>
+    ensures { IfOk result (λ next. (ds : List spec.Sourced) → to.new ++ spec.left_aligned base next ds ≡ to.old ++ spec.left_aligned base left ((c, at) ∷ ds)) }
+{
+    if is_blank(c) && left > 0 {
+        return Ok(left - 1);
+    }
+    to.put(c, at)?;
+    Ok(if is_break(c) { base } else { 0 })
+}
+
+// Adds the characters of a text without its base indent.
+fn put_aligned(to: &mut Gathered, text: &str, runs: &[Run], base: usize) -> Result<(), AllocError>
+    requires runs { AreRuns runs.now (length (chars text.now)) }
+    requires small { length (chars text.now) < 2 ^ 63 }
+    ensures { OnOk result (to.new ≡ to.old ++ spec.left_aligned base base (placed (origin_at runs.now) 0 (chars text.now))) }
+{
+    let mut run = START;
+    let mut later = runs;
+    let mut left = base;
+    for (offset, c) in text.chars().enumerate() {
+        (run, later) = forward(run, later, offset);
+        left = put_behind(to, c, run.origin_of(offset), base, left)?;
+    }
+    Ok(())
+}

@@ -1,0 +1,92 @@
+//! Runs of characters that stand in a row in a draft.
+
+ghost use Rattle.std.specs.Prelude.{◌≡◌, ℕ, ◌+◌, ◌-◌, ◌^◌, ◌<◌, ◌≤◌, ◌∷◌, OnOk, length, slice_index_or};
+ghost use Rattle.std.specs.List.Sorted.{IsNonDecreasingBy};
+ghost use Rattle.origins.specs.Runs.{AreRuns, origin_at, origin_by, run_at, start};
+
+use std::alloc::AllocError;
+
+// No text that fits into memory has such an offset.
+const NO_OFFSET: usize = 0x8000_0000_0000_0000;
+
+// A run of characters that stand in a row in the draft as they do here.
+#[derive(Clone, Copy)]
+pub struct Run {
+    // How many characters come before it here.
+    pub begins: usize,
+    // How many characters come before it in the draft.
+    pub origin: usize,
+}
+
+// What stands before any run.
+pub const START: Run = Run {
+    begins: 0,
+    origin: 0,
+};
+
+impl Run {
+    // Where a character begins in the draft, if the run goes on up to it.
+    pub fn origin_of(self, offset: usize) -> usize
+        requires from { self.begins ≤ offset }
+        requires fits { origin_by self offset < 2 ^ 64 }
+        ensures { result ≡ origin_by self offset }
+    {
+        self.origin + (offset - self.begins)
+    }
+}
+
+// The last of the first `count` runs.
+fn last_of(runs: &[Run], count: usize) -> Run
+    requires { count ≤ length runs.now }
+    ensures { result ≡ slice_index_or (start ∷ runs.now) count start }
+{
+    if count == 0 { START } else { runs[count - 1] }
+}
+
+// The run of a character.
+pub fn run_of(runs: &[Run], offset: usize) -> Run
+    requires ordered { IsNonDecreasingBy (λ r. r.begins) runs.now }
+    ensures { result ≡ run_at start runs.now offset }
+{
+    last_of(runs, runs.partition_point(|run| run.begins <= offset))
+}
+
+// The run of a character, and the runs behind it, from the run of a character before it.
+pub fn forward(run: Run, later: &[Run], offset: usize) -> (Run, &[Run])
+    ensures run_is { result.0 ≡ run_at run later.now offset }
+    ensures behind { (k : ℕ) → offset ≤ k → run_at result.0 result.1.now k ≡ run_at run later.now k }
+{
+    let mut run = run;
+    let mut later = later;
+    'runs: loop {
+        let Some((next, behind)) = later.split_first() else {
+            return (run, later);
+        };
+        if next.begins > offset {
+            return (run, later);
+        }
+        run = *next;
+        later = behind;
+    }
+}
+
+// Says of what comes behind so many characters that it stands in the draft from an offset on. It makes no run where the last one goes on.
+pub fn continue_at(runs: &mut Vec<Run>, count: usize, at: usize) -> Result<(), AllocError>
+    requires runs { AreRuns runs.old.items count }
+    requires small { count < 2 ^ 63 }
+    ensures runs { AreRuns runs.new.items count }
+    ensures before { (k : ℕ) → k < count → origin_at runs.new.items k ≡ origin_at runs.old.items k }
+    ensures behind { OnOk result ((k : ℕ) → origin_at runs.new.items (count + k) ≡ at + k) }
+{
+    if at >= NO_OFFSET {
+        return Err(AllocError);
+    }
+    let last = last_of(runs, runs.len());
+    if last.origin_of(count) != at {
+        runs.push(Run {
+            begins: count,
+            origin: at,
+        })?;
+    }
+    Ok(())
+}
