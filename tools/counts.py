@@ -38,7 +38,7 @@ LISTS = (
 NUMBERS = (
     *("broken_input.COUNT", "refused_sessions.FIRST", "refused_sessions.SAMPLE", "refused_threads.THREADS", "shaken_threads.COUNT"),
     *(f"random_texts.COUNTS.{encoding}" for encoding in ("utf-8", "utf-16", "utf-32")),
-    "replayed_typing.EDITS",
+    *("replayed_typing.EDITS", "random_drafts.COUNT"),
 )
 # The same of tests in crates: the file, and how the number stands there
 LOOPS = {

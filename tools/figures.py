@@ -101,6 +101,7 @@ FIGURES = (
     Figure(TESTING, "each of its {} writes fails", lambda counts: sum(map(failing_devices.leads_on, failing_devices.SESSION))),
     Figure(TESTING, "| random texts | {} |", RANDOM_TEXTS),
     Figure(TESTING, "| edits that are typed, at least | {} |", count_of("cases replayed_typing.EDITS")),
+    Figure(TESTING, "| random drafts | {} |", count_of("cases random_drafts.COUNT")),
     Figure(TESTING, "| random streams | {} |", count_of("cases broken_input.COUNT")),
     Figure(TESTING, "| allocations refused to threads | {} |", REFUSED_TO_THREADS),
     Figure(TESTING, "| random sessions | {} of {} messages |", counts_of("cases random_steps.SESSIONS", "cases random_steps.MESSAGES")),

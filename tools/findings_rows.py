@@ -198,6 +198,8 @@ def file_cases(program, files):
     is_bad = printed(bad, ("1:5: error: bad character [syntax]",))
     is_doubtful = printed(doubtful, ("1:1: warning: no earlier definition of a [no-base]",))
     yield "a text of the greatest size", ended(program, None, [widest]), (0, b"", b"")
+    wide_draft = files.written("widest.md", b"```abnf\n" + 16_383 * (b";" + 254 * b"x" + b"\n") + b"a = ?")
+    yield "a draft of nearly that size", ended(program, None, [wide_draft]), (1, b"", printed(wide_draft, ("16385:5: error: bad character [syntax]",)))
     yield "several files, in their order", ended(program, None, [doubtful, good, bad, doubtful]), (1, b"", is_doubtful + is_bad + is_doubtful)
     yield "warnings alone", ended(program, None, [good, doubtful]), (0, b"", is_doubtful)
     yield "warnings alone, strict", ended(program, None, ["--strict", good, doubtful]), (1, b"", is_doubtful)
@@ -232,13 +234,16 @@ def memory_cases(program, files):
     """Each allocation refused in turn: it ends with `out of memory`, and with no file half told, or as it does where nothing is refused."""
     doubtful, bad = files.written("doubtful.abnf", 'a =/ "x"'), files.written("bad.abnf", "a = b ?")
     said = refused_memory.REFUSED + b"out of memory\n"
-    for what, words, status, first, second in (
-        ("findings", [doubtful, bad], 1, "1:1: warning: no earlier definition of a [no-base]", "1:7: error: bad character [syntax]"),
-        ("rules", ["--rules", doubtful, bad], 0, "1:1: a: shortest length 1: x", "1:1: a: not known"),
+    drafts = [files.written("doubtful.md", '```abnf\na =/ "x"\n```'), files.written("bad.md", "~~~ABNF\n  a = b ?")]
+    for what, options, (one, other), status, first, second in (
+        ("findings", [], (doubtful, bad), 1, "1:1: warning: no earlier definition of a [no-base]", "1:7: error: bad character [syntax]"),
+        ("rules", ["--rules"], (doubtful, bad), 0, "1:1: a: shortest length 1: x", "1:1: a: not known"),
+        ("drafts", [], drafts, 1, "2:1: warning: no earlier definition of a [no-base]", "2:9: error: bad character [syntax]"),
+        ("rules of drafts", ["--rules"], drafts, 0, "2:1: a: shortest length 1: x", "2:3: a: not known"),
     ):
         with rows.library(refused_memory.LIBRARY) as made:
-            before, found = printed(doubtful, (first,)), refusals(program, made, words)
-        whole = before + printed(bad, (second,))
+            before, found = printed(one, (first,)), refusals(program, made, [*options, one, other])
+        whole = before + printed(other, (second,))
         others = {*found[:-1]} - {(6, said, b""), (6, said, before), (status, refused_memory.REFUSED, whole)}
         yield f"{what}, {len(found) - 1} allocations refused in turn", (len(found) > 60, sorted(others)), (True, [])
         yield f"{what}, no allocation refused", found[-1], (status, b"", whole)

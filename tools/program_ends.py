@@ -25,6 +25,7 @@ import encoding_rows
 import failing_devices
 import findings_rows
 import install_rows
+import random_drafts
 import random_texts
 import refused_commands
 import refused_memory
@@ -168,7 +169,7 @@ TOOLS = {
         ("replayed_typing", replayed_typing.plain_cases),
     ),
     "refused_memory": (("refused_memory", refused_memory.cases),),
-    "abnf_findings": (("findings_rows", findings_rows.cases),),
+    "abnf_findings": (("findings_rows", findings_rows.cases), ("random_drafts", random_drafts.cases)),
 }
 
 

@@ -1,0 +1,106 @@
+#!/usr/bin/env python3
+"""Puts random grammars into drafts in Markdown, and compares what `abnf_findings` finds in a draft with what it finds in its grammar.
+
+    tools/random_drafts.py [PROGRAM [COUNT [SEED]]]
+
+A grammar is cut before some of its rules. Each piece is indented by some blanks, stands in a fence of its own, which may be indented too, and
+has other text around it: words, and fences of other languages with rules in them. What is found in the draft must be what is found in the
+grammar, with and without --rules, each line moved as its piece was.
+"""
+import random
+import re
+import sys
+
+import rows
+from random_texts import random_text
+from runs import ended
+
+COUNT, SEED = 200, 1
+WORDS = ("", "Some words.", "\u00e9\u4e2d\U0001f600", "    an = indented block", "- an item", "# A title", "``no = fence``", "<!-- -->")
+OTHERS = ("```\nno = ?\n```", "~~~~ text\n```abnf\nno = ?\n```\n~~~~", "``` abnf-like\nno = ?\n```")
+PLACE = re.compile(r"g:(\d+):(\d+): (.*)", re.DOTALL)
+
+
+def grammar(dice):
+    """A random grammar whose first line has content, at the left."""
+    text = 'first = "x"\n' + random_text(dice)
+    return re.sub("\r\n?", "\n", text)
+
+
+def is_content(line):
+    return line.strip(" \t")[:1] not in ("", ";")
+
+
+def pieces(dice, lines):
+    """The lines of a grammar, cut before some of those that begin at the left."""
+    cuts = [at for at, line in enumerate(lines) if at and is_content(line) and line[0] not in " \t" and dice.random() < 0.4]
+    return [lines[start:end] for start, end in zip([0, *cuts], [*cuts, len(lines)])]
+
+
+def fence_around(dice, piece):
+    """A fence that no line of a piece closes."""
+    mark = dice.choice("`~")
+    longest = max((len(it) for line in piece for it in re.findall(f"^[ \t]*({mark}+)", line)), default=0)
+    return mark * dice.choice((max(3, longest + 1), max(3, longest + 1) + 2))
+
+
+def around(dice):
+    """Lines of other text."""
+    for _ in range(dice.randrange(4)):
+        yield from (dice.choice(OTHERS) if dice.random() < 0.3 else dice.choice(WORDS)).split("\n")
+
+
+def draft_of(dice, lines):
+    """The lines of a draft, and of each line of the grammar where it stands there: its line, and by how much it is moved."""
+    draft, moved = [], []
+    for piece in pieces(dice, lines):
+        draft += around(dice)
+        fence, outer, inner = fence_around(dice, piece), " " * dice.choice((0, 0, 2, 5)), " " * dice.choice((0, 0, 3, 8))
+        draft.append(f"{outer}{fence}{dice.choice(('', ' '))}{dice.choice(('abnf', 'ABNF', 'Abnf rules'))}")
+        for line in piece:
+            moved.append((len(draft), len(outer) + len(inner)))
+            draft.append(outer + inner + line)
+        draft.append(dice.choice(("", outer, "   ")) + fence + dice.choice(("", " ", fence[0])))
+    return [*draft, *around(dice)], moved
+
+
+def told(program, options, text, name):
+    """How a run on a text from standard input ends, with its lines under another name."""
+    status, said, wrote = ended(program, text.encode(), [*options, "-"])
+    return status, said, [f"{name}{line[1:]}" for line in wrote.decode().splitlines()]
+
+
+def moved_line(line, moved):
+    """A line about the grammar, as it must be about the draft."""
+    at, column, rest = PLACE.fullmatch(line).groups()
+    place, by = moved[int(at) - 1]
+    return f"g:{place + 1}:{int(column) + by}: {rest}"
+
+
+def draft_cases(program, count, seed):
+    faults, lines_told = [], 0
+    for number in range(count):
+        dice = random.Random(f"{seed} {number}")
+        lines = grammar(dice).split("\n")
+        draft, moved = draft_of(dice, lines)
+        end = dice.choice(("\n", "\r\n", "\r"))
+        for options in ([], ["--rules"]):
+            status, said, wanted = told(program, options, "\n".join(lines), "g")
+            found = told(program, [*options, "--format", "markdown"], end.join(draft), "g")
+            lines_told += len(wanted)
+            if found != (status, said, [moved_line(line, moved) for line in wanted]):
+                faults.append((number, options, found[2][:3], wanted[:3]))
+    yield f"{count} grammars in drafts", (faults[:2], lines_told > count), ([], True), count
+
+
+def cases(program):
+    yield from draft_cases(program, COUNT, SEED)
+
+
+def main(words):
+    program, count, seed = [*words, *[rows.FINDINGS, COUNT, SEED][len(words) :]]
+    return rows.told(draft_cases(program, int(count), seed))
+
+
+if __name__ == "__main__":
+    sys.exit(main(sys.argv[1:]))
