@@ -33,7 +33,7 @@ HEAD = f"# What the gate must find, neither more nor less. `{RAISE}` puts higher
 LISTS = (
     *(f"{module}.{name}" for module in ("session_rows", "encoding_rows") for name in ("SESSIONS", "REPLIES")),
     *("session_rows.FRAMES", "command_rows.EXAMPLES", "command_rows.CHECKS"),
-    *("findings_rows.ROWS", "findings_rows.RULE_ROWS", "findings_rows.DRAFT_ROWS", "install_rows.ROWS"),
+    *("findings_rows.ROWS", "findings_rows.RULE_ROWS", "findings_rows.DRAFT_ROWS", "findings_rows.XML_ROWS", "install_rows.ROWS"),
 )
 NUMBERS = (
     *("broken_input.COUNT", "refused_sessions.FIRST", "refused_sessions.SAMPLE", "refused_threads.THREADS", "shaken_threads.COUNT"),

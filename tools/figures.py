@@ -94,7 +94,7 @@ FIGURES = (
     Figure(TESTING, "| examples, each with its check | {} |", count_of("list command_rows.EXAMPLES")),
     Figure(TESTING, "| checks of certificates | {} |", count_of("list command_rows.CHECKS")),
     Figure(TESTING, "| texts of `abnf_findings` | {}, of rules {} |", counts_of("list findings_rows.ROWS", "list findings_rows.RULE_ROWS")),
-    Figure(TESTING, "| drafts of `abnf_findings` | {} |", counts_of("list findings_rows.DRAFT_ROWS")),
+    Figure(TESTING, "| drafts of `abnf_findings` | {}, in RFCXML {} |", counts_of("list findings_rows.DRAFT_ROWS", "list findings_rows.XML_ROWS")),
     Figure(TESTING, "| rows of `./install` | {} |", count_of("rows install install_rows")),
     Figure(TESTING, "| runs with devices that fail | {} |", failing_devices_of),
     Figure(TESTING, "Each of its {} reads fails", lambda counts: -(-len(failing_devices.GIVEN) // failing_devices.PIECE)),

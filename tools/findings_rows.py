@@ -12,7 +12,7 @@ import refused_memory
 import rows
 from runs import HUNG, ended
 
-USAGE = b"usage: abnf_findings [--strict | --rules] [--format abnf | markdown] FILE..\n"
+USAGE = b"usage: abnf_findings [--strict | --rules] [--format abnf | markdown | xml] FILE..\n"
 DEEP = "a = " + 65 * "("
 
 ROWS = (
@@ -125,6 +125,41 @@ DRAFT_ROWS = (
     ("```abnf\n```\n", (), ()),
 )
 
+# The same of drafts in RFCXML (RFC 7991 sections 2.5 and 2.48; XML 1.0, fifth edition). Of a draft at fault the fault alone is told.
+XML_ROWS = (
+    ("<rfc><t>none</t></rfc>", NO_GRAMMAR, ()),
+    (
+        '<rfc>\n<sourcecode type="abnf">\na = nope\n</sourcecode>\n</rfc>',
+        ("3:1: warning: rule a generates nothing [unproductive]", "3:5: error: undefined rule nope [undefined]"),
+        ("3:1: a: generates nothing",),
+    ),
+    # the other element and kind of quotes, and an indentation of the block's own
+    ("<artwork name='x' type = 'ABNF'>\n    a = \"x\"\n    b = ?\n</artwork>", ("3:9: error: bad character [syntax]",), ("2:5: a: shortest length 1: x", "3:5: b: not known")),
+    # references: each is one character, at the place of its first one
+    ('<artwork type="abnf">a = &lt;p&gt; &#x6e;&#111;pe ?</artwork>', ("1:51: error: bad character [syntax]",), ("1:22: a: not known",)),
+    ('<artwork type="abnf">a = &quot;x&quot; nope</artwork>', ("1:22: warning: rule a generates nothing [unproductive]", "1:40: error: undefined rule nope [undefined]"), ("1:22: a: generates nothing",)),
+    # a section in the middle of a line, and comments in a block and outside
+    (
+        '<!-- <artwork type="abnf"> --><artwork type="abnf">a = <![CDATA[<p> b]]><!-- ? --> c</artwork>',
+        ("1:69: error: undefined rule b [undefined]", "1:84: error: undefined rule c [undefined]"),
+        ("1:52: a: not known",),
+    ),
+    # two blocks, of which the second uses a name of the first; other types, an empty element, and `>` in quotes
+    (
+        '<sourcecode type="abnf">a = "x"</sourcecode>\n<sourcecode type="xml">b = ?</sourcecode>\n<artwork type="abnf"/>\n<artwork alt=">" type="abnf">b = a c</artwork>',
+        ("4:30: warning: rule b generates nothing [unproductive]", "4:36: error: undefined rule c [undefined]"),
+        ("1:25: a: shortest length 1: x", "4:30: b: generates nothing"),
+    ),
+    ('\u00e9\U0001f600<artwork type="abnf">a = ?</artwork>', ("1:28: error: bad character [syntax]",), ("1:24: a: not known",)),
+    # faults
+    ('<rfc>\n<artwork type="abnf">\na = ?\n', ("2:1: error: block without an end tag [xml]",), None),
+    ("<rfc><!-- a", ("1:6: error: comment without an end [xml]",), None),
+    ("<rfc>\n <![CDATA[", ("2:2: error: CDATA section without an end [xml]",), None),
+    ("\u00e9<rfc a='>'", ("1:2: error: tag without an end [xml]",), None),
+    ('<artwork type="abnf">a = &nope;</artwork>', ("1:26: error: no reference to a character [xml]",), None),
+    ('<artwork type="abnf">a = &#xD800;</artwork>', ("1:26: error: no reference to a character [xml]",), None),
+)
+
 
 def status_of(found, strict):
     if any(": error: " in line for line in found):
@@ -167,16 +202,24 @@ def draft_cases(program, files):
         from_input = ended(program, text.encode(), ["--format", "markdown", "-"])
         yield f"{what}, from standard input", from_input, (status_of(found, False), b"", printed("-", found))
         yield f"rules of {what}", ended(program, None, ["--rules", file]), (0, b"", printed(file, told))
+    for text, found, told in XML_ROWS:
+        what, file = f"the draft {text[:40]!r}", files.written("draft.xml", text)
+        yield what, ended(program, None, [file]), (status_of(found, False), b"", printed(file, found))
+        yield f"strict {what}", ended(program, None, ["--strict", "--format", "xml", file]), (status_of(found, True), b"", printed(file, found))
+        from_input = ended(program, text.encode(), ["--format", "xml", "-"])
+        yield f"{what}, from standard input", from_input, (status_of(found, False), b"", printed("-", found))
+        ending = (1, b"", printed(file, found)) if told is None else (0, b"", printed(file, told))
+        yield f"rules of {what}", ended(program, None, ["--rules", file]), ending
     for name in ("a.mkd", "a.markdown"):
         file = files.written(name, "```abnf\na = ?\n```\n")
         yield f"a draft {name}", ended(program, None, [file]), (1, b"", printed(file, ("2:5: error: bad character [syntax]",)))
-    for name in ("a.abnf", "md", "a.md.txt", "a.MD"):
+    for name in ("a.abnf", "md", "a.md.txt", "a.MD", "xml", "a.XML"):
         file = files.written(name, "a = ?\n")
         yield f"a grammar {name}", ended(program, None, [file]), (1, b"", printed(file, ("1:5: error: bad character [syntax]",)))
     plain, good = files.written("plain.md", 'a = "x"'), files.written("good.abnf", 'a = "x"')
     yield "a grammar in spite of its name", ended(program, None, ["--format", "abnf", plain]), (0, b"", b"")
     yield "a draft behind a grammar", ended(program, None, [good, plain]), (0, b"", printed(plain, NO_GRAMMAR))
-    for words in ("--format", "--format abnf", "--format xml", "--format Abnf", "--format abnf --format abnf", "--format --strict"):
+    for words in ("--format", "--format abnf", "--format XML", "--format Abnf", "--format abnf --format abnf", "--format --strict"):
         yield f"the arguments {words} and a file", ended(program, None, [*words.split(), *[good] * (words != "--format abnf")]), (5, USAGE, b"")
     yield "a format behind a file", ended(program, None, [good, "--format", "abnf"]), (5, USAGE, b"")
 
@@ -235,11 +278,16 @@ def memory_cases(program, files):
     doubtful, bad = files.written("doubtful.abnf", 'a =/ "x"'), files.written("bad.abnf", "a = b ?")
     said = refused_memory.REFUSED + b"out of memory\n"
     drafts = [files.written("doubtful.md", '```abnf\na =/ "x"\n```'), files.written("bad.md", "~~~ABNF\n  a = b ?")]
+    pages = [
+        files.written("doubtful.xml", '<artwork type="abnf">a =/ "x"</artwork>'),
+        files.written("bad.xml", "<artwork type='abnf'>a = &lt;p&gt; ?</artwork>"),
+    ]
     for what, options, (one, other), status, first, second in (
         ("findings", [], (doubtful, bad), 1, "1:1: warning: no earlier definition of a [no-base]", "1:7: error: bad character [syntax]"),
         ("rules", ["--rules"], (doubtful, bad), 0, "1:1: a: shortest length 1: x", "1:1: a: not known"),
         ("drafts", [], drafts, 1, "2:1: warning: no earlier definition of a [no-base]", "2:9: error: bad character [syntax]"),
         ("rules of drafts", ["--rules"], drafts, 0, "2:1: a: shortest length 1: x", "2:3: a: not known"),
+        ("drafts in XML", [], pages, 1, "1:22: warning: no earlier definition of a [no-base]", "1:36: error: bad character [syntax]"),
     ):
         with rows.library(refused_memory.LIBRARY) as made:
             before, found = printed(one, (first,)), refusals(program, made, [*options, one, other])

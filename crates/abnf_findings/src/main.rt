@@ -120,11 +120,11 @@ fn printed(
     text: &Snapshot,
 ) -> Result<(Text, Outcome), FileFault> {
     let format = arguments.format_of(file);
-    if arguments.asked == Asked::Rules {
-        let lines = print_rules_as(rt.alloc(), file, format, text)?;
-        return Ok((lines, Outcome::Clean));
-    }
-    let printed = print_as(rt.alloc(), file, format, text)?;
+    let printed = if arguments.asked == Asked::Rules {
+        print_rules_as(rt.alloc(), file, format, text)?
+    } else {
+        print_as(rt.alloc(), file, format, text)?
+    };
     Ok((printed.lines, printed.outcome))
 }
 

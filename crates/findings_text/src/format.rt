@@ -6,8 +6,10 @@ ghost use Rattle.markdown_blocks.specs.Fences.{markdown_blocks};
 ghost use Rattle.findings_text.specs.Formats as spec;
 
 use crate::draft::{print_draft, print_draft_rules};
+use crate::outcome::Outcome;
 use crate::print::{Printed, print_findings};
 use crate::rules::print_rules;
+use crate::xml::{print_xml, print_xml_rules};
 use ls_lists::Text;
 use ls_text::Snapshot;
 use markdown_blocks::gather_markdown;
@@ -22,22 +24,27 @@ pub enum Format {
     Abnf,
     /// A draft in Markdown, whose fenced blocks of ABNF are one grammar.
     Markdown,
+    /// A draft in RFCXML, whose elements of ABNF are one grammar.
+    Xml,
 }
 
 impl Format {
-    /// The format of a file by the ending of its name: `.md`, `.mkd` and `.markdown` are those of drafts in Markdown.
+    /// The format of a file by the ending of its name: `.md`, `.mkd` and `.markdown` are those of drafts in Markdown, `.xml` that of
+    /// drafts in RFCXML.
     pub fn of_file(file: &str) -> Format
         ensures { result ≡ spec.format_of file.now }
     {
         let name = file.as_bytes();
         if name.ends_with(b".md") || name.ends_with(b".mkd") || name.ends_with(b".markdown") {
             Format::Markdown
+        } else if name.ends_with(b".xml") {
+            Format::Xml
         } else {
             Format::Abnf
         }
     }
 
-    /// The format that is named `abnf` or `markdown`.
+    /// The format that is named `abnf`, `markdown` or `xml`.
     pub fn named(name: &str) -> Option<Format>
         ensures { result ≡ spec.format_named name.now }
     {
@@ -45,6 +52,8 @@ impl Format {
             Some(Format::Abnf)
         } else if name == "markdown" {
             Some(Format::Markdown)
+        } else if name == "xml" {
+            Some(Format::Xml)
         } else {
             None
         }
@@ -62,7 +71,7 @@ fn markdown_grammar(alloc: Global, draft: &Snapshot) -> Result<Gathered, FileFau
 }
 
 /// What is printed of a file with this name and this format: each finding in a line, in the order of the file. Lines and columns count
-/// from 1, and columns count characters.
+/// from 1, and columns count characters. Of a draft in XML that is at fault the fault alone is told.
 ///
 /// # Errors
 ///
@@ -84,11 +93,23 @@ pub fn print_as(
             let grammar = markdown_grammar(alloc, text)?;
             print_draft(alloc, file, text, &grammar)
         }
+        Format::Xml => print_xml(alloc, file, text),
+    }
+}
+
+/// Lines of rules, where nothing isn't to pass.
+fn clean(lines: Text) -> Printed
+    ensures lines { result.lines ≡ lines }
+    ensures outcome { result.outcome ≡ Outcome.Clean }
+{
+    Printed {
+        lines,
+        outcome: Outcome::Clean,
     }
 }
 
 /// What is printed of the rules in a file with this name and this format: each rule that it defines in a line, at the first place that
-/// does.
+/// does. Of a draft in XML that is at fault the fault alone is told.
 ///
 /// # Errors
 ///
@@ -98,17 +119,19 @@ pub fn print_rules_as(
     file: &str,
     format: Format,
     text: &Snapshot,
-) -> Result<Text, FileFault>
-    ensures { IfOk result (λ lines. spec.ArePrintedRulesAs format file.now text.now lines) }
+) -> Result<Printed, FileFault>
+    ensures { IfOk result (λ printed. spec.ArePrintedRulesAs format file.now text.now printed) }
 {
     match format {
         Format::Abnf => match print_rules(alloc, file, text) {
-            Ok(lines) => Ok(lines),
+            Ok(lines) => Ok(clean(lines)),
             Err(_) => Err(FileFault::Memory),
         },
         Format::Markdown => {
             let grammar = markdown_grammar(alloc, text)?;
-            print_draft_rules(alloc, file, text, &grammar)
+            let lines = print_draft_rules(alloc, file, text, &grammar)?;
+            Ok(clean(lines))
         }
+        Format::Xml => print_xml_rules(alloc, file, text),
     }
 }

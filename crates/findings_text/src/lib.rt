@@ -14,6 +14,7 @@ mod print;
 mod rule_line;
 mod rules;
 mod source;
+mod xml;
 
 pub use draft::{print_draft, print_draft_rules};
 pub use ending::{Ending, fault_line, is_option};

@@ -5,7 +5,8 @@ use Rattle.std.proofs.lemmas.List.{append-nil, at_drop_more, drop_all, take_all}
 use Rattle.ls_text.specs.Lines.{ends_line}
 use Rattle.origins.specs.Origins.{Sourced, Block, aligned, grammar_of}
 use Rattle.markdown_blocks.specs.declared.fence.Fence.{Fence}
-use Rattle.markdown_blocks.specs.Fences.{Line, blocks, closes, content_of, ended, line_len, lines_from, opening, put_first, reading, without_end}
+use Rattle.markdown_blocks.specs.Fences.{Line, blocks, closes, content_of, ended, lines_from, opening, put_first, without_end}
+use Rattle.markdown_blocks.specs.Reading.{line_len, reading}
 
 -- ---- the first line of a text
 

@@ -18,15 +18,10 @@ abbrev pub put_first : ℕ → ℕ → List Line → List Line
 put_first at c [] = (at, c ∷ []) ∷ []
 put_first at c (l ∷ ls) = (at, c ∷ l.1) ∷ ls
 
--- the lines of a text that begins at this offset; none is empty
+-- the lines of a text that begins at this offset, where line ends are those of `Rattle.ls_text.specs.Lines`; no line is empty
 unfoldable pub lines_from : ℕ → List ℕ → List Line
 lines_from at [] = []
 lines_from at (c ∷ t) = if ends_line c t then (at, c ∷ []) ∷ lines_from (suc at) t else put_first at c (lines_from (suc at) t)
-
--- how many characters the first line has, with its line end
-unfoldable pub line_len : List ℕ → ℕ
-line_len [] = 0
-line_len (c ∷ t) = if ends_line c t then 1 else suc (line_len t)
 
 -- a line without its line end
 abbrev pub without_end : List ℕ → List ℕ
@@ -36,6 +31,7 @@ without_end line = take_while (λ c. not (is_break c)) line
 abbrev pub blanks : List ℕ → ℕ
 blanks line = prefix_len is_blank line
 
+-- a line without its indentation
 abbrev pub without_blanks : List ℕ → List ℕ
 without_blanks line = drop (blanks line) line
 
@@ -58,11 +54,11 @@ is_abnf_word word =
 abbrev pub is_abnf : List ℕ → Bool
 is_abnf info = is_abnf_word (take_while (λ c. not (is_blank c)) (without_blanks info))
 
--- Backticks, with no backtick in the info string, or tildes
+-- whether marks before an info string open a block: tildes, or backticks if none is in the info string
 abbrev pub may_open : ℕ → List ℕ → Bool
 may_open mark info = mark == 126 || (mark == 96 && not (list_any (λ c. c == 96) info))
 
--- the fence that a line opens, by the line without its indentation: at least three marks, and then the info string
+-- the fence of a line, by its indent, its first mark and the line without indentation: at least three such marks, and the info string
 abbrev pub fence_of : ℕ → ℕ → List ℕ → Option Fence
 fence_of indent mark line =
     if nat_le 3 (marks mark line) && may_open mark (drop (marks mark line) line) then Some (record {
@@ -73,6 +69,7 @@ fence_of indent mark line =
     })
     else None
 
+-- the fence that a line opens, if it is one
 abbrev pub opening : List ℕ → Option Fence
 opening line = fence_of (blanks line) (slice_index (without_blanks line) 0) (without_blanks line)
 
@@ -110,7 +107,3 @@ blocks end (Some opened) (l ∷ ls) =
 -- the blocks of ABNF in a draft
 abbrev pub markdown_blocks : List ℕ → List Block
 markdown_blocks draft = blocks (length draft) None (lines_from 0 draft)
-
--- the state of a reader: the open fence, and what was gathered behind it
-abbrev pub reading : Option Fence → List Sourced → Option Open
-reading fence content = option_map (λ f. (f, content)) fence

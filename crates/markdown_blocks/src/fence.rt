@@ -1,6 +1,6 @@
 //! The fences of code blocks.
 
-ghost use Rattle.std.specs.Prelude.{◌≡◌, Some, None, drop};
+ghost use Rattle.std.specs.Prelude.{◌≡◌, Some, None};
 ghost use Rattle.markdown_blocks.specs.Fences.{closes, fence_of, is_abnf, is_abnf_word, is_letter, may_open, opening, without_blanks};
 
 use crate::line::{are_blank, blanks, first_word, marks};
@@ -79,9 +79,10 @@ fn fence_of(indent: usize, mark: char, line: &[char]) -> Option<Fence>
 pub fn opening(line: &[char]) -> Option<Fence>
     ensures { result ≡ opening line.now }
 {
-    let rest = without_blanks(line);
+    let indent = blanks(line);
+    let rest = &line[indent..];
     let mark = *rest.first()?;
-    fence_of(line.len() - rest.len(), mark, rest)
+    fence_of(indent, mark, rest)
 }
 
 impl Fence {

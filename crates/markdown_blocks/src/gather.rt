@@ -1,8 +1,9 @@
 //! The blocks of a draft, gathered.
 
-ghost use Rattle.std.specs.Prelude.{◌≡◌, ℕ, ◌+◌, ◌<◌, ◌≤◌, ◌^◌, List, [], ◌∷◌, ◌++◌, IfOk, OnOk, length};
+ghost use Rattle.std.specs.Prelude.{◌≡◌, ℕ, ◌+◌, ◌<◌, ◌^◌, List, ◌∷◌, ◌++◌, IfOk, OnOk, length};
 ghost use Rattle.origins.specs.Origins.{from, grammar_of};
-ghost use Rattle.markdown_blocks.specs.Fences.{Line, blocks, content_of, ended, markdown_blocks, reading};
+ghost use Rattle.markdown_blocks.specs.Fences.{Line, blocks, content_of, ended, markdown_blocks};
+ghost use Rattle.markdown_blocks.specs.Reading.{reading};
 
 use crate::fence::{Fence, opening};
 use crate::line::{blanks, line_len, without_end};
@@ -92,7 +93,19 @@ fn gather(alloc: Global, text: &[char]) -> Result<Gathered, AllocError>
     Ok(grammar)
 }
 
+// The characters of a draft.
+fn characters_of(alloc: Global, draft: &Snapshot) -> Result<Vec<char>, AllocError>
+    ensures { IfOk result (λ characters. characters.items ≡ draft.now) }
+{
+    let text = draft.to_text()?;
+    let characters: Vec<char> = text.as_str().chars().collect(alloc)?;
+    Ok(characters)
+}
+
 /// The grammar of all blocks of ABNF in a draft in Markdown, one behind the other, with the offset of each character in the draft.
+///
+/// A block's lines are there with their line ends, without the indentation of the fence and that of the block. Each block has a line end
+/// more, which stands where the closing fence's line begins, or where the text ends.
 ///
 /// # Errors
 ///
@@ -100,8 +113,7 @@ fn gather(alloc: Global, text: &[char]) -> Result<Gathered, AllocError>
 pub fn gather_markdown(alloc: Global, draft: &Snapshot) -> Result<Gathered, AllocError>
     ensures { IfOk result (λ g. g ≡ grammar_of (markdown_blocks draft.now)) }
 {
-    let text = draft.to_text()?;
-    let characters: Vec<char> = text.as_str().chars().collect(alloc)?;
+    let characters = characters_of(alloc, draft)?;
     let grammar = gather(alloc, characters.as_slice())?;
     Ok(grammar)
 }

@@ -4,7 +4,8 @@ ghost use Rattle.std.specs.Prelude.{◌≡◌, ◌≤◌, length, not};
 ghost use Rattle.std.specs.List.{list_all, prefix_len, take_while};
 ghost use Rattle.ls_text.specs.Lines.{ends_line};
 ghost use Rattle.origins.specs.Origins.{is_blank, is_break};
-ghost use Rattle.markdown_blocks.specs.Fences.{blanks, line_len, marks, without_end};
+ghost use Rattle.markdown_blocks.specs.Fences.{blanks, marks, without_end};
+ghost use Rattle.markdown_blocks.specs.Reading.{line_len};
 
 use origins::{is_blank, is_break};
 

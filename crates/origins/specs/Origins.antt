@@ -1,5 +1,5 @@
 -- Texts that are made of pieces of another one, the draft, and where their characters come from.
-use Rattle.std.specs.Prelude.{◌≡◌, ℕ, suc, pred, Bool, true, false, not, ◌&&◌, ◌||◌, ◌==◌, nat_lt, Option, Some, None, List, [], ◌∷◌, ◌++◌, map, flat_map, if◌then◌else◌}
+use Rattle.std.specs.Prelude.{ℕ, suc, pred, Bool, ◌&&◌, ◌||◌, ◌==◌, nat_lt, Option, Some, None, List, [], ◌∷◌, ◌++◌, map, flat_map, if◌then◌else◌}
 
 -- a character, and the offset at which it begins in the draft, in characters
 abbrev pub Sourced : Type 0

@@ -4,4 +4,8 @@
 #![tactic(auto)]
 
 #[cfg(test)]
+mod gathered;
+#[cfg(test)]
 mod markdown;
+#[cfg(test)]
+mod xml;

@@ -1,7 +1,8 @@
 use Rattle.std.proofs.Common.{◌≡◌, ◌+◌, ◌<◌, ◌++◌, length, ap, sym, ◌∙◌, arith}
 use Rattle.std.proofs.lemmas.Bool.{eqb-true}
 use Rattle.origins.specs.Origins.{grammar_of}
-use Rattle.markdown_blocks.specs.Fences.{blocks, lines_from, reading}
+use Rattle.markdown_blocks.specs.Fences.{blocks, lines_from}
+use Rattle.markdown_blocks.specs.Reading.{reading}
 use Rattle.markdown_blocks.proofs.FenceLaws.{end-open, end-outside, line_len-le, line_len-some, lines-split, positive}
 use Rattle.markdown_blocks.proofs.gather.gather.Goals as goal
 use Rattle.markdown_blocks.proofs.gather.gather.Goals.{in-Some+in_ok-end_block, in_default}

@@ -1,6 +1,7 @@
 use Rattle.std.proofs.Common.{◌≡◌, ◌+◌, ◌++◌, length}
 use Rattle.origins.specs.Origins.{grammar_of}
-use Rattle.markdown_blocks.specs.Fences.{blocks, lines_from, markdown_blocks, reading}
+use Rattle.markdown_blocks.specs.Fences.{blocks, lines_from, markdown_blocks}
+use Rattle.markdown_blocks.specs.Reading.{reading}
 use Rattle.markdown_blocks.proofs.gather.gather.Given as goal
 
 abbrev pub invariant-lines : goal.invariant-lines

@@ -1,7 +1,8 @@
 use Rattle.std.proofs.Common.{◌∷◌, ◌++◌, ap, append_assoc, sym, ◌∙◌}
 use Rattle.std.specs.Prelude.{None, Some}
 use Rattle.origins.specs.Origins.{grammar_of}
-use Rattle.markdown_blocks.specs.Fences.{blocks, closes, content_of, ended, opening, reading}
+use Rattle.markdown_blocks.specs.Fences.{blocks, closes, content_of, ended, opening}
+use Rattle.markdown_blocks.specs.Reading.{reading}
 use Rattle.markdown_blocks.proofs.FenceLaws.{blocks-closed, blocks-more, blocks-other, blocks-outside, grammar_of-append}
 use Rattle.markdown_blocks.proofs.gather.read_line.Goals as goal
 

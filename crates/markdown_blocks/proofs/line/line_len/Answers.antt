@@ -1,6 +1,6 @@
 use Rattle.std.proofs.Common.{◌≡◌, ◌+◌, ap, sym, ◌∙◌, arith}
 use Rattle.ls_text.specs.Lines.{ends_line}
-use Rattle.markdown_blocks.specs.Fences.{line_len}
+use Rattle.markdown_blocks.specs.Reading.{line_len}
 use Rattle.markdown_blocks.proofs.FenceLaws.{line_len-all, line_len-found, line_len-next, rest-all}
 use Rattle.markdown_blocks.proofs.line.line_len.Goals as goal
 

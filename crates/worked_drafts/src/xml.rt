@@ -1,0 +1,173 @@
+//! Drafts in RFCXML with their grammar, written out by hand.
+
+use std::alloc::Global;
+use xml_blocks::{XmlFault, gather_xml};
+
+/// A draft, its grammar, and where characters of the grammar, by their offset, begin in the draft.
+type Row = (&'static str, &'static str, &'static [(usize, usize)]);
+
+const BLOCKS: &[Row] = &[
+    (
+        "<sourcecode type=\"abnf\">a = b</sourcecode>",
+        "a = b\n",
+        &[(0, 24), (4, 28), (5, 29)],
+    ),
+    (
+        "<artwork type='ABNF'>a = b</artwork>",
+        "a = b\n",
+        &[(0, 21), (5, 26)],
+    ),
+    (
+        "<sourcecode type=\"abnf\">a = b</sourcecode> <artwork type=\"abnf\">c = d</artwork\n>",
+        "a = b\nc = d\n",
+        &[(5, 29), (6, 64), (11, 69)],
+    ),
+    (
+        "<sourcecode type=\"abnf\" src=\"a.abnf\"/><sourcecode name=\"a>b\" type = \"abnf\" >a = b</sourcecode>",
+        "a = b\n",
+        &[(0, 76), (5, 81)],
+    ),
+    (
+        "<sourcecode type=\"abnf\">a = b</artwork></sourcecode>",
+        "a = b\n",
+        &[(4, 28), (5, 39)],
+    ),
+    (
+        "\u{E9}<artwork type=\"abnf\">\n  a = b\n</artwork>",
+        "\na = b\n\n",
+        &[(0, 22), (1, 25), (6, 30), (7, 31)],
+    ),
+];
+
+const PIECES: &[Row] = &[
+    (
+        "<sourcecode type=\"abnf\">a = &lt;b&gt;</sourcecode>",
+        "a = <b>\n",
+        &[(4, 28), (5, 32), (6, 33), (7, 37)],
+    ),
+    (
+        "<sourcecode type=\"abnf\">a = %x41 ; &#x41;&#65;&amp;&quot;&apos;</sourcecode>",
+        "a = %x41 ; AA&\"'\n",
+        &[(11, 35), (12, 41), (13, 46), (14, 51), (15, 57), (16, 63)],
+    ),
+    (
+        "<sourcecode type=\"abnf\">a = <![CDATA[<b>]]> c</sourcecode>",
+        "a = <b> c\n",
+        &[(4, 37), (6, 39), (7, 43), (8, 44), (9, 45)],
+    ),
+    (
+        "<sourcecode type=\"abnf\">a <!-- = x -->= b</sourcecode>",
+        "a = b\n",
+        &[(1, 25), (2, 38), (5, 41)],
+    ),
+    (
+        "<!-- <sourcecode type=\"abnf\"> --><artwork type=\"abnf\">a = b</artwork>",
+        "a = b\n",
+        &[(0, 54), (5, 59)],
+    ),
+];
+
+const NO_BLOCKS: &[&str] = &[
+    "",
+    "a = b & c\n",
+    "<sourcecode>a = b</sourcecode>",
+    "<sourcecode type=\"xml\">a = b</sourcecode>",
+    "<sourcecodes type=\"abnf\">a = b</sourcecodes>",
+    "<Artwork type=\"abnf\">a = b</Artwork>",
+    "<artwork name=\" type='abnf'\">a = b</artwork>",
+    "<artwork type=\"abnf\"/>a = b",
+    "<![CDATA[<artwork type=\"abnf\">]]>",
+    "<?xml version=\"1.0\"?><!DOCTYPE rfc>",
+];
+
+const FAULTS: &[(&'static str, XmlFault)] = &[
+    (
+        "x<sourcecode type=\"abnf\">a</artwork>",
+        XmlFault::BlockWithoutEnd(1),
+    ),
+    ("ab<!-- -", XmlFault::CommentWithoutEnd(2)),
+    ("<![CDATA[ ]]", XmlFault::SectionWithoutEnd(0)),
+    ("<a b=\">", XmlFault::TagWithoutEnd(0)),
+    (
+        "<artwork type=\"abnf\">&amp </artwork>",
+        XmlFault::BadReference(21),
+    ),
+    (
+        "<artwork type=\"abnf\">&#xD800;</artwork>",
+        XmlFault::BadReference(21),
+    ),
+    (
+        "<artwork type=\"abnf\">&#x110000;</artwork>",
+        XmlFault::BadReference(21),
+    ),
+    (
+        "<artwork type=\"abnf\">&#;</artwork>",
+        XmlFault::BadReference(21),
+    ),
+    (
+        "<artwork type=\"abnf\"><!-- </artwork>",
+        XmlFault::CommentWithoutEnd(21),
+    ),
+];
+
+/// Whether a draft has this grammar, whose characters begin in the draft at these places, and none behind the last.
+fn has_grammar(
+    alloc: Global,
+    draft: &str,
+    grammar: &str,
+    places: &[(usize, usize)],
+) -> Result<bool, XmlFault> {
+    let gathered = gather_xml(alloc, draft)?;
+    if gathered.as_str() != grammar {
+        return Ok(false);
+    }
+    for (offset, origin) in places {
+        if gathered.origin_of(*offset) != Some(*origin) {
+            return Ok(false);
+        }
+    }
+    Ok(gathered.origin_of(grammar.chars().count()) == None)
+}
+
+/// Whether a draft has this fault.
+fn has_fault(alloc: Global, draft: &str, fault: XmlFault) -> bool {
+    match gather_xml(alloc, draft) {
+        Ok(_) => false,
+        Err(found) => found == fault,
+    }
+}
+
+#[test]
+fn finds_blocks(rt: HostRuntime) -> Result<(), XmlFault> {
+    assert!(rt; BLOCKS.len() >= 6);
+    for (draft, grammar, places) in BLOCKS {
+        assert!(rt; has_grammar(rt.alloc(), draft, grammar, places)?, "{draft}");
+    }
+    Ok(())
+}
+
+#[test]
+fn reads_pieces(rt: HostRuntime) -> Result<(), XmlFault> {
+    assert!(rt; PIECES.len() >= 5);
+    for (draft, grammar, places) in PIECES {
+        assert!(rt; has_grammar(rt.alloc(), draft, grammar, places)?, "{draft}");
+    }
+    Ok(())
+}
+
+#[test]
+fn passes_over_the_rest(rt: HostRuntime) -> Result<(), XmlFault> {
+    assert!(rt; NO_BLOCKS.len() >= 10);
+    for draft in NO_BLOCKS {
+        assert!(rt; has_grammar(rt.alloc(), draft, "", &[])?, "{draft}");
+    }
+    Ok(())
+}
+
+#[test]
+fn finds_faults(rt: HostRuntime) {
+    assert!(rt; FAULTS.len() >= 9);
+    for (draft, fault) in FAULTS {
+        assert!(rt; has_fault(rt.alloc(), draft, *fault), "{draft}");
+    }
+}

@@ -1,0 +1,13 @@
+use Rattle.std.proofs.Common.{◌≡◌, ◌+◌, length}
+use denote.Text.{Utf8}
+use denote.Shadow.{shadow}
+use Rattle.std.specs.Str.{chars}
+use Rattle.std.specs.Option.{option_map}
+use Rattle.xml_blocks.specs.Xml as spec
+use Rattle.xml_blocks.proofs.text.until.Given as goal
+
+abbrev pub invariant-characters : goal.invariant-characters
+invariant-characters l = shadow (Utf8 l.rest) × (l.count + length (chars l.rest) ≡ length (chars l.text)) × (option_map (λ n. l.count + n) (spec.until l.mark (chars l.rest)) ≡ spec.until l.mark (chars l.text))
+
+abbrev pub decreases-characters : goal.decreases-characters
+decreases-characters l = length (chars l.rest)

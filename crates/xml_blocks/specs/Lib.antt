@@ -1,0 +1,2 @@
+pub mod Xml
+pub mod Reading

@@ -1,0 +1,262 @@
+-- The blocks of ABNF in a draft in RFCXML, as XML 1.0 (fifth edition) and RFC 7991 have them. Only comments, CDATA sections, tags and
+-- references are looked at.
+use Rattle.std.specs.Prelude.{◌≡◌, ℕ, zero, suc, ◌+◌, ◌*◌, ◌-◌, Bool, true, false, not, ◌&&◌, ◌||◌, ◌==◌, nat_le, nat_lt, ◌⊎◌, Option, Some, None, Result, Ok, Err, List, [], ◌∷◌, ◌++◌, length, take, drop, slice_index, if◌then◌else◌}
+use Rattle.std.specs.Option.{option_map, is_some}
+use Rattle.std.specs.List.{prefix_len}
+use Rattle.std.specs.Char.{digit_value, is_digit, is_ascii_alphabetic, to_ascii_lowercase}
+use Rattle.origins.specs.Origins.{Sourced, Block, from, grammar_of}
+use Rattle.xml_blocks.specs.declared.fault.XmlFault.{XmlFault}
+use Rattle.xml_blocks.specs.declared.fault.XmlFault.TheVariants.{BlockWithoutEnd, CommentWithoutEnd, SectionWithoutEnd, TagWithoutEnd, BadReference, Memory}
+use Rattle.xml_blocks.specs.declared.piece.Kind.{Kind}
+use Rattle.xml_blocks.specs.declared.piece.Kind.TheVariants.{Text, Comment, Section, Tag, Reference}
+use Rattle.xml_blocks.specs.declared.piece.Piece.{Piece}
+use Rattle.xml_blocks.specs.declared.tag.Element.{Element}
+use Rattle.xml_blocks.specs.declared.tag.Element.TheVariants.{Sourcecode, Artwork}
+use Rattle.xml_blocks.specs.declared.gather.Open.{Open}
+
+-- ---- texts
+
+-- a text begins with a mark
+unfoldable pub begins : List ℕ → List ℕ → Bool
+begins [] t = true
+begins (m ∷ ms) [] = false
+begins (m ∷ ms) (c ∷ t) = c == m && begins ms t
+
+-- how many characters come before a mark, if it comes
+unfoldable pub until : List ℕ → List ℕ → Option ℕ
+until mark [] = None
+until mark (c ∷ t) = if begins mark (c ∷ t) then Some 0 else option_map suc (until mark t)
+
+-- white space, as XML section 2.3 has it: SP, HTAB, LF or CR
+abbrev pub is_space : ℕ → Bool
+is_space c = c == 32 || c == 9 || c == 10 || c == 13
+
+abbrev pub without_space : List ℕ → List ℕ
+without_space t = drop (prefix_len is_space t) t
+
+-- `"` or `'`
+abbrev pub is_quote : ℕ → Bool
+is_quote c = c == 34 || c == 39
+
+-- ---- tags, XML section 3.1
+
+-- the quote that is open behind a character
+abbrev pub open_quote : Option ℕ → ℕ → Option ℕ
+open_quote None c = if is_quote c then Some c else None
+open_quote (Some q) c = if c == q then None else Some q
+
+-- a `>` outside of quotes
+abbrev pub closes : Option ℕ → ℕ → Bool
+closes quote c = c == 62 && not (is_some quote)
+
+-- How many characters a text has up to the first `>` outside of quotes, and with it. Of the text at hand a quote may be open.
+unfoldable pub quoted_len : Option ℕ → List ℕ → Option ℕ
+quoted_len quote [] = None
+quoted_len quote (c ∷ t) = if closes quote c then Some 1 else option_map suc (quoted_len (open_quote quote c) t)
+
+-- how many characters a tag has behind its `<`: quotes count behind a letter alone
+abbrev pub tag_len : List ℕ → Option ℕ
+tag_len t = if is_ascii_alphabetic (slice_index t 0) then quoted_len None t else option_map suc (until (62 ∷ []) t)
+
+-- `abnf` in any case of letters
+abbrev pub is_abnf_word : List ℕ → Bool
+is_abnf_word t =
+    to_ascii_lowercase (slice_index t 0) == 97 && to_ascii_lowercase (slice_index t 1) == 98 && to_ascii_lowercase (slice_index t 2) == 110 && to_ascii_lowercase (slice_index t 3) == 102
+
+-- a value in quotes that is `abnf`
+abbrev pub is_abnf_value : List ℕ → Bool
+is_abnf_value t = is_quote (slice_index t 0) && is_abnf_word (drop 1 t) && slice_index t 5 == slice_index t 0
+
+-- `type`, `=` and such a value, with white space around the `=`: the attribute `type` of RFC 7991 sections 2.48 and 2.5
+abbrev pub is_abnf_type : List ℕ → Bool
+is_abnf_type t =
+    let behind = without_space (drop 4 t) in
+    begins (116 ∷ 121 ∷ 112 ∷ 101 ∷ []) t && slice_index behind 0 == 61 && is_abnf_value (without_space (drop 1 behind))
+
+-- such an attribute begins behind white space outside of quotes
+abbrev pub begins_type : Option ℕ → ℕ → List ℕ → Bool
+begins_type quote c t = not (is_some quote) && is_space c && is_abnf_type t
+
+-- whether a text has such an attribute; a quote may be open
+unfoldable pub has_abnf_type : Option ℕ → List ℕ → Bool
+has_abnf_type quote [] = false
+has_abnf_type quote (c ∷ t) = begins_type quote c t || has_abnf_type (open_quote quote c) t
+
+-- the tag of an empty element, which ends in `/>`
+abbrev pub is_empty_element : List ℕ → Bool
+is_empty_element t = slice_index t (length t - 2) == 47
+
+abbrev pub name_of : Element → List ℕ
+name_of Sourcecode = 115 ∷ 111 ∷ 117 ∷ 114 ∷ 99 ∷ 101 ∷ 99 ∷ 111 ∷ 100 ∷ 101 ∷ []
+name_of Artwork = 97 ∷ 114 ∷ 116 ∷ 119 ∷ 111 ∷ 114 ∷ 107 ∷ []
+
+-- how many characters the name has
+abbrev pub name_len : Element → ℕ
+name_len Sourcecode = 10
+name_len Artwork = 7
+
+-- a start tag without its `<` has a name, behind which comes white space: without it there is no attribute
+abbrev pub is_named : Element → List ℕ → Bool
+is_named element t = begins (name_of element) t && is_space (slice_index t (name_len element))
+
+-- the element that a tag without its `<` begins, if it has content, and this is ABNF
+abbrev pub opening : List ℕ → Option Element
+opening t =
+    if not (is_empty_element t) && has_abnf_type None t then
+    (if is_named Sourcecode t then Some Sourcecode else (if is_named Artwork t then Some Artwork else None))
+    else None
+
+-- the end tag of an element, without its `<`
+abbrev pub is_end : Element → List ℕ → Bool
+is_end element t =
+    slice_index t 0 == 47 && begins (name_of element) (drop 1 t) && slice_index (without_space (drop (name_len element) (drop 1 t))) 0 == 62
+
+-- ---- references, XML sections 4.1 and 4.6
+
+-- no surrogate
+abbrev pub is_scalar : ℕ → Bool
+is_scalar c = nat_lt c 0xD800 || nat_lt 0xDFFF c
+
+-- a number with a digit more, if it is at most 0x10FFFF
+abbrev pub with_digit : ℕ → ℕ → ℕ → Option ℕ
+with_digit value base c = if is_digit c base && nat_le (value * base + digit_value c) 0x10FFFF then Some (value * base + digit_value c) else None
+
+-- the character with a number, which so many characters name
+abbrev pub named : ℕ → ℕ → Option (ℕ × ℕ)
+named value count = if is_scalar value then Some (value, count) else None
+
+-- the value behind another, if there is one
+abbrev pub with_value : Option ℕ → (ℕ → Option (ℕ × ℕ)) → Option (ℕ × ℕ)
+with_value None f = None
+with_value (Some n) f = f n
+
+-- The character whose number has these digits up to a `;`, and how many characters there are with the `;`. Of the number so much has
+-- come.
+unfoldable pub number : ℕ → ℕ → List ℕ → Option (ℕ × ℕ)
+number base value [] = None
+number base value (c ∷ t) =
+    if c == 59 then named value 1 else with_value (with_digit value base c) (λ more. option_map (λ r. (r.0, suc r.1)) (number base more t))
+
+-- the same of at least one digit, behind so many characters
+abbrev pub numbered : ℕ → ℕ → List ℕ → Option (ℕ × ℕ)
+numbered base front t = if is_digit (slice_index (drop front t) 0) base then option_map (λ r. (r.0, r.1 + front)) (number base 0 (drop front t)) else None
+
+-- `&#x` or `&#` with a number, here without the `&`
+abbrev pub by_number : List ℕ → Option (ℕ × ℕ)
+by_number t = if begins (35 ∷ 120 ∷ []) t then numbered 16 2 t else (if begins (35 ∷ []) t then numbered 10 1 t else None)
+
+-- The reference that stands here without its `&`: its character, and how many characters it has. By name there are `&lt;`, `&gt;`,
+-- `&amp;`, `&quot;` and `&apos;`.
+abbrev pub reference : List ℕ → Option (ℕ × ℕ)
+reference t =
+    if begins (108 ∷ 116 ∷ 59 ∷ []) t then Some (60, 3)
+    else (if begins (103 ∷ 116 ∷ 59 ∷ []) t then Some (62, 3)
+    else (if begins (97 ∷ 109 ∷ 112 ∷ 59 ∷ []) t then Some (38, 4)
+    else (if begins (113 ∷ 117 ∷ 111 ∷ 116 ∷ 59 ∷ []) t then Some (34, 5)
+    else (if begins (97 ∷ 112 ∷ 111 ∷ 115 ∷ 59 ∷ []) t then Some (39, 5) else by_number t))))
+
+-- ---- pieces of a draft: each has a first character and so many more
+
+-- a piece with so many characters more, and these, or else a fault
+abbrev pub piece_of : Kind → XmlFault → Option ℕ → ℕ → Result Piece XmlFault
+piece_of kind fault None front = Err fault
+piece_of kind fault (Some n) front = Ok (record { kind = kind; more = n + front })
+
+-- What `<` begins, of which this stands behind it: a comment `<!--` up to `-->` (XML section 2.5), a section `<![CDATA[` up to `]]>`
+-- (section 2.7), or else a tag.
+abbrev pub markup : ℕ → List ℕ → Result Piece XmlFault
+markup at t =
+    if begins (33 ∷ 45 ∷ 45 ∷ []) t then piece_of Comment (CommentWithoutEnd at) (until (45 ∷ 45 ∷ 62 ∷ []) (drop 3 t)) 6
+    else (if begins (33 ∷ 91 ∷ 67 ∷ 68 ∷ 65 ∷ 84 ∷ 65 ∷ 91 ∷ []) t then piece_of Section (SectionWithoutEnd at) (until (93 ∷ 93 ∷ 62 ∷ []) (drop 8 t)) 11
+    else piece_of Tag (TagWithoutEnd at) (tag_len t) 0)
+
+-- what `&` begins
+abbrev pub referred : ℕ → Option (ℕ × ℕ) → Result Piece XmlFault
+referred at None = Err (BadReference at)
+referred at (Some r) = Ok (record { kind = Reference r.0; more = r.1 })
+
+-- a character that begins no markup, and in a block no reference
+abbrev pub is_plain : Bool → ℕ → Bool
+is_plain in_block c = not (c == 60) && not (in_block && c == 38)
+
+-- the piece that stands at an offset: its first character, and what stands behind it
+abbrev pub piece_at : Bool → ℕ → ℕ → List ℕ → Result Piece XmlFault
+piece_at in_block at c t =
+    if c == 60 then markup at t
+    else (if in_block && c == 38 then referred at (reference t) else Ok (record { kind = Text c; more = prefix_len (is_plain in_block) t }))
+
+-- what a section has between `<![CDATA[` and `]]>`, by what it has behind its `<`
+abbrev pub section_text : List ℕ → List ℕ
+section_text t = take (length t - 11) (drop 8 t)
+
+-- the characters of a block that a piece stands for, by what it has behind its first character
+abbrev pub content_of : Kind → ℕ → List ℕ → List Sourced
+content_of (Text c) at t = (c, at) ∷ from (at + 1) t
+content_of Comment at t = []
+content_of Section at t = from (at + 9) (section_text t)
+content_of Tag at t = []
+content_of (Reference c) at t = (c, at) ∷ []
+
+-- ---- blocks, RFC 7991 sections 2.48 and 2.5
+
+-- a block that is open, and its content so far
+abbrev pub Opened : Type 0
+Opened = Open × List Sourced
+
+-- whether a piece is the end tag of an element
+abbrev pub ends : Element → Kind → List ℕ → Bool
+ends element Tag t = is_end element t
+ends element (Text c) t = false
+ends element Comment t = false
+ends element Section t = false
+ends element (Reference c) t = false
+
+-- the block that a piece at an offset begins
+abbrev pub opened_by : Kind → ℕ → List ℕ → Option Open
+opened_by Tag at t = option_map (λ e. record { element = e; begin = at }) (opening t)
+opened_by (Text c) at t = None
+opened_by Comment at t = None
+opened_by Section at t = None
+opened_by (Reference c) at t = None
+
+-- the block that is open behind a piece, and the block that ended with it
+abbrev pub behind : Option Opened → Kind → ℕ → List ℕ → Option Opened × List Block
+behind None kind at t = (option_map (λ o. (o, [])) (opened_by kind at t), [])
+behind (Some opened) kind at t =
+    if ends (opened.0).element kind t then (None, record { content = opened.1; end = at } ∷ [])
+    else (Some (opened.0, opened.1 ++ content_of kind at t), [])
+
+abbrev pub and_then : {A B : Type 0} → Result A XmlFault → (A → Result B XmlFault) → Result B XmlFault
+and_then (Ok x) f = f x
+and_then (Err e) f = Err e
+
+-- blocks before others
+abbrev pub put_before : List Block → Result (List Block) XmlFault → Result (List Block) XmlFault
+put_before bs rest = and_then rest (λ cs. Ok (bs ++ cs))
+
+-- at the end of the draft no block is open
+abbrev pub at_end : Option Opened → Result (List Block) XmlFault
+at_end None = Ok []
+at_end (Some opened) = Err (BlockWithoutEnd (opened.0).begin)
+
+-- The blocks of a text that begins at an offset, or the first fault. A block may be open, and so many characters are of a piece that
+-- was read already.
+unfoldable pub blocks : Option Opened → ℕ → ℕ → List ℕ → Result (List Block) XmlFault
+blocks state read at [] = at_end state
+blocks state (suc read) at (c ∷ t) = blocks state read (suc at) t
+blocks state zero at (c ∷ t) =
+    and_then (piece_at (is_some state) at c t) (λ piece.
+    let next = behind state piece.kind at (take piece.more t) in
+    put_before next.1 (blocks next.0 piece.more (suc at) t))
+
+-- the blocks of ABNF in a draft, or its first fault
+abbrev pub xml_blocks : List ℕ → Result (List Block) XmlFault
+xml_blocks draft = blocks None 0 0 draft
+
+-- the grammar of the blocks behind some characters
+abbrev pub grammar_behind : List Sourced → Result (List Block) XmlFault → Result (List Sourced) XmlFault
+grammar_behind front bs = and_then bs (λ cs. Ok (front ++ grammar_of cs))
+
+-- what is gathered from a draft: the grammar of its blocks or its first fault, unless memory was refused
+abbrev pub IsGathered : List ℕ → Result (List Sourced) XmlFault → Type 0
+IsGathered draft gathered = (gathered ≡ Err Memory) ⊎ (gathered ≡ grammar_behind [] (xml_blocks draft))

@@ -1,0 +1,127 @@
+//! The blocks of a draft, gathered.
+
+ghost use Rattle.std.specs.Prelude.{◌≡◌, ◌<◌, ◌^◌, ◌++◌, IfOk, OnOk, length};
+ghost use Rattle.std.specs.Str.{chars};
+ghost use Rattle.origins.specs.Origins.{grammar_of};
+ghost use Rattle.xml_blocks.specs.Reading.{reading};
+ghost use Rattle.xml_blocks.specs.Xml as spec;
+
+use crate::fault::XmlFault;
+use crate::piece::{Kind, piece_at};
+use crate::tag::{Element, opening};
+use crate::text::{before, behind, char_count, first};
+use origins::Gathered;
+use std::alloc::{AllocError, Global};
+
+// No text that fits into memory has such an offset.
+const NO_OFFSET: usize = 0x8000_0000_0000_0000;
+
+// A block that is open.
+#[derive(Clone, Copy)]
+pub struct Open {
+    // The element whose content it is.
+    pub element: Element,
+    // The offset at which the element's start tag begins.
+    pub begin: usize,
+}
+
+// Adds the characters of a block that a piece stands for, by what it has behind its first character.
+fn put_piece(block: &mut Gathered, kind: Kind, text: &str, at: usize) -> Result<(), AllocError>
+    requires { at < 2 ^ 63 }
+    ensures { OnOk result (block.new ≡ block.old ++ spec.content_of kind at (chars text.now)) }
+{
+    match kind {
+        Kind::Text(c) => {
+            block.put(c, at)?;
+            block.copy(text, at + 1)
+        }
+        Kind::Section => block.copy(section_text(text), at + 9),
+        Kind::Reference(c) => block.put(c, at),
+        Kind::Comment | Kind::Tag => Ok(()),
+    }
+}
+
+// What a section has between `<![CDATA[` and `]]>`, by what it has behind its `<`.
+fn section_text(text: &str) -> &str
+    ensures { chars result.now ≡ spec.section_text (chars text.now) }
+{
+    before(behind(text, 8), char_count(text).saturating_sub(11))
+}
+
+// The block that a piece at an offset begins.
+fn opened_by(kind: Kind, text: &str, at: usize) -> Option<Open>
+    ensures { result ≡ spec.opened_by kind at (chars text.now) }
+{
+    let Kind::Tag = kind else {
+        return None;
+    };
+    let element = opening(text)?;
+    Some(Open { element, begin: at })
+}
+
+// Whether a piece is the end tag of an element.
+fn ends(element: Element, kind: Kind, text: &str) -> bool
+    ensures { result ≡ spec.ends element kind (chars text.now) }
+{
+    match kind {
+        Kind::Tag => element.is_end(text),
+        _ => false,
+    }
+}
+
+// Reads a piece outside of blocks, or in the block that is open, and returns the block that is open behind it.
+fn read(
+    grammar: &mut Gathered,
+    block: &mut Gathered,
+    current: Option<Open>,
+    kind: Kind,
+    text: &str,
+    at: usize,
+) -> Result<Option<Open>, AllocError>
+    requires { at < 2 ^ 63 }
+    ensures state { IfOk result (λ next. reading next block.new ≡ (spec.behind (reading current block.old) kind at (chars text.now)).0) }
+    ensures ended { IfOk result (λ next. grammar.new ≡ grammar.old ++ grammar_of (spec.behind (reading current block.old) kind at (chars text.now)).1) }
+{
+    let Some(opened) = current else {
+        block.clear();
+        return Ok(opened_by(kind, text, at));
+    };
+    if ends(opened.element, kind, text) {
+        grammar.add_block(block, at)?;
+        return Ok(None);
+    }
+    put_piece(block, kind, text, at)?;
+    Ok(current)
+}
+
+/// The grammar of all blocks of ABNF in a draft in RFCXML, one behind the other, with the offset of each character in the draft. A draft
+/// without blocks has an empty one.
+///
+/// # Errors
+///
+/// The first fault of the draft, or [`XmlFault::Memory`] where an allocation is refused.
+pub fn gather_xml(alloc: Global, draft: &str) -> Result<Gathered, XmlFault>
+    ensures { spec.IsGathered (chars draft.now) result }
+{
+    if draft.len() >= NO_OFFSET {
+        return Err(XmlFault::Memory);
+    }
+    let mut grammar = Gathered::new(alloc);
+    let mut block = Gathered::new(alloc);
+    let mut current: Option<Open> = None;
+    let mut rest = draft;
+    let mut at = 0usize;
+    'pieces: loop {
+        let Some((c, more)) = first(rest) else {
+            return match current {
+                Some(opened) => Err(XmlFault::BlockWithoutEnd(opened.begin)),
+                None => Ok(grammar),
+            };
+        };
+        let piece = piece_at(current.is_some(), at, c, more)?;
+        let text = before(more, piece.more);
+        current = read(&mut grammar, &mut block, current, piece.kind, text, at)?;
+        rest = behind(more, piece.more);
+        at += 1 + char_count(text);
+    }
+}

@@ -1,0 +1,185 @@
+//! Tags.
+
+ghost use Rattle.std.specs.Prelude.{◌≡◌, ◌<◌, ◌^◌, ◌+◌, None, IfSome, length};
+ghost use Rattle.std.specs.Str.{chars};
+ghost use Rattle.xml_blocks.specs.Xml as spec;
+
+use crate::text::{
+    begins, behind, char_at, char_count, first, is_quote, is_space, until, without_space,
+};
+
+// An element whose content can be ABNF.
+#[derive(Clone, Copy)]
+pub enum Element {
+    Sourcecode,
+    Artwork,
+}
+
+impl Element {
+    // The name of the element.
+    fn name(self) -> &'static [char]
+        ensures { result.now ≡ spec.name_of self }
+    {
+        match self {
+            Element::Sourcecode => &['s', 'o', 'u', 'r', 'c', 'e', 'c', 'o', 'd', 'e'],
+            Element::Artwork => &['a', 'r', 't', 'w', 'o', 'r', 'k'],
+        }
+    }
+
+    // How many characters the name has.
+    fn name_len(self) -> usize
+        ensures { result ≡ spec.name_len self }
+    {
+        match self {
+            Element::Sourcecode => 10,
+            Element::Artwork => 7,
+        }
+    }
+
+    // Whether a start tag without its `<` has this name, with white space behind it.
+    fn is_named(self, tag: &str) -> bool
+        ensures { result ≡ spec.is_named self (chars tag.now) }
+    {
+        begins(tag, self.name()) && is_space(char_at(tag, self.name_len()))
+    }
+
+    // Whether a tag without its `<` is the end tag of this element.
+    pub fn is_end(self, tag: &str) -> bool
+        ensures { result ≡ spec.is_end self (chars tag.now) }
+    {
+        let name = behind(tag, 1);
+        char_at(tag, 0) == '/'
+            && begins(name, self.name())
+            && char_at(without_space(behind(name, self.name_len())), 0) == '>'
+    }
+}
+
+// The quote that is open behind a character.
+fn open_quote(quote: Option<char>, c: char) -> Option<char>
+    ensures { result ≡ spec.open_quote quote c }
+{
+    match quote {
+        Some(q) => if c == q { None } else { quote },
+        None => if is_quote(c) { Some(c) } else { None },
+    }
+}
+
+// Whether a character is a `>` outside of quotes.
+fn closes(quote: Option<char>, c: char) -> bool
+    ensures { result ≡ spec.closes quote c }
+{
+    c == '>' && quote.is_none()
+}
+
+// How many characters a text has up to the first `>` outside of quotes, and with it.
+fn quoted_len(text: &str) -> Option<usize>
+    requires { length (chars text.now) < 2 ^ 63 }
+    ensures count { result ≡ spec.quoted_len None (chars text.now) }
+    ensures small { IfSome result (λ n. n < 2 ^ 63 + 1) }
+{
+    let mut rest = text;
+    let mut quote: Option<char> = None;
+    let mut count = 0usize;
+    'characters: loop {
+        let Some((c, more)) = first(rest) else {
+            return None;
+        };
+        count += 1;
+        if closes(quote, c) {
+            return Some(count);
+        }
+        quote = open_quote(quote, c);
+        rest = more;
+    }
+}
+
+// How many characters a tag has behind its `<`.
+pub fn tag_len(text: &str) -> Option<usize>
+    requires { length (chars text.now) < 2 ^ 63 }
+    ensures count { result ≡ spec.tag_len (chars text.now) }
+    ensures small { IfSome result (λ n. n < 2 ^ 63 + 1) }
+{
+    if char_at(text, 0).is_ascii_alphabetic() {
+        return quoted_len(text);
+    }
+    match until(text, &['>']) {
+        Some(count) => Some(count + 1),
+        None => None,
+    }
+}
+
+// Whether `abnf` stands here, in any case of letters.
+fn is_abnf_word(text: &str) -> bool
+    ensures { result ≡ spec.is_abnf_word (chars text.now) }
+{
+    char_at(text, 0).to_ascii_lowercase() == 'a'
+        && char_at(text, 1).to_ascii_lowercase() == 'b'
+        && char_at(text, 2).to_ascii_lowercase() == 'n'
+        && char_at(text, 3).to_ascii_lowercase() == 'f'
+}
+
+// Whether a value in quotes stands here that is `abnf`.
+fn is_abnf_value(text: &str) -> bool
+    ensures { result ≡ spec.is_abnf_value (chars text.now) }
+{
+    let quote = char_at(text, 0);
+    is_quote(quote) && is_abnf_word(behind(text, 1)) && char_at(text, 5) == quote
+}
+
+// Whether an attribute `type` stands here whose value is `abnf`.
+fn is_abnf_type(text: &str) -> bool
+    ensures { result ≡ spec.is_abnf_type (chars text.now) }
+{
+    if !begins(text, &['t', 'y', 'p', 'e']) {
+        return false;
+    }
+    let equals = without_space(behind(text, 4));
+    char_at(equals, 0) == '=' && is_abnf_value(without_space(behind(equals, 1)))
+}
+
+// Whether such an attribute begins behind a character.
+fn begins_type(quote: Option<char>, c: char, text: &str) -> bool
+    ensures { result ≡ spec.begins_type quote c (chars text.now) }
+{
+    quote.is_none() && is_space(c) && is_abnf_type(text)
+}
+
+// Whether a tag without its `<` has such an attribute.
+fn has_abnf_type(tag: &str) -> bool
+    ensures { result ≡ spec.has_abnf_type None (chars tag.now) }
+{
+    let mut rest = tag;
+    let mut quote: Option<char> = None;
+    'characters: loop {
+        let Some((c, more)) = first(rest) else {
+            return false;
+        };
+        if begins_type(quote, c, more) {
+            return true;
+        }
+        quote = open_quote(quote, c);
+        rest = more;
+    }
+}
+
+// Whether a tag ends in `/>`.
+fn is_empty_element(tag: &str) -> bool
+    ensures { result ≡ spec.is_empty_element (chars tag.now) }
+{
+    char_at(tag, char_count(tag).saturating_sub(2)) == '/'
+}
+
+// The element that a tag without its `<` begins, if its content is ABNF.
+pub fn opening(tag: &str) -> Option<Element>
+    ensures { result ≡ spec.opening (chars tag.now) }
+{
+    if is_empty_element(tag) || !has_abnf_type(tag) {
+        None
+    } else if Element::Sourcecode.is_named(tag) {
+        Some(Element::Sourcecode)
+    } else if Element::Artwork.is_named(tag) {
+        Some(Element::Artwork)
+    } else {
+        None
+    }
+}
