@@ -194,22 +194,21 @@ def rule_cases(program, files):
 
 
 def draft_cases(program, files):
-    """Each draft, by its name or by the format that is told, and its rules; and the options that tell a format."""
-    for text, found, told in DRAFT_ROWS:
-        what, file = f"the draft {text[:40]!r}", files.written("draft.md", text)
-        yield what, ended(program, None, [file]), (status_of(found, False), b"", printed(file, found))
-        yield f"strict {what}", ended(program, None, ["--format", "markdown", "--strict", file]), (status_of(found, True), b"", printed(file, found))
-        from_input = ended(program, text.encode(), ["--format", "markdown", "-"])
-        yield f"{what}, from standard input", from_input, (status_of(found, False), b"", printed("-", found))
-        yield f"rules of {what}", ended(program, None, ["--rules", file]), (0, b"", printed(file, told))
-    for text, found, told in XML_ROWS:
-        what, file = f"the draft {text[:40]!r}", files.written("draft.xml", text)
-        yield what, ended(program, None, [file]), (status_of(found, False), b"", printed(file, found))
-        yield f"strict {what}", ended(program, None, ["--strict", "--format", "xml", file]), (status_of(found, True), b"", printed(file, found))
-        from_input = ended(program, text.encode(), ["--format", "xml", "-"])
-        yield f"{what}, from standard input", from_input, (status_of(found, False), b"", printed("-", found))
-        ending = (1, b"", printed(file, found)) if told is None else (0, b"", printed(file, told))
-        yield f"rules of {what}", ended(program, None, ["--rules", file]), ending
+    """Each draft, by its name or by the format that is told, and its rules."""
+    for format, ending, drafts in (("markdown", "md", DRAFT_ROWS), ("xml", "xml", XML_ROWS)):
+        for text, found, told in drafts:
+            what, file = f"the draft {text[:40]!r}", files.written(f"draft.{ending}", text)
+            is_printed, status = printed(file, found), status_of(found, False)
+            yield what, ended(program, None, [file]), (status, b"", is_printed)
+            yield f"strict {what}", ended(program, None, ["--format", format, "--strict", file]), (status_of(found, True), b"", is_printed)
+            from_input = ended(program, text.encode(), ["--format", format, "-"])
+            yield f"{what}, from standard input", from_input, (status, b"", printed("-", found))
+            rules = (status, b"", is_printed) if told is None else (0, b"", printed(file, told))
+            yield f"rules of {what}", ended(program, None, ["--rules", file]), rules
+
+
+def format_cases(program, files):
+    """What a file is by its name, and the options that tell it."""
     for name in ("a.mkd", "a.markdown"):
         file = files.written(name, "```abnf\na = ?\n```\n")
         yield f"a draft {name}", ended(program, None, [file]), (1, b"", printed(file, ("2:5: error: bad character [syntax]",)))
@@ -301,7 +300,7 @@ def cases(program):
     """What each case is, how the program ended in it, and how it must end."""
     yield from example_cases(program)
     with rows.files() as files:
-        for some in (row_cases, rule_cases, draft_cases, file_cases, memory_cases):
+        for some in (row_cases, rule_cases, draft_cases, format_cases, file_cases, memory_cases):
             yield from some(program, files)
 
 

@@ -1,10 +1,13 @@
 -- What is printed of the findings in a draft: each at the place where it begins there.
-use Rattle.std.specs.Prelude.{◌≡◌, ℕ, List, [], ◌∷◌, ◌++◌, codes, length, slice_get}
+use Rattle.std.specs.Prelude.{◌≡◌, ◌<◌, ℕ, List, [], ◌∷◌, ◌++◌, codes, length, slice_get}
 use Rattle.std.specs.Option.{option_map_or}
 use Rattle.ls_text.specs.Lines.{offset_of, units}
 use Rattle.ls_text.specs.Positions.{position_of}
 use Rattle.ls_text.specs.declared.position.Encoding.TheVariants.{Utf32}
 use Rattle.ls_text.specs.declared.position.Position.{Position}
+use Rattle.std.specs.Str.{IsUtf8, chars}
+use Rattle.text_files.specs.declared.file.FileFault.{FileFault}
+use Rattle.text_files.specs.declared.file.FileFault.TheVariants.{CannotRead, Memory, NotText}
 use Rattle.origins.specs.Origins.{Sourced, characters}
 use Rattle.findings_text.specs.declared.outcome.Outcome.TheVariants.{Warnings}
 use Rattle.findings_text.specs.declared.print.Printed.{Printed}
@@ -35,6 +38,19 @@ IsPrintedDraft file draft (c ∷ cs) printed = IsPrintedFrom (draft_position dra
 -- This is printed of the rules of a draft with this grammar.
 abbrev pub ArePrintedDraftRules : List ℕ → List ℕ → List Sourced → List ℕ → Type 0
 ArePrintedDraftRules file draft grammar lines = ArePrintedRulesFrom (draft_position draft grammar) file (characters grammar) lines
+
+-- the text of this grammar has more bytes than a text may have
+pub record IsTooLarge (grammar : List Sourced) : Type 0 where
+  pub bytes : List ℕ
+  pub utf8 : IsUtf8 bytes
+  pub are : chars bytes ≡ characters grammar
+  pub large : 4194304 < length bytes
+
+-- Why nothing is printed of a draft with this grammar: it is too large, or memory was refused.
+abbrev pub IsRefused : List Sourced → FileFault → Type 0
+IsRefused grammar NotText = IsTooLarge grammar
+IsRefused grammar Memory = Unit {0}
+IsRefused grammar CannotRead = ⊥
 
 -- ---- how the code tells
 

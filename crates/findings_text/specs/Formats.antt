@@ -1,5 +1,5 @@
 -- What the files are written in that are read.
-use Rattle.std.specs.Prelude.{◌≡◌, ℕ, Bool, ◌||◌, nat_eq, List, [], ◌∷◌, ◌++◌, Option, Some, None, Result, Ok, Err, codes, if◌then◌else◌}
+use Rattle.std.specs.Prelude.{◌≡◌, ℕ, Bool, ◌||◌, ◌⊎◌, nat_eq, List, [], ◌∷◌, ◌++◌, Option, Some, None, Result, Ok, Err, codes, if◌then◌else◌}
 use Rattle.std.specs.List.{ends_with}
 use Rattle.std.specs.Str.{bytes_eq}
 use Rattle.ls_text.specs.Lines.{units}
@@ -7,6 +7,8 @@ use Rattle.ls_text.specs.Positions.{position_of}
 use Rattle.ls_text.specs.declared.position.Encoding.TheVariants.{Utf32}
 use Rattle.origins.specs.Origins.{Sourced, grammar_of}
 use Rattle.markdown_blocks.specs.Fences.{markdown_blocks}
+use Rattle.text_files.specs.declared.file.FileFault.{FileFault}
+use Rattle.text_files.specs.declared.file.FileFault.TheVariants.{Memory}
 use Rattle.xml_blocks.specs.declared.fault.XmlFault.{XmlFault}
 use Rattle.xml_blocks.specs.declared.fault.XmlFault.TheVariants as x
 use Rattle.xml_blocks.specs.Xml.{grammar_behind, xml_blocks}
@@ -14,7 +16,7 @@ use Rattle.findings_text.specs.declared.format.Format.{Format}
 use Rattle.findings_text.specs.declared.format.Format.TheVariants.{Abnf, Markdown, Xml}
 use Rattle.findings_text.specs.declared.outcome.Outcome.TheVariants.{Clean, Errors}
 use Rattle.findings_text.specs.declared.print.Printed.{Printed}
-use Rattle.findings_text.specs.Drafts.{ArePrintedDraftRules, IsPrintedDraft}
+use Rattle.findings_text.specs.Drafts.{ArePrintedDraftRules, IsPrintedDraft, IsRefused}
 use Rattle.findings_text.specs.Print.{IsPrinted, place_text}
 use Rattle.findings_text.specs.Rules.{ArePrintedRules}
 
@@ -83,3 +85,14 @@ ArePrintedRulesAs Abnf file text printed = ArePrintedRules file text printed.lin
 ArePrintedRulesAs Markdown file text printed =
     ArePrintedDraftRules file text (grammar_of (markdown_blocks text)) printed.lines × (printed.outcome ≡ Clean)
 ArePrintedRulesAs Xml file text printed = ArePrintedXmlRules file text (grammar_behind [] (xml_blocks text)) printed
+
+-- Why nothing is printed of a draft in XML, of which this is gathered.
+abbrev pub IsRefusedXml : Result (List Sourced) XmlFault → FileFault → Type 0
+IsRefusedXml (Ok grammar) fault = IsRefused grammar fault
+IsRefusedXml (Err found) fault = fault ≡ Memory
+
+-- Why nothing is printed of a file of this format: memory was refused, or the grammar of a draft is too large.
+abbrev pub IsRefusedAs : Format → List ℕ → FileFault → Type 0
+IsRefusedAs Abnf text fault = fault ≡ Memory
+IsRefusedAs Markdown text fault = IsRefused (grammar_of (markdown_blocks text)) fault
+IsRefusedAs Xml text fault = (fault ≡ Memory) ⊎ IsRefusedXml (grammar_behind [] (xml_blocks text)) fault

@@ -1,6 +1,6 @@
 //! What is printed of a draft.
 
-ghost use Rattle.std.specs.Prelude.{◌≡◌, IfOk};
+ghost use Rattle.std.specs.Prelude.{◌≡◌, IfErr, IfOk};
 ghost use Rattle.origins.specs.Origins.{characters};
 ghost use Rattle.findings_text.specs.Drafts as spec;
 
@@ -16,7 +16,8 @@ use text_files::FileFault;
 
 /// The text of a grammar that was gathered.
 fn text_of(alloc: Global, grammar: &Gathered) -> Result<Snapshot, FileFault>
-    ensures { IfOk result (λ text. text ≡ characters grammar.now) }
+    ensures text { IfOk result (λ text. text ≡ characters grammar.now) }
+    ensures fault { IfErr result (λ fault. spec.IsRefused grammar.now fault) }
 {
     let Ok(text) = String::from_str(alloc, grammar.as_str()) else {
         return Err(FileFault::Memory);
@@ -46,13 +47,14 @@ fn no_grammar(alloc: Global, file: &str) -> Result<Printed, Memory>
 /// # Errors
 ///
 /// `NotText` where the grammar is larger than a text may be, and `Memory`.
-pub fn print_draft(
+pub(crate) fn print_draft(
     alloc: Global,
     file: &str,
     draft: &Snapshot,
     grammar: &Gathered,
 ) -> Result<Printed, FileFault>
-    ensures { IfOk result (λ printed. spec.IsPrintedDraft file.now draft.now grammar.now printed) }
+    ensures printed { IfOk result (λ printed. spec.IsPrintedDraft file.now draft.now grammar.now printed) }
+    ensures fault { IfErr result (λ fault. spec.IsRefused grammar.now fault) }
 {
     let printed = match grammar.origin_of(0) {
         None => no_grammar(alloc, file),
@@ -73,13 +75,14 @@ pub fn print_draft(
 /// # Errors
 ///
 /// As [`print_draft`].
-pub fn print_draft_rules(
+pub(crate) fn print_draft_rules(
     alloc: Global,
     file: &str,
     draft: &Snapshot,
     grammar: &Gathered,
 ) -> Result<Text, FileFault>
-    ensures { IfOk result (λ lines. spec.ArePrintedDraftRules file.now draft.now grammar.now lines) }
+    ensures printed { IfOk result (λ lines. spec.ArePrintedDraftRules file.now draft.now grammar.now lines) }
+    ensures fault { IfErr result (λ fault. spec.IsRefused grammar.now fault) }
 {
     let text = text_of(alloc, grammar)?;
     match print_rules_from(alloc, file, Source::Draft(draft, grammar), &text) {

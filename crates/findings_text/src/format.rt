@@ -1,6 +1,6 @@
 //! What a file is written in, and what is printed of it by that.
 
-ghost use Rattle.std.specs.Prelude.{◌≡◌, IfOk};
+ghost use Rattle.std.specs.Prelude.{◌≡◌, IfErr, IfOk};
 ghost use Rattle.origins.specs.Origins.{grammar_of};
 ghost use Rattle.markdown_blocks.specs.Fences.{markdown_blocks};
 ghost use Rattle.findings_text.specs.Formats as spec;
@@ -62,7 +62,8 @@ impl Format {
 
 /// The grammar of a draft in Markdown.
 fn markdown_grammar(alloc: Global, draft: &Snapshot) -> Result<Gathered, FileFault>
-    ensures { IfOk result (λ grammar. grammar ≡ grammar_of (markdown_blocks draft.now)) }
+    ensures grammar { IfOk result (λ grammar. grammar ≡ grammar_of (markdown_blocks draft.now)) }
+    ensures fault { IfErr result (λ fault. fault ≡ FileFault.Memory) }
 {
     match gather_markdown(alloc, draft) {
         Ok(grammar) => Ok(grammar),
@@ -82,7 +83,8 @@ pub fn print_as(
     format: Format,
     text: &Snapshot,
 ) -> Result<Printed, FileFault>
-    ensures { IfOk result (λ printed. spec.IsPrintedAs format file.now text.now printed) }
+    ensures printed { IfOk result (λ printed. spec.IsPrintedAs format file.now text.now printed) }
+    ensures fault { IfErr result (λ fault. spec.IsRefusedAs format text.now fault) }
 {
     match format {
         Format::Abnf => match print_findings(alloc, file, text) {
@@ -120,7 +122,8 @@ pub fn print_rules_as(
     format: Format,
     text: &Snapshot,
 ) -> Result<Printed, FileFault>
-    ensures { IfOk result (λ printed. spec.ArePrintedRulesAs format file.now text.now printed) }
+    ensures printed { IfOk result (λ printed. spec.ArePrintedRulesAs format file.now text.now printed) }
+    ensures fault { IfErr result (λ fault. spec.IsRefusedAs format text.now fault) }
 {
     match format {
         Format::Abnf => match print_rules(alloc, file, text) {

@@ -4,6 +4,8 @@ ghost use Rattle.std.specs.Prelude.{◌≡◌, ◌<◌, ◌^◌, [], ◌∷◌, 
 ghost use Rattle.std.specs.Option.{option_map_or};
 ghost use Rattle.abnf_parts.specs.Names.{Name};
 ghost use Rattle.abnf_names.specs.Places.{Named};
+ghost use Rattle.origins.specs.Origins.{Sourced};
+ghost use Rattle.findings_text.specs.Drafts.{IsPrintedDraft};
 ghost use Rattle.findings_text.specs.Print.{IsPrinted};
 ghost use Rattle.findings_text.specs.Rules.{ArePrintedRules, defines, heads};
 ghost use Rattle.findings_text.specs.declared.print.Printed.{Printed};
@@ -14,9 +16,19 @@ pub fn printed_texts_exist()
     ensures { (file text : List ℕ) → length text < 2 ^ 62 → (printed : Printed) × IsPrinted file text printed }
 {}
 
-/// A text has at most one print-out, whatever certificate its findings were found by.
+/// A text has at most one print-out.
 pub fn printed_texts_are_unique()
     ensures { (file text : List ℕ) (a b : Printed) → IsPrinted file text a → IsPrinted file text b → a ≡ b }
+{}
+
+/// For each file name there is a print-out of each draft whose grammar has fewer than 2^62 characters.
+pub fn printed_drafts_exist()
+    ensures { (file draft : List ℕ) (grammar : List Sourced) → length grammar < 2 ^ 62 → (printed : Printed) × IsPrintedDraft file draft grammar printed }
+{}
+
+/// A draft has at most one print-out.
+pub fn printed_drafts_are_unique()
+    ensures { (file draft : List ℕ) (grammar : List Sourced) (a b : Printed) → IsPrintedDraft file draft grammar a → IsPrintedDraft file draft grammar b → a ≡ b }
 {}
 
 /// For each file name there is a print-out of the rules of each text of fewer than 2^62 characters.

@@ -16,12 +16,11 @@ mod rules;
 mod source;
 mod xml;
 
-pub use draft::{print_draft, print_draft_rules};
 pub use ending::{Ending, fault_line, is_option};
 pub use format::{Format, print_as, print_rules_as};
 pub use laws::{
-    heads_are_first, printed_rules_are_unique, printed_rules_exist, printed_texts_are_unique,
-    printed_texts_exist,
+    heads_are_first, printed_drafts_are_unique, printed_drafts_exist, printed_rules_are_unique,
+    printed_rules_exist, printed_texts_are_unique, printed_texts_exist,
 };
 pub use ls_lists::Text;
 pub use ls_text::Snapshot;

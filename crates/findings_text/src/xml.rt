@@ -1,7 +1,6 @@
 //! What is printed of a draft in RFCXML.
 
-ghost use Rattle.std.specs.Prelude.{◌≡◌, ◌⊎◌, [], Err, IfOk, Result, List};
-ghost use Rattle.origins.specs.Origins.{Sourced};
+ghost use Rattle.std.specs.Prelude.{◌≡◌, ◌⊎◌, [], Err, IfErr, IfOk};
 ghost use Rattle.xml_blocks.specs.declared.fault.XmlFault.TheVariants.{Memory as MemoryFault};
 ghost use Rattle.xml_blocks.specs.Xml.{IsGathered, grammar_behind, xml_blocks};
 ghost use Rattle.findings_text.specs.Formats as spec;
@@ -63,6 +62,7 @@ fn print_fault(
 ) -> Result<Printed, FileFault>
     ensures printed { IfOk result (λ printed. spec.IsPrintedFault file.now draft.now fault printed) }
     ensures memory { fault ≡ MemoryFault → result ≡ Err FileFault.Memory }
+    ensures fault { IfErr result (λ f. f ≡ FileFault.Memory) }
 {
     if fault == XmlFault::Memory {
         return Err(FileFault::Memory);
@@ -85,7 +85,8 @@ fn gathered(alloc: Global, draft: &Snapshot) -> Result<Gathered, XmlFault>
 
 /// What is printed of a draft in a file with this name: its fault, or else what is found in its grammar.
 pub(crate) fn print_xml(alloc: Global, file: &str, draft: &Snapshot) -> Result<Printed, FileFault>
-    ensures { IfOk result (λ printed. spec.IsPrintedXml file.now draft.now (grammar_behind [] (xml_blocks draft.now)) printed) }
+    ensures printed { IfOk result (λ printed. spec.IsPrintedXml file.now draft.now (grammar_behind [] (xml_blocks draft.now)) printed) }
+    ensures fault { IfErr result (λ f. (f ≡ FileFault.Memory) ⊎ spec.IsRefusedXml (grammar_behind [] (xml_blocks draft.now)) f) }
 {
     match gathered(alloc, draft) {
         Ok(grammar) => print_draft(alloc, file, draft, &grammar),
@@ -99,7 +100,8 @@ pub(crate) fn print_xml_rules(
     file: &str,
     draft: &Snapshot,
 ) -> Result<Printed, FileFault>
-    ensures { IfOk result (λ printed. spec.ArePrintedXmlRules file.now draft.now (grammar_behind [] (xml_blocks draft.now)) printed) }
+    ensures printed { IfOk result (λ printed. spec.ArePrintedXmlRules file.now draft.now (grammar_behind [] (xml_blocks draft.now)) printed) }
+    ensures fault { IfErr result (λ f. (f ≡ FileFault.Memory) ⊎ spec.IsRefusedXml (grammar_behind [] (xml_blocks draft.now)) f) }
 {
     match gathered(alloc, draft) {
         Ok(grammar) => {

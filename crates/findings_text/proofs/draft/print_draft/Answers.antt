@@ -7,8 +7,8 @@ use Rattle.findings_text.proofs.DraftLaws.{if_none, if_some}
 use Rattle.findings_text.proofs.draft.print_draft.Goals as goal
 use Rattle.findings_text.proofs.draft.print_draft.Goals.{in-None, in-Some+in_ok-text-in-Some}
 
-pub returns-in-Ok : goal.returns-in-Ok
-returns-in-Ok c =
+pub returns-in-Ok-clause-printed : goal.returns-in-Ok-clause-printed
+returns-in-Ok-clause-printed c =
     let file = c.args.file.now in
     let draft = c.args.draft.now in
     let grammar = c.args.grammar.now in
@@ -16,6 +16,6 @@ returns-in-Ok c =
       | in-None w ↦ if_none file draft grammar c.in-Ok.printed (sym w.in-None.is ∙ c.origin_of.ensures)
           (subst (λ r. IfOk r (λ (p : Printed). (p.lines ≡ no_grammar_line file) × (p.outcome ≡ Warnings))) (sym w.printed-is ∙ c.in-Ok.is) w.no_grammar-printed.ensures)
       | in-Some+in_ok-text-in-Some w ↦ if_some file draft grammar c.in-Ok.printed w.in-Some.field-0 (sym w.in-Some.is ∙ c.origin_of.ensures)
-          (subst (λ (text : List ℕ). IsPrintedFrom (draft_position draft grammar) file text c.in-Ok.printed) w.in_ok-text-in-Some.ensures
+          (subst (λ (text : List ℕ). IsPrintedFrom (draft_position draft grammar) file text c.in-Ok.printed) w.in_ok-text-in-Some.ensures.text
           (subst (λ r. IfOk r (λ (p : Printed). IsPrintedFrom (draft_position draft grammar) file w.in_ok-text-in-Some.text p)) (sym w.printed-is ∙ c.in-Ok.is) w.print_from-printed.ensures))
     ]
