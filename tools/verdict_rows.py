@@ -14,6 +14,7 @@ import sys
 import tempfile
 
 from edits import checks
+from edits.copies import Copy
 from edits.files import edits_in, lines_of, unread_folders, write
 from edits.functions import is_in
 from edits.libraries import Gate, Libraries
@@ -319,6 +320,24 @@ def played():
             yield f"a played prover, all edits: {name}", len(trial.results), len(ALL)
 
 
+def controls():
+    """Of the functions with twins the longest is proved as it stands, and each whose answers name the proof of another one."""
+    cited = {"": {"f"}, "Laws.{law}": {"f"}, "g.Goals as goal": {"f"}, "h.Met.{met}": {"f", "g"}, "low.h.Met.{met}": {"f", "g"}}
+    for name, wanted in cited.items():
+        with made_crate() as trial:
+            for function, text in (("f", "-- a long proof\n" * 9), ("g", f"use Rattle.made.proofs.{name}\n" if name else "")):
+                os.makedirs(f"{trial.source.folder}/proofs/{function}")
+                write(f"{trial.source.folder}/proofs/{function}/Answers.antt", text)
+            again = Trial(trial.crate, trial.given, NoStore(), f"{trial.given.top}/same")
+            twins = again.maker.shared_out([it for it in again.edits if it.functions], {"law"})[0]
+            yield f"the functions with twins: {name}", twins.bases(), {"f", "g"}
+            yield f"the controls of a copy: {name}", again.maker.controls(twins), wanted
+            with tempfile.TemporaryDirectory() as folder:
+                yield f"what must be proved in a copy: {name}", {*again.maker.make(folder, twins)[2]} >= {*wanted, "law"}, True
+    with made_crate() as trial:
+        yield "the controls where there is no twin", trial.maker.controls(Copy([])), set()
+
+
 def unedited():
     """With no edit made all copies must be proved."""
     for fails, wanted in (((), True), (("f",), False), (("law",), False), (("clone",), False), (("h",), False)):
@@ -413,7 +432,7 @@ def libraries():
 
 def main():
     results = []
-    for rows in (logs, alone, texts, played, unedited, self_test, remembered, libraries):
+    for rows in (logs, alone, texts, played, controls, unedited, self_test, remembered, libraries):
         for name, found, wanted in rows():
             results.append(found == wanted)
             if found != wanted:

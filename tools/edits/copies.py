@@ -47,7 +47,7 @@ class Copy:
         self.edits, self.whole, self.has_counted, self.refused = edits, {*whole}, False, set()
 
     def bases(self):
-        """The functions that twins were made of: each stands as it is, beside its twins."""
+        """The functions that twins were made of."""
         return {name for it in self.edits for name in it.twins}
 
     def edited(self):
@@ -160,6 +160,17 @@ class Maker:
             os.makedirs(at)
             write(f"{at}/Proof.antt", HOLE.format(crate=source.name, module=name.replace("::", "."), name=short))
 
+    def controls(self, made):
+        """Those of the functions with twins that stand as they are beside these, and must be proved: the one that is longest with its proof.
+
+        A twin is made of its function's body and answers, of contracts, definitions and lemmas. All these but the edit stand in the copy as
+        they are, so what is proved in the crate is proved here: unless answers name the proof of another function, which is left out. So each
+        function with such answers is a control too.
+        """
+        bases = sorted(made.bases())
+        longest = sorted(bases, key=self.source.length)[-1:]
+        return {*longest, *(it for it in bases if self.source.rests_on_others(it))}
+
     def witness(self, functions):
         """A function beside these that a copy leaves whole, so that it must be proved there: that with the shortest body of some lines."""
         bodies = {name: body for name, body in self.source.bodies().items() if name not in functions}
@@ -177,8 +188,9 @@ class Maker:
             return True, [], []
         for edit in (it for it in made.edits if it.twins):
             self.make_twins(folder, edit)
-        stand = {*made.edited(), *made.whole, *made.bases(), *named}
-        witness = self.witness(stand)
+        controls = self.controls(made)
+        stand = {*made.edited(), *made.whole, *controls, *named}
+        witness = self.witness(stand | made.bases())
         self.leave_out(folder, {*stand, *witness})
         flags = ["--allow-holes", *(word for name in sorted({*stand, *witness}) for word in ("--only", name))]
-        return True, flags, [*made.whole, *made.bases(), *witness]
+        return True, flags, [*made.whole, *controls, *witness]

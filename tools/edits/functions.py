@@ -73,8 +73,8 @@ class Source:
                 homes[type_name].append(module_of(path))
         self.homes = {it: modules[0] for it, modules in homes.items() if len(modules) == 1}
         self.texts, self.files = texts, {path: self.split(path, text) for path, text in texts.items()}
-        proofs = {f"{at}/{it}": text_of(f"{at}/{it}") for at, _, names in os.walk(f"{folder}/proofs") for it in names}
-        self.without_twins = {it for path, text in texts.items() for it in self.without_twins_in(path, text, proofs)}
+        self.proofs = {f"{at}/{it}": text_of(f"{at}/{it}") for at, _, names in os.walk(f"{folder}/proofs") for it in names}
+        self.without_twins = {it for path, text in texts.items() for it in self.without_twins_in(path, text)}
 
     def place_of(self, found, path):
         """The module and the block of a function in a file: a method's module is that of its type, where its impl has no trait."""
@@ -100,6 +100,21 @@ class Source:
     def bodies(self):
         """The bodies of the functions that are proved by themselves, by name."""
         return {name: body for _, found in self.files.values() for name, (body, is_own) in found.items() if is_own}
+
+    def length(self, name):
+        """How much there is to check of a function, by a guess: its body, and the files of its proof."""
+        return len(self.bodies()[name]) + sum(map(len, self.proofs_of(name).values()))
+
+    def proofs_of(self, name):
+        """The files of a function's own proof, and their texts."""
+        own = f"{self.folder}/proofs/{name.replace('::', '/')}/"
+        return {at: text for at, text in self.proofs.items() if at.startswith(own)}
+
+    def rests_on_others(self, name):
+        """Whether the proof of a function names that of another one, and not only lemmas, which stand in files right below proofs/."""
+        own = f"proofs.{name.replace('::', '.')}."
+        cited = [it for text in self.proofs_of(name).values() for it in re.findall(rf"\bRattle\.{self.name}\.(proofs\.[a-z]\S*)", text)]
+        return any(not it.startswith(own) for it in cited)
 
     def has_function(self, name):
         """Whether a function of this name may stand in the crate, also one with nothing in its body, as a law."""
@@ -139,16 +154,16 @@ class Source:
             return module_of(path), None
         return self.place_of(found[0], path)[0], found[0][3] if "#[cycle(" not in found[0][1] else None
 
-    def without_twins_in(self, path, text, proofs):
+    def without_twins_in(self, path, text):
         """The functions of a file that can have no twin.
 
         Those are of an impl of a trait, or their proof isn't all in the answers in their own folder, which nothing else names.
         """
-        folders = "\n".join(proofs)
+        folders = "\n".join(self.proofs)
         for it in FUNCTION.finditer(text):
             name, block = self.name_of(it, path), self.place_of(it, path)[1]
             own = f"{self.folder}/proofs/{name.replace('::', '/')}/"
-            named = [at for at, proof in proofs.items() if at.startswith(own) or f"proofs.{name.replace('::', '.')}." in proof]
+            named = [at for at, proof in self.proofs.items() if at.startswith(own) or f"proofs.{name.replace('::', '.')}." in proof]
             has_closures = f"/fn/{it[3]}/" in folders
             if block is None or len(block) > 1 or has_closures or not {*named} <= {f"{own}{file}" for file in ANSWERS}:
                 yield name

@@ -101,10 +101,10 @@ class Trial:
         said, why = self.check(made, kept)
         if not why:
             made.has_counted = True
-            self.shown |= made.whole | made.bases()
+            self.shown |= made.whole
             for edit in made.edits:
-                # (that of which an edit is a fault must be proved without it)
-                if (edit.twins.keys() or edit.functions) <= self.shown:
+                # (what is edited itself must be proved without it)
+                if edit.twins or edit.functions <= self.shown:
                     self.judge(made, edit, against(said, edit.functions))
         elif why in IS_FINAL:
             self.not_tried(made.edits, f"of its copy, {why}")

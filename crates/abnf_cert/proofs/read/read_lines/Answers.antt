@@ -25,3 +25,13 @@ loop-rest-preserved c =
           (subst (λ (n : ℕ). c.loop-rest.rest.now ≡ entry_line n c.in-Some-told_entry.entry ++ c.in-Some.behind.now) number line)
           ∙ ap (λ (es : List Entry). cert_text es ++ c.in-Some.behind.now) (sym pushed);
     }
+
+pub returns-in_default-told_entry-clause-fault : goal.returns-in_default-told_entry-clause-fault
+returns-in_default-told_entry-clause-fault c =
+    let number : c.in-Some.number ≡ length c.loop-rest.entries.items = omega (arith, c.if-number-len.false, c.len.ensures, c.loop-rest.entries.ok.0) in
+    (c.loop-rest.entries.items, c.loop-rest.rest.now, c.loop-rest.invariant.wide, c.loop-rest.invariant.read, ((c.in-Some.number, c.in-Some.told, c.in-Some.behind.now), sym c.in-Some.ensures, number, sym c.in_default-told_entry.ensures))
+
+pub returns-then-is_err-clause-fault : goal.returns-then-is_err-clause-fault
+returns-then-is_err-clause-fault c =
+    let number : c.in-Some.number ≡ length c.loop-rest.entries.items = omega (arith, c.if-number-len.false, c.len.ensures, c.loop-rest.entries.ok.0) in
+    (c.loop-rest.entries.items, c.loop-rest.rest.now, c.loop-rest.invariant.wide, c.loop-rest.invariant.read, ((c.in-Some.number, c.in-Some.told, c.in-Some.behind.now), sym c.in-Some.ensures, number, c.in-Some-told_entry.entry, sym c.in-Some-told_entry.ensures))

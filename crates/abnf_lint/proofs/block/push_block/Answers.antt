@@ -1,4 +1,4 @@
-use Rattle.std.proofs.Common.{◌∙◌, sym}
+use Rattle.std.proofs.Common.{rules, ◌∙◌, sym}
 use Rattle.abnf_names.specs.Excerpts.{excerpt}
 use Rattle.abnf_lint.proofs.Seen.{seen_next, seen_same, when_ok}
 use Rattle.abnf_lint.proofs.block.push_block.Goals as goal
@@ -13,3 +13,6 @@ returns-in_ok-push_said-in-Some-clause-seen c =
 pub returns-in-None-clause-seen : goal.returns-in-None-clause-seen
 returns-in-None-clause-seen c =
     when_ok c.push_said-in-None.result _ (λ heads bases are. seen_same heads bases (excerpt c.args.section.now) (sym c.head.ensures ∙ c.in-None.is) c.args.grammar.now.names c.args.seen.now are)
+
+pub push_said-requires : goal.push_said-requires
+push_said-requires = search rules depth 3

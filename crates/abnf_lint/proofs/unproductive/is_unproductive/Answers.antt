@@ -1,5 +1,5 @@
 use Rattle.std.proofs.Math.Nat.{eq-or-lt_of_le}
-use Rattle.std.proofs.Common.{◌≡◌, ◌≤◌, ◌∙◌, inl, inr, ap, List, subst, sym, refl, arith}
+use Rattle.std.proofs.Common.{rules, ◌≡◌, ◌≤◌, ◌∙◌, inl, inr, ap, List, subst, sym, refl, arith}
 use Rattle.abnf_parts.specs.Part.{Part, root_number}
 use Rattle.abnf_parts.specs.Generates.{Generates}
 use Rattle.abnf_cert.specs.declared.entry.Entry.{Entry}
@@ -27,3 +27,6 @@ returns-in-Least c =
     let root = root_says c.args.grammar.now.rules c.args.cert.now c.requires.accepted c.args.rule c.requires.rule (Least c.in-Least.length c.in-Least.height c.in-Least.choice) (sym c.in-Least.is ∙ is) in
     let most : c.in-Least.length ≤ top = omega arith in
     (λ x. cc x, λ holds. absurd (elim (eq-or-lt_of_le most) [ inl x ↦ holds.nothing root.0 root.1 (root.2.1 x).0.0 (root.2.1 x).0.1 | inr x ↦ holds.nothing root.0 root.1 (root.2.0 x).1.reached.0 (root.2.0 x).1.reached.1 ]))
+
+pub returns-then-reaches_opaque : goal.returns-then-reaches_opaque
+returns-then-reaches_opaque = search rules depth 3

@@ -1,5 +1,6 @@
-use Rattle.std.proofs.Common.{◌≡◌, ◌-◌, ◌<◌, suc, true, length, arith}
-use Rattle.abnf_parts.specs.Part.{root_number}
+use Rattle.std.proofs.Common.{◌≡◌, ◌-◌, ◌<◌, suc, true, true≢false, length, arith}
+use Rattle.std.proofs.lemmas.Option.{slice_get_within}
+use Rattle.abnf_parts.specs.Part.{parts_of, root_number}
 use Rattle.abnf_productive.specs.Marks.{mark_at}
 use Rattle.abnf_cert.proofs.Checked.{stands_at}
 use Rattle.abnf_productive.proofs.Closed.{one_lower}
@@ -7,6 +8,15 @@ use Rattle.abnf_productive.proofs.Nodes.{node_is, so_part}
 use Rattle.abnf_productive.proofs.Sound.{one_more}
 use Rattle.abnf_productive.proofs.sweep.sweep.Goals as goal
 use Rattle.abnf_productive.proofs.sweep.sweep.Goals.{else-not-marks-number-via-then-not-marks-number+else-yields, else-not-marks-number-via-else-not-marks-number}
+
+pub loop-number-init : goal.loop-number-init
+loop-number-init c = record {
+  within = omega (arith, c.min-number.ensures, c.nodes-nodes.ensures.one_each);
+  sound = c.requires;
+  closed = λ e n p is least most yields.
+      let within = slice_get_within (parts_of c.args.grammar.now.rules) n p is in
+      absurd (omega (arith, c.min-number.ensures, c.nodes-nodes.ensures.one_each, least, most, within));
+}
 
 pub yields-requires : goal.yields-requires
 yields-requires c =
@@ -27,7 +37,7 @@ loop-number-preserved-then-yields c =
     record {
       within = omega (arith, c.loop-number.invariant.within);
       sound = one_more rules c.loop-number.marks c.loop-number.invariant.sound n stands.part stands.is refers yields;
-      closed = λ e. absurd (cc e);
+      closed = λ e. absurd (true≢false e);
     }
 
 pub loop-number-preserved : goal.loop-number-preserved

@@ -27,6 +27,15 @@ blocks-2-preserved c = record {
 pub returns-clause-all : goal.returns-clause-all
 returns-clause-all c = all_found (line_texts c.args.snapshot.now) c.blocks-2.first c.blocks-2.found.items (omega (arith, c.line_count-count.ensures, c.blocks-2-test.false)) c.blocks-2.invariant.all
 
+pub returns-clause-items : goal.returns-clause-items
+returns-clause-items c = c.blocks-2.invariant.items
+
+pub returns-clause-some : goal.returns-clause-some
+returns-clause-some c = c.blocks-2.invariant.some
+
+pub returns-clause-memory : goal.returns-clause-memory
+returns-clause-memory c = tt
+
 on_err : {A E P : Type 0} (result : Result A E) → P → OnErr result P
 on_err (Ok a) p = tt
 on_err (Err e) p = p

@@ -18,31 +18,33 @@ overflow_add-to c = omega (arith, line_small c.args.lines.now c.requires.lines c
 
 pub with_lines-requires : goal.with_lines-requires
 with_lines-requires c =
+    let kept_is : c.saturating_sub-kept.result ≡ c.args.from.line - 1 = c.saturating_sub-kept.ensures in
     omega (
       arith,
       ap length c.as_str.ensures.value,
       ap length (encodes-chars (string_bytes c.in_ok-part.part) (IsUtf8-string_bytes c.in_ok-part.part)),
       ap (λ z. length (encode_utf8_all z)) c.in_ok-part.ensures,
-      middle_bytes c.args.lines.now c.requires.lines.lines c.args.from c.args.to c.requires.from c.requires.to c.saturating_sub-kept.result (omega (arith, c.saturating_sub-kept.ensures)) (chars c.args.new.now),
+      middle_bytes c.args.lines.now c.requires.lines.lines c.args.from c.args.to c.requires.from c.requires.to c.saturating_sub-kept.result kept_is (chars c.args.new.now),
       c.requires.small,
     )
 
 pub pushed-requires : goal.pushed-requires
 pushed-requires c =
+    let kept_is : c.saturating_sub-kept.result ≡ c.args.from.line - 1 = c.saturating_sub-kept.ensures in
     omega (
       arith,
       c.in_ok-cut.ensures.small,
       ap length c.as_str.ensures.value,
       ap length (encodes-chars (string_bytes c.in_ok-part.part) (IsUtf8-string_bytes c.in_ok-part.part)),
       ap (λ z. length (encode_utf8_all z)) c.in_ok-part.ensures,
-      middle_bytes c.args.lines.now c.requires.lines.lines c.args.from c.args.to c.requires.from c.requires.to c.saturating_sub-kept.result (omega (arith, c.saturating_sub-kept.ensures)) (chars c.args.new.now),
+      middle_bytes c.args.lines.now c.requires.lines.lines c.args.from c.args.to c.requires.from c.requires.to c.saturating_sub-kept.result kept_is (chars c.args.new.now),
       c.requires.small,
     )
 
 cut_is : (c : goal.After-drop-part-2) → IsCut (wanted_text c.args.lines.now c.args.from c.args.to (chars c.args.new.now)) (take c.saturating_sub-kept.result c.args.lines.now ++ (c.match-end.cut ++ drop (c.args.to.line + 1) c.args.lines.now))
 cut_is c =
+    let kept_is : c.saturating_sub-kept.result ≡ c.args.from.line - 1 = c.saturating_sub-kept.ensures in
     let end_is : end_at c.args.lines.now c.args.to.line ≡ c.line-last.result.0.end = end_found c.args.lines.now c.args.to.line c.line-last.result.0 c.line-last.ensures.in_range c.line-last.ensures.line_is in
-    let kept_is : c.saturating_sub-kept.result ≡ c.args.from.line - 1 = omega (arith, c.saturating_sub-kept.ensures) in
     let text_is = ap chars c.as_str.ensures.value ∙ c.in_ok-part.ensures in
     let onto : IsCutOnto [] c.as_str.result.now c.in_ok-cut.rest.now c.in_ok-cut.cut = subst (λ z. IsCutOnto z c.as_str.result.now c.in_ok-cut.rest.now c.in_ok-cut.cut) c.new.ensures c.in_ok-cut.ensures.cut in
     elim c.match-end.branch [

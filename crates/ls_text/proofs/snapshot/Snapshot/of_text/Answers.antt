@@ -1,10 +1,13 @@
-use Rattle.std.proofs.Common.{sym, ap, ◌∙◌, arith, length}
+use Rattle.std.proofs.Common.{refl, sym, ap, ◌∙◌, arith, length}
 use Rattle.std.specs.Prelude.{Err}
 use Rattle.std.specs.Str.{chars, encode_utf8_all}
 use Rattle.std.specs.String.{string_bytes}
 use Rattle.std.proofs.lemmas.Str.{encodes-chars, IsUtf8-string_bytes}
 use Rattle.std.proofs.lemmas.Result.{err_from_is_err_and}
 use Rattle.ls_text.proofs.snapshot.Snapshot.of_text.Goals as goal
+
+pub returns-then-len-gt-MAX_BYTES-clause-too_large : goal.returns-then-len-gt-MAX_BYTES-clause-too_large
+returns-then-len-gt-MAX_BYTES-clause-too_large c = (λ is. omega (arith, c.len.ensures, c.if-len-gt-MAX_BYTES.true), λ larger. refl)
 
 pub returns-in_err-whole-clause-too_large : goal.returns-in_err-whole-clause-too_large
 returns-in_err-whole-clause-too_large c =

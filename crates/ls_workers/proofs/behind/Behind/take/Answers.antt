@@ -1,4 +1,4 @@
-use Rattle.std.proofs.Common.{◌≡◌, ◌∙◌, false, Option, sym, subst}
+use Rattle.std.proofs.Common.{◌≡◌, ◌∙◌, false, Option, refl, sym, subst}
 use Rattle.std.specs.Prelude.{IfNone, Some, None, is_some}
 use Rattle.ls_desk.specs.Stands.{Seen}
 use Rattle.ls_workers.specs.Count.{Counts}
@@ -19,3 +19,6 @@ invariant_of-self-else-is_some g c =
       limits = subst (λ (d : Seen). HasLimits g.C.Crew.max_journal g.C.Crew.max_events d) (sym same) now.limits;
       replies = subst (λ (d : Seen). now.left.items ≡ sent_by d) (sym same) now.replies;
     }
+
+pub returns-in_err-job-clause-ends : goal.returns-in_err-job-clause-ends
+returns-in_err-job-clause-ends g c = (refl, refl)
