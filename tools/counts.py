@@ -34,6 +34,7 @@ LISTS = (
     *(f"{module}.{name}" for module in ("session_rows", "encoding_rows") for name in ("SESSIONS", "REPLIES")),
     *("session_rows.FRAMES", "command_rows.EXAMPLES", "command_rows.CHECKS"),
     *("findings_rows.ROWS", "findings_rows.RULE_ROWS", "findings_rows.DRAFT_ROWS", "findings_rows.XML_ROWS", "install_rows.ROWS"),
+    *("findings_rows.WITH_ROWS", "findings_rows.GRAMMAR_ROWS"),
 )
 NUMBERS = (
     *("broken_input.COUNT", "refused_sessions.FIRST", "refused_sessions.SAMPLE", "refused_threads.THREADS", "shaken_threads.COUNT"),
@@ -136,6 +137,7 @@ def of_sources():
         counts.update({f"{kind} {it}": files_in("crates", it, kind) for it in names})
     counts["same-meaning"] = files_in(SAME_MEANING)
     counts["examples"] = files_in("examples", end=".abnf")
+    counts["known-examples"] = files_in("examples", "known", end=".abnf")
     counts.update({f"list {it}": number_at(it) for it in LISTS})
     counts.update({f"cases {it}": number_at(it) for it in NUMBERS})
     counts.update({f"cases {name}": number_in(path, form) for name, (path, form) in LOOPS.items()})

@@ -12,7 +12,7 @@ import refused_memory
 import rows
 from runs import HUNG, ended
 
-USAGE = b"usage: abnf_findings [--strict | --rules] [--format abnf | markdown | xml] FILE..\n"
+USAGE = b"usage: abnf_findings [--strict | --rules | --grammar] [--format abnf | markdown | xml] [--with FILE].. FILE..\n"
 DEEP = "a = " + 65 * "("
 
 ROWS = (
@@ -160,6 +160,68 @@ XML_ROWS = (
     ('<artwork type="abnf">a = &#xD800;</artwork>', ("1:26: error: no reference to a character [xml]",), None),
 )
 
+CORE = "OWS = *( SP / HTAB )\nRWS = 1*( SP / HTAB )\n"
+
+# Files with the files whose names are known (RFC 5234 sections 2.1, 2.2 and 3.3), what is found, and the lines of their rules: each file is
+# its name and its text. Nothing is told of the known files.
+WITH_ROWS = (
+    # names in any case, and names that no file has
+    (
+        ("a.abnf", 'a = OWS "x" ows nope'),
+        (("core.abnf", CORE),),
+        ("1:1: warning: rule a generates nothing [unproductive]", "1:17: error: undefined rule nope [undefined]"),
+        ("1:1: a: generates nothing",),
+    ),
+    (("a.abnf", 'a = RWS "x" / b\nb = rws'), (("core.abnf", CORE),), (), ("1:1: a: shortest length 1:  ", "2:1: b: shortest length 1:  ")),
+    # an earlier file comes first, and the told one before all; what is added to a name is its file's
+    (("a.abnf", "a = x"), (("1.abnf", 'x = "1"'), ("2.abnf", 'x = nope\nx =/ "2"')), (), ("1:1: a: shortest length 1: 1",)),
+    (
+        ("a.abnf", "a = x"),
+        (("1.abnf", "x = nope"), ("2.abnf", 'x = "1"')),
+        ("1:1: warning: rule a generates nothing [unproductive]",),
+        ("1:1: a: generates nothing",),
+    ),
+    (
+        ("a.abnf", 'B = "xx"\na = b c'),
+        (("1.abnf", 'b =/ "y"\nc = "z"\nc = ?'),),
+        (),
+        ("1:1: B: shortest length 2: xx", "2:1: a: shortest length 3: xxz"),
+    ),
+    (
+        ("a.abnf", 'a = b\nb =/ "x"'),
+        (("1.abnf", 'b = "y"'),),
+        ("2:1: warning: no earlier definition of b [no-base]",),
+        ("1:1: a: shortest length 1: x", "2:1: b: shortest length 1: x"),
+    ),
+    (("a.abnf", "a = b"), (("1.abnf", 'b = nope\nb =/ "y"\n= ?\nc'),), (), ("1:1: a: shortest length 1: y",)),
+    # other indents and line ends, and findings at the very end
+    (
+        ("a.abnf", "   a = b\r\n     c\r\n   d ="),
+        (("1.abnf", '     b = "x"\n       "y"\n     c = "z"'),),
+        ("3:7: error: element expected [syntax]",),
+        ("1:4: a: shortest length 3: xyz", "3:4: d: not known"),
+    ),
+    (("a.abnf", "a"), (("core.abnf", CORE),), ('1:2: error: "=" or "=/" expected [syntax]',), ()),
+    # drafts, told and known
+    (
+        ("a.md", "text\n\n```abnf\n  a = b c nope\n```\n"),
+        (("1.md", '~~~abnf\n    b = "x"\n~~~\n'), ("1.xml", '<artwork type="abnf">c = &quot;y&quot;</artwork>')),
+        ("4:3: warning: rule a generates nothing [unproductive]", "4:11: error: undefined rule nope [undefined]"),
+        ("4:3: a: generates nothing",),
+    ),
+    (("a.md", "text"), (("core.abnf", CORE),), NO_GRAMMAR, ()),
+    (("a.abnf", 'a = "x"'), (("none.md", "text"),), (), ("1:1: a: shortest length 1: x",)),
+    (("a.xml", "<rfc><!-- a"), (("core.abnf", CORE),), ("1:6: error: comment without an end [xml]",), None),
+)
+
+# The grammars of drafts: each block without its indentation, and a line end behind it.
+GRAMMAR_ROWS = (
+    ("a.abnf", "  a = b\r\n; \u00e9", "  a = b\r\n; \u00e9"),
+    ("a.abnf", "", ""),
+    ("a.md", "# A title\n\n```abnf\n  a = b\n   / c\n```\ntext\n~~~abnf\nd = ?\n~~~\n", "a = b\n / c\n\nd = ?\n\n"),
+    ("a.xml", '<rfc><artwork type="abnf">\n  a = &lt;b&gt;\n</artwork></rfc>', "\na = <b>\n\n"),
+)
+
 
 def status_of(found, strict):
     if any(": error: " in line for line in found):
@@ -223,10 +285,65 @@ def format_cases(program, files):
     yield "a format behind a file", ended(program, None, [good, "--format", "abnf"]), (5, USAGE, b"")
 
 
+def with_cases(program, files):
+    """Each file with those whose names are known, and those that can't be known."""
+    for (name, text), others, found, told in WITH_ROWS:
+        known = [word for other, its in others for word in ("--with", files.written(other, its))]
+        what, file = f"{text[:40]!r} with {len(others)} files", files.written(name, text)
+        is_printed, status = printed(file, found), status_of(found, False)
+        yield what, ended(program, None, [*known, file]), (status, b"", is_printed)
+        yield f"strict {what}", ended(program, None, ["--strict", *known, file]), (status_of(found, True), b"", is_printed)
+        yield f"{what}, twice", ended(program, None, [*known, file, file]), (status, b"", 2 * is_printed)
+        rules = (status, b"", is_printed) if told is None else (0, b"", printed(file, told))
+        yield f"rules of {what}", ended(program, None, ["--rules", *known, file]), rules
+    bad, core, none = files.written("bad.abnf", "a = ?"), files.written("core.abnf", CORE), files.path("none")
+    no_text, faulty = files.written("no_text", b'a = "\xff"'), files.written("faulty.xml", "<rfc><!-- a")
+    for file, line in ((none, "cannot read"), (files.folder, "cannot read"), (no_text, "not a text:"), (faulty, "not a text:")):
+        yield f"{line} a file of --with", ended(program, None, ["--with", core, "--with", file, bad]), (2, f"{line} {file}\n".encode(), b"")
+    widest = files.written("widest.abnf", 4_194_304 * b" ")
+    is_bad = printed(bad, ("1:5: error: bad character [syntax]",))
+    too_large = ended(program, None, ["--with", core, widest, bad])
+    yield "a joined grammar that is too large", too_large, (2, f"not a text: {widest}\n".encode(), is_bad)
+    own = [os.path.join(rows.TOP, "examples", *it) for it in (("rfc3986.abnf",), ("known", "rfc9110.abnf"))]
+    link = files.written("link.abnf", 'Link = "<" URI-Reference ">" *( ows ";" OWS token [ BWS "=" BWS ( token / quoted-string ) ] )')
+    yield "names of standards", ended(program, None, ["--strict", "--with", own[0], "--with", own[1], link]), (0, b"", b"")
+    for words in (["--with"], ["--with", core], ["--grammar", "--with", core, bad], [bad, "--with", core]):
+        yield f"the arguments {words[:-1]}", ended(program, None, words), (5, USAGE, b"")
+
+
+def without_places(lines):
+    """The lines of findings, each without the name of its file and its place."""
+    return [line.split(b" ", 1)[1] for line in lines.splitlines()]
+
+
+def grammar_cases(program, files):
+    """The grammar of each file, and that in it the same is found as in the file, but for places."""
+    for name, text, grammar in GRAMMAR_ROWS:
+        what, file = f"the grammar of {text[:40]!r}", files.written(name, text)
+        yield what, ended(program, None, ["--grammar", file]), (0, b"", grammar.encode())
+        yield f"{what}, twice", ended(program, None, ["--grammar", file, file]), (0, b"", 2 * grammar.encode())
+    for ending, drafts in (("md", DRAFT_ROWS), ("xml", XML_ROWS)):
+        for text, found, told in drafts:
+            what, file = f"the grammar of the draft {text[:40]!r}", files.written(f"draft.{ending}", text)
+            status, said, grammar = ended(program, None, ["--grammar", file])
+            if found == NO_GRAMMAR or told is None:
+                yield what, (status, said, grammar), (status_of(found, False), b"", printed(file, found))
+                continue
+            yield what, (status, said), (0, b"")
+            status, _, wrote = ended(program, None, [files.written("grammar.abnf", grammar)])
+            wanted = without_places(printed(file, found))
+            yield f"findings in {what}", (status, without_places(wrote)), (status_of(found, False), wanted)
+    none, good = files.path("none"), files.written("good.abnf", 'a = "x"')
+    yield "a grammar, and no file", ended(program, None, ["--grammar", none, good]), (2, f"cannot read {none}\n".encode(), b'a = "x"')
+    for words in (["--grammar"], ["--grammar", "--rules", good], ["--strict", "--grammar", good], ["--grammar", "--grammar", good]):
+        yield f"the arguments {words}", ended(program, None, words), (5, USAGE, b"")
+
+
 def example_cases(program):
     """Nothing is found in the grammars of standards, all in one run and each in its own."""
     examples = os.path.join(rows.TOP, "examples")
-    files = sorted(os.path.join(examples, it) for it in os.listdir(examples) if it.endswith(".abnf"))
+    folders = (examples, os.path.join(examples, "known"))
+    files = sorted(os.path.join(folder, it) for folder in folders for it in os.listdir(folder) if it.endswith(".abnf"))
     for some in (files, *([it] for it in files)):
         yield f"examples, {len(some)} of them", ended(program, None, ["--strict", *some]), (0, b"", b"")
 
@@ -281,18 +398,27 @@ def memory_cases(program, files):
         files.written("doubtful.xml", '<artwork type="abnf">a =/ "x"</artwork>'),
         files.written("bad.xml", "<artwork type='abnf'>a = &lt;p&gt; ?</artwork>"),
     ]
+    core = files.written("core.abnf", CORE)
+    known = ["--with", core, "--with", drafts[1]]
+    uses = [files.written("uses.abnf", "c = OWS a"), files.written("uses.md", '```abnf\nc = RWS "x" ?\n```')]
     for what, options, (one, other), status, first, second in (
         ("findings", [], (doubtful, bad), 1, "1:1: warning: no earlier definition of a [no-base]", "1:7: error: bad character [syntax]"),
         ("rules", ["--rules"], (doubtful, bad), 0, "1:1: a: shortest length 1: x", "1:1: a: not known"),
         ("drafts", [], drafts, 1, "2:1: warning: no earlier definition of a [no-base]", "2:9: error: bad character [syntax]"),
         ("rules of drafts", ["--rules"], drafts, 0, "2:1: a: shortest length 1: x", "2:3: a: not known"),
         ("drafts in XML", [], pages, 1, "1:22: warning: no earlier definition of a [no-base]", "1:36: error: bad character [syntax]"),
+        ("uses of others", known, [doubtful, uses[1]], 1, "1:1: warning: no earlier definition of a [no-base]", "2:13: error: bad character [syntax]"),
+        ("rules with others", ["--rules", *known], uses, 0, "1:1: c: not known", "2:1: c: not known"),
+        ("grammars", ["--grammar"], [doubtful, drafts[1]], 0, b'a =/ "x"', b"a = b ?\n"),
+        ("grammars of XML", ["--grammar"], pages, 0, b'a =/ "x"\n', b"a = <p> ?\n"),
     ):
+        before, behind = (it if isinstance(it, bytes) else printed(file, (it,)) for file, it in ((one, first), (other, second)))
         with rows.library(refused_memory.LIBRARY) as made:
-            before, found = printed(one, (first,)), refusals(program, made, [*options, one, other])
-        whole = before + printed(other, (second,))
+            found = refusals(program, made, [*options, one, other])
+        whole = before + behind
         others = {*found[:-1]} - {(6, said, b""), (6, said, before), (status, refused_memory.REFUSED, whole)}
-        yield f"{what}, {len(found) - 1} allocations refused in turn", (len(found) > 60, sorted(others)), (True, [])
+        least = 20 if isinstance(first, bytes) else 60
+        yield f"{what}, {len(found) - 1} allocations refused in turn", (len(found) > least, sorted(others)), (True, [])
         yield f"{what}, no allocation refused", found[-1], (status, b"", whole)
 
 
@@ -300,7 +426,7 @@ def cases(program):
     """What each case is, how the program ended in it, and how it must end."""
     yield from example_cases(program)
     with rows.files() as files:
-        for some in (row_cases, rule_cases, draft_cases, format_cases, file_cases, memory_cases):
+        for some in (row_cases, rule_cases, draft_cases, with_cases, grammar_cases, format_cases, file_cases, memory_cases):
             yield from some(program, files)
 
 

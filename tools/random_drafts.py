@@ -1,12 +1,17 @@
 #!/usr/bin/env python3
 """Puts random grammars into drafts in Markdown, and compares what `abnf_findings` finds in a draft with what it finds in its grammar.
+It does the same with grammars beside others whose names are known.
 
     tools/random_drafts.py [PROGRAM [COUNT [SEED]]]
 
 A grammar is cut before some of its rules. Each piece is indented by some blanks, stands in a fence of its own, which may be indented too, and
 has other text around it: words, and fences of other languages with rules in them. What is found in the draft must be what is found in the
 grammar, with and without --rules, each line moved as its piece was.
+
+Of random grammars one is told, and the names of the others are known, each indented by some blanks. What is found must be what is found in
+the one with just those blocks of the others behind it that have new names, up to the last line of the one.
 """
+import itertools
 import random
 import re
 import sys
@@ -18,6 +23,8 @@ from runs import ended
 COUNT, SEED = 200, 1
 WORDS = ("", "Some words.", "\u00e9\u4e2d\U0001f600", "    an = indented block", "- an item", "# A title", "``no = fence``", "<!-- -->")
 OTHERS = ("```\nno = ?\n```", "~~~~ text\n```abnf\nno = ?\n```\n~~~~", "``` abnf-like\nno = ?\n```")
+# The name at the head of a block
+HEAD = re.compile(r"([A-Za-z][A-Za-z0-9-]*)(?:[ \t\n]|;.*\n)*=")
 PLACE = re.compile(r"g:(\d+):(\d+): (.*)", re.DOTALL)
 
 
@@ -93,13 +100,62 @@ def draft_cases(program, count, seed):
     yield f"{count} grammars in drafts", (faults[:2], lines_told > count), ([], True), count
 
 
+def blocks(lines):
+    """The blocks of a grammar that stands at the left, each as its lines."""
+    starts = [at for at, line in enumerate(lines) if is_content(line) and line[0] not in " \t"]
+    return [lines[start:end] for start, end in zip(starts, [*starts[1:], len(lines)])]
+
+
+def head(block):
+    """The name at the head of a block, in small letters; None where it has no head."""
+    found = HEAD.match("\n".join(block))
+    return found and found[1].lower()
+
+
+def joined(lines, others):
+    """The lines of a grammar, and behind them those of the blocks of others that have new names."""
+    names, found = {head(it) for it in blocks(lines)}, [*lines]
+    for other in others:
+        found += [line for it in blocks(other) if head(it) and head(it) not in names for line in it]
+        names |= {head(it) for it in blocks(other)}
+    return found
+
+
+def indented(dice, lines):
+    """A text of these lines behind some blanks, and how many these are."""
+    blanks = dice.choice(("", "", " ", "\t   "))
+    return "\n".join(blanks + line for line in lines), len(blanks)
+
+
+def known_cases(program, count, seed):
+    faults, lines_told, lines_joined = [], 0, 0
+    with rows.files() as files:
+        for number in range(count):
+            dice = random.Random(f"known {seed} {number}")
+            lines, *others = (grammar(dice).split("\n") for _ in range(dice.choice((2, 2, 3))))
+            known = [files.written(f"{at}.abnf", indented(dice, it)[0]) for at, it in enumerate(others)]
+            text, by = indented(dice, lines)
+            whole = joined(lines, others)
+            lines_joined += len(whole) - len(lines)
+            for options in ([], ["--rules"]):
+                found = told(program, [*options, *(word for it in known for word in ("--with", it))], text, "g")
+                moves = [(at, by) for at in range(len(whole))]
+                moved = [moved_line(line, moves) for line in told(program, options, "\n".join(whole), "g")[2]]
+                wanted = [line for line in moved if int(PLACE.fullmatch(line)[1]) <= len(lines)]
+                lines_told += len(wanted)
+                if found != (int(any(": error: " in it for it in wanted) and not options), b"", wanted):
+                    faults.append((number, options, found, wanted[:3]))
+    yield f"{count} grammars with known files", (faults[:2], lines_told > count, lines_joined > count), ([], True, True), count
+
+
 def cases(program):
     yield from draft_cases(program, COUNT, SEED)
+    yield from known_cases(program, COUNT, SEED)
 
 
 def main(words):
     program, count, seed = [*words, *[rows.FINDINGS, COUNT, SEED][len(words) :]]
-    return rows.told(draft_cases(program, int(count), seed))
+    return rows.told(itertools.chain(draft_cases(program, int(count), seed), known_cases(program, int(count), seed)))
 
 
 if __name__ == "__main__":

@@ -1,20 +1,35 @@
 -- Each text has one print-out of its rules.
 use Rattle.std.proofs.Common.{◌≡◌, ◌∙◌, ◌<◌, ◌^◌, ℕ, List, [], ◌∷◌, ◌++◌, length, refl, sym, ap, subst}
-use Rattle.std.specs.Prelude.{All}
+use Rattle.std.specs.Prelude.{All, Result, Ok, Err, IfOk}
 use Rattle.std.proofs.lemmas.List.Elements.{All-head, All-tail}
+use Rattle.origins.specs.Origins.{Sourced}
 use Rattle.abnf_names.specs.Places.{Named}
 use Rattle.abnf_names.specs.Rules.{Grammar, IsGrammar}
 use Rattle.abnf_names.proofs.Exist.{some_grammar}
 use Rattle.abnf_names.proofs.OneGrammar.{one_grammar}
 use Rattle.abnf_least.proofs.OneShown.{one_shown}
 use Rattle.abnf_least.proofs.SomeShown.{some_shown}
-use Rattle.findings_text.specs.Rules.{AreRuleLines, ArePrintedRules, IsRuleLine, heads, rule_line}
+use Rattle.findings_text.specs.Drafts.{position_in_draft}
+use Rattle.findings_text.specs.Known.{ArePrintedRulesIn, told_heads}
+use Rattle.findings_text.specs.Rules.{AreRuleLines, ArePrintedRules, ArePrintedRulesFrom, IsRuleLine, heads, rule_line}
 use Rattle.findings_text.specs.Print.{Locator}
 use Rattle.findings_text.proofs.HeadLaws.{heads_within}
 
+-- the lines of the rules that stand at the front of a joined text, if there are any
+pub told_lines : {E : Type 0} (told draft file text : List ℕ) (gathered : List Sourced) (g : Grammar) → g.text ≡ text → IsGrammar g → (r : Result (List ℕ) E)
+    → IfOk r (λ lines. AreRuleLines (position_in_draft draft gathered g.text) file g (told_heads told (heads g.names g.places)) lines)
+    → IfOk r (λ lines. ArePrintedRulesIn told (position_in_draft draft gathered text) file text lines)
+told_lines told draft file text gathered g is right (Err e) are = are
+told_lines told draft file text gathered g is right (Ok lines) are = record {
+  grammar = g;
+  of_text = is;
+  right = right;
+  lines_are = subst (λ (t : List ℕ). AreRuleLines (position_in_draft draft gathered t) file g (told_heads told (heads g.names g.places)) lines) is are;
+}
+
 -- ---- there is one
 
-some_lines : (locate : Locator) (file : List ℕ) (g : Grammar) → IsGrammar g → (heads : List (Named × ℕ)) → All (λ head. head.1 < length g.rules) heads → (lines : List ℕ) × AreRuleLines locate file g heads lines
+pub some_lines : (locate : Locator) (file : List ℕ) (g : Grammar) → IsGrammar g → (heads : List (Named × ℕ)) → All (λ head. head.1 < length g.rules) heads → (lines : List ℕ) × AreRuleLines locate file g heads lines
 some_lines locate file g is [] within = ([], refl)
 some_lines locate file g is (head ∷ heads) within =
     let shown = some_shown g is head.1 (All-head (λ (h : Named × ℕ). h.1 < length g.rules) head heads within) in
@@ -33,13 +48,16 @@ some_rules file text small =
 one_line : (locate : Locator) (file : List ℕ) (g : Grammar) (head : Named × ℕ) (a b : List ℕ) → IsRuleLine locate file g head a → IsRuleLine locate file g head b → a ≡ b
 one_line locate file g head a b x y = x.2 ∙ (ap (rule_line locate file g.text head.0) (one_shown g.rules head.1 x.0 y.0 x.1 y.1) ∙ sym y.2)
 
-one_lines : (locate : Locator) (file : List ℕ) (g : Grammar) (heads : List (Named × ℕ)) (a b : List ℕ) → AreRuleLines locate file g heads a → AreRuleLines locate file g heads b → a ≡ b
+pub one_lines : (locate : Locator) (file : List ℕ) (g : Grammar) (heads : List (Named × ℕ)) (a b : List ℕ) → AreRuleLines locate file g heads a → AreRuleLines locate file g heads b → a ≡ b
 one_lines locate file g [] a b x y = x ∙ sym y
 one_lines locate file g (head ∷ heads) a b x y =
     x.4 ∙ ((λ i. one_line locate file g head x.0 y.0 x.2 y.2 i ++ one_lines locate file g heads x.1 y.1 x.3 y.3 i) ∙ sym y.4)
 
-pub one_rules : (file text a b : List ℕ) → ArePrintedRules file text a → ArePrintedRules file text b → a ≡ b
-one_rules file text a b x y =
+pub one_rules_from : (locate : Locator) (file text a b : List ℕ) → ArePrintedRulesFrom locate file text a → ArePrintedRulesFrom locate file text b → a ≡ b
+one_rules_from locate file text a b x y =
     let same : x.grammar ≡ y.grammar = one_grammar x.grammar y.grammar x.right y.right (x.of_text ∙ sym y.of_text) in
-    one_lines (λ at. at) file y.grammar (heads y.grammar.names y.grammar.places) a b
-    (subst (λ (g : Grammar). AreRuleLines (λ at. at) file g (heads g.names g.places) a) same x.lines_are) y.lines_are
+    one_lines locate file y.grammar (heads y.grammar.names y.grammar.places) a b
+    (subst (λ (g : Grammar). AreRuleLines locate file g (heads g.names g.places) a) same x.lines_are) y.lines_are
+
+pub one_rules : (file text a b : List ℕ) → ArePrintedRules file text a → ArePrintedRules file text b → a ≡ b
+one_rules file text a b x y = one_rules_from (λ at. at) file text a b x y

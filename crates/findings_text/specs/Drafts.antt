@@ -20,10 +20,14 @@ use Rattle.findings_text.specs.Rules.{ArePrintedRulesFrom}
 abbrev pub origin_at : List ℕ → List Sourced → ℕ → ℕ
 origin_at draft grammar o = option_map_or (λ c. c.1) (slice_get grammar o) (length draft)
 
--- where in the draft stands what has this position in its grammar
+-- where in the draft stands what has this position in a text that begins with its grammar
+abbrev pub position_in_draft : List ℕ → List Sourced → List ℕ → Position → Position
+position_in_draft draft grammar text at =
+    position_of (units Utf32) draft (origin_at draft grammar (offset_of (units Utf32) text at.line at.character))
+
+-- the same of its grammar alone
 abbrev pub draft_position : List ℕ → List Sourced → Position → Position
-draft_position draft grammar at =
-    position_of (units Utf32) draft (origin_at draft grammar (offset_of (units Utf32) (characters grammar) at.line at.character))
+draft_position draft grammar at = position_in_draft draft grammar (characters grammar) at
 
 -- the line of a draft with no block of grammar
 abbrev pub no_grammar_line : List ℕ → List ℕ
@@ -39,27 +43,26 @@ IsPrintedDraft file draft (c ∷ cs) printed = IsPrintedFrom (draft_position dra
 abbrev pub ArePrintedDraftRules : List ℕ → List ℕ → List Sourced → List ℕ → Type 0
 ArePrintedDraftRules file draft grammar lines = ArePrintedRulesFrom (draft_position draft grammar) file (characters grammar) lines
 
--- the text of this grammar has more bytes than a text may have
-pub record IsTooLarge (grammar : List Sourced) : Type 0 where
+-- this text has more bytes than a text may have
+pub record IsTooLarge (text : List ℕ) : Type 0 where
   pub bytes : List ℕ
   pub utf8 : IsUtf8 bytes
-  pub are : chars bytes ≡ characters grammar
+  pub are : chars bytes ≡ text
   pub large : 4194304 < length bytes
 
--- Why nothing is printed of a draft with this grammar: it is too large, or memory was refused.
+-- Why a text isn't made: it is too large, or memory was refused.
+abbrev pub IsTextRefused : List ℕ → FileFault → Type 0
+IsTextRefused text NotText = IsTooLarge text
+IsTextRefused text Memory = Unit {0}
+IsTextRefused text CannotRead = ⊥
+
+-- Why nothing is printed of a draft with this grammar.
 abbrev pub IsRefused : List Sourced → FileFault → Type 0
-IsRefused grammar NotText = IsTooLarge grammar
-IsRefused grammar Memory = Unit {0}
-IsRefused grammar CannotRead = ⊥
+IsRefused grammar fault = IsTextRefused (characters grammar) fault
 
 -- ---- how the code tells
 
 -- where what stands in the text of a source stands in the file
-abbrev pub located : Source → Locator
-located File at = at
-located (Draft draft grammar) at = draft_position draft.now grammar.now at
-
--- the text is that of the source
-abbrev pub IsTextOf : Source → List ℕ → Type 0
-IsTextOf File text = Unit {0}
-IsTextOf (Draft draft grammar) text = text ≡ characters grammar.now
+abbrev pub located : Source → List ℕ → Locator
+located File text at = at
+located (Draft draft grammar) text at = position_in_draft draft.now grammar.now text at

@@ -4,3 +4,5 @@ pub mod Drafts
 pub mod Endings
 pub mod Rules
 pub mod Formats
+pub mod Known
+pub mod Grammars

@@ -1,6 +1,7 @@
 //! What is printed of a draft.
 
-ghost use Rattle.std.specs.Prelude.{◌≡◌, IfErr, IfOk};
+ghost use Rattle.std.specs.Prelude.{◌≡◌, IfErr, IfOk, string_bytes};
+ghost use Rattle.std.specs.Str.{chars};
 ghost use Rattle.origins.specs.Origins.{characters};
 ghost use Rattle.findings_text.specs.Drafts as spec;
 
@@ -14,18 +15,26 @@ use origins::Gathered;
 use std::alloc::{AllocError as Memory, Global};
 use text_files::FileFault;
 
-/// The text of a grammar that was gathered.
-fn text_of(alloc: Global, grammar: &Gathered) -> Result<Snapshot, FileFault>
-    ensures text { IfOk result (λ text. text ≡ characters grammar.now) }
-    ensures fault { IfErr result (λ fault. spec.IsRefused grammar.now fault) }
+/// The snapshot of a text.
+pub(crate) fn snapshot_of(alloc: Global, text: String) -> Result<Snapshot, FileFault>
+    ensures text { IfOk result (λ snapshot. snapshot ≡ chars (string_bytes text)) }
+    ensures fault { IfErr result (λ fault. spec.IsTextRefused (chars (string_bytes text)) fault) }
 {
-    let Ok(text) = String::from_str(alloc, grammar.as_str()) else {
-        return Err(FileFault::Memory);
-    };
     match Snapshot::of_text(alloc, text) {
         Ok(text) => Ok(text),
         Err(TextFault::TooLarge) => Err(FileFault::NotText),
         Err(TextFault::Memory) => Err(FileFault::Memory),
+    }
+}
+
+/// The text of a grammar that was gathered.
+pub(crate) fn text_of(alloc: Global, grammar: &Gathered) -> Result<Snapshot, FileFault>
+    ensures text { IfOk result (λ text. text ≡ characters grammar.now) }
+    ensures fault { IfErr result (λ fault. spec.IsRefused grammar.now fault) }
+{
+    match String::from_str(alloc, grammar.as_str()) {
+        Ok(text) => snapshot_of(alloc, text),
+        Err(_) => Err(FileFault::Memory),
     }
 }
 
@@ -39,6 +48,17 @@ fn no_grammar(alloc: Global, file: &str) -> Result<Printed, Memory>
         lines: Text::new(lines),
         outcome: Outcome::Warnings,
     })
+}
+
+/// The same, where memory is refused as of a file.
+pub(crate) fn no_grammar_in(alloc: Global, file: &str) -> Result<Printed, FileFault>
+    ensures printed { IfOk result (λ printed. (printed.lines ≡ spec.no_grammar_line file.now) × (printed.outcome ≡ Outcome.Warnings)) }
+    ensures fault { IfErr result (λ fault. fault ≡ FileFault.Memory) }
+{
+    match no_grammar(alloc, file) {
+        Ok(printed) => Ok(printed),
+        Err(_) => Err(FileFault::Memory),
+    }
 }
 
 /// What is printed of a draft in a file with this name, where this is the draft's grammar: each finding in a line, at the place where it

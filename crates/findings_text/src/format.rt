@@ -61,7 +61,7 @@ impl Format {
 }
 
 /// The grammar of a draft in Markdown.
-fn markdown_grammar(alloc: Global, draft: &Snapshot) -> Result<Gathered, FileFault>
+pub(crate) fn markdown_grammar(alloc: Global, draft: &Snapshot) -> Result<Gathered, FileFault>
     ensures grammar { IfOk result (λ grammar. grammar ≡ grammar_of (markdown_blocks draft.now)) }
     ensures fault { IfErr result (λ fault. fault ≡ FileFault.Memory) }
 {
@@ -77,7 +77,7 @@ fn markdown_grammar(alloc: Global, draft: &Snapshot) -> Result<Gathered, FileFau
 /// # Errors
 ///
 /// `NotText` where the grammar of a draft is larger than a text may be, and `Memory`.
-pub fn print_as(
+pub(crate) fn print_alone(
     alloc: Global,
     file: &str,
     format: Format,
@@ -100,7 +100,7 @@ pub fn print_as(
 }
 
 /// Lines of rules, where nothing isn't to pass.
-fn clean(lines: Text) -> Printed
+pub(crate) fn clean(lines: Text) -> Printed
     ensures lines { result.lines ≡ lines }
     ensures outcome { result.outcome ≡ Outcome.Clean }
 {
@@ -115,8 +115,8 @@ fn clean(lines: Text) -> Printed
 ///
 /// # Errors
 ///
-/// As [`print_as`].
-pub fn print_rules_as(
+/// As [`print_alone`].
+pub(crate) fn print_rules_alone(
     alloc: Global,
     file: &str,
     format: Format,

@@ -1,9 +1,10 @@
 //! What is printed of the rules of a text.
 
-ghost use Rattle.std.specs.Prelude.{◌≡◌, ◌<◌, All, IfOk, IfSome, length, map, string_bytes};
+ghost use Rattle.std.specs.Prelude.{◌≡◌, ◌<◌, ℕ, All, IfOk, IfSome, length, map};
 ghost use Rattle.abnf_cert.specs.Accepted.{IsAccepted};
 ghost use Rattle.abnf_names.specs.Places.{named_at};
-ghost use Rattle.findings_text.specs.Drafts.{IsTextOf, located};
+ghost use Rattle.findings_text.specs.Drafts.{located, position_in_draft};
+ghost use Rattle.findings_text.specs.Known as known;
 ghost use Rattle.findings_text.specs.Rules as spec;
 
 use crate::rule_line::push_rule_line;
@@ -13,6 +14,7 @@ use abnf_least::{example, least};
 use abnf_names::{Grammar, RuleNo, Spot};
 use ls_lists::{List, Text};
 use ls_text::{Encoding, Ruler, Snapshot};
+use origins::Gathered;
 use std::alloc::{AllocError as Memory, Global};
 
 /// The first place that defines a rule, and the rule.
@@ -73,11 +75,10 @@ fn rule_lines<'t>(
     grammar: &Grammar<'t>,
     cert: &Cert,
     heads: &[Head<'t>],
-) -> Result<String, Memory>
-    requires text { IsTextOf source grammar.now.text }
+) -> Result<Text, Memory>
     requires accepted { IsAccepted grammar.now.rules cert.now }
     requires within { All (λ head. head.rule < length grammar.now.rules) heads.now }
-    ensures { IfOk result (λ lines. spec.AreRuleLines (located source.entry) file.now grammar.now (map spec.head_at heads.now) (string_bytes lines)) }
+    ensures { IfOk result (λ lines. spec.AreRuleLines (located source.entry grammar.now.text) file.now grammar.now (map spec.head_at heads.now) lines) }
 {
     let text = grammar.source();
     let mut ruler = Ruler::new(text, Encoding::Utf32);
@@ -88,7 +89,7 @@ fn rule_lines<'t>(
         let at = located(source, text, begin);
         push_rule_line(&mut lines, alloc, file, at, &head.spot, &shown)?;
     }
-    Ok(lines)
+    Ok(Text::new(lines))
 }
 
 /// The lines of the rules of a grammar.
@@ -98,13 +99,11 @@ fn printed_by(
     source: Source<'_>,
     grammar: &Grammar,
 ) -> Result<Text, Memory>
-    requires { IsTextOf source grammar.now.text }
-    ensures { IfOk result (λ lines. spec.AreRuleLines (located source.entry) file.now grammar.now (spec.heads grammar.now.names grammar.now.places) lines) }
+    ensures { IfOk result (λ lines. spec.AreRuleLines (located source.entry grammar.now.text) file.now grammar.now (spec.heads grammar.now.names grammar.now.places) lines) }
 {
     let cert = least(alloc, grammar)?;
     let heads = heads_of(alloc, grammar)?;
-    let lines = rule_lines(alloc, file, source, grammar, &cert, heads.as_slice())?;
-    Ok(Text::new(lines))
+    rule_lines(alloc, file, source, grammar, &cert, heads.as_slice())
 }
 
 /// What is printed of the rules of a grammar's text from a file with this name.
@@ -114,11 +113,55 @@ pub(crate) fn print_rules_from(
     source: Source<'_>,
     text: &Snapshot,
 ) -> Result<Text, Memory>
-    requires { IsTextOf source text.now }
-    ensures { IfOk result (λ lines. spec.ArePrintedRulesFrom (located source.entry) file.now text.now lines) }
+    ensures { IfOk result (λ lines. spec.ArePrintedRulesFrom (located source.entry text.now) file.now text.now lines) }
 {
     let grammar = Grammar::of(alloc, text)?;
     let lines = printed_by(alloc, file, source, &grammar);
+    drop(grammar);
+    lines
+}
+
+/// Of these heads those that stand in a grammar at the front of their text.
+fn told_heads<'t>(heads: List<Head<'t>>, told: &Snapshot) -> List<Head<'t>>
+    ensures heads { map spec.head_at result ≡ known.told_heads told.now (map spec.head_at heads.entry) }
+    ensures within { (n : ℕ) → All (λ head. head.rule < n) heads.entry → All (λ head. head.rule < n) result }
+{
+    let lines = told.line_count() - 1;
+    let mut heads = heads.into_vec();
+    heads.retain(|head| head.spot.place.line < lines);
+    List::from_vec(heads)
+}
+
+/// The lines of the rules of a file's grammar at the front of a text to which rules of others are joined.
+fn told_rules(
+    alloc: Global,
+    file: &str,
+    source: Source<'_>,
+    grammar: &Grammar,
+    told: &Snapshot,
+) -> Result<Text, Memory>
+    ensures { IfOk result (λ lines. spec.AreRuleLines (located source.entry grammar.now.text) file.now grammar.now
+        (known.told_heads told.now (spec.heads grammar.now.names grammar.now.places)) lines) }
+{
+    let cert = least(alloc, grammar)?;
+    let heads = told_heads(heads_of(alloc, grammar)?, told);
+    rule_lines(alloc, file, source, grammar, &cert, heads.as_slice())
+}
+
+/// What is printed of the rules of a file's grammar at the front of a text to which rules of others are joined.
+pub(crate) fn print_told_rules(
+    alloc: Global,
+    file: &str,
+    draft: &Snapshot,
+    gathered: &Gathered,
+    told: &Snapshot,
+    text: &Snapshot,
+) -> Result<Text, Memory>
+    ensures { IfOk result (λ lines. known.ArePrintedRulesIn told.now (position_in_draft draft.now gathered.now text.now) file.now text.now lines) }
+{
+    let grammar = Grammar::of(alloc, text)?;
+    let source = Source::Draft(draft, gathered);
+    let lines = told_rules(alloc, file, source, &grammar, told);
     drop(grammar);
     lines
 }

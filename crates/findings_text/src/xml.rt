@@ -54,7 +54,7 @@ fn printed_fault(
 }
 
 /// What is printed of a draft that is at fault, unless memory was refused.
-fn print_fault(
+pub(crate) fn print_fault(
     alloc: Global,
     file: &str,
     draft: &Snapshot,
@@ -74,7 +74,7 @@ fn print_fault(
 }
 
 /// What is gathered from a draft.
-fn gathered(alloc: Global, draft: &Snapshot) -> Result<Gathered, XmlFault>
+pub(crate) fn gathered(alloc: Global, draft: &Snapshot) -> Result<Gathered, XmlFault>
     ensures { IsGathered draft.now result }
 {
     let Ok(text) = draft.to_text() else {

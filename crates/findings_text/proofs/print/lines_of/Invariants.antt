@@ -8,5 +8,5 @@ use Rattle.findings_text.proofs.print.lines_of.Given as goal
 abbrev pub invariant-loop-finding : goal.invariant-loop-finding
 invariant-loop-finding l = record {
   text : l.ruler ≡ record { text = l.text; encoding = Utf32 };
-  told : string_bytes l.lines ≡ flat_map (finding_line (located l.source) l.file l.text) (take l.finding-index l.found);
+  told : string_bytes l.lines ≡ flat_map (finding_line (located l.source l.text) l.file l.text) (take l.finding-index l.found);
 }

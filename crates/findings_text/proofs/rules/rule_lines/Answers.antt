@@ -26,11 +26,11 @@ loop-head-preserved c =
     let lines = string_bytes c.loop-head.lines in
     let begins : c.range_of.result.start ≡ head_begin g.text (named_at head.spot) =
     ap (λ r. r.start) c.range_of.ensures.range ∙ ap (λ (m : Measured). position_of (units m.encoding) m.text (place_start m.text head.spot.place)) c.loop-head.invariant.text in
-    let at : c.located-at.result ≡ located c.args.source (head_begin g.text (named_at head.spot)) = c.located-at.ensures ∙ ap (located c.args.source) begins in
+    let at : c.located-at.result ≡ located c.args.source g.text (head_begin g.text (named_at head.spot)) = c.located-at.ensures ∙ (λ i. located c.args.source (c.source-text.ensures.text i) (begins i)) in
     record {
       text = c.range_of.ensures.text ∙ c.loop-head.invariant.text;
-      told = lines_next (located c.args.source) file g c.args.heads.now c.loop-head.head-index head lines (string_bytes c.push_rule_line.new.lines)
-          (rule_line (located c.args.source) file g.text (named_at head.spot) shown) c.loop-head-test.true c.head-item.is c.loop-head.invariant.told
+      told = lines_next (located c.args.source g.text) file g c.args.heads.now c.loop-head.head-index head lines (string_bytes c.push_rule_line.new.lines)
+          (rule_line (located c.args.source g.text) file g.text (named_at head.spot) shown) c.loop-head-test.true c.head-item.is c.loop-head.invariant.told
           (shown, c.in_ok-shown.ensures.shown, refl)
           (c.in_ok-push_rule_line.ensures ∙ ap (λ (p : Position). lines ++ rule_line_at file p (named_at head.spot) shown) at);
     }

@@ -8,5 +8,5 @@ use Rattle.findings_text.proofs.rules.rule_lines.Given as goal
 abbrev pub invariant-loop-head : goal.invariant-loop-head
 invariant-loop-head l = record {
   text : l.ruler ≡ record { text = l.grammar.text; encoding = Utf32 };
-  told : AreRuleLines (located l.source) l.file l.grammar (map head_at (take l.head-index l.heads)) (string_bytes l.lines);
+  told : AreRuleLines (located l.source l.grammar.text) l.file l.grammar (map head_at (take l.head-index l.heads)) (string_bytes l.lines);
 }

@@ -1,0 +1,108 @@
+//! What is printed of the grammars of files, written out by hand.
+
+use crate::texts::{File, known_of, snapshot};
+use findings_text::{FileFault, Format, Outcome, Printed, Text, print_as, print_grammar_as};
+use std::alloc::Global;
+
+/// A file that is called `f`, and what is printed of its grammar.
+type Row = (File, &'static str, Outcome);
+
+const GRAMMARS: &[Row] = &[
+    (
+        (Format::Abnf, "  a = b\r\n; \u{E9}"),
+        "  a = b\r\n; \u{E9}",
+        Outcome::Clean,
+    ),
+    ((Format::Abnf, ""), "", Outcome::Clean),
+    (
+        (
+            Format::Markdown,
+            "# A title\n\n```abnf\n  a = b\n   / c\n```\ntext\n~~~abnf\nd = ?\n~~~\n",
+        ),
+        "a = b\n / c\n\nd = ?\n\n",
+        Outcome::Clean,
+    ),
+    (
+        (
+            Format::Xml,
+            "<rfc><artwork type=\"abnf\">\n  a = &lt;b&gt;\n</artwork></rfc>",
+        ),
+        "\na = <b>\n\n",
+        Outcome::Clean,
+    ),
+    (
+        (Format::Markdown, "# A title\n"),
+        "f:1:1: warning: no grammar in this draft [no-grammar]\n",
+        Outcome::Warnings,
+    ),
+    (
+        (Format::Xml, "<rfc><!-- a"),
+        "f:1:6: error: comment without an end [xml]\n",
+        Outcome::Errors,
+    ),
+];
+
+/// Drafts with a grammar, in which something is found.
+const DRAFTS: &[File] = &[
+    (
+        Format::Markdown,
+        "# A title\n\n```abnf\n  a = b\n   / nope\n```\ntext\n~~~abnf\nd = ?\na = \"x\"\n~~~\n",
+    ),
+    (
+        Format::Xml,
+        "<artwork type=\"abnf\">\n  a = &lt;b&gt; nope\n  c = c\n</artwork>",
+    ),
+];
+
+/// What is printed of the grammar of a file.
+fn printed_grammar(alloc: Global, file: File) -> Result<Printed, FileFault> {
+    let (format, text) = file;
+    let text = snapshot(alloc, text)?;
+    print_grammar_as(alloc, "f", format, &text)
+}
+
+/// The findings of a file, each without its place.
+fn messages(alloc: Global, format: Format, text: &str) -> Result<String, FileFault> {
+    let text = snapshot(alloc, text)?;
+    let none = known_of(alloc, &[])?;
+    let printed = print_as(alloc, "f", format, &text, &none)?;
+    match without_places(alloc, &printed.lines) {
+        Ok(found) => Ok(found),
+        Err(_) => Err(FileFault::Memory),
+    }
+}
+
+/// Lines without what stands before the first blank of each.
+fn without_places(alloc: Global, lines: &Text) -> Result<String, std::alloc::AllocError> {
+    let mut found = String::new(alloc);
+    for line in lines.as_str().lines() {
+        if let Some((_, rest)) = line.split_once(" ") {
+            found.push_str(rest)?;
+            found.push_str("\n")?;
+        }
+    }
+    Ok(found)
+}
+
+#[test]
+fn prints_grammars(rt: HostRuntime) -> Result<(), FileFault> {
+    assert!(rt; GRAMMARS.len() >= 6);
+    for (file, text, outcome) in GRAMMARS {
+        let found = printed_grammar(rt.alloc(), *file)?;
+        assert!(rt; found.lines.as_str() == *text, "{}", file.1);
+        assert!(rt; found.outcome == *outcome, "{}", file.1);
+    }
+    Ok(())
+}
+
+#[test]
+fn grammars_have_the_findings_of_their_drafts(rt: HostRuntime) -> Result<(), FileFault> {
+    for (format, text) in DRAFTS {
+        let of_draft = messages(rt.alloc(), *format, text)?;
+        assert!(rt; !of_draft.is_empty(), "{text}");
+        let grammar = printed_grammar(rt.alloc(), (*format, text))?;
+        let of_text = messages(rt.alloc(), Format::Abnf, grammar.lines.as_str())?;
+        assert!(rt; of_draft.as_str() == of_text.as_str(), "{text}");
+    }
+    Ok(())
+}

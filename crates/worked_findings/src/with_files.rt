@@ -1,0 +1,234 @@
+//! What is printed of files where the names of others are known, written out by hand.
+
+use crate::texts::{File, known_of, snapshot};
+use findings_text::{FileFault, Format, Outcome, Printed, print_as, print_rules_as};
+use std::alloc::Global;
+
+/// A file that is called `f`, the files whose names are known, and what is printed.
+type Row = (File, &'static [File], &'static str);
+
+const CORE: &str = "OWS = *( SP / HTAB )\nRWS = 1*( SP / HTAB )\n";
+
+const CLEAN: &[Row] = &[
+    // a name of a core file, in any case of letters
+    (
+        (Format::Abnf, "a = OWS \"x\" ows\n"),
+        &[(Format::Abnf, CORE)],
+        "",
+    ),
+    // an earlier file comes first
+    (
+        (Format::Abnf, "a = x\n"),
+        &[(Format::Abnf, "x = \"1\"\n"), (Format::Abnf, "x = nope\n")],
+        "",
+    ),
+    // the file's own rule comes before theirs
+    (
+        (Format::Abnf, "a = b\nb = \"x\"\n"),
+        &[(Format::Abnf, "b = nope\n")],
+        "",
+    ),
+    // nothing is told of theirs
+    (
+        (Format::Abnf, "a = \"x\"\n"),
+        &[(Format::Abnf, "b = ?\nc = nope\nc = \"x\"\n")],
+        "",
+    ),
+    // what is added to a new name counts
+    (
+        (Format::Abnf, "a = b\n"),
+        &[(Format::Abnf, "b = nope\nb =/ \"y\"\n")],
+        "",
+    ),
+    // other indents
+    (
+        (Format::Abnf, "   a = b\n     / c\n   d = \"x\"\n"),
+        &[
+            (
+                Format::Abnf,
+                "      b = \"x\"\n        / \"y\"\n      e = b\n",
+            ),
+            (Format::Abnf, "c = \"z\"\n"),
+        ],
+        "",
+    ),
+    // drafts whose names are known
+    (
+        (Format::Abnf, "a = b c\n"),
+        &[
+            (Format::Markdown, "# A title\n\n```abnf\n  b = \"x\"\n```\n"),
+            (Format::Xml, "<artwork type=\"abnf\">c = \"y\"</artwork>"),
+        ],
+        "",
+    ),
+    // a draft without a grammar has no names
+    (
+        (Format::Abnf, "a = \"x\"\n"),
+        &[(Format::Markdown, "# A title\n")],
+        "",
+    ),
+    ((Format::Abnf, ""), &[(Format::Abnf, CORE)], ""),
+];
+
+const FOUND: &[Row] = &[
+    // an earlier file comes first, and nothing is told of its own rule
+    (
+        (Format::Abnf, "a = x\n"),
+        &[(Format::Abnf, "x = nope\n"), (Format::Abnf, "x = \"1\"\n")],
+        "f:1:1: warning: rule a generates nothing [unproductive]\n",
+    ),
+    (
+        (Format::Abnf, "a = b\nb = nope\n"),
+        &[(Format::Abnf, "b = \"x\"\n")],
+        "f:1:1: warning: rule a generates nothing [unproductive]\n\
+         f:2:1: warning: rule b generates nothing [unproductive]\n\
+         f:2:5: error: undefined rule nope [undefined]\n",
+    ),
+    // a name to which the file adds is its own
+    (
+        (Format::Abnf, "a = b\nb =/ \"x\"\n"),
+        &[(Format::Abnf, "b = \"y\"\n")],
+        "f:2:1: warning: no earlier definition of b [no-base]\n",
+    ),
+    // places are those of the file, which is indented
+    (
+        (Format::Abnf, "   a = b\n   c = ?\n"),
+        &[(Format::Abnf, "      b = \"x\"\n")],
+        "f:2:8: error: bad character [syntax]\n",
+    ),
+    // findings at the very end of the file
+    (
+        (Format::Abnf, "a ="),
+        &[(Format::Abnf, CORE)],
+        "f:1:4: error: element expected [syntax]\n",
+    ),
+    (
+        (Format::Abnf, "b = \"x\"\na"),
+        &[(Format::Abnf, CORE)],
+        "f:2:2: error: \"=\" or \"=/\" expected [syntax]\n",
+    ),
+    (
+        (Format::Markdown, "text\n\n```abnf\na = OWS nope\n```\n"),
+        &[(Format::Abnf, CORE)],
+        "f:4:1: warning: rule a generates nothing [unproductive]\n\
+         f:4:9: error: undefined rule nope [undefined]\n",
+    ),
+    // a draft without a grammar, and one that is at fault
+    (
+        (Format::Markdown, "# A title\n"),
+        &[(Format::Abnf, CORE)],
+        "f:1:1: warning: no grammar in this draft [no-grammar]\n",
+    ),
+    (
+        (Format::Xml, "<rfc><!-- a"),
+        &[(Format::Abnf, CORE)],
+        "f:1:6: error: comment without an end [xml]\n",
+    ),
+    // no file is known
+    (
+        (Format::Abnf, " a = OWS\n"),
+        &[],
+        "f:1:2: warning: rule a generates nothing [unproductive]\n\
+         f:1:6: error: undefined rule OWS [undefined]\n",
+    ),
+];
+
+const RULES: &[Row] = &[
+    (
+        (Format::Abnf, "a = RWS \"x\"\n"),
+        &[(Format::Abnf, "RWS = 1*SP\n")],
+        "f:1:1: a: shortest length 2:  x\n",
+    ),
+    // no rule of theirs is told, and the file's own comes before theirs
+    (
+        (Format::Abnf, "B = \"xx\"\na = b c\n"),
+        &[(Format::Abnf, "b = \"y\"\nc = \"z\"\n")],
+        "f:1:1: B: shortest length 2: xx\nf:2:1: a: shortest length 3: xxz\n",
+    ),
+    (
+        (Format::Markdown, "```abnf\n  a = b\n```\n"),
+        &[(Format::Abnf, "b = \"y\"\n")],
+        "f:2:3: a: shortest length 1: y\n",
+    ),
+    (
+        (Format::Markdown, "# A title\n"),
+        &[(Format::Abnf, CORE)],
+        "",
+    ),
+    (
+        (Format::Xml, "<rfc><!-- a"),
+        &[(Format::Abnf, CORE)],
+        "f:1:6: error: comment without an end [xml]\n",
+    ),
+    (
+        (Format::Abnf, "a = b\n"),
+        &[],
+        "f:1:1: a: generates nothing\n",
+    ),
+];
+
+/// What is printed of a file.
+fn printed(alloc: Global, file: File, files: &[File]) -> Result<Printed, FileFault> {
+    let (format, text) = file;
+    let known = known_of(alloc, files)?;
+    let text = snapshot(alloc, text)?;
+    print_as(alloc, "f", format, &text, &known)
+}
+
+/// What is printed of the rules of a file.
+fn printed_rules(alloc: Global, file: File, files: &[File]) -> Result<Printed, FileFault> {
+    let (format, text) = file;
+    let known = known_of(alloc, files)?;
+    let text = snapshot(alloc, text)?;
+    print_rules_as(alloc, "f", format, &text, &known)
+}
+
+#[test]
+fn knows_names(rt: HostRuntime) -> Result<(), FileFault> {
+    assert!(rt; CLEAN.len() >= 9);
+    for (file, files, lines) in CLEAN {
+        let found = printed(rt.alloc(), *file, files)?;
+        assert!(rt; found.lines.as_str() == *lines, "{}", file.1);
+        assert!(rt; found.outcome == Outcome::Clean, "{}", file.1);
+    }
+    Ok(())
+}
+
+#[test]
+fn tells_what_is_found(rt: HostRuntime) -> Result<(), FileFault> {
+    assert!(rt; FOUND.len() >= 10);
+    for (file, files, lines) in FOUND {
+        let found = printed(rt.alloc(), *file, files)?;
+        assert!(rt; found.lines.as_str() == *lines, "{}", file.1);
+        let is_error = lines.contains(": error: ");
+        assert!(rt;
+            (found.outcome == Outcome::Errors) == is_error,
+            "{}",
+            file.1
+        );
+        assert!(rt; found.outcome != Outcome::Clean, "{}", file.1);
+    }
+    Ok(())
+}
+
+#[test]
+fn tells_rules(rt: HostRuntime) -> Result<(), FileFault> {
+    assert!(rt; RULES.len() >= 6);
+    for (file, files, lines) in RULES {
+        let found = printed_rules(rt.alloc(), *file, files)?;
+        assert!(rt; found.lines.as_str() == *lines, "{}", file.1);
+    }
+    Ok(())
+}
+
+#[test]
+fn refuses_drafts_at_fault(rt: HostRuntime) -> Result<(), FileFault> {
+    let mut known = known_of(rt.alloc(), &[(Format::Abnf, "b = \"x\"\n")])?;
+    let draft = snapshot(rt.alloc(), "<rfc><!-- a")?;
+    let added = known.add(rt.alloc(), Format::Xml, &draft);
+    assert!(rt; added == Err(FileFault::NotText));
+    let text = snapshot(rt.alloc(), "a = b\n")?;
+    let found = print_as(rt.alloc(), "f", Format::Abnf, &text, &known)?;
+    assert!(rt; found.lines.as_str() == "");
+    Ok(())
+}
