@@ -76,7 +76,6 @@ def failing_devices_of(counts):
 SESSIONS, REPLIES = (sum_of(*(f"list {it}_rows.{name}" for it in ("session", "encoding"))) for name in ("SESSIONS", "REPLIES"))
 REFUSED_TO_THREADS = sum_of("cases refused_sessions.FIRST", "cases refused_sessions.SAMPLE")
 RANDOM_TEXTS = sum_of(*(f"cases random_texts.COUNTS.{it}" for it in ("utf-8", "utf-16", "utf-32")))
-KNOWN_FILES = counts_of("list findings_rows.WITH_ROWS", "list findings_rows.GRAMMAR_ROWS")
 FIGURES = (
     Figure(README, "on several threads {} of some", REFUSED_TO_THREADS),
     Figure(README, "**Devices**: {} runs in which", failing_devices_of),
@@ -96,7 +95,7 @@ FIGURES = (
     Figure(TESTING, "| checks of certificates | {} |", count_of("list command_rows.CHECKS")),
     Figure(TESTING, "| texts of `abnf_findings` | {}, of rules {} |", counts_of("list findings_rows.ROWS", "list findings_rows.RULE_ROWS")),
     Figure(TESTING, "| drafts of `abnf_findings` | {}, in RFCXML {} |", counts_of("list findings_rows.DRAFT_ROWS", "list findings_rows.XML_ROWS")),
-    Figure(TESTING, "| files with known ones | {}, printed grammars {} |", KNOWN_FILES),
+    Figure(TESTING, "| files with known ones | {}, printed grammars {} |", counts_of("list findings_rows.WITH_ROWS", "list findings_rows.GRAMMAR_ROWS")),
     Figure(TESTING, "| rows of `./install` | {} |", count_of("rows install install_rows")),
     Figure(TESTING, "| runs with devices that fail | {} |", failing_devices_of),
     Figure(TESTING, "Each of its {} reads fails", lambda counts: -(-len(failing_devices.GIVEN) // failing_devices.PIECE)),

@@ -5,14 +5,28 @@
 
 runs a program that is built. Each row is a text and its lines without the name of the file; the severity in a line tells how the run ends.
 """
+import json
 import os
 import sys
 
 import refused_memory
 import rows
 from runs import HUNG, ended
+from sums import kit
 
-USAGE = b"usage: abnf_findings [--strict | --rules | --grammar] [--format abnf | markdown | xml] [--with FILE].. FILE..\n"
+USAGE = b"usage: abnf_findings [--strict | --rules | --grammar] [--with FILE].. [--format abnf | markdown | xml] FILE..\n"
+HELP = USAGE + b"""Prints what is found in the ABNF grammars of files: of drafts in Markdown or RFCXML too.
+The file - is standard input.
+
+  --strict         warnings count as errors do for the exit status
+  --rules          prints the rules and their shortest strings instead
+  --grammar        prints the grammars themselves instead
+  --with FILE      the names that FILE defines are known; it may stand more than once
+  --format FORMAT  what all files are written in: abnf, markdown or xml
+  --               what follows are files, whatever their names are
+  --help           prints this
+  --version        prints the version
+"""
 DEEP = "a = " + 65 * "("
 
 ROWS = (
@@ -35,6 +49,13 @@ ROWS = (
     (DEEP, ("1:69: error: brackets nested too deep [too-deep]",)),
     # names that stand for nothing; an optional use generates the empty string (RFC 5234 sections 3.6 and 3.8)
     ('a = 0nope *nope [nope] "k"', tuple(f"1:{column}: error: undefined rule nope [undefined]" for column in (6, 12, 18))),
+    # near names: of the text as it is first defined there, then of the core rules; none of one letter, and none where another thing is told
+    ('a = sheme / "x"\nscheme = "y"', ("1:5: error: undefined rule sheme, did you mean scheme? [undefined]",)),
+    ('Scheme = "y"\na = SHEME / "x"\nscheme =/ "z"', ("2:5: error: undefined rule SHEME, did you mean Scheme? [undefined]",)),
+    ('a = DIGITS / "x"', ("1:5: error: undefined rule DIGITS, did you mean DIGIT? [undefined]",)),
+    ('a = hexdi / "x"\nhexdix = "1"', ("1:5: error: undefined rule hexdi, did you mean hexdix? [undefined]",)),
+    ('a = b c / "x"', ("1:5: error: undefined rule b [undefined]", "1:7: error: undefined rule c [undefined]")),
+    ('scheme = "x"\nshemes =/ "y"', ("2:1: warning: no earlier definition of shemes [no-base]",)),
     # second definitions, in either case (RFC 5234 section 2.1), and additions without a first (section 3.3)
     ('A = "yy"\na = "z"\na =/ "x"', ("2:1: error: rule a is already defined [duplicate]",)),
     ('a =/ "x"\na = "y"\na =/ "z"', ("1:1: warning: no earlier definition of a [no-base]",)),
@@ -194,6 +215,23 @@ WITH_ROWS = (
         ("1:1: a: shortest length 1: x", "2:1: b: shortest length 1: x"),
     ),
     (("a.abnf", "a = b"), (("1.abnf", 'b = nope\nb =/ "y"\n= ?\nc'),), (), ("1:1: a: shortest length 1: y",)),
+    # near names: the file's own first, then those of the known files, then the core rules (RFC 5234 appendix B.1)
+    (
+        ("a.abnf", 'a = sheme / "x"'),
+        (("1.abnf", 'b = sheme\nscheme = "y"'),),
+        ("1:5: error: undefined rule sheme, did you mean scheme? [undefined]",),
+        ("1:1: a: shortest length 1: x",),
+    ),
+    (
+        ("a.abnf", 'a = hosts / segments / DIGITS / "x"\nsegmen = hosta\nhosta = "y"'),
+        (("1.abnf", 'host = "1"\ndigitx = "2"\nsegment = "3"'),),
+        (
+            "1:5: error: undefined rule hosts, did you mean hosta? [undefined]",
+            "1:13: error: undefined rule segments, did you mean segment? [undefined]",
+            "1:24: error: undefined rule DIGITS, did you mean digitx? [undefined]",
+        ),
+        ("1:1: a: shortest length 1: x", "2:1: segmen: shortest length 1: y", "3:1: hosta: shortest length 1: y"),
+    ),
     # other indents and line ends, and findings at the very end
     (
         ("a.abnf", "   a = b\r\n     c\r\n   d ="),
@@ -221,6 +259,12 @@ GRAMMAR_ROWS = (
     ("a.md", "# A title\n\n```abnf\n  a = b\n   / c\n```\ntext\n~~~abnf\nd = ?\n~~~\n", "a = b\n / c\n\nd = ?\n\n"),
     ("a.xml", '<rfc><artwork type="abnf">\n  a = &lt;b&gt;\n</artwork></rfc>', "\na = <b>\n\n"),
 )
+
+
+def version():
+    """The version, as the extension for VS Code has it."""
+    with open(os.path.join(rows.TOP, "editors", "vscode", "package.json"), encoding="utf-8") as file:
+        return json.load(file)["version"]
 
 
 def status_of(found, strict):
@@ -330,13 +374,54 @@ def grammar_cases(program, files):
                 yield what, (status, said, grammar), (status_of(found, False), b"", printed(file, found))
                 continue
             yield what, (status, said), (0, b"")
-            status, _, wrote = ended(program, None, [files.written("grammar.abnf", grammar)])
-            wanted = without_places(printed(file, found))
-            yield f"findings in {what}", (status, without_places(wrote)), (status_of(found, False), wanted)
+            again = ended(program, None, [files.written("grammar.abnf", grammar)])
+            yield f"findings in {what}", (again[0], without_places(again[2])), (status_of(found, False), without_places(printed(file, found)))
     none, good = files.path("none"), files.written("good.abnf", 'a = "x"')
     yield "a grammar, and no file", ended(program, None, ["--grammar", none, good]), (2, f"cannot read {none}\n".encode(), b'a = "x"')
     for words in (["--grammar"], ["--grammar", "--rules", good], ["--strict", "--grammar", good], ["--grammar", "--grammar", good]):
         yield f"the arguments {words}", ended(program, None, words), (5, USAGE, b"")
+
+
+def argument_cases(program, files):
+    """Help, the version, and options before the files."""
+    good, bad = files.written("good.abnf", 'a = "x"'), files.written("bad.abnf", "a = ?")
+    is_bad = printed(bad, ("1:5: error: bad character [syntax]",))
+    for words in (["--help"], ["--help", "-x"], ["--strict", "--help", "--strict"]):
+        yield f"the arguments {words}", ended(program, None, words), (0, b"", HELP)
+    told = f"abnf_findings {version()} ({kit()})\n".encode()
+    for words in (["--version"], ["--version", "--help"], ["--rules", "--version"]):
+        yield f"the arguments {words}", ended(program, None, words), (0, b"", told)
+    full = os.open("/dev/full", os.O_WRONLY)
+    for option in ("--help", "--version"):
+        yield f"{option} to an output that is full", ended(program, None, [option], stdout=full), (2, b"write failed\n", b"")
+    os.close(full)
+    yield "files behind --", ended(program, None, ["--", bad]), (1, b"", is_bad)
+    yield "a file like an option behind --", ended(program, None, ["--strict", "--", good, "--strict"]), (2, b"cannot read --strict\n", b"")
+    for words in (["--"], ["-x", "--help"], [good, "--help"], [good, "--", bad], ["--with"], ["--with", good], ["--with", "--strict", good], ["--rules", "--grammar", good]):
+        yield f"the arguments {words}", ended(program, None, words), (5, USAGE, b"")
+
+
+def version_cases():
+    """The version stands where it is told in words."""
+    for page in ("abnf_ls", "abnf_findings"):
+        with open(os.path.join(rows.TOP, "man", f"{page}.1"), encoding="utf-8") as file:
+            yield f"the version in the manual page of {page}", f".Os abnf_ls {version()}\n" in file, True
+
+
+def bound_cases(program, files):
+    """As many names are compared as have a near one, and one more, where none has one (RFC 5234 has 16 core rules)."""
+    for uses in (5_882, 5_883):
+        file = files.written("many.abnf", 'aa = "x"' + uses * "\n / ab")
+        hint = ", did you mean aa?" if uses * 17 <= 100_000 else ""
+        lines = tuple(f"{line}:4: error: undefined rule ab{hint} [undefined]" for line in range(2, uses + 2))
+        yield f"{uses} names that stand for nothing", ended(program, None, [file]), (1, b"", printed(file, lines))
+    for rules in (99_983, 99_984):
+        file = files.written("wide.abnf", "".join(f"x{number:06} = %x61\n" for number in range(rules)) + 'aa = yy00000 / "x"')
+        hint = ", did you mean x000000?" if rules + 17 <= 100_000 else ""
+        yield f"a name among {rules + 1} rules", ended(program, None, [file]), (1, b"", printed(file, (f"{rules + 1}:6: error: undefined rule yy00000{hint} [undefined]",)))
+    file, other = files.written("one.abnf", 'a = ab / "x"'), files.written("many.abnf", 'aa = "x"' + 5_883 * "\n / ab")
+    near = printed(file, ("1:5: error: undefined rule ab, did you mean aa? [undefined]",))
+    yield "a name beside a known file with many that stand for nothing", ended(program, None, ["--with", other, file]), (1, b"", near)
 
 
 def example_cases(program):
@@ -375,7 +460,7 @@ def file_cases(program, files):
     yield "an output that is full", ended(program, None, [bad], stdout=full), (2, b"write failed\n", b"")
     yield "an output that is full and not needed", ended(program, None, [good], stdout=full), (0, b"", b"")
     os.close(full)
-    for arguments in ([], ["--strict"], ["--help"], [good, "--strict"], ["--strict", "--strict", good], ["-x"], [good, b"\xff"]):
+    for arguments in ([], ["--strict"], ["--halp"], [good, "--strict"], ["--strict", "--strict", good], ["-x"], [good, b"\xff"]):
         yield f"the arguments {arguments}", ended(program, None, arguments), (5, USAGE, b"")
 
 
@@ -401,13 +486,21 @@ def memory_cases(program, files):
     core = files.written("core.abnf", CORE)
     known = ["--with", core, "--with", drafts[1]]
     uses = [files.written("uses.abnf", "c = OWS a"), files.written("uses.md", '```abnf\nc = RWS "x" ?\n```')]
+    near = [files.written("near.abnf", 'a = sheme / "x"\nscheme = "y"'), files.written("far.abnf", 'a = "x" / DIGITS')]
+    for what, words, wanted in (("help", ["--help"], HELP), ("the version", ["--version"], f"abnf_findings {version()} ({kit()})\n".encode())):
+        with rows.library(refused_memory.LIBRARY) as made:
+            found = refusals(program, made, words)
+        others = {*found[:-1]} - {(6, said, b""), (0, refused_memory.REFUSED, wanted)}
+        yield f"{what}, {len(found) - 1} allocations refused in turn", (len(found) > 2, sorted(others)), (True, [])
+        yield f"{what}, no allocation refused", found[-1], (0, b"", wanted)
     for what, options, (one, other), status, first, second in (
         ("findings", [], (doubtful, bad), 1, "1:1: warning: no earlier definition of a [no-base]", "1:7: error: bad character [syntax]"),
+        ("near names", [], near, 1, "1:5: error: undefined rule sheme, did you mean scheme? [undefined]", "1:11: error: undefined rule DIGITS, did you mean DIGIT? [undefined]"),
         ("rules", ["--rules"], (doubtful, bad), 0, "1:1: a: shortest length 1: x", "1:1: a: not known"),
         ("drafts", [], drafts, 1, "2:1: warning: no earlier definition of a [no-base]", "2:9: error: bad character [syntax]"),
         ("rules of drafts", ["--rules"], drafts, 0, "2:1: a: shortest length 1: x", "2:3: a: not known"),
         ("drafts in XML", [], pages, 1, "1:22: warning: no earlier definition of a [no-base]", "1:36: error: bad character [syntax]"),
-        ("uses of others", known, [doubtful, uses[1]], 1, "1:1: warning: no earlier definition of a [no-base]", "2:13: error: bad character [syntax]"),
+        ("files with others", known, [doubtful, uses[1]], 1, "1:1: warning: no earlier definition of a [no-base]", "2:13: error: bad character [syntax]"),
         ("rules with others", ["--rules", *known], uses, 0, "1:1: c: not known", "2:1: c: not known"),
         ("grammars", ["--grammar"], [doubtful, drafts[1]], 0, b'a =/ "x"', b"a = b ?\n"),
         ("grammars of XML", ["--grammar"], pages, 0, b'a =/ "x"\n', b"a = <p> ?\n"),
@@ -417,16 +510,18 @@ def memory_cases(program, files):
             found = refusals(program, made, [*options, one, other])
         whole = before + behind
         others = {*found[:-1]} - {(6, said, b""), (6, said, before), (status, refused_memory.REFUSED, whole)}
-        least = 20 if isinstance(first, bytes) else 60
-        yield f"{what}, {len(found) - 1} allocations refused in turn", (len(found) > least, sorted(others)), (True, [])
+        yield f"{what}, {len(found) - 1} allocations refused in turn", (len(found) > (20 if isinstance(first, bytes) else 60), sorted(others)), (True, [])
         yield f"{what}, no allocation refused", found[-1], (status, b"", whole)
 
 
 def cases(program):
     """What each case is, how the program ended in it, and how it must end."""
     yield from example_cases(program)
+    yield from version_cases()
     with rows.files() as files:
-        for some in (row_cases, rule_cases, draft_cases, with_cases, grammar_cases, format_cases, file_cases, memory_cases):
+        for some in (
+            row_cases, rule_cases, draft_cases, with_cases, grammar_cases, format_cases, argument_cases, bound_cases, file_cases, memory_cases,
+        ):
             yield from some(program, files)
 
 

@@ -1,109 +1,40 @@
 //! `abnf_findings`, which prints what is found in the grammars of files, for makefiles, hooks and continuous integration.
 #![tactic(auto)]
 
+use findings_arguments::{Arguments, Asked, Request, help, request_of};
 use findings_text::{
-    Ending, FileFault, Format, Known, Outcome, Snapshot, Text, ending_of, fault_line, is_option,
-    print_as, print_grammar_as, print_rules_as, read_text,
+    Ending, FileFault, Format, Known, Outcome, Snapshot, Text, ending_of, fault_line, print_as,
+    print_grammar_as, print_rules_as, read_text,
 };
 use std::io::{ErrorKind, Write};
 use std::process::ExitCode;
 use std::{env, fs, io};
 
-/// What is asked of each file.
-#[derive(Clone, Copy, PartialEq, Eq)]
-enum Asked {
-    Findings,
-    /// The findings, and no warning is to pass.
-    StrictFindings,
-    Rules,
-    Grammar,
-}
+/// What `--version` prints. It names the logic by which the crates are proved, as `rt version` does.
+const VERSION: &str = "abnf_findings 0.1.0 (rattle-kit-13f logic dac8208d650f15bf)\n";
 
-/// What the arguments say.
-#[derive(Drop)]
-struct Arguments {
-    asked: Asked,
-    /// What all files are written in, where their names don't tell it.
-    format: Option<Format>,
-    /// The files whose names are known.
-    with: Vec<String>,
-    files: Vec<String>,
-}
-
-impl Arguments {
-    /// Takes an option. None stands behind a file, each but `--with` stands once, and of `--strict`, `--rules` and `--grammar` there is one.
-    fn option(&mut self, option: &str) -> Result<(), Ending> {
-        if !self.files.is_empty() {
-            return Err(Ending::Usage);
-        }
-        match option {
-            "--strict" if self.asked == Asked::Findings => self.asked = Asked::StrictFindings,
-            "--rules" if self.asked == Asked::Findings => self.asked = Asked::Rules,
-            "--grammar" if self.asked == Asked::Findings => self.asked = Asked::Grammar,
-            "--format" if self.format.is_none() => {}
-            "--with" => {}
-            _ => return Err(Ending::Usage),
-        }
-        Ok(())
-    }
-
-    /// Takes the format that is named behind `--format`.
-    fn format(&mut self, name: &str) -> Result<(), Ending> {
-        match Format::named(name) {
-            Some(format) => self.format = Some(format),
-            None => return Err(Ending::Usage),
-        }
-        Ok(())
-    }
-
-    /// The format of a file: that which is told for all, else that of its name.
-    fn format_of(&self, file: &str) -> Format {
-        match self.format {
-            Some(format) => format,
-            None => Format::of_file(file),
-        }
-    }
-}
-
-/// What the arguments ask for.
-fn arguments_of(rt: &HostRuntime) -> Result<Arguments, Ending> {
+/// The arguments, without the name of the program.
+fn words_of(rt: &HostRuntime) -> Result<Vec<Text>, Ending> {
     let given = match env::args(rt) {
         Ok(given) => given.skip(1),
         Err(error) if error.kind() == ErrorKind::OutOfMemory => return Err(Ending::OutOfMemory),
         Err(_) => return Err(Ending::Usage),
     };
-    let mut arguments = Arguments {
-        asked: Asked::Findings,
-        format: None,
-        with: Vec::new(rt.alloc()),
-        files: Vec::new(rt.alloc()),
-    };
-    let mut awaits_format = false;
-    let mut awaits_file = false;
-    for argument in given {
-        if awaits_format {
-            arguments.format(argument.as_str())?;
-            awaits_format = false;
-        } else if awaits_file {
-            if arguments.with.push(argument).is_err() {
-                return Err(Ending::OutOfMemory);
-            }
-            awaits_file = false;
-        } else if is_option(argument.as_str()) {
-            arguments.option(argument.as_str())?;
-            awaits_format = argument.as_str() == "--format";
-            awaits_file = argument.as_str() == "--with";
-        } else if arguments.files.push(argument).is_err() {
+    let mut words = Vec::new(rt.alloc());
+    for word in given {
+        if words.push(Text::new(word)).is_err() {
             return Err(Ending::OutOfMemory);
         }
     }
-    if awaits_format || awaits_file || arguments.files.is_empty() {
-        return Err(Ending::Usage);
+    Ok(words)
+}
+
+/// The format of a file: that which is told for all, else that of its name.
+fn format_of(arguments: &Arguments, file: &str) -> Format {
+    match arguments.format {
+        Some(format) => format,
+        None => Format::of_file(file),
     }
-    if arguments.asked == Asked::Grammar && !arguments.with.is_empty() {
-        return Err(Ending::Usage);
-    }
-    Ok(arguments)
 }
 
 /// The text of a file, or of standard input for `-`.
@@ -136,14 +67,14 @@ fn add_known(
     file: &str,
 ) -> Result<(), FileFault> {
     let text = text_at(rt, file)?;
-    known.add(rt.alloc(), arguments.format_of(file), &text)
+    known.add(rt.alloc(), format_of(arguments, file), &text)
 }
 
 /// The files whose names are known. Each that can't be used is told, and then it ends.
 fn known_files(rt: &HostRuntime, arguments: &Arguments) -> Result<Known, Ending> {
     let mut known = Known::new(rt.alloc());
     let mut all_read = true;
-    for file in &arguments.with {
+    for file in arguments.with.as_slice() {
         if let Err(fault) = add_known(rt, arguments, &mut known, file.as_str()) {
             tell_fault(rt, fault, file.as_str())?;
             all_read = false;
@@ -164,7 +95,7 @@ fn printed(
     file: &str,
     text: &Snapshot,
 ) -> Result<(Text, Outcome), FileFault> {
-    let format = arguments.format_of(file);
+    let format = format_of(arguments, file);
     let printed = match arguments.asked {
         Asked::Findings | Asked::StrictFindings => {
             print_as(rt.alloc(), file, format, text, known)?
@@ -173,6 +104,15 @@ fn printed(
         Asked::Grammar => print_grammar_as(rt.alloc(), file, format, text)?,
     };
     Ok((printed.lines, printed.outcome))
+}
+
+/// Prints a text.
+fn say(rt: &HostRuntime, text: &str) -> Result<(), Ending> {
+    let mut writer = io::writer(rt);
+    match writer.write_all(text.as_bytes()) {
+        Ok(()) => Ok(()),
+        Err(_) => Err(Ending::WriteFailed),
+    }
 }
 
 /// Prints what is asked of a file.
@@ -190,26 +130,44 @@ fn tell(
         Ok(printed) => printed,
         Err(fault) => return tell_fault(rt, fault, file),
     };
-    let mut writer = io::writer(rt);
-    match writer.write_all(lines.as_str().as_bytes()) {
-        Ok(()) => Ok(outcome),
-        Err(_) => Err(Ending::WriteFailed),
-    }
+    say(rt, lines.as_str())?;
+    Ok(outcome)
 }
 
-/// Does what the arguments ask for.
-fn run(rt: &HostRuntime) -> Result<Ending, Ending> {
-    let arguments = arguments_of(rt)?;
-    let known = known_files(rt, &arguments)?;
+/// Prints what is asked of the files.
+fn tell_all(rt: &HostRuntime, arguments: &Arguments) -> Result<Ending, Ending> {
+    let known = known_files(rt, arguments)?;
     let mut outcomes = Vec::new(rt.alloc());
-    for file in &arguments.files {
-        let outcome = tell(rt, &arguments, &known, file.as_str())?;
+    for file in arguments.files.as_slice() {
+        let outcome = tell(rt, arguments, &known, file.as_str())?;
         if outcomes.push(outcome).is_err() {
             return Err(Ending::OutOfMemory);
         }
     }
     let is_strict = arguments.asked == Asked::StrictFindings;
     Ok(ending_of(is_strict, outcomes.as_slice()))
+}
+
+/// Prints how the program is used.
+fn tell_help(rt: &HostRuntime) -> Result<Ending, Ending> {
+    match help(rt.alloc()) {
+        Ok(text) => say(rt, text.as_str())?,
+        Err(_) => return Err(Ending::OutOfMemory),
+    }
+    Ok(Ending::Good)
+}
+
+/// Does what the arguments ask for.
+fn run(rt: &HostRuntime) -> Result<Ending, Ending> {
+    let words = words_of(rt)?;
+    match request_of(rt.alloc(), words.as_slice())? {
+        Request::Help => tell_help(rt),
+        Request::Version => {
+            say(rt, VERSION)?;
+            Ok(Ending::Good)
+        }
+        Request::Print(arguments) => tell_all(rt, &arguments),
+    }
 }
 
 fn main(rt: HostRuntime) -> ExitCode {

@@ -1,6 +1,6 @@
 -- Each file has one print-out, whatever other files are known.
 use Rattle.std.proofs.Common.{◌≡◌, ◌∙◌, ◌<◌, ◌^◌, ℕ, List, [], ◌∷◌, length, refl, ap, sym, subst}
-use Rattle.std.specs.Prelude.{Result, Ok, Err, flat_map}
+use Rattle.std.specs.Prelude.{Result, Ok, Err, IfOk, flat_map}
 use Rattle.std.specs.Str.{encode_utf8_all}
 use Rattle.std.proofs.lemmas.List.Elements.{All-filter}
 use Rattle.origins.specs.Origins.{Sourced, characters, grammar_of}
@@ -24,12 +24,13 @@ use Rattle.findings_text.specs.declared.print.Printed.{Printed}
 use Rattle.findings_text.specs.Drafts.{draft_position, no_grammar_line, position_in_draft}
 use Rattle.findings_text.specs.Formats.{ArePrintedRulesAs, ArePrintedXmlRules, IsPrintedAs, IsPrintedXml, xml_fault_line}
 use Rattle.findings_text.specs.Grammars.{IsPrintedDraftGrammar, IsPrintedGrammarAs, IsPrintedXmlGrammar}
-use Rattle.findings_text.specs.Known.{ArePrintedJoinedRules, ArePrintedRulesBy, ArePrintedRulesIn, ArePrintedRulesWith, IsPrintedBy, IsPrintedDraftWith, IsPrintedIn, IsPrintedJoined, IsPrintedWith, grammar_in, stands_in, told_findings, told_heads}
+use Rattle.findings_text.specs.Hints.{compared}
+use Rattle.findings_text.specs.Known.{ArePrintedJoinedRules, ArePrintedRulesBy, ArePrintedRulesIn, ArePrintedRulesWith, AreToldWith, IsPrintedBy, IsPrintedDraftWith, IsPrintedIn, IsPrintedJoined, IsPrintedWith, grammar_in, stands_in, told_findings, told_heads}
 use Rattle.findings_text.specs.Outcomes.{outcome_of}
 use Rattle.findings_text.specs.Print.{Locator, finding_line}
 use Rattle.findings_text.specs.Rules.{AreRuleLines, heads}
 use Rattle.findings_text.proofs.HeadLaws.{heads_within}
-use Rattle.findings_text.proofs.PrintLaws.{one_draft, one_print}
+use Rattle.findings_text.proofs.PrintLaws.{one_draft, one_known, one_print, some_known}
 use Rattle.findings_text.proofs.RuleLaws.{one_lines, one_rules_from, some_lines}
 
 -- two print-outs with the same lines and the same outcome
@@ -38,16 +39,38 @@ same a b lines outcome p q = (λ i. record { lines = (p.0 ∙ sym q.0) i; outcom
 
 -- ---- the findings
 
-abbrev printed_in : List ℕ → Locator → List ℕ → List ℕ → List Finding → Printed
-printed_in told locate file text found = record { lines = flat_map (finding_line locate file text) (told_findings told found); outcome = outcome_of (told_findings told found) }
+abbrev printed_in : Locator → List ℕ → List ℕ → List (List ℕ) → List Finding → Printed
+printed_in locate file text names found = record { lines = flat_map (finding_line locate names file text) found; outcome = outcome_of found }
 
-is_in : (told : List ℕ) (locate : Locator) (file text : List ℕ) (printed : Printed) (is : IsPrintedIn told locate file text printed) → printed ≡ printed_in told locate file text is.found
+is_in : (told : List ℕ) (locate : Locator) (file text : List ℕ) (printed : Printed) (is : IsPrintedIn told locate file text printed) → printed ≡ printed_in locate file text is.names is.found
 is_in told locate file text printed is = (λ i. record { lines = is.lines_are i; outcome = is.outcome_is i })
+
+-- what is printed of the findings that stand at the front of a joined text is printed of it, if it is
+pub printed_told : {E : Type 0} (told : List ℕ) (locate : Locator) (file text : List ℕ) (found : List Finding) (names : List (List ℕ)) → AreToldWith told text found names
+    → (shown : List Finding) (known : List (List ℕ)) → shown ≡ found → known ≡ names → (r : Result Printed E)
+    → IfOk r (λ printed. printed.lines ≡ flat_map (finding_line locate known file text) shown) → IfOk r (λ printed. printed.outcome ≡ outcome_of shown)
+    → IfOk r (λ printed. IsPrintedIn told locate file text printed)
+printed_told told locate file text found names are shown known shown_is known_is (Err e) lines outcome = lines
+printed_told told locate file text found names are shown known shown_is known_is (Ok printed) lines outcome = record {
+  found = found;
+  names = names;
+  of_text = are;
+  lines_are = lines ∙ (λ i. flat_map (finding_line locate (known_is i) file text) (shown_is i));
+  outcome_is = outcome ∙ ap outcome_of shown_is;
+}
+
+one_told : (told text : List ℕ) (a b : List Finding) (x y : List (List ℕ)) → AreToldWith told text a x → AreToldWith told text b y → a ≡ b
+one_told told text a b x y p q = p.found_are ∙ (ap (told_findings told) (findings_unique text p.all q.all p.of_text q.of_text) ∙ sym q.found_are)
+
+one_told_names : (told text : List ℕ) (a b : List Finding) (x y : List (List ℕ)) → AreToldWith told text a x → AreToldWith told text b y → x ≡ y
+one_told_names told text a b x y p q =
+    p.names_are ∙ ((λ i. compared (one_told told text a b x y p q i) (one_known text p.known q.known p.are_known q.are_known i)) ∙ sym q.names_are)
 
 one_in : (told : List ℕ) (locate : Locator) (file text : List ℕ) (a b : Printed) → IsPrintedIn told locate file text a → IsPrintedIn told locate file text b → a ≡ b
 one_in told locate file text a b p q =
     is_in told locate file text a p
-    ∙ (ap (printed_in told locate file text) (findings_unique text p.found q.found p.of_text q.of_text) ∙ sym (is_in told locate file text b q))
+    ∙ ((λ i. printed_in locate file text (one_told_names told text p.found q.found p.names q.names p.of_text q.of_text i) (one_told told text p.found q.found p.names q.names p.of_text q.of_text i))
+    ∙ sym (is_in told locate file text b q))
 
 one_by_join : (known : List (List ℕ)) (file draft : List ℕ) (grammar : List Sourced) (a b : Printed) → IsPrintedJoined known file draft grammar a → IsPrintedJoined known file draft grammar b → a ≡ b
 one_by_join known file draft grammar a b p q =
@@ -76,13 +99,20 @@ pub one_with : (known : List (List ℕ)) (format : Format) (file text : List ℕ
 one_with [] format file text a b p q = one_as format file text a b p q
 one_with (k ∷ known) format file text a b p q = one_by (k ∷ known) file text (grammar_in format text) a b p q
 
+some_told : (told text : List ℕ) → length text < 2 ^ 62 → (found : List Finding) × (names : List (List ℕ)) × AreToldWith told text found names
+some_told told text small =
+    let all = some_findings text small in
+    let known = some_known text small in
+    let found = told_findings told all.0 in
+    (found, compared found known.0, record { all = all.0; of_text = all.1; found_are = refl; known = known.0; are_known = known.1; names_are = refl })
+
 pub some_with : (known : List (List ℕ)) (file draft : List ℕ) (grammar : List Sourced) (text : List ℕ) → IsJoined (characters grammar) known text → length text < 2 ^ 62
     → (printed : Printed) × IsPrintedDraftWith known file draft grammar printed
 some_with known file draft [] text joined small = (record { lines = no_grammar_line file; outcome = Warnings }, (refl, refl))
 some_with known file draft (c ∷ cs) text joined small =
-    let found = some_findings text small in
     let locate = position_in_draft draft (c ∷ cs) text in
-    (printed_in (characters (c ∷ cs)) locate file text found.0, (text, joined, record { found = found.0; of_text = found.1; lines_are = refl; outcome_is = refl }))
+    let told = some_told (characters (c ∷ cs)) text small in
+    (printed_in locate file text told.1 told.0, (text, joined, record { found = told.0; names = told.1; of_text = told.2; lines_are = refl; outcome_is = refl }))
 
 -- ---- the rules
 

@@ -21,6 +21,7 @@ use Rattle.findings_text.specs.declared.outcome.Outcome.TheVariants.{Clean, Warn
 use Rattle.findings_text.specs.declared.print.Printed.{Printed}
 use Rattle.findings_text.specs.Drafts.{IsTextRefused, no_grammar_line, position_in_draft}
 use Rattle.findings_text.specs.Formats.{ArePrintedRulesAs, IsPrintedAs, IsPrintedFault, IsRefusedAs}
+use Rattle.findings_text.specs.Hints.{AreKnown, compared}
 use Rattle.findings_text.specs.Outcomes.{outcome_of}
 use Rattle.findings_text.specs.Print.{Locator, finding_line}
 use Rattle.findings_text.specs.Rules.{AreRuleLines, heads}
@@ -64,12 +65,23 @@ stands_in told place = nat_lt place.line (line_ends told)
 abbrev pub told_findings : List ℕ → List Finding → List Finding
 told_findings told found = filter (λ finding. stands_in told finding.place) found
 
+-- These are the findings that stand there, and the names with which theirs are compared. The rules of the joined text are known, in its
+-- order, and then the core rules: so of names that are as near one of the grammar at the front is told.
+pub record AreToldWith (told text : List ℕ) (found : List Finding) (names : List (List ℕ)) : Type 0 where
+  pub all : List Finding
+  pub of_text : AreFindings text all
+  pub found_are : found ≡ told_findings told all
+  pub known : List (List ℕ)
+  pub are_known : AreKnown text known
+  pub names_are : names ≡ compared found known
+
 -- This is printed of the grammar at the front of a joined text: the lines of the findings that stand there, in their order.
 pub record IsPrintedIn (told : List ℕ) (locate : Locator) (file text : List ℕ) (printed : Printed) : Type 0 where
   pub found : List Finding
-  pub of_text : AreFindings text found
-  pub lines_are : printed.lines ≡ flat_map (finding_line locate file text) (told_findings told found)
-  pub outcome_is : printed.outcome ≡ outcome_of (told_findings told found)
+  pub names : List (List ℕ)
+  pub of_text : AreToldWith told text found names
+  pub lines_are : printed.lines ≡ flat_map (finding_line locate names file text) found
+  pub outcome_is : printed.outcome ≡ outcome_of found
 
 -- the same by the grammar and the other ones
 abbrev pub IsPrintedJoined : List (List ℕ) → List ℕ → List ℕ → List Sourced → Printed → Type 0

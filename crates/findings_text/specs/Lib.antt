@@ -1,4 +1,6 @@
 pub mod Outcomes
+pub mod Heads
+pub mod Hints
 pub mod Print
 pub mod Drafts
 pub mod Endings

@@ -9,8 +9,9 @@ use Rattle.abnf_lint.specs.declared.finding.Finding.{Finding}
 use Rattle.abnf_lint.specs.declared.message.Severity.{Severity}
 use Rattle.abnf_lint.specs.declared.message.Severity.TheVariants.{Error, Warning}
 use Rattle.abnf_lint.specs.Findings.{AreFindings}
-use Rattle.abnf_lint.specs.Messages.{code_text, message_of, severity_of}
+use Rattle.abnf_lint.specs.Messages.{code_text, severity_of}
 use Rattle.findings_text.specs.declared.print.Printed.{Printed}
+use Rattle.findings_text.specs.Hints.{AreKnown, compared, message}
 use Rattle.findings_text.specs.Outcomes.{outcome_of}
 
 abbrev pub severity_text : Severity → List ℕ
@@ -29,25 +30,33 @@ counted_text n = codes ":" ++ decimal (n + 1)
 abbrev pub place_text : Position → List ℕ
 place_text at = counted_text at.line ++ counted_text at.character ++ codes ": "
 
--- FILE:LINE:COLUMN: severity: message [code], and LF, of a finding that begins at this position
-abbrev pub line_at : List ℕ → Position → Finding → List ℕ
-line_at file at finding =
+-- FILE:LINE:COLUMN: severity: message [code], and LF, of a finding that begins at this position, where its name is compared with these
+abbrev pub line_at : List (List ℕ) → List ℕ → Position → Finding → List ℕ
+line_at known file at finding =
     file ++ place_text at ++ severity_text (severity_of finding.code) ++ codes ": "
-    ++ message_of finding.code finding.name ++ codes " [" ++ code_text finding.code ++ (codes "]" ++ 10 ∷ [])
+    ++ message known finding ++ codes " [" ++ code_text finding.code ++ (codes "]" ++ 10 ∷ [])
 
 -- where in the file stands what has this position in the grammar's text
 abbrev pub Locator : Type 0
 Locator = Position → Position
 
 -- the line of a finding, which is told where it stands in the file
-abbrev pub finding_line : Locator → List ℕ → List ℕ → Finding → List ℕ
-finding_line locate file text finding = line_at file (locate (begin_of text finding)) finding
+abbrev pub finding_line : Locator → List (List ℕ) → List ℕ → List ℕ → Finding → List ℕ
+finding_line locate known file text finding = line_at known file (locate (begin_of text finding)) finding
+
+-- These are the findings of a text, and the names with which theirs are compared.
+pub record AreFoundWith (text : List ℕ) (found : List Finding) (names : List (List ℕ)) : Type 0 where
+  pub of_text : AreFindings text found
+  pub known : List (List ℕ)
+  pub are_known : AreKnown text known
+  pub names_are : names ≡ compared found known
 
 -- This is printed of a grammar's text from a file with this name: the lines of its findings, in their order.
 pub record IsPrintedFrom (locate : Locator) (file text : List ℕ) (printed : Printed) : Type 0 where
   pub found : List Finding
-  pub of_text : AreFindings text found
-  pub lines_are : printed.lines ≡ flat_map (finding_line locate file text) found
+  pub names : List (List ℕ)
+  pub of_text : AreFoundWith text found names
+  pub lines_are : printed.lines ≡ flat_map (finding_line locate names file text) found
   pub outcome_is : printed.outcome ≡ outcome_of found
 
 -- the same of a file that is the text

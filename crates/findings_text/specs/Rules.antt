@@ -1,13 +1,10 @@
 -- What is printed of the rules of a text: a line for each, with what is known of its shortest strings.
-use Rattle.std.specs.Prelude.{◌≡◌, ℕ, Bool, false, true, not, List, [], ◌∷◌, ◌++◌, Option, Some, None, codes, filter, if◌then◌else◌, nat_eq, slice_index_or, slice_set}
-use Rattle.std.specs.Option.{option_map_or}
+use Rattle.std.specs.Prelude.{◌≡◌, ℕ, Bool, false, true, List, [], ◌∷◌, ◌++◌, Option, Some, None, codes, if◌then◌else◌, slice_index_or, slice_set}
 use Rattle.std.specs.Fmt.{decimal}
-use Rattle.abnf_token.specs.Folded.{lowercase}
 use Rattle.ls_text.specs.Lines.{units}
 use Rattle.ls_text.specs.Positions.{place_start, position_of}
 use Rattle.ls_text.specs.declared.position.Encoding.TheVariants.{Utf32}
 use Rattle.ls_text.specs.declared.position.Position.{Position}
-use Rattle.abnf_parts.specs.Names.{Name, rule_number}
 use Rattle.abnf_names.specs.Places.{Named, named_at}
 use Rattle.abnf_names.specs.Rules.{Grammar, IsGrammar}
 use Rattle.abnf_least.specs.Rendered.{rendered_text}
@@ -16,6 +13,7 @@ use Rattle.abnf_least.specs.declared.shortest.Shortest.{Shortest}
 use Rattle.abnf_least.specs.declared.shortest.Shortest.TheVariants.{Shown, Long, Huge, Nothing, NotKnown}
 use Rattle.findings_text.specs.declared.rules.Head.{Head}
 use Rattle.findings_text.specs.Print.{Locator, place_text}
+pub use Rattle.findings_text.specs.Heads.{ahead, defined_at, defines, heads}
 
 -- what is known of the shortest strings of a rule
 abbrev pub known_text : Shortest → List ℕ
@@ -36,24 +34,6 @@ head_begin text head = position_of (units Utf32) text (place_start text head.pla
 -- the line of a rule, which is told where it is defined in the file
 abbrev pub rule_line : Locator → List ℕ → List ℕ → Named → Shortest → List ℕ
 rule_line locate file text head shown = rule_line_at file (locate (head_begin text head)) head shown
-
--- the number of the rule that a place defines, if it does
-abbrev pub defined_at : List Name → Named → Option ℕ
-defined_at names n = if n.defines then rule_number names (lowercase n.text) else None
-
--- the place defines rule r
-abbrev pub defines : List Name → ℕ → Named → Bool
-defines names r n = option_map_or (nat_eq r) (defined_at names n) false
-
--- a place that defines this rule, ahead of the heads of other rules
-abbrev pub ahead : Named → Option ℕ → List (Named × ℕ) → List (Named × ℕ)
-ahead n None heads = heads
-ahead n (Some r) heads = (n, r) ∷ filter (λ head. not (nat_eq r head.1)) heads
-
--- the heads among these places: of each rule the first that defines it, with the rule's number
-abbrev pub heads : List Name → List Named → List (Named × ℕ)
-heads names [] = []
-heads names (n ∷ ns) = ahead n (defined_at names n) (heads names ns)
 
 -- the line of the rule of a head, by what is shown of the rule
 abbrev pub IsRuleLine : Locator → List ℕ → Grammar → Named × ℕ → List ℕ → Type 0

@@ -41,7 +41,7 @@ impl Ending {
             Ending::Good | Ending::Found | Ending::NotRead => "",
             Ending::WriteFailed => "write failed",
             Ending::Usage =>
-                "usage: abnf_findings [--strict | --rules | --grammar] [--format abnf | markdown | xml] [--with FILE].. FILE..",
+                "usage: abnf_findings [--strict | --rules | --grammar] [--with FILE].. [--format abnf | markdown | xml] FILE..",
             Ending::OutOfMemory => "out of memory",
         }
     }

@@ -3,13 +3,15 @@
 //! [`print_findings`] gives the lines of a text, which are defined in specs/Print, and says how the file went by an [`Outcome`]. The
 //! [`Ending`] of a run follows from the outcomes of its files. [`print_rules`] gives a line for each rule instead, as specs/Rules has it.
 //! [`print_as`] and [`print_rules_as`] read files by their [`Format`], and join rules of files that are [`Known`] to their grammars, as
-//! specs/Known has it. [`print_grammar_as`] gives a file's grammar.
+//! specs/Known has it. [`print_grammar_as`] gives a file's grammar. Behind a name that stands for nothing a known name is told which is
+//! near, as specs/Hints has it.
 #![tactic(auto)]
 
 mod draft;
 mod ending;
 mod format;
 mod grammar;
+mod hints;
 mod known;
 mod laws;
 mod line;

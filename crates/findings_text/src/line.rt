@@ -1,8 +1,9 @@
 //! The line of a finding.
 
-ghost use Rattle.std.specs.Prelude.{◌≡◌, ◌++◌, IfOk, OnOk, string_bytes};
+ghost use Rattle.std.specs.Prelude.{◌≡◌, ◌++◌, IfOk, OnOk, map, string_bytes};
 ghost use Rattle.findings_text.specs.Print.{counted_text, line_at, place_text, severity_text};
 
+use crate::hints::message;
 use abnf_lint::{Finding, Severity};
 use ls_text::Position;
 use std::alloc::{AllocError as Memory, Global};
@@ -36,18 +37,20 @@ pub(crate) fn place_text(alloc: Global, at: Position) -> Result<String, Memory>
     Ok(text)
 }
 
-/// Appends the line of a finding in a file with this name, which begins at this position.
+/// Appends the line of a finding in a file with this name, which begins at this position. Its name is compared with these, where it stands
+/// for nothing.
 pub(crate) fn push_line(
     lines: &mut String,
     alloc: Global,
     file: &str,
     at: Position,
+    known: &[&str],
     finding: &Finding,
 ) -> Result<(), Memory>
-    ensures { OnOk result (string_bytes lines.new ≡ string_bytes lines.old ++ line_at file.now at finding.now) }
+    ensures { OnOk result (string_bytes lines.new ≡ string_bytes lines.old ++ line_at (map (λ name. name.now) known.now) file.now at finding.now) }
 {
     let place = place_text(alloc, at)?;
-    let message = finding.message(alloc)?;
+    let message = message(alloc, known, finding)?;
     lines.push_str(file)?;
     lines.push_str(place.as_str())?;
     lines.push_str(severity_text(finding.code.severity()))?;

@@ -1,12 +1,12 @@
 //! What is printed of a text.
 
-ghost use Rattle.std.specs.Prelude.{◌≡◌, IfOk, flat_map, string_bytes};
-ghost use Rattle.abnf_lint.specs.Findings.{AreFindings};
+ghost use Rattle.std.specs.Prelude.{◌≡◌, IfOk, flat_map, map, string_bytes};
 ghost use Rattle.findings_text.specs.Drafts.{located, position_in_draft};
-ghost use Rattle.findings_text.specs.Known as known;
+ghost use Rattle.findings_text.specs.Known as joined;
 ghost use Rattle.findings_text.specs.Outcomes as outcomes;
-ghost use Rattle.findings_text.specs.Print.{IsPrinted, IsPrintedFrom, finding_line};
+ghost use Rattle.findings_text.specs.Print.{AreFoundWith, IsPrinted, IsPrintedFrom, finding_line};
 
+use crate::hints::compared;
 use crate::line::push_line;
 use crate::outcome::{Outcome, outcome_of};
 use crate::source::{Source, located};
@@ -26,14 +26,15 @@ pub struct Printed {
     pub outcome: Outcome,
 }
 
-/// The findings of a text. Its grammar is let go here.
-fn found_in(alloc: Global, text: &Snapshot) -> Result<List<Finding>, Memory>
-    ensures { IfOk result (λ found. AreFindings text.now found) }
+/// The findings of a text, and the names with which those that stand for nothing are compared. Its grammar is let go here.
+fn found_in<'t>(alloc: Global, text: &'t Snapshot) -> Result<(List<Finding>, List<&'t str>), Memory>
+    ensures { IfOk result (λ both. AreFoundWith text.entry.now both.0 (map (λ name. name.now) both.1)) }
 {
     let grammar = Grammar::of(alloc, text)?;
-    let found = findings_in(alloc, &grammar);
+    let found = findings_in(alloc, &grammar)?;
+    let known = compared(alloc, &grammar, found.as_slice())?;
     drop(grammar);
-    found
+    Ok((found, known))
 }
 
 /// The lines of findings in a grammar's text.
@@ -42,16 +43,17 @@ fn lines_of(
     file: &str,
     source: Source<'_>,
     text: &Snapshot,
+    known: &[&str],
     found: &[Finding],
 ) -> Result<String, Memory>
-    ensures { IfOk result (λ lines. string_bytes lines ≡ flat_map (finding_line (located source.entry text.now) file.now text.now) found.now) }
+    ensures { IfOk result (λ lines. string_bytes lines ≡ flat_map (finding_line (located source.entry text.now) (map (λ name. name.now) known.now) file.now text.now) found.now) }
 {
     let mut ruler = Ruler::new(text, Encoding::Utf32);
     let mut lines = String::new(alloc);
     for finding in found {
         let begin = ruler.range_of(&finding.place).start;
         let at = located(source, text, begin);
-        push_line(&mut lines, alloc, file, at, finding)?;
+        push_line(&mut lines, alloc, file, at, known, finding)?;
     }
     Ok(lines)
 }
@@ -62,12 +64,13 @@ fn print_found(
     file: &str,
     source: Source<'_>,
     text: &Snapshot,
+    known: &[&str],
     found: &[Finding],
 ) -> Result<Printed, Memory>
-    ensures lines { IfOk result (λ printed. printed.lines ≡ flat_map (finding_line (located source.entry text.now) file.now text.now) found.now) }
+    ensures lines { IfOk result (λ printed. printed.lines ≡ flat_map (finding_line (located source.entry text.now) (map (λ name. name.now) known.now) file.now text.now) found.now) }
     ensures outcome { IfOk result (λ printed. printed.outcome ≡ outcomes.outcome_of found.now) }
 {
-    let lines = lines_of(alloc, file, source, text, found)?;
+    let lines = lines_of(alloc, file, source, text, known, found)?;
     Ok(Printed {
         lines: Text::new(lines),
         outcome: outcome_of(found),
@@ -83,18 +86,41 @@ pub(crate) fn print_from(
 ) -> Result<Printed, Memory>
     ensures { IfOk result (λ printed. IsPrintedFrom (located source.entry text.now) file.now text.now printed) }
 {
-    let found = found_in(alloc, text)?;
-    print_found(alloc, file, source, text, found.as_slice())
+    let (found, known) = found_in(alloc, text)?;
+    print_found(
+        alloc,
+        file,
+        source,
+        text,
+        known.as_slice(),
+        found.as_slice(),
+    )
 }
 
 /// Of these findings those that stand in a grammar at the front of their text.
 fn told_findings(found: List<Finding>, told: &Snapshot) -> List<Finding>
-    ensures { result ≡ known.told_findings told.now found }
+    ensures { result ≡ joined.told_findings told.now found }
 {
     let lines = told.line_count() - 1;
     let mut found = found.into_vec();
     found.retain(|finding| finding.place.line < lines);
     List::from_vec(found)
+}
+
+/// The findings that stand in a grammar at the front of a text, and the names with which those that stand for nothing are compared.
+fn told_in<'t>(
+    alloc: Global,
+    told: &Snapshot,
+    text: &'t Snapshot,
+) -> Result<(List<Finding>, List<&'t str>), Memory>
+    ensures { IfOk result (λ both. joined.AreToldWith told.now text.entry.now both.0 (map (λ name. name.now) both.1)) }
+{
+    let grammar = Grammar::of(alloc, text)?;
+    let all = findings_in(alloc, &grammar)?;
+    let found = told_findings(all, told);
+    let names = compared(alloc, &grammar, found.as_slice())?;
+    drop(grammar);
+    Ok((found, names))
 }
 
 /// What is printed of a file's grammar at the front of a text to which rules of others are joined.
@@ -106,11 +132,18 @@ pub(crate) fn print_told(
     told: &Snapshot,
     text: &Snapshot,
 ) -> Result<Printed, Memory>
-    ensures { IfOk result (λ printed. known.IsPrintedIn told.now (position_in_draft draft.now grammar.now text.now) file.now text.now printed) }
+    ensures { IfOk result (λ printed. joined.IsPrintedIn told.now (position_in_draft draft.now grammar.now text.now) file.now text.now printed) }
 {
-    let found = told_findings(found_in(alloc, text)?, told);
+    let (found, known) = told_in(alloc, told, text)?;
     let source = Source::Draft(draft, grammar);
-    print_found(alloc, file, source, text, found.as_slice())
+    print_found(
+        alloc,
+        file,
+        source,
+        text,
+        known.as_slice(),
+        found.as_slice(),
+    )
 }
 
 /// What is printed of a text in a file with this name: each finding in a line, in the order of the text. Lines and columns count from 1,

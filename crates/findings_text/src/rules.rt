@@ -19,8 +19,8 @@ use std::alloc::{AllocError as Memory, Global};
 
 /// The first place that defines a rule, and the rule.
 #[derive(Clone, Copy)]
-struct Head<'t> {
-    spot: Spot<'t>,
+pub(crate) struct Head<'t> {
+    pub(crate) spot: Spot<'t>,
     rule: RuleNo,
 }
 
@@ -52,7 +52,7 @@ fn new_rule<'t>(grammar: &Grammar<'t>, told: &mut [bool], spot: &Spot<'t>) -> Op
 }
 
 /// The heads among the places of a text: of each rule that it defines the first place that does.
-fn heads_of<'t>(alloc: Global, grammar: &Grammar<'t>) -> Result<List<Head<'t>>, Memory>
+pub(crate) fn heads_of<'t>(alloc: Global, grammar: &Grammar<'t>) -> Result<List<Head<'t>>, Memory>
     ensures heads { IfOk result (λ heads. map spec.head_at heads ≡ spec.heads grammar.now.names grammar.now.places) }
     ensures within { IfOk result (λ heads. All (λ head. head.rule < length grammar.now.rules) heads) }
 {

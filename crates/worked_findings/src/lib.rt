@@ -1,12 +1,18 @@
-//! Worked rows of what is printed of files: where the names of other files are known, and of their grammars.
+//! Worked rows of `abnf_findings`: near names, files whose names are known, printed grammars, and arguments.
 //!
 //! They stand above the crates that they test, since a crate with tests is proved twice.
 #![tactic(auto)]
 
 #[cfg(test)]
+mod arguments;
+#[cfg(test)]
 mod grammars;
 #[cfg(test)]
+mod hints;
+#[cfg(test)]
 mod joins;
+#[cfg(test)]
+mod near;
 #[cfg(test)]
 mod texts;
 #[cfg(test)]

@@ -133,6 +133,35 @@ const FOUND: &[Row] = &[
     ),
 ];
 
+const NEAR: &[Row] = &[
+    // a name of a known file, where a use of theirs isn't told
+    (
+        (Format::Abnf, "a = sheme / \"x\"\n"),
+        &[(Format::Abnf, "b = sheme\nscheme = \"y\"\n")],
+        "f:1:5: error: undefined rule sheme, did you mean scheme? [undefined]\n",
+    ),
+    // of names that are as near the file's own comes first, and theirs before the core rules
+    (
+        (Format::Abnf, "a = hosts / \"x\"\nhosta = \"y\"\n"),
+        &[(Format::Abnf, "host = \"1\"\n")],
+        "f:1:5: error: undefined rule hosts, did you mean hosta? [undefined]\n",
+    ),
+    (
+        (Format::Abnf, "a = DIGITS / \"x\"\n"),
+        &[(Format::Abnf, "digitx = \"2\"\n")],
+        "f:1:5: error: undefined rule DIGITS, did you mean digitx? [undefined]\n",
+    ),
+    // a nearer name of a known file
+    (
+        (
+            Format::Markdown,
+            "```abnf\n  a = segments / \"x\"\n  segmen = \"y\"\n```\n",
+        ),
+        &[(Format::Abnf, "segment = \"3\"\n")],
+        "f:2:7: error: undefined rule segments, did you mean segment? [undefined]\n",
+    ),
+];
+
 const RULES: &[Row] = &[
     (
         (Format::Abnf, "a = RWS \"x\"\n"),
@@ -207,6 +236,16 @@ fn tells_what_is_found(rt: HostRuntime) -> Result<(), FileFault> {
             file.1
         );
         assert!(rt; found.outcome != Outcome::Clean, "{}", file.1);
+    }
+    Ok(())
+}
+
+#[test]
+fn tells_near_names_of_known_files(rt: HostRuntime) -> Result<(), FileFault> {
+    assert!(rt; NEAR.len() >= 4);
+    for (file, files, lines) in NEAR {
+        let found = printed(rt.alloc(), *file, files)?;
+        assert!(rt; found.lines.as_str() == *lines, "{}", file.1);
     }
     Ok(())
 }

@@ -1,4 +1,4 @@
-use Rattle.std.proofs.Common.{◌∙◌, ap}
+use Rattle.std.proofs.Common.{◌∙◌, ap, map}
 use Rattle.std.specs.Prelude.{string_bytes}
 use Rattle.findings_text.specs.Print.{severity_text}
 use Rattle.findings_text.proofs.Grown.{line_grown}
@@ -6,9 +6,9 @@ use Rattle.findings_text.proofs.line.push_line.Goals as goal
 
 pub returns : goal.returns
 returns c =
-    line_grown c.args.file.now c.args.finding.now c.args.at
+    line_grown (map (λ name. name.now) c.args.known.now) c.args.file.now c.args.finding.now c.args.at
     (string_bytes c.args.lines.now) c.as_str.result.now c.severity_text.result.now c.as_str-2.result.now c.text.result.now
-    (c.as_str.ensures.value ∙ c.in_ok-place.ensures) (c.severity_text.ensures ∙ ap severity_text c.severity.ensures) (c.as_str-2.ensures ∙ c.in_ok-message.ensures) c.text.ensures
+    (c.as_str.ensures.value ∙ c.in_ok-place.ensures) (c.severity_text.ensures ∙ ap severity_text c.severity.ensures) (c.as_str-2.ensures.value ∙ c.in_ok-message.ensures) c.text.ensures
     (string_bytes c.push_str.new.self) (string_bytes c.push_str-2.new.self) (string_bytes c.push_str-3.new.self) (string_bytes c.push_str-4.new.self)
     (string_bytes c.push_str-5.new.self) (string_bytes c.push_str-6.new.self) (string_bytes c.push_str-7.new.self) (string_bytes c.push_str-8.new.self)
     c.in_ok-push_str.ensures.bytes c.in_ok-push_str-2.ensures.bytes c.in_ok-push_str-3.ensures.bytes c.in_ok-push_str-4.ensures.bytes

@@ -1,0 +1,129 @@
+-- What the arguments of `abnf_findings` ask for.
+use Rattle.std.specs.Prelude.{ℕ, Bool, true, false, ◌&&◌, List, [], ◌∷◌, ◌++◌, Option, Some, None, Result, Ok, Err, codes, fold, if◌then◌else◌}
+use Rattle.std.specs.Str.{bytes_eq}
+use Rattle.findings_text.specs.declared.ending.Ending.{Ending}
+use Rattle.findings_text.specs.declared.ending.Ending.TheVariants.{Usage}
+use Rattle.findings_text.specs.declared.format.Format.{Format}
+use Rattle.findings_text.specs.Endings.{is_option}
+use Rattle.findings_text.specs.Formats.{format_named}
+use Rattle.findings_arguments.specs.declared.arguments.Arguments.{Arguments}
+use Rattle.findings_arguments.specs.declared.arguments.Asked.{Asked}
+use Rattle.findings_arguments.specs.declared.arguments.Asked.TheVariants as a
+use Rattle.findings_arguments.specs.declared.arguments.Request.{Request}
+use Rattle.findings_arguments.specs.declared.arguments.Request.TheVariants as r
+use Rattle.findings_arguments.specs.declared.word.Word.{Word}
+use Rattle.findings_arguments.specs.declared.word.Word.TheVariants as w
+use Rattle.findings_arguments.specs.declared.step.Stage.{Stage}
+use Rattle.findings_arguments.specs.declared.step.Stage.TheVariants as stage
+use Rattle.findings_arguments.specs.declared.step.Step.{Step}
+use Rattle.findings_arguments.specs.declared.step.Step.TheVariants.{Goes, Ends, Wrong}
+
+-- the option that has this name
+abbrev pub option_named : List ℕ → Option Word
+option_named word =
+    if bytes_eq word (codes "--strict") then Some w.Strict
+    else (if bytes_eq word (codes "--rules") then Some w.Rules
+    else (if bytes_eq word (codes "--grammar") then Some w.Grammar
+    else (if bytes_eq word (codes "--format") then Some w.Format
+    else (if bytes_eq word (codes "--with") then Some w.With
+    else (if bytes_eq word (codes "--help") then Some w.Help
+    else (if bytes_eq word (codes "--version") then Some w.Version
+    else (if bytes_eq word (codes "--") then Some w.End else None)))))))
+
+-- what an argument is that has no option's name
+abbrev pub else_file : Bool → Option Word → Word
+else_file hyphen (Some option) = option
+else_file true None = w.Unknown
+else_file false None = w.File
+
+-- what an argument is by itself
+abbrev pub word_of : List ℕ → Word
+word_of word = else_file (is_option word) (option_named word)
+
+-- what is told where nothing is
+abbrev pub nothing_told : Arguments
+nothing_told = record { asked = a.Findings; format = None; with = []; files = [] }
+
+-- with one more file
+abbrev pub file : Stage → Arguments → List ℕ → Step
+file next told word = Goes next (record told { files = told.files ++ word ∷ [] })
+
+-- an option that says what is asked of the files: one of these stands at most
+abbrev pub asks : Asked → Asked → Arguments → Step
+asks asked a.Findings told = Goes stage.Options (record told { asked = asked })
+asks asked _ told = Wrong
+
+-- `--format`, which stands once at most
+abbrev pub awaits_format : Option Format → Arguments → Step
+awaits_format None told = Goes stage.Format told
+awaits_format (Some format) told = Wrong
+
+-- an argument that stands where an option may stand
+abbrev pub first_step : Word → Arguments → List ℕ → Step
+first_step w.Strict told word = asks a.StrictFindings told.asked told
+first_step w.Rules told word = asks a.Rules told.asked told
+first_step w.Grammar told word = asks a.Grammar told.asked told
+first_step w.Format told word = awaits_format told.format told
+first_step w.With told word = Goes stage.With told
+first_step w.Help told word = Ends r.Help
+first_step w.Version told word = Ends r.Version
+first_step w.End told word = Goes stage.Rest told
+first_step w.Unknown told word = Wrong
+first_step w.File told word = file stage.Files told word
+
+-- the name behind `--format`
+abbrev pub format_step : Option Format → Arguments → Step
+format_step (Some format) told = Goes stage.Options (record told { format = Some format })
+format_step None told = Wrong
+
+-- the file behind `--with`
+abbrev pub with_step : Word → Arguments → List ℕ → Step
+with_step w.File told word = Goes stage.Options (record told { with = told.with ++ word ∷ [] })
+with_step _ told word = Wrong
+
+-- an argument behind a file: no option stands there
+abbrev pub file_step : Word → Arguments → List ℕ → Step
+file_step w.File told word = file stage.Files told word
+file_step _ told word = Wrong
+
+-- what an argument adds to what was told before it
+abbrev pub next_step : Stage → Arguments → List ℕ → Step
+next_step stage.Options told word = first_step (word_of word) told word
+next_step stage.Format told word = format_step (format_named word) told
+next_step stage.With told word = with_step (word_of word) told word
+next_step stage.Files told word = file_step (word_of word) told word
+next_step stage.Rest told word = file stage.Rest told word
+
+-- a grammar is printed as it stands in its file, and so with no others
+abbrev pub fits : Asked → List (List ℕ) → Bool
+fits a.Grammar (other ∷ others) = false
+fits _ others = true
+
+abbrev pub names_file : List (List ℕ) → Bool
+names_file [] = false
+names_file (file ∷ files) = true
+
+-- what is asked for where no argument is left: there must be a file
+abbrev pub ended : Stage → Arguments → Result Request Ending
+ended stage.Format told = Err Usage
+ended stage.With told = Err Usage
+ended _ told = if names_file told.files && fits told.asked told.with then Ok (r.Print told) else Err Usage
+
+-- one argument more; behind what ends the reading, or is wrong, nothing counts
+abbrev pub further : Step → List ℕ → Step
+further (Goes stage told) word = next_step stage told word
+further (Ends request) word = Ends request
+further Wrong word = Wrong
+
+abbrev pub result_of : Step → Result Request Ending
+result_of (Goes stage told) = ended stage told
+result_of (Ends request) = Ok request
+result_of Wrong = Err Usage
+
+-- where the reading is behind these arguments
+abbrev pub read : List (List ℕ) → Step
+read words = fold further (Goes stage.Options nothing_told) words
+
+-- what the arguments ask for
+abbrev pub request_of : List (List ℕ) → Result Request Ending
+request_of words = result_of (read words)

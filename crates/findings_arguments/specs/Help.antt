@@ -1,0 +1,31 @@
+-- What `--help` prints.
+use Rattle.std.specs.Prelude.{ℕ, List, [], ◌∷◌, ◌++◌, codes, fold}
+use Rattle.findings_text.specs.declared.ending.Ending.TheVariants.{Usage}
+use Rattle.findings_text.specs.Endings.{line_of}
+
+abbrev pub options : List (List ℕ)
+options =
+    codes "Prints what is found in the ABNF grammars of files: of drafts in Markdown or RFCXML too."
+    ∷ codes "The file - is standard input."
+    ∷ []
+    ∷ codes "  --strict         warnings count as errors do for the exit status"
+    ∷ codes "  --rules          prints the rules and their shortest strings instead"
+    ∷ codes "  --grammar        prints the grammars themselves instead"
+    ∷ codes "  --with FILE      the names that FILE defines are known; it may stand more than once"
+    ∷ codes "  --format FORMAT  what all files are written in: abnf, markdown or xml"
+    ∷ codes "  --               what follows are files, whatever their names are"
+    ∷ codes "  --help           prints this"
+    ∷ codes "  --version        prints the version"
+    ∷ []
+
+-- a text with one more line
+abbrev pub with_line : List ℕ → List ℕ → List ℕ
+with_line text line = text ++ (line ++ 10 ∷ [])
+
+-- these lines, each with its end
+abbrev pub with_lines : List (List ℕ) → List ℕ
+with_lines lines = fold with_line [] lines
+
+-- the line of usage, and a line for each option
+abbrev pub help : List ℕ
+help = with_lines (line_of Usage ∷ options)

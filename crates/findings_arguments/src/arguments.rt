@@ -1,0 +1,114 @@
+//! What the arguments ask for.
+
+ghost use Rattle.std.specs.Prelude.{◌≡◌, ◌⊎◌, Err, IfErr, IfOk, Ok};
+ghost use Rattle.findings_arguments.specs.Arguments as spec;
+
+use crate::step::{Stage, Step, further};
+use findings_text::{Ending, Format};
+use ls_lists::{List, Text};
+use std::alloc::{AllocError, Global};
+
+/// What is asked of each file.
+#[derive(Clone, Copy, Debug, Drop, PartialEq, Eq)]
+pub enum Asked {
+    Findings,
+    /// The findings, and no warning is to pass.
+    StrictFindings,
+    Rules,
+    Grammar,
+}
+
+/// What the options and the files tell.
+#[derive(Drop)]
+pub struct Arguments {
+    pub asked: Asked,
+    /// What all files are written in, where their names don't tell it.
+    pub format: Option<Format>,
+    /// The files whose names are known.
+    pub with: List<Text>,
+    pub files: List<Text>,
+}
+
+/// What is to be done.
+#[derive(Drop)]
+pub enum Request {
+    /// To print how the program is used.
+    Help,
+    /// To print which version it is.
+    Version,
+    /// To print what is asked of files. There is one at least.
+    Print(Arguments),
+}
+
+/// What is told where nothing is.
+fn nothing_told(alloc: Global) -> Arguments
+    ensures { result ≡ spec.nothing_told }
+{
+    Arguments {
+        asked: Asked::Findings,
+        format: None,
+        with: List::new(alloc),
+        files: List::new(alloc),
+    }
+}
+
+/// Whether what is asked for goes with other files, whose names are known.
+fn fits(asked: Asked, with: &List<Text>) -> bool
+    ensures { result ≡ spec.fits asked with.now }
+{
+    match asked {
+        Asked::Grammar => with.is_empty(),
+        Asked::Findings | Asked::StrictFindings | Asked::Rules => true,
+    }
+}
+
+/// What is asked for where no argument is left.
+fn ended(stage: Stage, told: Arguments) -> Result<Request, Ending>
+    ensures { result ≡ spec.ended stage told }
+{
+    match stage {
+        Stage::Format | Stage::With => Err(Ending::Usage),
+        Stage::Options | Stage::Files | Stage::Rest => {
+            if told.files.is_empty() || !fits(told.asked, &told.with) {
+                return Err(Ending::Usage);
+            }
+            Ok(Request::Print(told))
+        }
+    }
+}
+
+fn result_of(step: Step) -> Result<Request, Ending>
+    ensures { result ≡ spec.result_of step }
+{
+    match step {
+        Step::Goes(stage, told) => ended(stage, told),
+        Step::Ends(request) => Ok(request),
+        Step::Wrong => Err(Ending::Usage),
+    }
+}
+
+/// Where the reading is behind these arguments.
+fn read(alloc: Global, words: &[Text]) -> Result<Step, AllocError>
+    ensures { IfOk result (λ step. step ≡ spec.read words.now) }
+{
+    let mut step = Step::Goes(Stage::Options, nothing_told(alloc));
+    for word in words {
+        step = further(alloc, step, word.as_str())?;
+    }
+    Ok(step)
+}
+
+/// What the arguments ask for, without the name of the program.
+///
+/// # Errors
+///
+/// `Usage` where they are no arguments of the program, and `OutOfMemory`.
+pub fn request_of(alloc: Global, words: &[Text]) -> Result<Request, Ending>
+    ensures ok { IfOk result (λ request. spec.request_of words.now ≡ Ok request) }
+    ensures err { IfErr result (λ ending. (ending ≡ Ending.OutOfMemory) ⊎ (spec.request_of words.now ≡ Err ending)) }
+{
+    match read(alloc, words) {
+        Ok(step) => result_of(step),
+        Err(_) => Err(Ending::OutOfMemory),
+    }
+}

@@ -1,0 +1,17 @@
+//! Laws of arguments. The functions do nothing.
+
+ghost use Rattle.std.specs.Prelude.{◌≡◌, ◌≢◌, [], ◌∷◌, ◌++◌, All, List, Ok, ℕ, codes};
+ghost use Rattle.findings_arguments.specs.Arguments.{nothing_told, request_of, word_of};
+ghost use Rattle.findings_arguments.specs.declared.arguments.Request.TheVariants as r;
+ghost use Rattle.findings_arguments.specs.declared.word.Word.TheVariants as w;
+
+/// `--help` asks for help, whatever follows it.
+pub fn help_comes_first()
+    ensures { (words : List (List ℕ)) → request_of (codes "--help" ∷ words) ≡ Ok r.Help }
+{}
+
+/// Files with no option ahead of them are asked for their findings.
+pub fn files_alone_ask_for_findings()
+    ensures { (files : List (List ℕ)) → files ≢ [] → All (λ file. word_of file ≡ w.File) files
+        → request_of files ≡ Ok (r.Print (record nothing_told { files = files })) }
+{}

@@ -1,0 +1,152 @@
+//! What one argument more tells.
+
+ghost use Rattle.std.specs.Prelude.{◌≡◌, ◌++◌, ◌∷◌, [], IfOk};
+ghost use Rattle.findings_text.specs.Formats.{format_named};
+ghost use Rattle.findings_arguments.specs.Arguments as spec;
+
+use crate::arguments::{Arguments, Asked, Request};
+use crate::word::{Word, word_of};
+use findings_text::Format;
+use ls_lists::{List, Text};
+use std::alloc::{AllocError, Global};
+
+/// What may stand next.
+#[derive(Clone, Copy, Debug, Drop, PartialEq, Eq)]
+pub(crate) enum Stage {
+    /// An option, or a file.
+    Options,
+    /// The name of a format.
+    Format,
+    /// A file whose names are known.
+    With,
+    /// A file, and no option any more.
+    Files,
+    /// Files, whatever their names are.
+    Rest,
+}
+
+/// Where the reading is.
+#[derive(Drop)]
+pub(crate) enum Step {
+    /// It goes on, and this was told.
+    Goes(Stage, Arguments),
+    /// What follows doesn't count.
+    Ends(Request),
+    Wrong,
+}
+
+/// With one more file.
+fn and_file(alloc: Global, files: List<Text>, file: &str) -> Result<List<Text>, AllocError>
+    ensures { IfOk result (λ more. more ≡ files ++ file.now ∷ []) }
+{
+    let mut files = files;
+    files.push(Text::from_str(alloc, file)?)?;
+    Ok(files)
+}
+
+/// An option that says what is asked of the files: one of these stands at most.
+fn asks(asked: Asked, told: Arguments) -> Step
+    ensures { result ≡ spec.asks asked told.asked told }
+{
+    match told.asked {
+        Asked::Findings => Step::Goes(Stage::Options, Arguments { asked, ..told }),
+        Asked::StrictFindings | Asked::Rules | Asked::Grammar => Step::Wrong,
+    }
+}
+
+/// `--format`, which stands once at most.
+fn awaits_format(told: Arguments) -> Step
+    ensures { result ≡ spec.awaits_format told.format told }
+{
+    match told.format {
+        None => Step::Goes(Stage::Format, told),
+        Some(_) => Step::Wrong,
+    }
+}
+
+/// A file that is told.
+fn file(alloc: Global, stage: Stage, told: Arguments, word: &str) -> Result<Step, AllocError>
+    ensures { IfOk result (λ step. step ≡ spec.file stage told word.now) }
+{
+    let files = and_file(alloc, told.files, word)?;
+    Ok(Step::Goes(stage, Arguments { files, ..told }))
+}
+
+/// An argument that stands where an option may stand.
+fn first_step(alloc: Global, told: Arguments, word: &str) -> Result<Step, AllocError>
+    ensures { IfOk result (λ step. step ≡ spec.first_step (spec.word_of word.now) told word.now) }
+{
+    match word_of(word) {
+        Word::Strict => Ok(asks(Asked::StrictFindings, told)),
+        Word::Rules => Ok(asks(Asked::Rules, told)),
+        Word::Grammar => Ok(asks(Asked::Grammar, told)),
+        Word::Format => Ok(awaits_format(told)),
+        Word::With => Ok(Step::Goes(Stage::With, told)),
+        Word::Help => Ok(Step::Ends(Request::Help)),
+        Word::Version => Ok(Step::Ends(Request::Version)),
+        Word::End => Ok(Step::Goes(Stage::Rest, told)),
+        Word::Unknown => Ok(Step::Wrong),
+        Word::File => file(alloc, Stage::Files, told, word),
+    }
+}
+
+/// The name behind `--format`.
+fn format_step(told: Arguments, name: &str) -> Step
+    ensures { result ≡ spec.format_step (format_named name.now) told }
+{
+    match Format::named(name) {
+        Some(format) => Step::Goes(
+            Stage::Options,
+            Arguments {
+                format: Some(format),
+                ..told
+            },
+        ),
+        None => Step::Wrong,
+    }
+}
+
+/// The file behind `--with`.
+fn with_step(alloc: Global, told: Arguments, word: &str) -> Result<Step, AllocError>
+    ensures { IfOk result (λ step. step ≡ spec.with_step (spec.word_of word.now) told word.now) }
+{
+    if word_of(word) != Word::File {
+        return Ok(Step::Wrong);
+    }
+    let with = and_file(alloc, told.with, word)?;
+    Ok(Step::Goes(Stage::Options, Arguments { with, ..told }))
+}
+
+/// An argument behind a file: no option stands there.
+fn file_step(alloc: Global, told: Arguments, word: &str) -> Result<Step, AllocError>
+    ensures { IfOk result (λ step. step ≡ spec.file_step (spec.word_of word.now) told word.now) }
+{
+    if word_of(word) != Word::File {
+        return Ok(Step::Wrong);
+    }
+    file(alloc, Stage::Files, told, word)
+}
+
+/// What an argument adds to what was told before it.
+fn next_step(alloc: Global, stage: Stage, told: Arguments, word: &str) -> Result<Step, AllocError>
+    ensures { IfOk result (λ step. step ≡ spec.next_step stage told word.now) }
+{
+    match stage {
+        Stage::Options => first_step(alloc, told, word),
+        Stage::Format => Ok(format_step(told, word)),
+        Stage::With => with_step(alloc, told, word),
+        Stage::Files => file_step(alloc, told, word),
+        Stage::Rest => file(alloc, Stage::Rest, told, word),
+    }
+}
+
+/// One argument more. Behind what ends the reading, or is wrong, nothing counts.
+pub(crate) fn further(alloc: Global, before: Step, word: &str) -> Result<Step, AllocError>
+    ensures { IfOk result (λ step. step ≡ spec.further before word.now) }
+{
+    match before {
+        Step::Goes(stage, told) => next_step(alloc, stage, told, word),
+        Step::Ends(request) => Ok(Step::Ends(request)),
+        Step::Wrong => Ok(Step::Wrong),
+    }
+}
