@@ -8,6 +8,14 @@
 (with-eval-after-load 'eglot
   (add-to-list 'eglot-server-programs '(abnf-mode . ("/path/to/abnf_ls/out/abnf_ls"))))
 (add-hook 'abnf-mode-hook #'eglot-ensure)
+;; The eglot of Emacs 30 (1.17) leaves a path with characters outside ASCII in bytes, and then finds no buffer for the findings. This
+;; decodes such a path, of each server.
+(defun abnf-decoded-path (path)
+  "PATH, decoded from UTF-8 where its bytes aren't yet."
+  (and path (decode-coding-string path 'utf-8)))
+(with-eval-after-load 'eglot
+  (when (fboundp 'eglot-uri-to-path)
+    (advice-add 'eglot-uri-to-path :filter-return #'abnf-decoded-path)))
 ;; A later eglot has eldoc cut a hover behind its first line, before the example. This has it shown whole, in grammars alone.
 (defun abnf-show-hover (show text &rest _)
   "Show TEXT by SHOW, all of it."

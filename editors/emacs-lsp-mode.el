@@ -4,7 +4,7 @@
 ;; M-. goes from a name to its definition, M-? lists its uses, M-x lsp-rename renames it, M-x imenu has the outline, what a rule
 ;; generates at the shortest stands in the echo area, with the example, and M-x lsp-execute-code-action inserts that as a comment.
 ;; M-x lsp-workspace-restart starts the server anew. At the first grammar of a folder lsp-mode asks where the project lies: i is that
-;; folder. M-? leaves out the places that define the name.
+;; folder. Before lsp-mode 9 M-? leaves out the places that define the name.
 (load (expand-file-name "emacs-abnf-mode" (file-name-directory load-file-name)) nil t)
 (with-eval-after-load 'lsp-mode
   (add-to-list 'lsp-language-id-configuration '(abnf-mode . "abnf"))
@@ -13,7 +13,8 @@
                     :activation-fn (lsp-activate-on "abnf")
                     :server-id 'abnf_ls)))
 (defun abnf-start-lsp ()
-  "Start the server, and have a hover shown whole: the example is its second line."
-  (setq-local lsp-eldoc-render-all t)
+  "Start the server, and have all of a hover shown, whose second line is the example, and the findings beside it."
+  (setq-local lsp-eldoc-render-all t
+              eldoc-documentation-strategy #'eldoc-documentation-compose)
   (lsp))
 (add-hook 'abnf-mode-hook #'abnf-start-lsp)

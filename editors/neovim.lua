@@ -2,7 +2,9 @@
 --   dofile(vim.fn.expand("~/.local/share/abnf_ls/editors/neovim.lua"))
 -- gd goes from a name to its definition, grr lists its places, grn renames it, gO shows the outline, K what a rule generates at the
 -- shortest, and gra inserts that as a comment. From 0.10 on names are coloured by what they are. Faults are marked when Insert mode ends;
--- vim.diagnostic.config({ update_in_insert = true }) has them marked as you type, in all files. :edit starts a server that has ended.
+-- vim.diagnostic.config({ update_in_insert = true }) has them marked as you type, in all files. From 0.11 on a sign and an underline are
+-- all of the mark: Ctrl-W d shows what is wrong, and vim.diagnostic.config({ virtual_text = true }) has it behind each line, in all files.
+-- :edit starts a server that has ended, and from 0.12 on :lsp restart abnf_ls starts one anew that runs.
 vim.api.nvim_create_autocmd({ "BufRead", "BufNewFile" }, { pattern = "*.abnf", command = "setfiletype abnf" })
 local started = {}
 vim.api.nvim_create_autocmd("FileType", {
@@ -30,5 +32,5 @@ vim.api.nvim_create_autocmd("FileType", {
 })
 if vim.fn.has("nvim-0.9") == 1 then -- a name that is defined here, and one of a core rule
   vim.cmd("highlight default link @lsp.typemod.type.definition.abnf Function")
-  vim.cmd("highlight default link @lsp.typemod.type.defaultLibrary.abnf Special")
+  vim.cmd("highlight default link @lsp.typemod.type.defaultLibrary.abnf Identifier")
 end

@@ -1,14 +1,21 @@
 #!/usr/bin/env python3
-"""Checks that the grammars which the tests read are those of examples/, byte for byte.
+"""Checks that the grammars which the tests read are those of examples/, byte for byte, and that the pattern of the recipe in
+examples/github reads each line of findings that the worked rows have.
 
 Tests can't read files, so this source has each grammar as a constant RFC_N. Those of examples/known/ are read by no test.
 """
+import json
 import os
 import re
 import sys
 
+import findings_rows
+
 SOURCE = "crates/example_grammars/src/lib.rt"
+MATCHER = ("examples", "github", "matcher.json")
 TOP = os.path.dirname(os.path.dirname(os.path.abspath(__file__)))
+FINDING = re.compile(r"\d+:\d+: (error|warning): ")
+DRAFT = "a draft: \u00e9.md"
 
 
 def read(*path):
@@ -16,13 +23,41 @@ def read(*path):
         return file.read()
 
 
-def main():
+def other_grammars():
+    """What differs between the grammars of the tests and those of examples/."""
     constants = dict(re.findall(r'const RFC_(\d+): &str =\s*r##"(.*?)"##;', read(SOURCE), re.S))
-    names = [name for name in os.listdir(os.path.join(TOP, "examples")) if name.endswith(".abnf")]
+    names = [it for it in os.listdir(os.path.join(TOP, "examples")) if it.endswith(".abnf")]
     files = {name[3:-5]: read("examples", name) for name in names}
     wrong = sorted(number for number in files.keys() | constants.keys() if files.get(number) != constants.get(number))
-    for number in wrong:
-        print(f"examples/rfc{number}.abnf and RFC_{number} in {SOURCE} differ", file=sys.stderr)
+    return [f"examples/rfc{number}.abnf and RFC_{number} in {SOURCE} differ" for number in wrong]
+
+
+def strings(value):
+    """All strings in a table of rows."""
+    if isinstance(value, str):
+        yield value
+    elif isinstance(value, tuple):
+        for it in value:
+            yield from strings(it)
+
+
+def unread_lines():
+    """What the recipe's pattern makes wrongly of the lines that the worked rows have."""
+    (pattern,) = json.loads(read(*MATCHER))["problemMatcher"][0]["pattern"]
+    parts = [pattern[it] for it in ("file", "line", "column", "severity", "message", "code")]
+    lines = sorted({it for it in strings((findings_rows.ROWS, findings_rows.DRAFT_ROWS, findings_rows.XML_ROWS)) if FINDING.match(it)})
+    for line in lines:
+        found = re.search(pattern["regexp"], f"{DRAFT}:{line}")
+        if not found or found[parts[0]] != DRAFT or "{}:{}: {}: {} [{}]".format(*(found[it] for it in parts[1:])) != line:
+            yield f"{'/'.join(MATCHER)} doesn't read: {line}"
+    if not lines:
+        yield "there are no lines of findings to read"
+
+
+def main():
+    wrong = [*other_grammars(), *unread_lines()]
+    for it in wrong:
+        print(it, file=sys.stderr)
     sys.exit(1 if wrong else 0)
 
 

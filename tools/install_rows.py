@@ -36,6 +36,7 @@ FILES = (
     "share/abnf_ls/editors/vim-ale.vim",
     "share/abnf_ls/editors/vim-ycm.vim",
     "share/abnf_ls/editors/vscode/extension.js",
+    "share/abnf_ls/editors/vscode/language-configuration.json",
     "share/abnf_ls/editors/vscode/package.json",
     "share/abnf_ls/installed",
     "share/man/man1/abnf_findings.1",

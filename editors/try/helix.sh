@@ -3,7 +3,8 @@
 # grammar, looks at its diagnostic, asks for a hover, goes to a definition, renames a name, takes the code action, lists references and
 # the outline, starts the server anew, asks again, and ends. What Helix shows is read from the terminal, what it writes from the file.
 # Usage: helix.sh PROGRAM. HX names the editor (hx if left out). Status 0: all right, 1: a wrong answer, 2: it could not be tried.
-# The snippet is taken as it stands, but for the path of the program. By the keys of Helix 25; it has not been run with one.
+# The snippet is taken as it stands, but for the path of the program. The keys are those of Helix 25. Escape is sent by itself: with a key
+# close behind it a terminal has another key.
 set -euo pipefail
 . "$(dirname -- "$(realpath -- "${BASH_SOURCE[0]}")")/terminal.sh"
 set_up "${HX:-hx}" "$@"
@@ -22,14 +23,15 @@ go 3 12; keys Space k; shows "a hover" 'shortest length 2' 'example hi'
 go 3 12; keys g d; shows "a definition" '4:1'
 go 7 12; keys Space r; keys C-u; keys -l 'salutation'; keys Enter
 sed 's/hello\([^"]\|$\)/salutation\1/g' "$folder/whole" > "$folder/renamed"
-writes "a rename over the whole file" "$folder/renamed" Escape ':w' Enter
+keys Escape; writes "a rename over the whole file" "$folder/renamed" ':w' Enter
 go 4 1; keys Space a; shows "the code action" 'Insert shortest example'; keys Enter
 sed 's/^salutation/; example hi\n&/' "$folder/renamed" > "$folder/with_example"
-writes "the text with the example" "$folder/with_example" Escape ':w' Enter
+keys Escape; writes "the text with the example" "$folder/with_example" ':w' Enter
 go 8 1; keys m i W; keys Space r; shows "the name that a rename proposes of a name that is selected" 'id-right'; keys Escape
 go 5 1; keys g r; shows "references" '4/4'; keys Escape
 go 1 1; keys Space s; shows "the outline" 'greeting' 'salutation' 'NAME' 'id-right'; keys Escape
+# (a server that is started anew is a complaint of its own)
+if log=$(grep -h -E 'helix_lsp[^ ]* \[(ERROR|WARN)\]' "$XDG_CACHE_HOME/helix/helix.log" 2>/dev/null); then is "the log" "$log" ""; fi
 keys Escape; keys ':lsp-restart' Enter; sleep 1
 go 5 1; keys Space k; shows "a hover after a restart" 'example hi'
-if log=$(grep -h -E 'helix_lsp[^ ]* \[(ERROR|WARN)\]' "$XDG_CACHE_HOME/helix/helix.log" 2>/dev/null); then is "the log" "$log" ""; fi
-finish Escape ':q!' Enter
+keys Escape; finish ':q!' Enter

@@ -8,17 +8,19 @@
 set -euo pipefail
 . "$(dirname -- "$(realpath -- "${BASH_SOURCE[0]}")")/terminal.sh"
 set_up "${EMACS:-emacs}" "$@"
-mkdir "$folder/.emacs.d"
-snippet emacs-lsp-mode.el > "$folder/emacs-lsp-mode.el"
-snippet emacs-abnf-mode.el > "$folder/emacs-abnf-mode.el"
+# (a home isn't taken for a project)
+export HOME="$folder/home"; mkdir -p "$HOME/.emacs.d"
+snippet emacs-lsp-mode.el > "$HOME/emacs-lsp-mode.el"
+snippet emacs-abnf-mode.el > "$HOME/emacs-abnf-mode.el"
 {
   echo '(setq make-backup-files nil create-lockfiles nil inhibit-startup-screen t native-comp-async-report-warnings-errors nil)'
   echo '(load "~/emacs-lsp-mode.el")'
-} > "$folder/.emacs.d/init.el"
+} > "$HOME/.emacs.d/init.el"
 "$editor" --batch -l package --eval '(progn (package-activate-all) (kill-emacs (if (locate-library "lsp-mode") 0 1)))' 2>/dev/null ||
   cannot "no lsp-mode in this Emacs"
 run() { keys C-g; keys M-:; keys -l "$1"; keys Enter; }
-go() { run "(progn (goto-line $1) (move-to-column $2))"; }
+# The echo area shows a hover after a movement, not after a command.
+go() { run "(progn (goto-line $1) (move-to-column $2))"; keys C-f; keys C-b; }
 ask() { keys M-x; keys -l "$1"; keys Enter; }
 
 start "$editor" -nw "$file"
@@ -28,8 +30,8 @@ run '(mapcar (function flymake-diagnostic-text) (flymake-diagnostics))'; shows "
 run '(remq nil (mapcar (function car) (imenu--make-index-alist)))'; shows "the outline" 'greeting' 'hello' 'NAME' 'name' 'id-right'
 go 3 12; shows "a hover" 'shortest length 2' 'example hi'
 go 3 12; keys M-.; shows "a definition" ' L4 '
-# lsp-mode asks for the uses of a name, without its definitions.
-go 5 1; ask lsp-find-references; shows "references" '3: greeting' '6: name'; keys q; keys C-x 1
+# Before version 9 lsp-mode asks for the uses of a name, without its definitions. Each stands in the list beside the file.
+go 5 1; ask lsp-find-references; times=2 shows "references" 'greeting = hello' 'x"/hello'; keys q; keys C-x 1
 go 7 13; ask lsp-rename; keys C-a; keys C-k; keys -l salutation; keys Enter
 sed 's/hello\([^"]\|$\)/salutation\1/g' "$folder/whole" > "$folder/renamed"
 writes "a rename over the whole file" "$folder/renamed" C-x C-s

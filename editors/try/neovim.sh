@@ -150,7 +150,7 @@ local ok, err = pcall(function()
   is("attached", tostring(ready()), "true")
   is("a hyphen belongs to a word", vim.fn.matchstr("id-right = a", [[\k*]]), "id-right")
   if vim.fn.has("nvim-0.9") == 1 then
-    for mod, group in pairs({ definition = "Function", defaultLibrary = "Special" }) do
+    for mod, group in pairs({ definition = "Function", defaultLibrary = "Identifier" }) do
       is("colour of " .. mod, tostring(vim.api.nvim_get_hl(0, { name = "@lsp.typemod.type." .. mod .. ".abnf" }).link), group)
     end
   end

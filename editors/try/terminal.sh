@@ -32,12 +32,12 @@ start() { # COMMAND..: in the terminal
 }
 screen() { in_tmux capture-pane -p -t try; }
 keys() { in_tmux send-keys -t try "$@"; sleep 0.2; }
-shows() { # WHAT TEXT..: each text stands in the terminal within ten seconds
+shows() { # WHAT TEXT..: each text stands in the terminal within ten seconds, on as many lines as `times` says, one if it is left out
   local what=$1 text missing end=$((SECONDS + 10))
   shift
   while :; do
     missing=
-    for text in "$@"; do grep -qF -- "$text" <<<"$(screen)" || missing=$text; done
+    for text in "$@"; do [ "$(grep -cF -- "$text" <<<"$(screen)")" -ge "${times:-1}" ] || missing=$text; done
     [ -n "$missing" ] && [ "$SECONDS" -lt "$end" ] || break
     sleep 0.1
   done
