@@ -1,4 +1,4 @@
-"""The figures that README and the pages of docs/ tell, which are those of counts.txt.
+"""The figures that the pages of docs/ tell, which are those of counts.txt.
 
 A figure is found by the words around it, and written anew by `tools/counts.py --raise`.
 """
@@ -9,7 +9,7 @@ from typing import Any, NamedTuple
 import failing_devices
 from rows import TOP
 
-README, GATE, TESTING = "README.md", "docs/GATE.md", "docs/TESTING.md"
+GATE, TESTING = "docs/GATE.md", "docs/TESTING.md"
 
 
 def all_of(counts, *words):
@@ -76,13 +76,8 @@ def failing_devices_of(counts):
 SESSIONS, REPLIES = (sum_of(*(f"list {it}_rows.{name}" for it in ("session", "encoding"))) for name in ("SESSIONS", "REPLIES"))
 REFUSED_TO_THREADS = sum_of("cases refused_sessions.FIRST", "cases refused_sessions.SAMPLE")
 RANDOM_TEXTS = sum_of(*(f"cases random_texts.COUNTS.{it}" for it in ("utf-8", "utf-16", "utf-32")))
+KNOWN_FILES = counts_of("list findings_rows.WITH_ROWS", "list findings_rows.GRAMMAR_ROWS")
 FIGURES = (
-    Figure(README, "on several threads {} of some", REFUSED_TO_THREADS),
-    Figure(README, "**Devices**: {} runs in which", failing_devices_of),
-    Figure(README, "**Input**: {} random streams", count_of("cases broken_input.COUNT")),
-    Figure(README, "**Order**: {} random sessions", count_of("cases random_steps.SESSIONS")),
-    Figure(README, "{} random sessions they are shaken", count_of("cases shaken_threads.COUNT")),
-    Figure(README, "**Proofs**: {} edits of code", lambda counts: all_of(counts, "edits")[0]),
     Figure(GATE, "(../counts.txt) has {} edits in {} crates", lambda counts: all_of(counts, "edits")),
     Figure(TESTING, "| tests of the crates | {} in {} crates |", lambda counts: all_of(counts, "tests")),
     Figure(TESTING, "| edits that must be refused | {} in {} crates |", lambda counts: all_of(counts, "edits")),
@@ -95,9 +90,9 @@ FIGURES = (
     Figure(TESTING, "| checks of certificates | {} |", count_of("list command_rows.CHECKS")),
     Figure(TESTING, "| texts of `abnf_findings` | {}, of rules {} |", counts_of("list findings_rows.ROWS", "list findings_rows.RULE_ROWS")),
     Figure(TESTING, "| drafts of `abnf_findings` | {}, in RFCXML {} |", counts_of("list findings_rows.DRAFT_ROWS", "list findings_rows.XML_ROWS")),
-    Figure(TESTING, "| files with known ones | {}, printed grammars {} |", counts_of("list findings_rows.WITH_ROWS", "list findings_rows.GRAMMAR_ROWS")),
+    Figure(TESTING, "| files with known ones | {}, printed grammars {} |", KNOWN_FILES),
     Figure(TESTING, "| rows of `./install` | {} |", count_of("rows install install_rows")),
-    Figure(TESTING, "| runs with devices that fail | {} |", failing_devices_of),
+    Figure(TESTING, "| runs with devices that fail, of each program | {} |", failing_devices_of),
     Figure(TESTING, "Each of its {} reads fails", lambda counts: -(-len(failing_devices.GIVEN) // failing_devices.PIECE)),
     Figure(TESTING, "each of its {} writes fails", lambda counts: sum(map(failing_devices.leads_on, failing_devices.SESSION))),
     Figure(TESTING, "| random texts | {} |", RANDOM_TEXTS),
@@ -126,13 +121,13 @@ def page(name):
 
 def faults(counts):
     """The figures that aren't those of the counts."""
-    pages = {name: page(name) for name in (README, GATE, TESTING)}
+    pages = {name: page(name) for name in (GATE, TESTING)}
     return [fault for it in figures(counts) if (fault := it.fault(pages[it.page], counts))]
 
 
 def write(counts):
     """Puts the figures by these counts into the pages."""
-    for name in (README, GATE, TESTING):
+    for name in (GATE, TESTING):
         text = before = page(name)
         for it in figures(counts):
             text = it.put(text, counts) if it.page == name else text

@@ -374,8 +374,9 @@ def grammar_cases(program, files):
                 yield what, (status, said, grammar), (status_of(found, False), b"", printed(file, found))
                 continue
             yield what, (status, said), (0, b"")
-            again = ended(program, None, [files.written("grammar.abnf", grammar)])
-            yield f"findings in {what}", (again[0], without_places(again[2])), (status_of(found, False), without_places(printed(file, found)))
+            status, _, wrote = ended(program, None, [files.written("grammar.abnf", grammar)])
+            wanted = without_places(printed(file, found))
+            yield f"findings in {what}", (status, without_places(wrote)), (status_of(found, False), wanted)
     none, good = files.path("none"), files.written("good.abnf", 'a = "x"')
     yield "a grammar, and no file", ended(program, None, ["--grammar", none, good]), (2, f"cannot read {none}\n".encode(), b'a = "x"')
     for words in (["--grammar"], ["--grammar", "--rules", good], ["--strict", "--grammar", good], ["--grammar", "--grammar", good]):
@@ -500,7 +501,7 @@ def memory_cases(program, files):
         ("drafts", [], drafts, 1, "2:1: warning: no earlier definition of a [no-base]", "2:9: error: bad character [syntax]"),
         ("rules of drafts", ["--rules"], drafts, 0, "2:1: a: shortest length 1: x", "2:3: a: not known"),
         ("drafts in XML", [], pages, 1, "1:22: warning: no earlier definition of a [no-base]", "1:36: error: bad character [syntax]"),
-        ("files with others", known, [doubtful, uses[1]], 1, "1:1: warning: no earlier definition of a [no-base]", "2:13: error: bad character [syntax]"),
+        ("uses of others", known, [doubtful, uses[1]], 1, "1:1: warning: no earlier definition of a [no-base]", "2:13: error: bad character [syntax]"),
         ("rules with others", ["--rules", *known], uses, 0, "1:1: c: not known", "2:1: c: not known"),
         ("grammars", ["--grammar"], [doubtful, drafts[1]], 0, b'a =/ "x"', b"a = b ?\n"),
         ("grammars of XML", ["--grammar"], pages, 0, b'a =/ "x"\n', b"a = <p> ?\n"),
@@ -510,7 +511,8 @@ def memory_cases(program, files):
             found = refusals(program, made, [*options, one, other])
         whole = before + behind
         others = {*found[:-1]} - {(6, said, b""), (6, said, before), (status, refused_memory.REFUSED, whole)}
-        yield f"{what}, {len(found) - 1} allocations refused in turn", (len(found) > (20 if isinstance(first, bytes) else 60), sorted(others)), (True, [])
+        least = 20 if isinstance(first, bytes) else 60
+        yield f"{what}, {len(found) - 1} allocations refused in turn", (len(found) > least, sorted(others)), (True, [])
         yield f"{what}, no allocation refused", found[-1], (status, b"", whole)
 
 

@@ -2,52 +2,64 @@
 """Tries the edits crates/NAME/must-not-compile/*.edit: each must be refused with the error that it names.
 
 They are edits that the borrow checker refuses before anything is proved, which `rt ci` doesn't take. Each is read as those of
-tools/refused_edits.py are, and has a line 'error: CODE' beside. It is applied to a copy of the crates.
+tools/refused_edits.py are, and has a line 'error: CODE' beside. It is applied to a copy of its crate, over libraries that stand as the
+edits' tool has them: from the store of `rt`, or built in this checkout. So no library is proved for it where `rt ci` has passed.
 """
 import os
-import subprocess
 import sys
 import tempfile
 
+from edits import checks, copies
 from edits.files import BAD_NAME, edits_in, read, write
-from edits.libraries import copy_crates
+from edits.kit import DOES_KEEP, crates_of
+from edits.libraries import Gate, Libraries, copy_crates
+from edits.store import NoStore, Store
+from edits.verdict import TIMED_OUT
 
 TOP = os.path.dirname(os.path.dirname(os.path.abspath(__file__)))
-SECONDS = 600
-
-
-def what_rt_says(crate, texts):
-    """What `rt check` says of a crate with these texts of files, of which it proves nothing."""
-    with tempfile.TemporaryDirectory() as at:
-        copy_crates(TOP, f"{at}/copy")
-        folder = f"{at}/copy/crates/{crate}"
-        for path, text in texts.items():
-            write(f"{folder}/{path}", text)
-        how = {"cwd": folder, "stdout": subprocess.PIPE, "stderr": subprocess.STDOUT, "text": True, "check": False, "timeout": SECONDS}
-        return subprocess.run(["rt", "check", "--only="], **how).stdout
+NOTHING_PROVED = ("--only", "")
 
 
 def tried(crate, path):
     """Whether an edit is refused with the error that it names, and what to say of it."""
-    texts, others, why = read(path, os.path.join(TOP, "crates", crate), ("file", "old", "new", "error"))
+    texts, others, why = read(path, crate.folder, ("file", "old", "new", "error"))
     if why or len(others["error"]) != 1:
         return False, f"BAD EDIT: {why or 'it wants one line error:'}"
-    try:
-        is_refused = f"error[{others['error'][0]}]" in what_rt_says(crate, texts)
-    except subprocess.TimeoutExpired:
-        return False, f"NOT TRIED: its check had not ended after {SECONDS} seconds"
+    with copies.room() as folder:
+        copies.copied(crate.folder, folder)
+        for name, text in texts.items():
+            write(f"{folder}/{name}", text)
+        ended = checks.checked(crate, folder, NOTHING_PROVED)
+    if ended.returncode == TIMED_OUT:
+        return False, "NOT TRIED: its check took too long"
+    is_refused = f"error[{others['error'][0]}]" in ended.stdout
     return is_refused, "refused, as it must be" if is_refused else "NOT refused as it names"
 
 
+def results_in(folder):
+    """What each edit comes to, on a copy of the crates in this folder."""
+    copy_crates(TOP, folder)
+    crates, results = crates_of(folder), {}
+    found = {it: edits_in(f"{it.folder}/must-not-compile") for it in crates}
+    needed = {below for it, (good, _) in found.items() if good for below in it.below()}
+    libraries = Libraries(TOP, Store(crates) if DOES_KEEP else NoStore(), Gate(None))
+    lost = {it for it, is_there in libraries.arriving([it for it in crates if it in needed]) if not is_there}
+    for crate, (good, bad) in found.items():
+        results.update({f"{crate.name}/{it}": (False, BAD_NAME) for it in bad})
+        for it in good:
+            is_whole = lost.isdisjoint(crate.below())
+            why = False, "NOT TRIED: a library below its crate isn't proved"
+            results[f"{crate.name}/{it}"] = tried(crate, f"{crate.folder}/must-not-compile/{it}") if is_whole else why
+    return results
+
+
 def main():
-    results = {}
-    for crate in sorted(os.listdir(os.path.join(TOP, "crates"))):
-        folder = os.path.join(TOP, "crates", crate, "must-not-compile")
-        good, bad = edits_in(folder)
-        results.update({f"{folder}/{it}": tried(crate, f"{folder}/{it}") for it in good})
-        results.update({f"{folder}/{it}": (False, BAD_NAME) for it in bad})
-    for path, (_, text) in results.items():
-        print(f"must-not-compile {os.path.relpath(path, TOP)}: {text}")
+    # (its first call starts a process that ends all checks with this one)
+    checks.RTLIB.guarded()
+    with tempfile.TemporaryDirectory(prefix=f"rt-edits-{os.getpid()}-") as at:
+        results = results_in(f"{at}/repository")
+    for name, (_, text) in results.items():
+        print(f"must-not-compile {name}: {text}")
     if not results:
         print("must-not-compile: there are no edits")
     return 0 if results and all(is_well for is_well, _ in results.values()) else 1

@@ -1,6 +1,6 @@
 #!/usr/bin/env python3
-"""Puts random grammars into drafts in Markdown, and compares what `abnf_findings` finds in a draft with what it finds in its grammar; and the
-same of grammars beside others whose names are known.
+"""Puts random grammars into drafts in Markdown, and compares what `abnf_findings` finds in a draft with what it finds in its grammar.
+It does the same with grammars beside others whose names are known.
 
     tools/random_drafts.py [PROGRAM [COUNT [SEED]]]
 
@@ -139,7 +139,8 @@ def known_cases(program, count, seed):
             lines_joined += len(whole) - len(lines)
             for options in ([], ["--rules"]):
                 found = told(program, [*options, *(word for it in known for word in ("--with", it))], text, "g")
-                moved = [moved_line(line, [(at, by) for at in range(len(whole))]) for line in told(program, options, "\n".join(whole), "g")[2]]
+                moves = [(at, by) for at in range(len(whole))]
+                moved = [moved_line(line, moves) for line in told(program, options, "\n".join(whole), "g")[2]]
                 wanted = [line for line in moved if int(PLACE.fullmatch(line)[1]) <= len(lines)]
                 lines_told += len(wanted)
                 if found != (int(any(": error: " in it for it in wanted) and not options), b"", wanted):

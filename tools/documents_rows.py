@@ -1,0 +1,129 @@
+#!/usr/bin/env python3
+"""Worked rows of what compares the pages with the repository: made-up pages, and what must be said of each.
+
+    tools/documents_rows.py
+
+The gate runs them before any proof.
+"""
+import sys
+
+import documents
+import rows
+
+CODE = """//! A crate.
+pub struct Seat {
+    mark: u32,
+}
+
+impl Seat {
+    pub fn goes(&self, at: u32) -> bool
+        ensures value { result ≡ is_so at }
+    {
+        self.says("shutdown")
+    }
+}
+"""
+SPECS = """-- A number is so.
+abbrev pub is_so : ℕ → Bool
+is_so number = nat_le 1 number
+
+pub record IsSettled (desk : Seen) : Type 0 where
+  pub sent : desk.outbox ≡ []
+"""
+OTHER = "use std::io;\nuse low::Seat;\n// Grammar stands in this comment alone.\npub fn comes() {}\n"
+TREE = documents.Tree({
+    "README.md": "# A\n\n## How it ends\n\n## How it ends\n",
+    "docs/B.md": "# B\n",
+    "crates/low/src/lib.rt": CODE,
+    "crates/low/specs/Words.antt": SPECS,
+    "crates/high/src/main.rt": OTHER,
+    "tools/counts.py": "LISTS = ()\n\n\ndef written(counts):\n    pass\n",
+    "examples/a.abnf": "a = b\n",
+})
+# A paragraph of 81 words
+LONG = "\n".join(["word"] * 81)
+
+
+def said(check, path, text):
+    return [*check(documents.Page(path, text, TREE))]
+
+
+NO_WORD = "no word of the code, of specs or of proofs"
+# The check, the page that it reads, its text, and what is said of it
+PAGES = (
+    (documents.link_faults, "docs/B.md", "# B\n[a](../README.md) and [a](../README.md#how-it-ends-1), [b](#b), [c](https://x.org/y)", []),
+    (documents.link_faults, "docs/B.md", "\n[a](README.md)", ["docs/B.md:2: a link leads to docs/README.md, which isn't there"]),
+    (documents.link_faults, "README.md", "[a](#ends)", ["README.md:1: a link leads to #ends of README.md, which has no such heading"]),
+    (documents.link_faults, "README.md", "```\n[a](nothing.md)\n```\n", []),
+    (documents.path_faults, "README.md", "`docs/B.md`, `crates/low`, `lib.rt`, `low/src/lib.rt`, `examples/*.abnf`, `./tools`", []),
+    (documents.path_faults, "README.md", "`~/x/y.md`, `/etc/passwd`, `out/abnf_ls`, `crates/NAME/specs/X.antt`", []),
+    (documents.path_faults, "README.md", "`docs/C.md`", ["README.md:1: `docs/C.md` is no path of the repository"]),
+    (documents.path_faults, "README.md", "`examples/*.txt`", ["README.md:1: `examples/*.txt` is no path of the repository"]),
+    (documents.path_faults, "README.md", "`python3 tools/no.py --raise`", ["README.md:1: `tools/no.py` is no path of the repository"]),
+    (documents.word_faults, "docs/B.md", "`goes`, `Seat::goes`, `is_so number`, `shutdown`, `low`, `written`, `LISTS`, `Ok`, `x`", []),
+    (documents.word_faults, "docs/B.md", "`went`", [f"docs/B.md:1: `went` is {NO_WORD}"]),
+    (documents.word_faults, "docs/B.md", "`Seat::comes`", [f"docs/B.md:1: `Seat::comes` is {NO_WORD}"]),
+    (documents.contract_faults, "docs/PROOFS.md", "## low\n\n- `Seat::goes` (`value`): so.\n\n## Of both\n\n- `comes`: so.\n", []),
+    (
+        documents.contract_faults,
+        "docs/PROOFS.md",
+        "## low\n\n- `comes`, `goes`: so.\n",
+        ["docs/PROOFS.md: `comes` stands below low, which has no such name"],
+    ),
+    (
+        documents.definition_faults,
+        "docs/DEFINITIONS.md",
+        "## A\n\n[Words](../crates/low/specs/Words.antt):\n\n- `is_so number`: so\n- `IsSettled`: so\n",
+        [],
+    ),
+    (
+        documents.definition_faults,
+        "docs/DEFINITIONS.md",
+        "## A\n\n[Words](../crates/low/specs/Words.antt):\n\n- `is_not`: so\n\n## B\n\n- `is_so`: so\n",
+        ["docs/DEFINITIONS.md: `is_not` isn't defined in crates/low/specs/Words.antt", "docs/DEFINITIONS.md: `is_so` stands below no file"],
+    ),
+    (documents.quote_faults, "docs/TRUST.md", "```antt\nabbrev pub is_so : ℕ → Bool\n```\n", []),
+    (documents.quote_faults, "docs/TRUST.md", "```rust\npub fn goes(&self, at: u32)\n    -> bool ensures value\n```\n", []),
+    (documents.quote_faults, "docs/TRUST.md", "```antt\npub record IsSettled (desk : Seen) : Type 0 where\n..\n```\n", []),
+    (
+        documents.quote_faults,
+        "docs/TRUST.md",
+        "```antt\nis_so number = false\n```\n",
+        ["docs/TRUST.md:1: no crate has the code 'is_so number = false'"],
+    ),
+    (documents.knowledge_faults, "docs/ARCHITECTURE.md", "- **`high`**, open x: y. Must never know grammars, or blocks.\n", []),
+    (documents.knowledge_faults, "docs/ARCHITECTURE.md", "- **`high`**, open x: y. Must never know the sea (read), or JSON.\n", []),
+    (documents.knowledge_faults, "docs/ARCHITECTURE.md", "- **`high`**, open x: y. Must never know anything but `low`.\n", []),
+    (
+        documents.knowledge_faults,
+        "docs/ARCHITECTURE.md",
+        "- **`high`**, open x: y. Must never know how files are\n  read, or the sea.\n- **`high`**: z.\n",
+        [
+            "docs/ARCHITECTURE.md: high must never know how files are read, and its code names std::io",
+            "docs/ARCHITECTURE.md: nothing enforces that high must never know the sea: `(read)` says so, or a word of KNOWS",
+        ],
+    ),
+    (
+        documents.knowledge_faults,
+        "docs/ARCHITECTURE.md",
+        "- **`high`**, open x: y. Must never know anything but `none`.\n",
+        ["docs/ARCHITECTURE.md: high uses low, which it must never know"],
+    ),
+    (documents.layout_faults, "README.md", f"{'word ' * 60}\n\n- word\n", ["README.md:1: a line has 300 columns, and may have 100"]),
+    (documents.layout_faults, "docs/B.md", f"a\n\n{LONG}\n", ["docs/B.md:3: a paragraph has 81 words, and may have 80"]),
+    (documents.layout_faults, "docs/B.md", "- a\n- b\n" * 90, []),
+    (documents.layout_faults, "README.md", "a\n" * 70 + "\n" * 231, ["README.md: it has 301 lines, and may have 300"]),
+)
+
+
+def cases():
+    for check, path, text, wanted in PAGES:
+        yield f"{check.__name__}: {text[:60]!r}", said(check, path, text), wanted
+    named = documents.Tree({"tools/a.py": "", "bench/b.py": "", "docs/B.md": "`tools/a.py` or `bb.py`"})
+    yield "tools that no page names", [*documents.unnamed_tools(named)], ["bench/b.py: no page names it"]
+    yield "the names of a file of specs", documents.defined_in(SPECS), {"is_so", "IsSettled", "sent"}
+    yield "the anchors of a page", documents.anchors("# A `b`, c\n## [D](e.md)\n## D\n"), {"a-b-c", "d", "d-1"}
+
+
+if __name__ == "__main__":
+    sys.exit(rows.told(cases()))
