@@ -218,7 +218,7 @@ def far_changes(before, after, encoding):
 def texts():
     """All grammars: those of examples/, small ones, and random ones."""
     folder = os.path.join(rows.TOP, "examples")
-    for name in sorted(os.listdir(folder)):
+    for name in sorted(it for it in os.listdir(folder) if it.endswith(".abnf")):
         with open(os.path.join(folder, name), encoding="utf-8", newline="") as file:
             yield file.read()
     yield from SMALL_GRAMMARS
