@@ -34,6 +34,7 @@ FILES = (
     "share/abnf_ls/editors/neovim-0.11.lua",
     "share/abnf_ls/editors/neovim.lua",
     "share/abnf_ls/editors/vim-ale.vim",
+    "share/abnf_ls/editors/vim-plain.vim",
     "share/abnf_ls/editors/vim-ycm.vim",
     "share/abnf_ls/editors/vscode/extension.js",
     "share/abnf_ls/editors/vscode/language-configuration.json",

@@ -27,8 +27,8 @@ is() { # WHAT GOT WANTED
   if [ "$2" = "$3" ]; then passed=$((passed + 1)); echo "ok   $1"; return; fi
   failed=$((failed + 1)); printf 'FAIL %s\n     got  %s\n     want %s\n' "$1" "$2" "$3"
 }
-start() { # COMMAND..: in the terminal
-  in_tmux new-session -d -s try -x 120 -y 40 "$(printf '%q ' "$@") 2>$(printf %q "$folder/stderr")"
+start() { # COMMAND..: in the terminal, of so many `columns` and `lines`
+  in_tmux new-session -d -s try -x "${columns:-120}" -y "${lines:-40}" "$(printf '%q ' "$@") 2>$(printf %q "$folder/stderr")"
 }
 screen() { in_tmux capture-pane -p -t try; }
 keys() { in_tmux send-keys -t try "$@"; sleep 0.2; }
