@@ -2,7 +2,7 @@
 #![tactic(auto)]
 
 use findings_arguments::{Arguments, Asked, Request, help, request_of};
-use findings_text::{
+use findings_files::{
     Ending, FileFault, Format, Known, Outcome, Snapshot, Text, ending_of, fault_line, print_as,
     print_grammar_as, print_rules_as, read_text,
 };

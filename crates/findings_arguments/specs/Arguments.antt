@@ -1,11 +1,11 @@
 -- What the arguments of `abnf_findings` ask for.
 use Rattle.std.specs.Prelude.{ℕ, Bool, true, false, ◌&&◌, List, [], ◌∷◌, ◌++◌, Option, Some, None, Result, Ok, Err, codes, fold, if◌then◌else◌}
 use Rattle.std.specs.Str.{bytes_eq}
-use Rattle.findings_text.specs.declared.ending.Ending.{Ending}
-use Rattle.findings_text.specs.declared.ending.Ending.TheVariants.{Usage}
-use Rattle.findings_text.specs.declared.format.Format.{Format}
-use Rattle.findings_text.specs.Endings.{is_option}
-use Rattle.findings_text.specs.Formats.{format_named}
+use Rattle.findings_files.specs.declared.ending.Ending.{Ending}
+use Rattle.findings_files.specs.declared.ending.Ending.TheVariants.{Usage}
+use Rattle.findings_files.specs.declared.format.Format.{Format}
+use Rattle.findings_files.specs.Endings.{is_option}
+use Rattle.findings_files.specs.Formats.{format_named}
 use Rattle.findings_arguments.specs.declared.arguments.Arguments.{Arguments}
 use Rattle.findings_arguments.specs.declared.arguments.Asked.{Asked}
 use Rattle.findings_arguments.specs.declared.arguments.Asked.TheVariants as a

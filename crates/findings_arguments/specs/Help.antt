@@ -1,7 +1,7 @@
 -- What `--help` prints.
 use Rattle.std.specs.Prelude.{ℕ, List, [], ◌∷◌, ◌++◌, codes, fold}
-use Rattle.findings_text.specs.declared.ending.Ending.TheVariants.{Usage}
-use Rattle.findings_text.specs.Endings.{line_of}
+use Rattle.findings_files.specs.declared.ending.Ending.TheVariants.{Usage}
+use Rattle.findings_files.specs.Endings.{line_of}
 
 abbrev pub options : List (List ℕ)
 options =

@@ -4,7 +4,7 @@ ghost use Rattle.std.specs.Prelude.{◌≡◌, ◌⊎◌, Err, IfErr, IfOk, Ok};
 ghost use Rattle.findings_arguments.specs.Arguments as spec;
 
 use crate::step::{Stage, Step, further};
-use findings_text::{Ending, Format};
+use findings_files::{Ending, Format};
 use ls_lists::{List, Text};
 use std::alloc::{AllocError, Global};
 

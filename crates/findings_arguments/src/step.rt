@@ -1,12 +1,12 @@
 //! What one argument more tells.
 
 ghost use Rattle.std.specs.Prelude.{◌≡◌, ◌++◌, ◌∷◌, [], IfOk};
-ghost use Rattle.findings_text.specs.Formats.{format_named};
+ghost use Rattle.findings_files.specs.Formats.{format_named};
 ghost use Rattle.findings_arguments.specs.Arguments as spec;
 
 use crate::arguments::{Arguments, Asked, Request};
 use crate::word::{Word, word_of};
-use findings_text::Format;
+use findings_files::Format;
 use ls_lists::{List, Text};
 use std::alloc::{AllocError, Global};
 

@@ -3,7 +3,7 @@
 ghost use Rattle.std.specs.Prelude.{◌≡◌, IfOk, OnOk, map, string_bytes};
 ghost use Rattle.findings_arguments.specs.Help as spec;
 
-use findings_text::Ending;
+use findings_files::Ending;
 use ls_lists::Text;
 use std::alloc::{AllocError, Global};
 

@@ -3,7 +3,7 @@
 ghost use Rattle.std.specs.Prelude.{◌≡◌};
 ghost use Rattle.findings_arguments.specs.Arguments as spec;
 
-use findings_text::is_option;
+use findings_files::is_option;
 
 /// What an argument is by itself.
 #[derive(Clone, Copy, Debug, Drop, PartialEq, Eq)]

@@ -3,5 +3,4 @@ pub mod PrintLaws
 pub mod HeadLaws
 pub mod RuleLines
 pub mod RuleLaws
-pub mod DraftLaws
-pub mod KnownLaws
+pub mod ToldLaws

@@ -1,15 +1,11 @@
 -- Each text has one print-out, wherever it is told that it stands.
-use Rattle.std.proofs.Common.{◌≡◌, ◌<◌, ◌^◌, ℕ, List, [], ◌∷◌, length, refl, ap, sym, subst, ◌∙◌}
+use Rattle.std.proofs.Common.{◌≡◌, ◌<◌, ◌^◌, ℕ, List, length, refl, ap, sym, ◌∙◌}
 use Rattle.std.specs.Prelude.{Result, Ok, Err, IfOk, flat_map}
-use Rattle.std.proofs.lemmas.List.{length-map}
-use Rattle.origins.specs.Origins.{Sourced, characters}
 use Rattle.abnf_names.proofs.Exist.{some_grammar}
 use Rattle.abnf_names.proofs.OneGrammar.{one_grammar}
 use Rattle.abnf_lint.specs.declared.finding.Finding.{Finding}
 use Rattle.abnf_lint.proofs.OneFinding.{findings_unique}
-use Rattle.findings_text.specs.declared.outcome.Outcome.TheVariants.{Warnings}
 use Rattle.findings_text.specs.declared.print.Printed.{Printed}
-use Rattle.findings_text.specs.Drafts.{IsPrintedDraft, draft_position, no_grammar_line}
 use Rattle.findings_text.specs.Hints.{AreKnown, compared, known_names}
 use Rattle.findings_text.specs.Outcomes.{outcome_of}
 use Rattle.findings_text.specs.Print.{AreFoundWith, IsPrinted, IsPrintedFrom, Locator, finding_line}
@@ -49,7 +45,7 @@ some_found text small =
     let known = some_known text small in
     (found.0, compared found.0 known.0, record { of_text = found.1; known = known.0; are_known = known.1; names_are = refl })
 
-some_from : (locate : Locator) (file text : List ℕ) → length text < 2 ^ 62 → (printed : Printed) × IsPrintedFrom locate file text printed
+pub some_from : (locate : Locator) (file text : List ℕ) → length text < 2 ^ 62 → (printed : Printed) × IsPrintedFrom locate file text printed
 some_from locate file text small =
     let found = some_found text small in
     (printed_of locate file text found.1 found.0, record { found = found.0; names = found.1; of_text = found.2; lines_are = refl; outcome_is = refl })
@@ -66,7 +62,7 @@ one_names : (text : List ℕ) (a b : List Finding) (x y : List (List ℕ)) → A
 one_names text a b x y p q =
     p.names_are ∙ ((λ i. compared (one_found text a b x y p q i) (one_known text p.known q.known p.are_known q.are_known i)) ∙ sym q.names_are)
 
-one_from : (locate : Locator) (file text : List ℕ) (a b : Printed) → IsPrintedFrom locate file text a → IsPrintedFrom locate file text b → a ≡ b
+pub one_from : (locate : Locator) (file text : List ℕ) (a b : Printed) → IsPrintedFrom locate file text a → IsPrintedFrom locate file text b → a ≡ b
 one_from locate file text a b p q =
     is_that locate file text a p
     ∙ ((λ i. printed_of locate file text (one_names text p.found q.found p.names q.names p.of_text q.of_text i) (one_found text p.found q.found p.names q.names p.of_text q.of_text i))
@@ -77,12 +73,3 @@ some_print file text small = some_from (λ at. at) file text small
 
 pub one_print : (file text : List ℕ) (a b : Printed) → IsPrinted file text a → IsPrinted file text b → a ≡ b
 one_print file text a b p q = one_from (λ at. at) file text a b p q
-
-pub some_draft : (file draft : List ℕ) (grammar : List Sourced) → length grammar < 2 ^ 62 → (printed : Printed) × IsPrintedDraft file draft grammar printed
-some_draft file draft [] small = (record { lines = no_grammar_line file; outcome = Warnings }, (refl, refl))
-some_draft file draft (c ∷ cs) small =
-    some_from (draft_position draft (c ∷ cs)) file (characters (c ∷ cs)) (subst (λ n. n < 2 ^ 62) (sym (length-map (c ∷ cs) (λ x. x.0))) small)
-
-pub one_draft : (file draft : List ℕ) (grammar : List Sourced) (a b : Printed) → IsPrintedDraft file draft grammar a → IsPrintedDraft file draft grammar b → a ≡ b
-one_draft file draft [] a b p q = (λ i. record { lines = (p.0 ∙ sym q.0) i; outcome = (p.1 ∙ sym q.1) i })
-one_draft file draft (c ∷ cs) a b p q = one_from (draft_position draft (c ∷ cs)) file (characters (c ∷ cs)) a b p q

@@ -1,31 +1,16 @@
 -- Each text has one print-out of its rules.
 use Rattle.std.proofs.Common.{◌≡◌, ◌∙◌, ◌<◌, ◌^◌, ℕ, List, [], ◌∷◌, ◌++◌, length, refl, sym, ap, subst}
-use Rattle.std.specs.Prelude.{All, Result, Ok, Err, IfOk}
+use Rattle.std.specs.Prelude.{All}
 use Rattle.std.proofs.lemmas.List.Elements.{All-head, All-tail}
-use Rattle.origins.specs.Origins.{Sourced}
 use Rattle.abnf_names.specs.Places.{Named}
 use Rattle.abnf_names.specs.Rules.{Grammar, IsGrammar}
 use Rattle.abnf_names.proofs.Exist.{some_grammar}
 use Rattle.abnf_names.proofs.OneGrammar.{one_grammar}
 use Rattle.abnf_least.proofs.OneShown.{one_shown}
 use Rattle.abnf_least.proofs.SomeShown.{some_shown}
-use Rattle.findings_text.specs.Drafts.{position_in_draft}
-use Rattle.findings_text.specs.Known.{ArePrintedRulesIn, told_heads}
 use Rattle.findings_text.specs.Rules.{AreRuleLines, ArePrintedRules, ArePrintedRulesFrom, IsRuleLine, heads, rule_line}
 use Rattle.findings_text.specs.Print.{Locator}
 use Rattle.findings_text.proofs.HeadLaws.{heads_within}
-
--- the lines of the rules that stand at the front of a joined text, if there are any
-pub told_lines : {E : Type 0} (told draft file text : List ℕ) (gathered : List Sourced) (g : Grammar) → g.text ≡ text → IsGrammar g → (r : Result (List ℕ) E)
-    → IfOk r (λ lines. AreRuleLines (position_in_draft draft gathered g.text) file g (told_heads told (heads g.names g.places)) lines)
-    → IfOk r (λ lines. ArePrintedRulesIn told (position_in_draft draft gathered text) file text lines)
-told_lines told draft file text gathered g is right (Err e) are = are
-told_lines told draft file text gathered g is right (Ok lines) are = record {
-  grammar = g;
-  of_text = is;
-  right = right;
-  lines_are = subst (λ (t : List ℕ). AreRuleLines (position_in_draft draft gathered t) file g (told_heads told (heads g.names g.places)) lines) is are;
-}
 
 -- ---- there is one
 

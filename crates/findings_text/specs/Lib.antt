@@ -2,9 +2,6 @@ pub mod Outcomes
 pub mod Heads
 pub mod Hints
 pub mod Print
-pub mod Drafts
-pub mod Endings
 pub mod Rules
-pub mod Formats
-pub mod Known
-pub mod Grammars
+pub mod Sources
+pub mod Told

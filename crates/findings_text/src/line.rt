@@ -26,8 +26,10 @@ fn counted_text(alloc: Global, before: u32) -> Result<String, Memory>
     format!(in alloc; ":{number}")
 }
 
-/// The line and the column of a position.
-pub(crate) fn place_text(alloc: Global, at: Position) -> Result<String, Memory>
+/// The line and the column of a position, told from 1, each behind a colon.
+///
+/// `Memory` says that an allocation was refused.
+pub fn place_text(alloc: Global, at: Position) -> Result<String, Memory>
     ensures { IfOk result (λ text. string_bytes text ≡ place_text at) }
 {
     let mut text = counted_text(alloc, at.line)?;

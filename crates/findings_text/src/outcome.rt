@@ -1,10 +1,9 @@
-//! How files went, and what a run ends with by them.
+//! How files went.
 
 ghost use Rattle.std.specs.Prelude.{◌≡◌};
 ghost use Rattle.std.specs.List.{list_any};
 ghost use Rattle.findings_text.specs.Outcomes as spec;
 
-use crate::ending::Ending;
 use abnf_lint::{Finding, Severity};
 
 /// How a file went.
@@ -45,50 +44,4 @@ pub(crate) fn outcome_of(found: &[Finding]) -> Outcome
         _ if has_error(found) => Outcome::Errors,
         _ => Outcome::Warnings,
     }
-}
-
-/// Whether a file can't be read or isn't a text.
-fn is_not_read(outcome: Outcome) -> bool
-    ensures { result ≡ spec.is_not_read outcome }
-{
-    match outcome {
-        Outcome::NotRead => true,
-        Outcome::Clean | Outcome::Warnings | Outcome::Errors => false,
-    }
-}
-
-/// Whether a text isn't to pass. Where it is strict, warnings don't pass either.
-fn is_faulty(outcome: Outcome, strict: bool) -> bool
-    ensures { result ≡ spec.is_faulty strict outcome }
-{
-    match outcome {
-        Outcome::Errors => true,
-        Outcome::Warnings => strict,
-        Outcome::Clean | Outcome::NotRead => false,
-    }
-}
-
-fn has_not_read(outcomes: &[Outcome]) -> bool
-    ensures { result ≡ list_any spec.is_not_read outcomes.now }
-{
-    outcomes.iter().any(|outcome| is_not_read(*outcome))
-}
-
-fn has_faulty(outcomes: &[Outcome], strict: bool) -> bool
-    ensures { result ≡ list_any (spec.is_faulty strict) outcomes.now }
-{
-    outcomes.iter().any(|outcome| is_faulty(*outcome, strict))
-}
-
-/// What a run over files that went so ends with.
-pub fn ending_of(strict: bool, outcomes: &[Outcome]) -> Ending
-    ensures { result ≡ spec.ending_of strict outcomes.now }
-{
-    if has_not_read(outcomes) {
-        return Ending::NotRead;
-    }
-    if has_faulty(outcomes, strict) {
-        return Ending::Found;
-    }
-    Ending::Good
 }

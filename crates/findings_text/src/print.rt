@@ -1,10 +1,10 @@
 //! What is printed of a text.
 
 ghost use Rattle.std.specs.Prelude.{◌≡◌, IfOk, flat_map, map, string_bytes};
-ghost use Rattle.findings_text.specs.Drafts.{located, position_in_draft};
-ghost use Rattle.findings_text.specs.Known as joined;
 ghost use Rattle.findings_text.specs.Outcomes as outcomes;
 ghost use Rattle.findings_text.specs.Print.{AreFoundWith, IsPrinted, IsPrintedFrom, finding_line};
+ghost use Rattle.findings_text.specs.Sources.{located, position_in_draft};
+ghost use Rattle.findings_text.specs.Told as front;
 
 use crate::hints::compared;
 use crate::line::push_line;
@@ -77,8 +77,11 @@ fn print_found(
     })
 }
 
-/// What is printed of a grammar's text from a file with this name: each finding in a line, in the order of the text.
-pub(crate) fn print_from(
+/// What is printed of a grammar's text from a file with this name: each finding in a line, in the order of the text, at the place where it
+/// begins in the file. Lines and columns count from 1, and columns count characters.
+///
+/// `Memory` says that an allocation was refused.
+pub fn print_from(
     alloc: Global,
     file: &str,
     source: Source<'_>,
@@ -99,7 +102,7 @@ pub(crate) fn print_from(
 
 /// Of these findings those that stand in a grammar at the front of their text.
 fn told_findings(found: List<Finding>, told: &Snapshot) -> List<Finding>
-    ensures { result ≡ joined.told_findings told.now found }
+    ensures { result ≡ front.told_findings told.now found }
 {
     let lines = told.line_count() - 1;
     let mut found = found.into_vec();
@@ -113,7 +116,7 @@ fn told_in<'t>(
     told: &Snapshot,
     text: &'t Snapshot,
 ) -> Result<(List<Finding>, List<&'t str>), Memory>
-    ensures { IfOk result (λ both. joined.AreToldWith told.now text.entry.now both.0 (map (λ name. name.now) both.1)) }
+    ensures { IfOk result (λ both. front.AreToldWith told.now text.entry.now both.0 (map (λ name. name.now) both.1)) }
 {
     let grammar = Grammar::of(alloc, text)?;
     let all = findings_in(alloc, &grammar)?;
@@ -123,8 +126,11 @@ fn told_in<'t>(
     Ok((found, names))
 }
 
-/// What is printed of a file's grammar at the front of a text to which rules of others are joined.
-pub(crate) fn print_told(
+/// What is printed of a file's grammar at the front of a text to which rules of others are joined: each finding that stands there in a line,
+/// in the order of the text, at the place where it begins in the file.
+///
+/// `Memory` says that an allocation was refused.
+pub fn print_told(
     alloc: Global,
     file: &str,
     draft: &Snapshot,
@@ -132,7 +138,7 @@ pub(crate) fn print_told(
     told: &Snapshot,
     text: &Snapshot,
 ) -> Result<Printed, Memory>
-    ensures { IfOk result (λ printed. joined.IsPrintedIn told.now (position_in_draft draft.now grammar.now text.now) file.now text.now printed) }
+    ensures { IfOk result (λ printed. front.IsPrintedIn told.now (position_in_draft draft.now grammar.now text.now) file.now text.now printed) }
 {
     let (found, known) = told_in(alloc, told, text)?;
     let source = Source::Draft(draft, grammar);

@@ -3,9 +3,9 @@
 ghost use Rattle.std.specs.Prelude.{◌≡◌, ◌<◌, ℕ, All, IfOk, IfSome, length, map};
 ghost use Rattle.abnf_cert.specs.Accepted.{IsAccepted};
 ghost use Rattle.abnf_names.specs.Places.{named_at};
-ghost use Rattle.findings_text.specs.Drafts.{located, position_in_draft};
-ghost use Rattle.findings_text.specs.Known as known;
 ghost use Rattle.findings_text.specs.Rules as spec;
+ghost use Rattle.findings_text.specs.Sources.{located, position_in_draft};
+ghost use Rattle.findings_text.specs.Told as front;
 
 use crate::rule_line::push_rule_line;
 use crate::source::{Source, located};
@@ -106,8 +106,11 @@ fn printed_by(
     rule_lines(alloc, file, source, grammar, &cert, heads.as_slice())
 }
 
-/// What is printed of the rules of a grammar's text from a file with this name.
-pub(crate) fn print_rules_from(
+/// What is printed of the rules of a grammar's text from a file with this name: each rule that it defines in a line, at the first place of
+/// the file that does.
+///
+/// `Memory` says that an allocation was refused.
+pub fn print_rules_from(
     alloc: Global,
     file: &str,
     source: Source<'_>,
@@ -123,7 +126,7 @@ pub(crate) fn print_rules_from(
 
 /// Of these heads those that stand in a grammar at the front of their text.
 fn told_heads<'t>(heads: List<Head<'t>>, told: &Snapshot) -> List<Head<'t>>
-    ensures heads { map spec.head_at result ≡ known.told_heads told.now (map spec.head_at heads.entry) }
+    ensures heads { map spec.head_at result ≡ front.told_heads told.now (map spec.head_at heads.entry) }
     ensures within { (n : ℕ) → All (λ head. head.rule < n) heads.entry → All (λ head. head.rule < n) result }
 {
     let lines = told.line_count() - 1;
@@ -141,15 +144,18 @@ fn told_rules(
     told: &Snapshot,
 ) -> Result<Text, Memory>
     ensures { IfOk result (λ lines. spec.AreRuleLines (located source.entry grammar.now.text) file.now grammar.now
-        (known.told_heads told.now (spec.heads grammar.now.names grammar.now.places)) lines) }
+        (front.told_heads told.now (spec.heads grammar.now.names grammar.now.places)) lines) }
 {
     let cert = least(alloc, grammar)?;
     let heads = told_heads(heads_of(alloc, grammar)?, told);
     rule_lines(alloc, file, source, grammar, &cert, heads.as_slice())
 }
 
-/// What is printed of the rules of a file's grammar at the front of a text to which rules of others are joined.
-pub(crate) fn print_told_rules(
+/// What is printed of the rules of a file's grammar at the front of a text to which rules of others are joined: each rule whose first
+/// definition stands there in a line, by all of the text.
+///
+/// `Memory` says that an allocation was refused.
+pub fn print_told_rules(
     alloc: Global,
     file: &str,
     draft: &Snapshot,
@@ -157,7 +163,7 @@ pub(crate) fn print_told_rules(
     told: &Snapshot,
     text: &Snapshot,
 ) -> Result<Text, Memory>
-    ensures { IfOk result (λ lines. known.ArePrintedRulesIn told.now (position_in_draft draft.now gathered.now text.now) file.now text.now lines) }
+    ensures { IfOk result (λ lines. front.ArePrintedRulesIn told.now (position_in_draft draft.now gathered.now text.now) file.now text.now lines) }
 {
     let grammar = Grammar::of(alloc, text)?;
     let source = Source::Draft(draft, gathered);

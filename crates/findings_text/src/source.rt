@@ -1,14 +1,14 @@
 //! Where the text of a grammar comes from.
 
 ghost use Rattle.std.specs.Prelude.{◌≡◌};
-ghost use Rattle.findings_text.specs.Drafts as spec;
+ghost use Rattle.findings_text.specs.Sources as spec;
 
 use ls_text::{Encoding, Position, Snapshot};
 use origins::Gathered;
 
 /// Where the text of a grammar comes from.
 #[derive(Clone, Copy)]
-pub(crate) enum Source<'a> {
+pub enum Source<'a> {
     /// It is that of the file.
     File,
     /// It begins with what was gathered from a draft.

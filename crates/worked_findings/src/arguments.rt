@@ -1,7 +1,7 @@
 //! Arguments, and what they ask for.
 
 use findings_arguments::{Arguments, Asked, Request, help, request_of};
-use findings_text::{Ending, Format, Text};
+use findings_files::{Ending, Format, Text};
 use ls_lists::List;
 use std::alloc::{AllocError, Global};
 

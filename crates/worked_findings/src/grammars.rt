@@ -1,7 +1,7 @@
 //! What is printed of the grammars of files, written out by hand.
 
 use crate::texts::{File, known_of, snapshot};
-use findings_text::{FileFault, Format, Outcome, Printed, Text, print_as, print_grammar_as};
+use findings_files::{FileFault, Format, Outcome, Printed, Text, print_as, print_grammar_as};
 use std::alloc::Global;
 
 /// A file that is called `f`, and what is printed of its grammar.

@@ -1,7 +1,7 @@
 //! Grammars to which rules of others are joined, written out by hand. The last block of a text has the empty line behind its end.
 
 use crate::texts::snapshot;
-use findings_text::{FileFault, Snapshot};
+use findings_files::{FileFault, Snapshot};
 use joined_grammars::joined;
 use std::alloc::Global;
 

@@ -1,6 +1,6 @@
 //! Texts and files of the rows.
 
-use findings_text::{FileFault, Format, Known, Snapshot};
+use findings_files::{FileFault, Format, Known, Snapshot};
 use ls_text::TextFault;
 use std::alloc::Global;
 

@@ -1,7 +1,7 @@
 //! What is printed of files where the names of others are known, written out by hand.
 
 use crate::texts::{File, known_of, snapshot};
-use findings_text::{FileFault, Format, Outcome, Printed, print_as, print_rules_as};
+use findings_files::{FileFault, Format, Outcome, Printed, print_as, print_rules_as};
 use std::alloc::Global;
 
 /// A file that is called `f`, the files whose names are known, and what is printed.

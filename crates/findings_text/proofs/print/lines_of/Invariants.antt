@@ -1,7 +1,7 @@
 use Rattle.std.proofs.Common.{◌≡◌, map, take}
 use Rattle.std.specs.Prelude.{flat_map, string_bytes}
 use Rattle.ls_text.specs.declared.position.Encoding.TheVariants.{Utf32}
-use Rattle.findings_text.specs.Drafts.{located}
+use Rattle.findings_text.specs.Sources.{located}
 use Rattle.findings_text.specs.Print.{finding_line}
 use Rattle.findings_text.proofs.print.lines_of.Given as goal
 

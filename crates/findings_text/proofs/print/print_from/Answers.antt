@@ -1,5 +1,5 @@
 use Rattle.std.proofs.Common.{◌≡◌, ap, map, rules}
-use Rattle.findings_text.specs.Drafts.{located}
+use Rattle.findings_text.specs.Sources.{located}
 use Rattle.findings_text.proofs.PrintLaws.{printed_from}
 use Rattle.findings_text.proofs.print.print_from.Goals as goal
 

@@ -1,6 +1,6 @@
 use Rattle.std.proofs.Common.{◌≡◌, ap, map, rules}
-use Rattle.findings_text.specs.Drafts.{position_in_draft}
-use Rattle.findings_text.proofs.KnownLaws.{printed_told}
+use Rattle.findings_text.specs.Sources.{position_in_draft}
+use Rattle.findings_text.proofs.ToldLaws.{printed_told}
 use Rattle.findings_text.proofs.print.print_told.Goals as goal
 
 pub returns : goal.returns

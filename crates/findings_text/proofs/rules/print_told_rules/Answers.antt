@@ -1,4 +1,4 @@
-use Rattle.findings_text.proofs.RuleLaws.{told_lines}
+use Rattle.findings_text.proofs.ToldLaws.{told_lines}
 use Rattle.findings_text.proofs.rules.print_told_rules.Goals as goal
 
 pub returns : goal.returns

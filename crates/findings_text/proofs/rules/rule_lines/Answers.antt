@@ -6,7 +6,7 @@ use Rattle.ls_text.specs.Positions.{Measured, place_start, position_of}
 use Rattle.ls_text.specs.declared.position.Position.{Position}
 use Rattle.abnf_names.specs.Places.{named_at}
 use Rattle.findings_text.specs.declared.rules.Head.{Head}
-use Rattle.findings_text.specs.Drafts.{located}
+use Rattle.findings_text.specs.Sources.{located}
 use Rattle.findings_text.specs.Rules.{head_begin, rule_line, rule_line_at}
 use Rattle.findings_text.proofs.RuleLines.{lines_next}
 use Rattle.findings_text.proofs.rules.rule_lines.Goals as goal

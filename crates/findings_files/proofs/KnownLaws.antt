@@ -1,0 +1,130 @@
+-- Each file has one print-out, whatever other files are known.
+use Rattle.std.proofs.Common.{◌≡◌, ◌∙◌, ◌<◌, ◌^◌, ℕ, List, [], ◌∷◌, length, refl, sym, subst}
+use Rattle.std.specs.Prelude.{Result, Ok, Err}
+use Rattle.std.specs.Str.{encode_utf8_all}
+use Rattle.origins.specs.Origins.{Sourced, characters, grammar_of}
+use Rattle.markdown_blocks.specs.Fences.{markdown_blocks}
+use Rattle.xml_blocks.specs.declared.fault.XmlFault.{XmlFault}
+use Rattle.xml_blocks.specs.Xml.{grammar_behind, xml_blocks}
+use Rattle.joined_grammars.specs.Joined.{IsJoined}
+use Rattle.joined_grammars.proofs.JoinLaws.{one_joined}
+use Rattle.findings_text.specs.declared.outcome.Outcome.{Outcome}
+use Rattle.findings_text.specs.declared.outcome.Outcome.TheVariants.{Clean, Errors, Warnings}
+use Rattle.findings_text.specs.declared.print.Printed.{Printed}
+use Rattle.findings_text.specs.Sources.{position_in_draft}
+use Rattle.findings_text.specs.Told.{ArePrintedRulesIn, IsPrintedIn}
+use Rattle.findings_text.proofs.PrintLaws.{one_print}
+use Rattle.findings_text.proofs.RuleLaws.{one_rules_from}
+use Rattle.findings_text.proofs.ToldLaws.{one_in, one_rules_in, some_in, some_rules_in}
+use Rattle.findings_files.specs.declared.format.Format.{Format}
+use Rattle.findings_files.specs.declared.format.Format.TheVariants.{Abnf, Markdown, Xml}
+use Rattle.findings_files.specs.Drafts.{draft_position, no_grammar_line}
+use Rattle.findings_files.specs.Formats.{ArePrintedRulesAs, ArePrintedXmlRules, IsPrintedAs, IsPrintedXml, xml_fault_line}
+use Rattle.findings_files.specs.Grammars.{IsPrintedDraftGrammar, IsPrintedGrammarAs, IsPrintedXmlGrammar}
+use Rattle.findings_files.specs.Known.{ArePrintedJoinedRules, ArePrintedRulesBy, ArePrintedRulesWith, IsPrintedBy, IsPrintedDraftWith, IsPrintedJoined, IsPrintedWith, grammar_in}
+use Rattle.findings_files.proofs.DraftLaws.{one_draft}
+
+-- two print-outs with the same lines and the same outcome
+same : (a b : Printed) (lines : List ℕ) (outcome : Outcome) → (a.lines ≡ lines) × (a.outcome ≡ outcome) → (b.lines ≡ lines) × (b.outcome ≡ outcome) → a ≡ b
+same a b lines outcome p q = (λ i. record { lines = (p.0 ∙ sym q.0) i; outcome = (p.1 ∙ sym q.1) i })
+
+-- ---- the findings
+
+one_by_join : (known : List (List ℕ)) (file draft : List ℕ) (grammar : List Sourced) (a b : Printed) → IsPrintedJoined known file draft grammar a → IsPrintedJoined known file draft grammar b → a ≡ b
+one_by_join known file draft grammar a b p q =
+    let told = characters grammar in
+    let text = one_joined told known p.0 q.0 p.1 q.1 in
+    one_in told (position_in_draft draft grammar q.0) file q.0 a b (subst (λ (t : List ℕ). IsPrintedIn told (position_in_draft draft grammar t) file t a) text p.2) q.2
+
+one_draft_with : (known : List (List ℕ)) (file draft : List ℕ) (grammar : List Sourced) (a b : Printed) → IsPrintedDraftWith known file draft grammar a → IsPrintedDraftWith known file draft grammar b → a ≡ b
+one_draft_with known file draft [] a b p q = same a b (no_grammar_line file) Warnings p q
+one_draft_with known file draft (c ∷ cs) a b p q = one_by_join known file draft (c ∷ cs) a b p q
+
+one_by : (known : List (List ℕ)) (file text : List ℕ) (r : Result (List Sourced) XmlFault) (a b : Printed) → IsPrintedBy known file text r a → IsPrintedBy known file text r b → a ≡ b
+one_by known file text (Ok grammar) a b p q = one_draft_with known file text grammar a b p q
+one_by known file text (Err fault) a b p q = same a b (xml_fault_line file text fault) Errors p q
+
+one_xml : (file text : List ℕ) (r : Result (List Sourced) XmlFault) (a b : Printed) → IsPrintedXml file text r a → IsPrintedXml file text r b → a ≡ b
+one_xml file text (Ok grammar) a b p q = one_draft file text grammar a b p q
+one_xml file text (Err fault) a b p q = same a b (xml_fault_line file text fault) Errors p q
+
+one_as : (format : Format) (file text : List ℕ) (a b : Printed) → IsPrintedAs format file text a → IsPrintedAs format file text b → a ≡ b
+one_as Abnf file text a b p q = one_print file text a b p q
+one_as Markdown file text a b p q = one_draft file text (grammar_of (markdown_blocks text)) a b p q
+one_as Xml file text a b p q = one_xml file text (grammar_behind [] (xml_blocks text)) a b p q
+
+pub one_with : (known : List (List ℕ)) (format : Format) (file text : List ℕ) (a b : Printed) → IsPrintedWith known format file text a → IsPrintedWith known format file text b → a ≡ b
+one_with [] format file text a b p q = one_as format file text a b p q
+one_with (k ∷ known) format file text a b p q = one_by (k ∷ known) file text (grammar_in format text) a b p q
+
+pub some_with : (known : List (List ℕ)) (file draft : List ℕ) (grammar : List Sourced) (text : List ℕ) → IsJoined (characters grammar) known text → length text < 2 ^ 62
+    → (printed : Printed) × IsPrintedDraftWith known file draft grammar printed
+some_with known file draft [] text joined small = (record { lines = no_grammar_line file; outcome = Warnings }, (refl, refl))
+some_with known file draft (c ∷ cs) text joined small =
+    let printed = some_in (characters (c ∷ cs)) (position_in_draft draft (c ∷ cs) text) file text small in
+    (printed.0, (text, joined, printed.1))
+
+-- ---- the rules
+
+one_joined_rules : (known : List (List ℕ)) (file draft : List ℕ) (grammar : List Sourced) (a b : List ℕ) → ArePrintedJoinedRules known file draft grammar a → ArePrintedJoinedRules known file draft grammar b → a ≡ b
+one_joined_rules known file draft grammar a b p q =
+    let told = characters grammar in
+    let text = one_joined told known p.0 q.0 p.1 q.1 in
+    one_rules_in told (position_in_draft draft grammar q.0) file q.0 a b (subst (λ (t : List ℕ). ArePrintedRulesIn told (position_in_draft draft grammar t) file t a) text p.2) q.2
+
+-- two print-outs with the same lines, neither of which has a finding
+clean_same : (a b : Printed) → a.lines ≡ b.lines → a.outcome ≡ Clean → b.outcome ≡ Clean → a ≡ b
+clean_same a b lines p q = (λ i. record { lines = lines i; outcome = (p ∙ sym q) i })
+
+one_rules_by : (known : List (List ℕ)) (file text : List ℕ) (r : Result (List Sourced) XmlFault) (a b : Printed) → ArePrintedRulesBy known file text r a → ArePrintedRulesBy known file text r b → a ≡ b
+one_rules_by known file text (Ok grammar) a b p q = clean_same a b (one_joined_rules known file text grammar a.lines b.lines p.0 q.0) p.1 q.1
+one_rules_by known file text (Err fault) a b p q = same a b (xml_fault_line file text fault) Errors p q
+
+one_xml_rules : (file text : List ℕ) (r : Result (List Sourced) XmlFault) (a b : Printed) → ArePrintedXmlRules file text r a → ArePrintedXmlRules file text r b → a ≡ b
+one_xml_rules file text (Ok grammar) a b p q = clean_same a b (one_rules_from (draft_position text grammar) file (characters grammar) a.lines b.lines p.0 q.0) p.1 q.1
+one_xml_rules file text (Err fault) a b p q = same a b (xml_fault_line file text fault) Errors p q
+
+one_rules_as : (format : Format) (file text : List ℕ) (a b : Printed) → ArePrintedRulesAs format file text a → ArePrintedRulesAs format file text b → a ≡ b
+one_rules_as Abnf file text a b p q = clean_same a b (one_rules_from (λ at. at) file text a.lines b.lines p.0 q.0) p.1 q.1
+one_rules_as Markdown file text a b p q =
+    let grammar = grammar_of (markdown_blocks text) in
+    clean_same a b (one_rules_from (draft_position text grammar) file (characters grammar) a.lines b.lines p.0 q.0) p.1 q.1
+one_rules_as Xml file text a b p q = one_xml_rules file text (grammar_behind [] (xml_blocks text)) a b p q
+
+pub one_rules_with : (known : List (List ℕ)) (format : Format) (file text : List ℕ) (a b : Printed) → ArePrintedRulesWith known format file text a → ArePrintedRulesWith known format file text b → a ≡ b
+one_rules_with [] format file text a b p q = one_rules_as format file text a b p q
+one_rules_with (k ∷ known) format file text a b p q = one_rules_by (k ∷ known) file text (grammar_in format text) a b p q
+
+pub some_rules_with : (known : List (List ℕ)) (file draft : List ℕ) (grammar : List Sourced) (text : List ℕ) → IsJoined (characters grammar) known text → length text < 2 ^ 62
+    → (lines : List ℕ) × ArePrintedJoinedRules known file draft grammar lines
+some_rules_with known file draft grammar text joined small =
+    let lines = some_rules_in (characters grammar) (position_in_draft draft grammar text) file text small in
+    (lines.0, (text, joined, lines.1))
+
+-- ---- the grammar
+
+some_draft_grammar : (file : List ℕ) (grammar : List Sourced) → (printed : Printed) × IsPrintedDraftGrammar file grammar printed
+some_draft_grammar file [] = (record { lines = no_grammar_line file; outcome = Warnings }, (refl, refl))
+some_draft_grammar file (c ∷ cs) = (record { lines = encode_utf8_all (characters (c ∷ cs)); outcome = Clean }, (refl, refl))
+
+some_xml_grammar : (file text : List ℕ) (r : Result (List Sourced) XmlFault) → (printed : Printed) × IsPrintedXmlGrammar file text r printed
+some_xml_grammar file text (Ok grammar) = some_draft_grammar file grammar
+some_xml_grammar file text (Err fault) = (record { lines = xml_fault_line file text fault; outcome = Errors }, (refl, refl))
+
+pub some_grammar_as : (format : Format) (file text : List ℕ) → (printed : Printed) × IsPrintedGrammarAs format file text printed
+some_grammar_as Abnf file text = (record { lines = encode_utf8_all text; outcome = Clean }, (refl, refl))
+some_grammar_as Markdown file text = some_draft_grammar file (grammar_of (markdown_blocks text))
+some_grammar_as Xml file text = some_xml_grammar file text (grammar_behind [] (xml_blocks text))
+
+one_draft_grammar : (file : List ℕ) (grammar : List Sourced) (a b : Printed) → IsPrintedDraftGrammar file grammar a → IsPrintedDraftGrammar file grammar b → a ≡ b
+one_draft_grammar file [] a b p q = same a b (no_grammar_line file) Warnings p q
+one_draft_grammar file (c ∷ cs) a b p q = same a b (encode_utf8_all (characters (c ∷ cs))) Clean p q
+
+one_xml_grammar : (file text : List ℕ) (r : Result (List Sourced) XmlFault) (a b : Printed) → IsPrintedXmlGrammar file text r a → IsPrintedXmlGrammar file text r b → a ≡ b
+one_xml_grammar file text (Ok grammar) a b p q = one_draft_grammar file grammar a b p q
+one_xml_grammar file text (Err fault) a b p q = same a b (xml_fault_line file text fault) Errors p q
+
+pub one_grammar_as : (format : Format) (file text : List ℕ) (a b : Printed) → IsPrintedGrammarAs format file text a → IsPrintedGrammarAs format file text b → a ≡ b
+one_grammar_as Abnf file text a b p q = same a b (encode_utf8_all text) Clean p q
+one_grammar_as Markdown file text a b p q = one_draft_grammar file (grammar_of (markdown_blocks text)) a b p q
+one_grammar_as Xml file text a b p q = one_xml_grammar file text (grammar_behind [] (xml_blocks text)) a b p q

@@ -1,0 +1,47 @@
+-- What is printed of the findings in a draft: each at the place where it begins there.
+use Rattle.std.specs.Prelude.{◌≡◌, ◌<◌, ℕ, List, [], ◌∷◌, ◌++◌, codes, length}
+use Rattle.std.specs.Str.{IsUtf8, chars}
+use Rattle.ls_text.specs.declared.position.Position.{Position}
+use Rattle.text_files.specs.declared.file.FileFault.{FileFault}
+use Rattle.text_files.specs.declared.file.FileFault.TheVariants.{CannotRead, Memory, NotText}
+use Rattle.origins.specs.Origins.{Sourced, characters}
+use Rattle.findings_text.specs.declared.outcome.Outcome.TheVariants.{Warnings}
+use Rattle.findings_text.specs.declared.print.Printed.{Printed}
+use Rattle.findings_text.specs.Print.{IsPrintedFrom}
+use Rattle.findings_text.specs.Rules.{ArePrintedRulesFrom}
+use Rattle.findings_text.specs.Sources.{position_in_draft}
+
+-- where in a draft stands what has this position in its grammar
+abbrev pub draft_position : List ℕ → List Sourced → Position → Position
+draft_position draft grammar at = position_in_draft draft grammar (characters grammar) at
+
+-- the line of a draft with no block of grammar
+abbrev pub no_grammar_line : List ℕ → List ℕ
+no_grammar_line file = file ++ (codes ":1:1: warning: no grammar in this draft [no-grammar]" ++ 10 ∷ [])
+
+-- This is printed of a draft with this grammar: its findings, each where it stands in the draft, or, where it has no block of grammar,
+-- a warning.
+abbrev pub IsPrintedDraft : List ℕ → List ℕ → List Sourced → Printed → Type 0
+IsPrintedDraft file draft [] printed = (printed.lines ≡ no_grammar_line file) × (printed.outcome ≡ Warnings)
+IsPrintedDraft file draft (c ∷ cs) printed = IsPrintedFrom (draft_position draft (c ∷ cs)) file (characters (c ∷ cs)) printed
+
+-- This is printed of the rules of a draft with this grammar.
+abbrev pub ArePrintedDraftRules : List ℕ → List ℕ → List Sourced → List ℕ → Type 0
+ArePrintedDraftRules file draft grammar lines = ArePrintedRulesFrom (draft_position draft grammar) file (characters grammar) lines
+
+-- this text has more bytes than a text may have
+pub record IsTooLarge (text : List ℕ) : Type 0 where
+  pub bytes : List ℕ
+  pub utf8 : IsUtf8 bytes
+  pub are : chars bytes ≡ text
+  pub large : 4194304 < length bytes
+
+-- Why a text isn't made: it is too large, or memory was refused.
+abbrev pub IsTextRefused : List ℕ → FileFault → Type 0
+IsTextRefused text NotText = IsTooLarge text
+IsTextRefused text Memory = Unit {0}
+IsTextRefused text CannotRead = ⊥
+
+-- Why nothing is printed of a draft with this grammar.
+abbrev pub IsRefused : List Sourced → FileFault → Type 0
+IsRefused grammar fault = IsTextRefused (characters grammar) fault

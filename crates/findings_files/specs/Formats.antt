@@ -1,0 +1,98 @@
+-- What the files are written in that are read.
+use Rattle.std.specs.Prelude.{◌≡◌, ℕ, Bool, ◌||◌, ◌⊎◌, nat_eq, List, [], ◌∷◌, ◌++◌, Option, Some, None, Result, Ok, Err, codes, if◌then◌else◌}
+use Rattle.std.specs.List.{ends_with}
+use Rattle.std.specs.Str.{bytes_eq}
+use Rattle.ls_text.specs.Lines.{units}
+use Rattle.ls_text.specs.Positions.{position_of}
+use Rattle.ls_text.specs.declared.position.Encoding.TheVariants.{Utf32}
+use Rattle.origins.specs.Origins.{Sourced, grammar_of}
+use Rattle.markdown_blocks.specs.Fences.{markdown_blocks}
+use Rattle.text_files.specs.declared.file.FileFault.{FileFault}
+use Rattle.text_files.specs.declared.file.FileFault.TheVariants.{Memory}
+use Rattle.xml_blocks.specs.declared.fault.XmlFault.{XmlFault}
+use Rattle.xml_blocks.specs.declared.fault.XmlFault.TheVariants as x
+use Rattle.xml_blocks.specs.Xml.{grammar_behind, xml_blocks}
+use Rattle.findings_text.specs.declared.outcome.Outcome.TheVariants.{Clean, Errors}
+use Rattle.findings_text.specs.declared.print.Printed.{Printed}
+use Rattle.findings_text.specs.Print.{IsPrinted, place_text}
+use Rattle.findings_text.specs.Rules.{ArePrintedRules}
+use Rattle.findings_files.specs.declared.format.Format.{Format}
+use Rattle.findings_files.specs.declared.format.Format.TheVariants.{Abnf, Markdown, Xml}
+use Rattle.findings_files.specs.Drafts.{ArePrintedDraftRules, IsPrintedDraft, IsRefused}
+
+-- a file's name ends so
+abbrev pub has_ending : List ℕ → List ℕ → Bool
+has_ending ending name = ends_with nat_eq name ending
+
+-- the endings of the names of drafts in Markdown
+abbrev pub is_markdown : List ℕ → Bool
+is_markdown name = has_ending (codes ".md") name || (has_ending (codes ".mkd") name || has_ending (codes ".markdown") name)
+
+-- the format of a file by its name
+abbrev pub format_of : List ℕ → Format
+format_of name = if is_markdown name then Markdown else (if has_ending (codes ".xml") name then Xml else Abnf)
+
+-- the format that is named so
+abbrev pub format_named : List ℕ → Option Format
+format_named name =
+    if bytes_eq name (codes "abnf") then Some Abnf
+    else (if bytes_eq name (codes "markdown") then Some Markdown else (if bytes_eq name (codes "xml") then Some Xml else None))
+
+-- where a fault of a draft in XML stands
+abbrev pub fault_offset : XmlFault → ℕ
+fault_offset (x.BlockWithoutEnd at) = at
+fault_offset (x.CommentWithoutEnd at) = at
+fault_offset (x.SectionWithoutEnd at) = at
+fault_offset (x.TagWithoutEnd at) = at
+fault_offset (x.BadReference at) = at
+fault_offset x.Memory = 0
+
+abbrev pub fault_words : XmlFault → List ℕ
+fault_words (x.BlockWithoutEnd at) = codes "block without an end tag"
+fault_words (x.CommentWithoutEnd at) = codes "comment without an end"
+fault_words (x.SectionWithoutEnd at) = codes "CDATA section without an end"
+fault_words (x.TagWithoutEnd at) = codes "tag without an end"
+fault_words (x.BadReference at) = codes "no reference to a character"
+fault_words x.Memory = codes "out of memory"
+
+-- the line of a draft in XML that is at fault
+abbrev pub xml_fault_line : List ℕ → List ℕ → XmlFault → List ℕ
+xml_fault_line file text fault =
+    file ++ place_text (position_of (units Utf32) text (fault_offset fault)) ++ codes "error: " ++ fault_words fault ++ (codes " [xml]" ++ 10 ∷ [])
+
+abbrev pub IsPrintedFault : List ℕ → List ℕ → XmlFault → Printed → Type 0
+IsPrintedFault file text fault printed = (printed.lines ≡ xml_fault_line file text fault) × (printed.outcome ≡ Errors)
+
+-- This is printed of a draft in XML, of which this is gathered.
+abbrev pub IsPrintedXml : List ℕ → List ℕ → Result (List Sourced) XmlFault → Printed → Type 0
+IsPrintedXml file text (Ok grammar) printed = IsPrintedDraft file text grammar printed
+IsPrintedXml file text (Err fault) printed = IsPrintedFault file text fault printed
+
+-- This is printed of a file of this format.
+abbrev pub IsPrintedAs : Format → List ℕ → List ℕ → Printed → Type 0
+IsPrintedAs Abnf file text printed = IsPrinted file text printed
+IsPrintedAs Markdown file text printed = IsPrintedDraft file text (grammar_of (markdown_blocks text)) printed
+IsPrintedAs Xml file text printed = IsPrintedXml file text (grammar_behind [] (xml_blocks text)) printed
+
+-- This is printed of the rules of a draft in XML, of which this is gathered.
+abbrev pub ArePrintedXmlRules : List ℕ → List ℕ → Result (List Sourced) XmlFault → Printed → Type 0
+ArePrintedXmlRules file text (Ok grammar) printed = ArePrintedDraftRules file text grammar printed.lines × (printed.outcome ≡ Clean)
+ArePrintedXmlRules file text (Err fault) printed = IsPrintedFault file text fault printed
+
+-- This is printed of the rules in a file of this format.
+abbrev pub ArePrintedRulesAs : Format → List ℕ → List ℕ → Printed → Type 0
+ArePrintedRulesAs Abnf file text printed = ArePrintedRules file text printed.lines × (printed.outcome ≡ Clean)
+ArePrintedRulesAs Markdown file text printed =
+    ArePrintedDraftRules file text (grammar_of (markdown_blocks text)) printed.lines × (printed.outcome ≡ Clean)
+ArePrintedRulesAs Xml file text printed = ArePrintedXmlRules file text (grammar_behind [] (xml_blocks text)) printed
+
+-- Why nothing is printed of a draft in XML, of which this is gathered.
+abbrev pub IsRefusedXml : Result (List Sourced) XmlFault → FileFault → Type 0
+IsRefusedXml (Ok grammar) fault = IsRefused grammar fault
+IsRefusedXml (Err found) fault = fault ≡ Memory
+
+-- Why nothing is printed of a file of this format: memory was refused, or the grammar of a draft is too large.
+abbrev pub IsRefusedAs : Format → List ℕ → FileFault → Type 0
+IsRefusedAs Abnf text fault = fault ≡ Memory
+IsRefusedAs Markdown text fault = IsRefused (grammar_of (markdown_blocks text)) fault
+IsRefusedAs Xml text fault = (fault ≡ Memory) ⊎ IsRefusedXml (grammar_behind [] (xml_blocks text)) fault

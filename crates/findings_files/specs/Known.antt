@@ -1,0 +1,102 @@
+-- What is printed of a file where the names of other files are known: rules of theirs are joined to its grammar, and nothing is told of
+-- them.
+use Rattle.std.specs.Prelude.{◌≡◌, ◌⊎◌, ℕ, List, [], ◌∷◌, ◌++◌, Result, Ok, Err, length}
+use Rattle.text_files.specs.declared.file.FileFault.{FileFault}
+use Rattle.text_files.specs.declared.file.FileFault.TheVariants.{CannotRead, Memory, NotText}
+use Rattle.origins.specs.Origins.{Sourced, aligned, characters, from, grammar_of}
+use Rattle.markdown_blocks.specs.Fences.{markdown_blocks}
+use Rattle.xml_blocks.specs.declared.fault.XmlFault.{XmlFault}
+use Rattle.xml_blocks.specs.declared.fault.XmlFault.TheVariants as x
+use Rattle.xml_blocks.specs.Xml.{grammar_behind, xml_blocks}
+use Rattle.joined_grammars.specs.Joined.{IsJoined}
+use Rattle.findings_text.specs.declared.outcome.Outcome.TheVariants.{Clean, Warnings}
+use Rattle.findings_text.specs.declared.print.Printed.{Printed}
+use Rattle.findings_text.specs.Sources.{position_in_draft}
+use Rattle.findings_text.specs.Told.{ArePrintedRulesIn, IsPrintedIn}
+use Rattle.findings_files.specs.declared.format.Format.{Format}
+use Rattle.findings_files.specs.declared.format.Format.TheVariants.{Abnf, Markdown, Xml}
+use Rattle.findings_files.specs.Drafts.{IsTextRefused, no_grammar_line}
+use Rattle.findings_files.specs.Formats.{ArePrintedRulesAs, IsPrintedAs, IsPrintedFault, IsRefusedAs}
+
+-- a whole text as one block of grammar
+abbrev pub whole : List ℕ → List Sourced
+whole text = aligned (record { content = from 0 text; end = length text })
+
+-- the grammar of a file of this format, left aligned, or the fault of a draft in XML
+abbrev pub grammar_in : Format → List ℕ → Result (List Sourced) XmlFault
+grammar_in Abnf text = Ok (whole text)
+grammar_in Markdown text = Ok (grammar_of (markdown_blocks text))
+grammar_in Xml text = grammar_behind [] (xml_blocks text)
+
+-- what is gathered from a file: its grammar or its fault, unless memory was refused
+abbrev pub IsGatheredIn : Format → List ℕ → Result (List Sourced) XmlFault → Type 0
+IsGatheredIn format text gathered = (gathered ≡ Err x.Memory) ⊎ (gathered ≡ grammar_in format text)
+
+-- ---- the files whose names are known
+
+-- The grammar of a file is known too.
+abbrev pub IsAdded : Result (List Sourced) XmlFault → List (List ℕ) → List (List ℕ) → Type 0
+IsAdded (Ok grammar) old new = new ≡ old ++ characters grammar ∷ []
+IsAdded (Err found) old new = ⊥
+
+-- Why it isn't: its grammar is too large, its draft is at fault, or memory was refused.
+abbrev pub IsNotAdded : Result (List Sourced) XmlFault → FileFault → Type 0
+IsNotAdded (Ok grammar) fault = IsTextRefused (characters grammar) fault
+IsNotAdded (Err found) NotText = Unit {0}
+IsNotAdded (Err found) Memory = Unit {0}
+IsNotAdded (Err found) CannotRead = ⊥
+
+-- ---- the findings
+
+-- This is printed of a grammar to which others are joined: the lines of the findings that stand in it.
+abbrev pub IsPrintedJoined : List (List ℕ) → List ℕ → List ℕ → List Sourced → Printed → Type 0
+IsPrintedJoined known file draft grammar printed =
+    (text : List ℕ) × IsJoined (characters grammar) known text × IsPrintedIn (characters grammar) (position_in_draft draft grammar text) file text printed
+
+-- This is printed of a file with this grammar: the findings, or, where a draft has no block of grammar, a warning.
+abbrev pub IsPrintedDraftWith : List (List ℕ) → List ℕ → List ℕ → List Sourced → Printed → Type 0
+IsPrintedDraftWith known file draft [] printed = (printed.lines ≡ no_grammar_line file) × (printed.outcome ≡ Warnings)
+IsPrintedDraftWith known file draft (c ∷ cs) printed = IsPrintedJoined known file draft (c ∷ cs) printed
+
+-- the same of a file that may be at fault
+abbrev pub IsPrintedBy : List (List ℕ) → List ℕ → List ℕ → Result (List Sourced) XmlFault → Printed → Type 0
+IsPrintedBy known file text (Ok grammar) printed = IsPrintedDraftWith known file text grammar printed
+IsPrintedBy known file text (Err fault) printed = IsPrintedFault file text fault printed
+
+-- This is printed of a file of this format. Where no other file is known, it is what is printed of the file alone.
+abbrev pub IsPrintedWith : List (List ℕ) → Format → List ℕ → List ℕ → Printed → Type 0
+IsPrintedWith [] format file text printed = IsPrintedAs format file text printed
+IsPrintedWith (k ∷ known) format file text printed = IsPrintedBy (k ∷ known) file text (grammar_in format text) printed
+
+-- ---- the rules
+
+-- This is printed of the rules of a grammar to which others are joined.
+abbrev pub ArePrintedJoinedRules : List (List ℕ) → List ℕ → List ℕ → List Sourced → List ℕ → Type 0
+ArePrintedJoinedRules known file draft grammar lines =
+    (text : List ℕ) × IsJoined (characters grammar) known text × ArePrintedRulesIn (characters grammar) (position_in_draft draft grammar text) file text lines
+
+-- the same of a file that may be at fault
+abbrev pub ArePrintedRulesBy : List (List ℕ) → List ℕ → List ℕ → Result (List Sourced) XmlFault → Printed → Type 0
+ArePrintedRulesBy known file text (Ok grammar) printed = ArePrintedJoinedRules known file text grammar printed.lines × (printed.outcome ≡ Clean)
+ArePrintedRulesBy known file text (Err fault) printed = IsPrintedFault file text fault printed
+
+-- This is printed of the rules in a file of this format. Where no other file is known, it is what is printed of the file alone.
+abbrev pub ArePrintedRulesWith : List (List ℕ) → Format → List ℕ → List ℕ → Printed → Type 0
+ArePrintedRulesWith [] format file text printed = ArePrintedRulesAs format file text printed
+ArePrintedRulesWith (k ∷ known) format file text printed = ArePrintedRulesBy (k ∷ known) file text (grammar_in format text) printed
+
+-- ---- refusals
+
+-- Why nothing is printed of a grammar to which others are joined: it, or the joined one, is too large, or memory was refused.
+abbrev pub IsJoinRefused : List (List ℕ) → List Sourced → FileFault → Type 0
+IsJoinRefused known grammar fault = IsTextRefused (characters grammar) fault ⊎ ((text : List ℕ) × IsJoined (characters grammar) known text × IsTextRefused text fault)
+
+-- the same of a file that may be at fault
+abbrev pub IsRefusedBy : List (List ℕ) → Result (List Sourced) XmlFault → FileFault → Type 0
+IsRefusedBy known (Ok grammar) fault = IsJoinRefused known grammar fault
+IsRefusedBy known (Err found) fault = fault ≡ Memory
+
+-- Why nothing is printed of a file of this format.
+abbrev pub IsRefusedWith : List (List ℕ) → Format → List ℕ → FileFault → Type 0
+IsRefusedWith [] format text fault = IsRefusedAs format text fault
+IsRefusedWith (k ∷ known) format text fault = (fault ≡ Memory) ⊎ IsRefusedBy (k ∷ known) (grammar_in format text) fault

@@ -1,0 +1,5 @@
+pub mod Drafts
+pub mod Endings
+pub mod Formats
+pub mod Known
+pub mod Grammars

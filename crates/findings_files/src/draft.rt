@@ -1,0 +1,109 @@
+//! What is printed of a draft.
+
+ghost use Rattle.std.specs.Prelude.{◌≡◌, IfErr, IfOk, string_bytes};
+ghost use Rattle.std.specs.Str.{chars};
+ghost use Rattle.origins.specs.Origins.{characters};
+ghost use Rattle.findings_files.specs.Drafts as spec;
+
+use findings_text::{Outcome, Printed, Source, print_from, print_rules_from};
+use ls_lists::Text;
+use ls_text::{Snapshot, TextFault};
+use origins::Gathered;
+use std::alloc::{AllocError as Memory, Global};
+use text_files::FileFault;
+
+/// The snapshot of a text.
+pub(crate) fn snapshot_of(alloc: Global, text: String) -> Result<Snapshot, FileFault>
+    ensures text { IfOk result (λ snapshot. snapshot ≡ chars (string_bytes text)) }
+    ensures fault { IfErr result (λ fault. spec.IsTextRefused (chars (string_bytes text)) fault) }
+{
+    match Snapshot::of_text(alloc, text) {
+        Ok(text) => Ok(text),
+        Err(TextFault::TooLarge) => Err(FileFault::NotText),
+        Err(TextFault::Memory) => Err(FileFault::Memory),
+    }
+}
+
+/// The text of a grammar that was gathered.
+pub(crate) fn text_of(alloc: Global, grammar: &Gathered) -> Result<Snapshot, FileFault>
+    ensures text { IfOk result (λ text. text ≡ characters grammar.now) }
+    ensures fault { IfErr result (λ fault. spec.IsRefused grammar.now fault) }
+{
+    match String::from_str(alloc, grammar.as_str()) {
+        Ok(text) => snapshot_of(alloc, text),
+        Err(_) => Err(FileFault::Memory),
+    }
+}
+
+/// The line of a draft with no block of grammar.
+fn no_grammar(alloc: Global, file: &str) -> Result<Printed, Memory>
+    ensures { IfOk result (λ printed. (printed.lines ≡ spec.no_grammar_line file.now) × (printed.outcome ≡ Outcome.Warnings)) }
+{
+    let mut lines = String::from_str(alloc, file)?;
+    lines.push_str(":1:1: warning: no grammar in this draft [no-grammar]\n")?;
+    Ok(Printed {
+        lines: Text::new(lines),
+        outcome: Outcome::Warnings,
+    })
+}
+
+/// The same, where memory is refused as of a file.
+pub(crate) fn no_grammar_in(alloc: Global, file: &str) -> Result<Printed, FileFault>
+    ensures printed { IfOk result (λ printed. (printed.lines ≡ spec.no_grammar_line file.now) × (printed.outcome ≡ Outcome.Warnings)) }
+    ensures fault { IfErr result (λ fault. fault ≡ FileFault.Memory) }
+{
+    match no_grammar(alloc, file) {
+        Ok(printed) => Ok(printed),
+        Err(_) => Err(FileFault::Memory),
+    }
+}
+
+/// What is printed of a draft in a file with this name, where this is the draft's grammar: each finding in a line, at the place where it
+/// begins in the draft. Lines and columns count from 1, and columns count characters.
+///
+/// # Errors
+///
+/// `NotText` where the grammar is larger than a text may be, and `Memory`.
+pub(crate) fn print_draft(
+    alloc: Global,
+    file: &str,
+    draft: &Snapshot,
+    grammar: &Gathered,
+) -> Result<Printed, FileFault>
+    ensures printed { IfOk result (λ printed. spec.IsPrintedDraft file.now draft.now grammar.now printed) }
+    ensures fault { IfErr result (λ fault. spec.IsRefused grammar.now fault) }
+{
+    let printed = match grammar.origin_of(0) {
+        None => no_grammar(alloc, file),
+        Some(_) => {
+            let text = text_of(alloc, grammar)?;
+            print_from(alloc, file, Source::Draft(draft, grammar), &text)
+        }
+    };
+    match printed {
+        Ok(printed) => Ok(printed),
+        Err(_) => Err(FileFault::Memory),
+    }
+}
+
+/// What is printed of the rules of a draft in a file with this name, where this is the draft's grammar: each rule that it defines in a
+/// line, at the first place of the draft that does.
+///
+/// # Errors
+///
+/// As [`print_draft`].
+pub(crate) fn print_draft_rules(
+    alloc: Global,
+    file: &str,
+    draft: &Snapshot,
+    grammar: &Gathered,
+) -> Result<Text, FileFault>
+    ensures printed { IfOk result (λ lines. spec.ArePrintedDraftRules file.now draft.now grammar.now lines) }
+    ensures fault { IfErr result (λ fault. spec.IsRefused grammar.now fault) }
+{
+    let text = text_of(alloc, grammar)?;
+    match print_rules_from(alloc, file, Source::Draft(draft, grammar), &text) {
+        Ok(lines) => Ok(lines),
+        Err(_) => Err(FileFault::Memory),
+    }
+}

@@ -1,0 +1,227 @@
+//! The files whose names are known, and what is printed of a file by them.
+
+ghost use Rattle.std.specs.Prelude.{◌≡◌, ◌⊎◌, ℕ, List as Listed, [], IfErr, IfOk, OnErr, OnOk};
+ghost use Rattle.joined_grammars.specs.Joined.{IsJoined};
+ghost use Rattle.findings_files.specs.Drafts.{IsTextRefused};
+ghost use Rattle.findings_files.specs.Known as spec;
+
+use crate::draft::{no_grammar_in, snapshot_of, text_of};
+use crate::format::{Format, clean, print_alone, print_rules_alone};
+use crate::grammar::grammar_in;
+use crate::xml::print_fault;
+use findings_text::{Printed, print_told, print_told_rules};
+use joined_grammars::joined;
+use ls_lists::{List, Text};
+use ls_text::Snapshot;
+use origins::Gathered;
+use std::alloc::Global;
+use std::marker::Model;
+use text_files::FileFault;
+use xml_blocks::XmlFault;
+
+/// The files whose names are known. Contracts see the texts of their grammars, in the order in which they came.
+#[derive(Drop)]
+pub struct Known {
+    grammars: List<Snapshot>,
+}
+
+impl Model for Known {
+    ghost use Rattle.std.specs.Prelude.{List as Listed, ℕ};
+
+    ghost Value = { Listed (Listed ℕ) };
+
+    ghost view = { λ k. k.grammars };
+}
+
+impl Known {
+    ghost use Rattle.findings_files.specs.Known as spec;
+
+    /// No files.
+    pub fn new(alloc: Global) -> Known
+        ensures { result ≡ [] }
+    {
+        Known {
+            grammars: List::new(alloc),
+        }
+    }
+
+    /// Adds the grammar of a file of this format, behind those that are known.
+    ///
+    /// # Errors
+    ///
+    /// `NotText` where the file is a draft in XML that is at fault, or its grammar is larger than a text may be, and `Memory`. Then no
+    /// file is added.
+    pub fn add(&mut self, alloc: Global, format: Format, text: &Snapshot) -> Result<(), FileFault>
+        ensures added { OnOk result (spec.IsAdded (spec.grammar_in format text.now) self.old self.new) }
+        ensures fault { IfErr result (λ fault. (fault ≡ FileFault.Memory) ⊎ spec.IsNotAdded (spec.grammar_in format text.now) fault) }
+        ensures same { OnErr result (self.new ≡ self.old) }
+    {
+        let grammar = match grammar_in(alloc, format, text) {
+            Ok(grammar) => grammar,
+            Err(XmlFault::Memory) => return Err(FileFault::Memory),
+            Err(_) => return Err(FileFault::NotText),
+        };
+        let text = text_of(alloc, &grammar)?;
+        match self.grammars.push(text) {
+            Ok(()) => Ok(()),
+            Err(_) => Err(FileFault::Memory),
+        }
+    }
+
+    /// The texts of the grammars.
+    fn as_slice(&self) -> &[Snapshot]
+        ensures { result.now ≡ self.now }
+    {
+        self.grammars.as_slice()
+    }
+}
+
+/// The text of a grammar with others joined to it.
+fn joined_text(alloc: Global, told: &Snapshot, others: &[Snapshot]) -> Result<Snapshot, FileFault>
+    ensures text { IfOk result (λ text. IsJoined told.now others.now text) }
+    ensures fault { IfErr result (λ fault. (fault ≡ FileFault.Memory) ⊎ ((text : Listed ℕ) × IsJoined told.now others.now text × IsTextRefused text fault)) }
+{
+    match joined(alloc, told, others) {
+        Ok(text) => snapshot_of(alloc, text),
+        Err(_) => Err(FileFault::Memory),
+    }
+}
+
+/// What is printed of a grammar that was gathered from a file, with others joined to it.
+fn print_gathered(
+    alloc: Global,
+    file: &str,
+    draft: &Snapshot,
+    grammar: &Gathered,
+    others: &[Snapshot],
+) -> Result<Printed, FileFault>
+    ensures printed { IfOk result (λ printed. spec.IsPrintedJoined others.now file.now draft.now grammar.now printed) }
+    ensures fault { IfErr result (λ fault. spec.IsJoinRefused others.now grammar.now fault) }
+{
+    let told = text_of(alloc, grammar)?;
+    let text = joined_text(alloc, &told, others)?;
+    match print_told(alloc, file, draft, grammar, &told, &text) {
+        Ok(printed) => Ok(printed),
+        Err(_) => Err(FileFault::Memory),
+    }
+}
+
+/// What is printed of a file with this grammar, to which others are joined.
+fn print_draft_with(
+    alloc: Global,
+    file: &str,
+    draft: &Snapshot,
+    grammar: &Gathered,
+    others: &[Snapshot],
+) -> Result<Printed, FileFault>
+    ensures printed { IfOk result (λ printed. spec.IsPrintedDraftWith others.now file.now draft.now grammar.now printed) }
+    ensures fault { IfErr result (λ fault. spec.IsJoinRefused others.now grammar.now fault) }
+{
+    if grammar.origin_of(0).is_none() {
+        return no_grammar_in(alloc, file);
+    }
+    print_gathered(alloc, file, draft, grammar, others)
+}
+
+/// What is printed of a file of this format, to whose grammar others are joined.
+fn print_joined(
+    alloc: Global,
+    file: &str,
+    format: Format,
+    text: &Snapshot,
+    others: &[Snapshot],
+) -> Result<Printed, FileFault>
+    ensures printed { IfOk result (λ printed. spec.IsPrintedBy others.now file.now text.now (spec.grammar_in format text.now) printed) }
+    ensures fault { IfErr result (λ fault. (fault ≡ FileFault.Memory) ⊎ spec.IsRefusedBy others.now (spec.grammar_in format text.now) fault) }
+{
+    match grammar_in(alloc, format, text) {
+        Ok(grammar) => print_draft_with(alloc, file, text, &grammar, others),
+        Err(fault) => print_fault(alloc, file, text, fault),
+    }
+}
+
+/// What is printed of a file with this name and this format, where the names of other files are known: each finding in a line, in the
+/// order of the file. Rules of the other files whose names the file doesn't define are joined to its grammar, those of an earlier file
+/// first; nothing is told of them. Lines and columns count from 1, and columns count characters. Of a draft in XML that is at fault the
+/// fault alone is told.
+///
+/// # Errors
+///
+/// `NotText` where the grammar of a draft, or a joined grammar, is larger than a text may be, and `Memory`.
+pub fn print_as(
+    alloc: Global,
+    file: &str,
+    format: Format,
+    text: &Snapshot,
+    known: &Known,
+) -> Result<Printed, FileFault>
+    ensures printed { IfOk result (λ printed. spec.IsPrintedWith known.now format file.now text.now printed) }
+    ensures fault { IfErr result (λ fault. spec.IsRefusedWith known.now format text.now fault) }
+{
+    match known.as_slice() {
+        [] => print_alone(alloc, file, format, text),
+        others => print_joined(alloc, file, format, text, others),
+    }
+}
+
+/// The lines of the rules of a grammar that was gathered from a file, with others joined to it.
+fn gathered_rules(
+    alloc: Global,
+    file: &str,
+    draft: &Snapshot,
+    grammar: &Gathered,
+    others: &[Snapshot],
+) -> Result<Text, FileFault>
+    ensures printed { IfOk result (λ lines. spec.ArePrintedJoinedRules others.now file.now draft.now grammar.now lines) }
+    ensures fault { IfErr result (λ fault. spec.IsJoinRefused others.now grammar.now fault) }
+{
+    let told = text_of(alloc, grammar)?;
+    let text = joined_text(alloc, &told, others)?;
+    match print_told_rules(alloc, file, draft, grammar, &told, &text) {
+        Ok(lines) => Ok(lines),
+        Err(_) => Err(FileFault::Memory),
+    }
+}
+
+/// What is printed of the rules of a file of this format, to whose grammar others are joined.
+fn print_joined_rules(
+    alloc: Global,
+    file: &str,
+    format: Format,
+    text: &Snapshot,
+    others: &[Snapshot],
+) -> Result<Printed, FileFault>
+    ensures printed { IfOk result (λ printed. spec.ArePrintedRulesBy others.now file.now text.now (spec.grammar_in format text.now) printed) }
+    ensures fault { IfErr result (λ fault. (fault ≡ FileFault.Memory) ⊎ spec.IsRefusedBy others.now (spec.grammar_in format text.now) fault) }
+{
+    match grammar_in(alloc, format, text) {
+        Ok(grammar) => {
+            let lines = gathered_rules(alloc, file, text, &grammar, others)?;
+            Ok(clean(lines))
+        }
+        Err(fault) => print_fault(alloc, file, text, fault),
+    }
+}
+
+/// What is printed of the rules in a file with this name and this format, where the names of other files are known: each rule that it
+/// defines in a line, at the first place that does, where no place of another file comes before. What a rule generates it generates by
+/// the joined grammar. Of a draft in XML that is at fault the fault alone is told.
+///
+/// # Errors
+///
+/// As [`print_as`].
+pub fn print_rules_as(
+    alloc: Global,
+    file: &str,
+    format: Format,
+    text: &Snapshot,
+    known: &Known,
+) -> Result<Printed, FileFault>
+    ensures printed { IfOk result (λ printed. spec.ArePrintedRulesWith known.now format file.now text.now printed) }
+    ensures fault { IfErr result (λ fault. spec.IsRefusedWith known.now format text.now fault) }
+{
+    match known.as_slice() {
+        [] => print_rules_alone(alloc, file, format, text),
+        others => print_joined_rules(alloc, file, format, text, others),
+    }
+}

@@ -1,0 +1,114 @@
+//! What is printed of a draft in RFCXML.
+
+ghost use Rattle.std.specs.Prelude.{◌≡◌, ◌⊎◌, [], Err, IfErr, IfOk};
+ghost use Rattle.xml_blocks.specs.declared.fault.XmlFault.TheVariants.{Memory as MemoryFault};
+ghost use Rattle.xml_blocks.specs.Xml.{IsGathered, grammar_behind, xml_blocks};
+ghost use Rattle.findings_files.specs.Formats as spec;
+
+use crate::draft::{print_draft, print_draft_rules};
+use findings_text::{Outcome, Printed, place_text};
+use ls_lists::Text;
+use ls_text::{Encoding, Snapshot};
+use origins::Gathered;
+use std::alloc::{AllocError as Memory, Global};
+use text_files::FileFault;
+use xml_blocks::{XmlFault, gather_xml};
+
+/// Where a fault stands, in characters, and what it is in a few words.
+fn place_and_words(fault: XmlFault) -> (usize, &'static str)
+    ensures offset { result.0 ≡ spec.fault_offset fault }
+    ensures words { result.1.now ≡ spec.fault_words fault }
+{
+    match fault {
+        XmlFault::BlockWithoutEnd(at) => (at, "block without an end tag"),
+        XmlFault::CommentWithoutEnd(at) => (at, "comment without an end"),
+        XmlFault::SectionWithoutEnd(at) => (at, "CDATA section without an end"),
+        XmlFault::TagWithoutEnd(at) => (at, "tag without an end"),
+        XmlFault::BadReference(at) => (at, "no reference to a character"),
+        XmlFault::Memory => (0, "out of memory"),
+    }
+}
+
+/// What is printed of a draft that is at fault.
+fn printed_fault(
+    alloc: Global,
+    file: &str,
+    draft: &Snapshot,
+    fault: XmlFault,
+) -> Result<Printed, Memory>
+    ensures { IfOk result (λ printed. spec.IsPrintedFault file.now draft.now fault printed) }
+{
+    let (offset, words) = place_and_words(fault);
+    let place = place_text(alloc, draft.position_of(offset, Encoding::Utf32))?;
+    let mut lines = String::from_str(alloc, file)?;
+    lines.push_str(place.as_str())?;
+    lines.push_str("error: ")?;
+    lines.push_str(words)?;
+    lines.push_str(" [xml]\n")?;
+    Ok(Printed {
+        lines: Text::new(lines),
+        outcome: Outcome::Errors,
+    })
+}
+
+/// What is printed of a draft that is at fault, unless memory was refused.
+pub(crate) fn print_fault(
+    alloc: Global,
+    file: &str,
+    draft: &Snapshot,
+    fault: XmlFault,
+) -> Result<Printed, FileFault>
+    ensures printed { IfOk result (λ printed. spec.IsPrintedFault file.now draft.now fault printed) }
+    ensures memory { fault ≡ MemoryFault → result ≡ Err FileFault.Memory }
+    ensures fault { IfErr result (λ f. f ≡ FileFault.Memory) }
+{
+    if fault == XmlFault::Memory {
+        return Err(FileFault::Memory);
+    }
+    match printed_fault(alloc, file, draft, fault) {
+        Ok(printed) => Ok(printed),
+        Err(_) => Err(FileFault::Memory),
+    }
+}
+
+/// What is gathered from a draft.
+pub(crate) fn gathered(alloc: Global, draft: &Snapshot) -> Result<Gathered, XmlFault>
+    ensures { IsGathered draft.now result }
+{
+    let Ok(text) = draft.to_text() else {
+        return Err(XmlFault::Memory);
+    };
+    gather_xml(alloc, text.as_str())
+}
+
+/// What is printed of a draft in a file with this name: its fault, or else what is found in its grammar.
+pub(crate) fn print_xml(alloc: Global, file: &str, draft: &Snapshot) -> Result<Printed, FileFault>
+    ensures printed { IfOk result (λ printed. spec.IsPrintedXml file.now draft.now (grammar_behind [] (xml_blocks draft.now)) printed) }
+    ensures fault { IfErr result (λ f. (f ≡ FileFault.Memory) ⊎ spec.IsRefusedXml (grammar_behind [] (xml_blocks draft.now)) f) }
+{
+    match gathered(alloc, draft) {
+        Ok(grammar) => print_draft(alloc, file, draft, &grammar),
+        Err(fault) => print_fault(alloc, file, draft, fault),
+    }
+}
+
+/// What is printed of the rules of a draft in a file with this name: its fault, or else the rules of its grammar.
+pub(crate) fn print_xml_rules(
+    alloc: Global,
+    file: &str,
+    draft: &Snapshot,
+) -> Result<Printed, FileFault>
+    ensures printed { IfOk result (λ printed. spec.ArePrintedXmlRules file.now draft.now (grammar_behind [] (xml_blocks draft.now)) printed) }
+    ensures fault { IfErr result (λ f. (f ≡ FileFault.Memory) ⊎ spec.IsRefusedXml (grammar_behind [] (xml_blocks draft.now)) f) }
+{
+    match gathered(alloc, draft) {
+        Ok(grammar) => {
+            let lines = print_draft_rules(alloc, file, draft, &grammar)?;
+            Ok(Printed {
+                lines,
+                outcome: Outcome::Clean,
+            })
+        }
+        Err(fault) => print_fault(alloc, file, draft, fault),
+    }
+}

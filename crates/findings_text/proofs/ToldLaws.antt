@@ -1,0 +1,97 @@
+-- A grammar at the front of a text has one print-out, and one of its rules.
+use Rattle.std.proofs.Common.{◌≡◌, ◌∙◌, ◌<◌, ◌^◌, ℕ, List, length, refl, ap, sym, subst}
+use Rattle.std.specs.Prelude.{Result, Ok, Err, IfOk, flat_map}
+use Rattle.std.proofs.lemmas.List.Elements.{All-filter}
+use Rattle.origins.specs.Origins.{Sourced}
+use Rattle.abnf_names.specs.Places.{Named}
+use Rattle.abnf_names.specs.Rules.{Grammar, IsGrammar}
+use Rattle.abnf_names.proofs.Exist.{some_grammar}
+use Rattle.abnf_names.proofs.OneGrammar.{one_grammar}
+use Rattle.abnf_lint.specs.declared.finding.Finding.{Finding}
+use Rattle.abnf_lint.proofs.OneFinding.{findings_unique}
+use Rattle.abnf_productive.proofs.Exist.{some_findings}
+use Rattle.findings_text.specs.declared.print.Printed.{Printed}
+use Rattle.findings_text.specs.Hints.{compared}
+use Rattle.findings_text.specs.Outcomes.{outcome_of}
+use Rattle.findings_text.specs.Print.{Locator, finding_line}
+use Rattle.findings_text.specs.Rules.{AreRuleLines, heads}
+use Rattle.findings_text.specs.Sources.{position_in_draft}
+use Rattle.findings_text.specs.Told.{ArePrintedRulesIn, AreToldWith, IsPrintedIn, stands_in, told_findings, told_heads}
+use Rattle.findings_text.proofs.HeadLaws.{heads_within}
+use Rattle.findings_text.proofs.PrintLaws.{one_known, some_known}
+use Rattle.findings_text.proofs.RuleLaws.{one_lines, some_lines}
+
+-- ---- the findings
+
+abbrev printed_in : Locator → List ℕ → List ℕ → List (List ℕ) → List Finding → Printed
+printed_in locate file text names found = record { lines = flat_map (finding_line locate names file text) found; outcome = outcome_of found }
+
+is_in : (told : List ℕ) (locate : Locator) (file text : List ℕ) (printed : Printed) (is : IsPrintedIn told locate file text printed) → printed ≡ printed_in locate file text is.names is.found
+is_in told locate file text printed is = (λ i. record { lines = is.lines_are i; outcome = is.outcome_is i })
+
+-- what is printed of the findings that stand at the front of a joined text is printed of it, if it is
+pub printed_told : {E : Type 0} (told : List ℕ) (locate : Locator) (file text : List ℕ) (found : List Finding) (names : List (List ℕ)) → AreToldWith told text found names
+    → (shown : List Finding) (known : List (List ℕ)) → shown ≡ found → known ≡ names → (r : Result Printed E)
+    → IfOk r (λ printed. printed.lines ≡ flat_map (finding_line locate known file text) shown) → IfOk r (λ printed. printed.outcome ≡ outcome_of shown)
+    → IfOk r (λ printed. IsPrintedIn told locate file text printed)
+printed_told told locate file text found names are shown known shown_is known_is (Err e) lines outcome = lines
+printed_told told locate file text found names are shown known shown_is known_is (Ok printed) lines outcome = record {
+  found = found;
+  names = names;
+  of_text = are;
+  lines_are = lines ∙ (λ i. flat_map (finding_line locate (known_is i) file text) (shown_is i));
+  outcome_is = outcome ∙ ap outcome_of shown_is;
+}
+
+one_told : (told text : List ℕ) (a b : List Finding) (x y : List (List ℕ)) → AreToldWith told text a x → AreToldWith told text b y → a ≡ b
+one_told told text a b x y p q = p.found_are ∙ (ap (told_findings told) (findings_unique text p.all q.all p.of_text q.of_text) ∙ sym q.found_are)
+
+one_told_names : (told text : List ℕ) (a b : List Finding) (x y : List (List ℕ)) → AreToldWith told text a x → AreToldWith told text b y → x ≡ y
+one_told_names told text a b x y p q =
+    p.names_are ∙ ((λ i. compared (one_told told text a b x y p q i) (one_known text p.known q.known p.are_known q.are_known i)) ∙ sym q.names_are)
+
+pub one_in : (told : List ℕ) (locate : Locator) (file text : List ℕ) (a b : Printed) → IsPrintedIn told locate file text a → IsPrintedIn told locate file text b → a ≡ b
+one_in told locate file text a b p q =
+    is_in told locate file text a p
+    ∙ ((λ i. printed_in locate file text (one_told_names told text p.found q.found p.names q.names p.of_text q.of_text i) (one_told told text p.found q.found p.names q.names p.of_text q.of_text i))
+    ∙ sym (is_in told locate file text b q))
+
+some_told : (told text : List ℕ) → length text < 2 ^ 62 → (found : List Finding) × (names : List (List ℕ)) × AreToldWith told text found names
+some_told told text small =
+    let all = some_findings text small in
+    let known = some_known text small in
+    let found = told_findings told all.0 in
+    (found, compared found known.0, record { all = all.0; of_text = all.1; found_are = refl; known = known.0; are_known = known.1; names_are = refl })
+
+pub some_in : (told : List ℕ) (locate : Locator) (file text : List ℕ) → length text < 2 ^ 62 → (printed : Printed) × IsPrintedIn told locate file text printed
+some_in told locate file text small =
+    let front = some_told told text small in
+    (printed_in locate file text front.1 front.0, record { found = front.0; names = front.1; of_text = front.2; lines_are = refl; outcome_is = refl })
+
+-- ---- the rules
+
+-- the lines of the rules that stand at the front of a joined text, if there are any
+pub told_lines : {E : Type 0} (told draft file text : List ℕ) (gathered : List Sourced) (g : Grammar) → g.text ≡ text → IsGrammar g → (r : Result (List ℕ) E)
+    → IfOk r (λ lines. AreRuleLines (position_in_draft draft gathered g.text) file g (told_heads told (heads g.names g.places)) lines)
+    → IfOk r (λ lines. ArePrintedRulesIn told (position_in_draft draft gathered text) file text lines)
+told_lines told draft file text gathered g is right (Err e) are = are
+told_lines told draft file text gathered g is right (Ok lines) are = record {
+  grammar = g;
+  of_text = is;
+  right = right;
+  lines_are = subst (λ (t : List ℕ). AreRuleLines (position_in_draft draft gathered t) file g (told_heads told (heads g.names g.places)) lines) is are;
+}
+
+pub one_rules_in : (told : List ℕ) (locate : Locator) (file text a b : List ℕ) → ArePrintedRulesIn told locate file text a → ArePrintedRulesIn told locate file text b → a ≡ b
+one_rules_in told locate file text a b x y =
+    let as_one : x.grammar ≡ y.grammar = one_grammar x.grammar y.grammar x.right y.right (x.of_text ∙ sym y.of_text) in
+    one_lines locate file y.grammar (told_heads told (heads y.grammar.names y.grammar.places)) a b
+    (subst (λ (g : Grammar). AreRuleLines locate file g (told_heads told (heads g.names g.places)) a) as_one x.lines_are) y.lines_are
+
+pub some_rules_in : (told : List ℕ) (locate : Locator) (file text : List ℕ) → length text < 2 ^ 62 → (lines : List ℕ) × ArePrintedRulesIn told locate file text lines
+some_rules_in told locate file text small =
+    let g = some_grammar text small in
+    let all = heads g.0.names g.0.places in
+    let within = All-filter (λ (head : Named × ℕ). stands_in told head.0.place) (λ (head : Named × ℕ). head.1 < length g.0.rules) all (heads_within g.0 g.2 g.0.places) in
+    let lines = some_lines locate file g.0 g.2 (told_heads told all) within in
+    (lines.0, record { grammar = g.0; of_text = g.1; right = g.2; lines_are = lines.1 })

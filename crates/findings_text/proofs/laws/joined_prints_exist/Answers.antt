@@ -1,5 +1,0 @@
-use Rattle.findings_text.proofs.KnownLaws.{some_with}
-use Rattle.findings_text.proofs.laws.joined_prints_exist.Goals as goal
-
-pub returns : goal.returns
-returns c = some_with

@@ -1,5 +1,0 @@
-use Rattle.findings_text.proofs.KnownLaws.{some_grammar_as}
-use Rattle.findings_text.proofs.laws.printed_grammars_exist.Goals as goal
-
-pub returns : goal.returns
-returns c = some_grammar_as

@@ -1,5 +1,0 @@
-use Rattle.findings_text.proofs.KnownLaws.{one_with}
-use Rattle.findings_text.proofs.laws.prints_are_unique.Goals as goal
-
-pub returns : goal.returns
-returns c = one_with

@@ -1,5 +1,0 @@
-use Rattle.findings_text.proofs.KnownLaws.{one_rules_with}
-use Rattle.findings_text.proofs.laws.rule_prints_are_unique.Goals as goal
-
-pub returns : goal.returns
-returns c = one_rules_with

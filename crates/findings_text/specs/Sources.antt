@@ -1,0 +1,25 @@
+-- Where what stands in the text of a grammar stands in the file that it comes from.
+use Rattle.std.specs.Prelude.{ℕ, List, length, slice_get}
+use Rattle.std.specs.Option.{option_map_or}
+use Rattle.ls_text.specs.Lines.{offset_of, units}
+use Rattle.ls_text.specs.Positions.{position_of}
+use Rattle.ls_text.specs.declared.position.Encoding.TheVariants.{Utf32}
+use Rattle.ls_text.specs.declared.position.Position.{Position}
+use Rattle.origins.specs.Origins.{Sourced}
+use Rattle.findings_text.specs.declared.source.Source.{Source}
+use Rattle.findings_text.specs.declared.source.Source.TheVariants.{Draft, File}
+use Rattle.findings_text.specs.Print.{Locator}
+
+-- the offset in a draft of what has this offset in its grammar; past the grammar's end it is the draft's end
+abbrev pub origin_at : List ℕ → List Sourced → ℕ → ℕ
+origin_at draft grammar o = option_map_or (λ c. c.1) (slice_get grammar o) (length draft)
+
+-- where in the draft stands what has this position in a text that begins with its grammar
+abbrev pub position_in_draft : List ℕ → List Sourced → List ℕ → Position → Position
+position_in_draft draft grammar text at =
+    position_of (units Utf32) draft (origin_at draft grammar (offset_of (units Utf32) text at.line at.character))
+
+-- where what stands in the text of a source stands in the file
+abbrev pub located : Source → List ℕ → Locator
+located File text at = at
+located (Draft draft grammar) text at = position_in_draft draft.now grammar.now text at

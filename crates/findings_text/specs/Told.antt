@@ -1,0 +1,53 @@
+-- What is printed of a grammar at the front of a text, to which rules of others are joined behind it: nothing is told of these.
+use Rattle.std.specs.Prelude.{◌≡◌, ℕ, Bool, nat_lt, List, filter, flat_map}
+use Rattle.ls_text.specs.Lines.{line_ends}
+use Rattle.ls_text.specs.declared.position.Place.{Place}
+use Rattle.abnf_names.specs.Places.{Named}
+use Rattle.abnf_names.specs.Rules.{Grammar, IsGrammar}
+use Rattle.abnf_lint.specs.declared.finding.Finding.{Finding}
+use Rattle.abnf_lint.specs.Findings.{AreFindings}
+use Rattle.findings_text.specs.declared.print.Printed.{Printed}
+use Rattle.findings_text.specs.Hints.{AreKnown, compared}
+use Rattle.findings_text.specs.Outcomes.{outcome_of}
+use Rattle.findings_text.specs.Print.{Locator, finding_line}
+use Rattle.findings_text.specs.Rules.{AreRuleLines, heads}
+
+-- The place stands in the grammar at the front of a joined text. A grammar that was gathered ends in a line end, so it has as many lines
+-- of the joined text as it has line ends.
+abbrev pub stands_in : List ℕ → Place → Bool
+stands_in told place = nat_lt place.line (line_ends told)
+
+-- the findings that stand there
+abbrev pub told_findings : List ℕ → List Finding → List Finding
+told_findings told found = filter (λ finding. stands_in told finding.place) found
+
+-- These are the findings that stand there, and the names with which theirs are compared. The rules of the joined text are known, in its
+-- order, and then the core rules: so of names that are as near one of the grammar at the front is told.
+pub record AreToldWith (told text : List ℕ) (found : List Finding) (names : List (List ℕ)) : Type 0 where
+  pub all : List Finding
+  pub of_text : AreFindings text all
+  pub found_are : found ≡ told_findings told all
+  pub known : List (List ℕ)
+  pub are_known : AreKnown text known
+  pub names_are : names ≡ compared found known
+
+-- This is printed of the grammar at the front of a joined text: the lines of the findings that stand there, in their order.
+pub record IsPrintedIn (told : List ℕ) (locate : Locator) (file text : List ℕ) (printed : Printed) : Type 0 where
+  pub found : List Finding
+  pub names : List (List ℕ)
+  pub of_text : AreToldWith told text found names
+  pub lines_are : printed.lines ≡ flat_map (finding_line locate names file text) found
+  pub outcome_is : printed.outcome ≡ outcome_of found
+
+-- ---- the rules
+
+-- the heads that stand in the grammar at the front of a joined text
+abbrev pub told_heads : List ℕ → List (Named × ℕ) → List (Named × ℕ)
+told_heads told heads = filter (λ head. stands_in told head.0.place) heads
+
+-- This is printed of the rules of that grammar: a line for each whose first definition stands there.
+pub record ArePrintedRulesIn (told : List ℕ) (locate : Locator) (file text lines : List ℕ) : Type 0 where
+  pub grammar : Grammar
+  pub of_text : grammar.text ≡ text
+  pub right : IsGrammar grammar
+  pub lines_are : AreRuleLines locate file grammar (told_heads told (heads grammar.names grammar.places)) lines
