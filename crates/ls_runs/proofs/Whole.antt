@@ -25,12 +25,12 @@ use Rattle.ls_session.specs.declared.session.Stage.{Stage}
 use Rattle.ls_session.specs.declared.session.Stage.TheVariants.{BeforeInitialize}
 use Rattle.ls_desk.specs.Anew.{base_after}
 use Rattle.ls_desk.specs.Stands.{counts_of, is_long, state_of, ticket_of_out}
-use Rattle.ls_server.specs.Runs.{end_status}
-use Rattle.ls_workers.specs.Seats.{ToldClient}
+use Rattle.ls_devices.specs.Ends.{end_status}
+use Rattle.ls_workers.specs.Seats.{ToldClient, told_nothing}
 use Rattle.ls_workers.specs.Sent.{first_noted, noted_of, sent_by, sent_from}
 use Rattle.ls_threads.specs.Input.{HearsInput, HearsLast, HearsMore, HearsSome}
 use Rattle.ls_threads.specs.Reading.{Hears, HearsAll, HearsFront, HearsOn, IsEntered, IsMet, IsTaken, IsTold}
-use Rattle.ls_threads.specs.Served.{told_nothing, told_of}
+use Rattle.ls_threads.specs.Served.{told_of}
 use Rattle.ls_threads.specs.Writing.{LastAre}
 use Rattle.ls_threads.specs.declared.ending.Heard.{Heard}
 use Rattle.ls_threads.specs.declared.ending.Heard.TheVariants as heard

@@ -19,7 +19,7 @@ use Rattle.ls_session.specs.declared.event.Turn.TheVariants as turn
 use Rattle.ls_session.specs.declared.session.Stage.{Stage}
 use Rattle.ls_session.specs.declared.session.Stage.TheVariants.{BeforeInitialize}
 use Rattle.ls_desk.specs.Stands.{Seen, state_of, ticket_of_out}
-use Rattle.ls_server.specs.Runs.{end_status, or_else}
+use Rattle.ls_devices.specs.Ends.{end_status, or_else}
 use Rattle.ls_workers.specs.Refusals.{is_shortage, may_refuse}
 use Rattle.ls_workers.specs.Sent.{noted_of, sent_by}
 use Rattle.ls_threads.specs.Reading.{refusal_to}

@@ -10,11 +10,11 @@ use Rattle.ls_steps.specs.Plain.{Says}
 use Rattle.ls_steps.proofs.OneSession.{one_session}
 use Rattle.ls_steps.proofs.SomeSession.{some_session}
 use Rattle.ls_steps.proofs.Settled.{goes-on, says-more, weaker}
-use Rattle.ls_server.specs.Runs.{AppendsFront, IsOutput, RunIs, ServedIs, last_status}
-use Rattle.ls_server.specs.declared.serve.ServeFault.{ServeFault}
-use Rattle.ls_server.specs.declared.serve.ServeFault.TheVariants.{Read, Write, Strayed, Memory}
-use Rattle.ls_server.proofs.Known.{append-nil}
-use Rattle.ls_server.proofs.Writing.{lists-nil}
+use Rattle.ls_server.specs.Runs.{IsOutput, RunIs, ServedIs, last_status}
+use Rattle.ls_devices.specs.Devices.{AppendsFront}
+use Rattle.ls_devices.specs.declared.fault.ServeFault.{ServeFault}
+use Rattle.ls_devices.specs.declared.fault.ServeFault.TheVariants.{Read, Write, Strayed, Memory}
+use Rattle.std.proofs.lemmas.List.{append-nil}
 use Rattle.ls_server.proofs.Whole.{RunsOn, whole-told}
 
 pub some_output : (input : List ℕ) → (status : Status) × (bytes : List ℕ) × IsOutput false input status bytes
@@ -27,7 +27,7 @@ one_stream : (input rest last : List ℕ) (xs ys : List (List ℕ)) → Stream i
 one_stream input rest last xs ys s t =
     let f = stream-front input [] rest last xs ys s (subst (λ l. Stream l ys last) (sym (append-nil input)) t) in
     let a = rest-alone rest last f.0 s.partial (subst (λ l. Stream l f.0 last) (append-nil rest) f.2) in
-    (sym (f.1 ∙ (ap (λ l. xs ++ l) a.0 ∙ lists-nil xs)), sym a.1)
+    (sym (f.1 ∙ (ap (λ l. xs ++ l) a.0 ∙ append-nil xs)), sym a.1)
 
 pub one_output : (input : List ℕ) (status other : Status) (a b : List ℕ) → IsOutput false input status a → IsOutput false input other b → (status ≡ other) × (a ≡ b)
 one_output input status other a b p q =

@@ -8,11 +8,12 @@ use Rattle.ls_frame.specs.declared.fault.FrameFault.TheVariants.{HeaderTooLong, 
 use Rattle.ls_steps.specs.Runs.{Going}
 use Rattle.ls_steps.specs.Plain.{Says}
 use Rattle.ls_server.specs.Runs.{AnswersIs, WrittenFront, Ends, Stops, PieceIs, outcome}
-use Rattle.ls_server.specs.declared.serve.ServeFault.{ServeFault}
-use Rattle.ls_server.specs.declared.serve.ServeFault.TheVariants.{Read, Write, Strayed, Memory}
+use Rattle.ls_devices.specs.declared.fault.ServeFault.{ServeFault}
+use Rattle.ls_devices.specs.declared.fault.ServeFault.TheVariants.{Read, Write, Strayed, Memory}
 use Rattle.ls_session.specs.declared.event.Status.{Status}
 use Rattle.ls_session.specs.declared.event.Status.TheVariants.{BadFrame}
-use Rattle.ls_server.proofs.Known.{append-nil}
+use Rattle.std.proofs.lemmas.List.{append-nil}
+use Rattle.ls_devices.proofs.Input.{no-stream}
 use Rattle.ls_server.proofs.Writing.{front-whole, IsStop}
 
 some-none : {A : Type 0} {X : Type 0} (o : Option A) (x : A) → o ≡ None → o ≡ Some x → X
@@ -41,10 +42,6 @@ fed-is old piece new after (Err BadLength) e h = fed-err old piece new after Bad
 fed-is old piece new after (Err TooLarge) e h = fed-err old piece new after TooLarge e h
 fed-is old piece new after (Err Truncated) e h = fed-err old piece new after Truncated e h
 fed-is old piece new after (Err NoMemory) e h = h.2
-
--- a rest without frames is a stream without contents
-pub no-stream : (rest : List ℕ) → HasNoFrame rest → Stream rest [] rest
-no-stream rest p = record { frames = []; whole = refl; bytes_are = refl; partial = p }
 
 -- nothing of the piece has been answered
 pub stops-before : (old piece : List ℕ) (state : Going) (after : List (List ℕ)) (a b : Option (List ℕ)) → HasNoFrame old → after ≡ [] → WrittenFront state after a b → Stops old piece state a b

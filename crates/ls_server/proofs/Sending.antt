@@ -6,10 +6,12 @@ use Rattle.ls_steps.specs.Runs.{Going, IsSent, Runs, Steps, send, state_at}
 use Rattle.ls_steps.specs.Plain.{CanSendAll, Replies, times}
 use Rattle.ls_steps.proofs.ByActs.{runs-append}
 use Rattle.ls_steps.proofs.Serving.{OneSent, can-go-on, left-is, replies-more, send-runs}
-use Rattle.ls_server.specs.Runs.{AppendsFront, SendsIs, SentFront, SomeSent}
-use Rattle.ls_server.specs.declared.serve.ServeFault.{ServeFault}
-use Rattle.ls_server.specs.declared.serve.ServeFault.TheVariants.{Memory, Write}
-use Rattle.ls_server.proofs.Known.{append-nil, appends-appends, appends-none}
+use Rattle.ls_server.specs.Runs.{SendsIs, SentFront, SomeSent}
+use Rattle.ls_devices.specs.Devices.{AppendsFront}
+use Rattle.ls_devices.specs.declared.fault.ServeFault.{ServeFault}
+use Rattle.ls_devices.specs.declared.fault.ServeFault.TheVariants.{Memory, Write}
+use Rattle.std.proofs.lemmas.List.{append-nil}
+use Rattle.ls_devices.proofs.Known.{appends-appends, appends-none}
 
 -- ---- replies that have left are the first of all that can be sent
 

@@ -8,42 +8,18 @@ use Rattle.ls_frame.specs.declared.fault.FrameFault.{FrameFault}
 use Rattle.ls_frame.specs.declared.fault.FrameFault.TheVariants.{Truncated}
 use Rattle.ls_frame.specs.Feeds.{EndIs}
 use Rattle.ls_steps.specs.Runs.{Going, begun}
-use Rattle.ls_server.specs.Runs.{end_status}
+use Rattle.ls_devices.specs.Ends.{end_status}
 use Rattle.ls_server.specs.Runs.{AnswersIs, GoesOn, Stops, PieceIs, ServedIs, WasServed, Written, is_write}
-use Rattle.ls_server.specs.declared.serve.ServeFault.{ServeFault}
-use Rattle.ls_server.specs.declared.serve.ServeFault.TheVariants.{Read, Write, Strayed, Memory}
+use Rattle.ls_devices.specs.declared.fault.ServeFault.{ServeFault}
+use Rattle.ls_devices.specs.declared.fault.ServeFault.TheVariants.{Read, Write, Strayed, Memory}
 use Rattle.ls_session.specs.declared.event.Status.{Status}
 use Rattle.ls_session.specs.declared.event.Status.TheVariants.{Unclean, BadFrame}
-use Rattle.ls_server.proofs.Known.{append-nil}
+use Rattle.std.proofs.lemmas.List.{append-nil}
+use Rattle.ls_devices.proofs.Known.{or-true}
 use Rattle.ls_steps.specs.Plain.{IsSettled}
 use Rattle.ls_steps.proofs.Settled.{says-more, settled-begun, settled-said}
 use Rattle.ls_server.proofs.Writing.{answers-more, front-append, front-none, written-append, written-none}
-use Rattle.ls_server.proofs.Pieces.{no-stream}
-
-pub consumes-consumes : (a b c : Option (List ℕ)) (x y : List ℕ) → Consumes a b x → Consumes b c y → Consumes a c (x ++ y)
-consumes-consumes None b c x y p q = tt
-consumes-consumes (Some xs) None c x y p q = absurd p
-consumes-consumes (Some xs) (Some ys) None x y p q = absurd q
-consumes-consumes (Some xs) (Some ys) (Some zs) x y p q = p ∙ (ap (λ l. x ++ l) q ∙ sym (append_assoc x y zs))
-
-pub consumes-keeps : (a b c : Option (List ℕ)) (x : List ℕ) → Consumes a b x → Keeps b c → Consumes a c x
-consumes-keeps None b c x p q = tt
-consumes-keeps (Some xs) None c x p q = absurd p
-consumes-keeps (Some xs) (Some ys) None x p q = absurd q
-consumes-keeps (Some xs) (Some ys) (Some zs) x p q = p ∙ ap (λ l. x ++ l) (sym q)
-
-pub consumes-none : (a : Option (List ℕ)) → Consumes a a []
-consumes-none None = tt
-consumes-none (Some xs) = refl
-
--- frames, and then a stream
-pub stream-behind : (frames bytes last : List ℕ) (xs ys : List (List ℕ)) → Frames frames xs → Stream bytes ys last → Stream (frames ++ bytes) (xs ++ ys) last
-stream-behind frames bytes last xs ys f s = record {
-  frames = frames ++ s.frames;
-  whole = frames-append frames s.frames xs ys f s.whole;
-  bytes_are = ap (λ l. frames ++ l) s.bytes_are ∙ sym (append_assoc frames s.frames last);
-  partial = s.partial;
-}
+use Rattle.ls_devices.proofs.Input.{consumes-consumes, no-stream, stream-behind}
 
 -- what is written of a piece is a front of what all the bytes ask for
 pub stops-more : (read rest piece : List ℕ) (state : Going) (a b c : Option (List ℕ)) → GoesOn [] read begun a rest state b → Stops rest piece state b c → Stops [] (read ++ piece) begun a c
@@ -162,14 +138,6 @@ served-fault input before left spent failed read piece rest last state now Write
 served-fault input before left spent failed read piece rest last state now Strayed a b c q g d p f = absurd p
 served-fault input before left spent failed read piece rest last state now Memory a b c q g d p f =
     (read ++ piece, consumes-consumes input before left read piece q d, stops-more read rest piece state a b c g p)
-
-pub or-true : (a b : Bool) → a ≡ (b || true) → a ≡ true
-or-true a true e = e
-or-true a false e = e
-
-pub or-false : (a b : Bool) → b ≡ false → a ≡ (b || false) → a ≡ false
-or-false a true f e = cc
-or-false a false f e = e
 
 pub write-failed : (fault : ServeFault) (a b : Bool) → a ≡ (b || is_write {A = Option Status} (Err fault)) → fault ≡ Write → a ≡ true
 write-failed Read a b e f = absurd (cc)

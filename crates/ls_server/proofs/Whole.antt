@@ -9,14 +9,14 @@ use Rattle.ls_frame.proofs.Wholes.{fault-no_frame}
 use Rattle.ls_frame.specs.declared.fault.FrameFault.{FrameFault}
 use Rattle.ls_steps.specs.Runs.{Going, begun}
 use Rattle.ls_steps.proofs.Settled.{settled-begun}
-use Rattle.ls_server.specs.Runs.{end_status}
-use Rattle.ls_server.specs.Runs.{Written, WrittenFront, GoesOn, Ends, Stops, Finishes, ServedIs, or_else, last_status}
-use Rattle.ls_server.specs.declared.serve.ServeFault.{ServeFault}
-use Rattle.ls_server.specs.declared.serve.ServeFault.TheVariants.{Read, Write, Strayed, Memory}
+use Rattle.ls_devices.specs.Ends.{end_status, or_else}
+use Rattle.ls_server.specs.Runs.{Written, WrittenFront, GoesOn, Ends, Stops, Finishes, ServedIs, last_status}
+use Rattle.ls_devices.specs.declared.fault.ServeFault.{ServeFault}
+use Rattle.ls_devices.specs.declared.fault.ServeFault.TheVariants.{Read, Write, Strayed, Memory}
 use Rattle.ls_session.specs.declared.event.Status.{Status}
 use Rattle.ls_session.specs.declared.event.Status.TheVariants.{BadFrame}
-use Rattle.ls_server.proofs.Known.{append-nil}
-use Rattle.ls_server.proofs.Writing.{lists-nil, written-stays, front-longer}
+use Rattle.std.proofs.lemmas.List.{append-nil}
+use Rattle.ls_server.proofs.Writing.{written-stays, front-longer}
 
 -- A run on a whole input that is a stream with these contents and this rest: what is left of it, and what is written.
 abbrev pub RunsOn : List ℕ → List (List ℕ) → List ℕ → Option (List ℕ) → Option (List ℕ) → Result Status ServeFault → Option (List ℕ) → Type 0
@@ -45,7 +45,7 @@ EndsIs contents rest old status new = (after : Going) × ((status ≡ last_statu
 at-last : (contents known zs : List (List ℕ)) (rest last : List ℕ) (after : Going) (status : Status) (old new : Option (List ℕ)) → contents ≡ known ++ zs → zs ≡ []
     → after.status ≡ None → status ≡ end_status (fault_of rest) rest → Written begun known after old new → EndsIs contents rest old status new
 at-last contents known zs rest last after status old new e none x s w =
-    let same : contents ≡ known = e ∙ (ap (λ l. known ++ l) none ∙ lists-nil known) in
+    let same : contents ≡ known = e ∙ (ap (λ l. known ++ l) none ∙ append-nil known) in
     let P : List (List ℕ) → Type 0 = λ l. EndsIs l rest old status new in
     subst P (sym same) (after, (rw x s, w))
 

@@ -2,21 +2,18 @@
 use Rattle.std.proofs.Common.{ℕ, ◌+◌, ◌<◌, length, get_or, ◌≡◌, List, [], ◌∷◌, ◌++◌, take, drop, Option, None, Some, true, refl, sym, ◌∙◌, ap, subst, append_assoc}
 use Rattle.std.specs.Prelude.{is_some, Vec, Result, Ok, Err}
 use Rattle.std.specs.declared.alloc.Global.{Global}
-use Rattle.std.proofs.lemmas.List.{take_more, take-append-drop, map-append}
+use Rattle.std.proofs.lemmas.List.{append-nil, take_more, take-append-drop, map-append}
 use Rattle.ls_frame.specs.Feeds.{contents_of}
 use Rattle.ls_steps.specs.Runs.{Going}
 use Rattle.ls_steps.specs.Plain.{CanSendAll, Hears, IsSettled, Says, Serves}
 use Rattle.ls_steps.proofs.Settled.{says-more, says-one, says-stays}
-use Rattle.ls_server.specs.Runs.{AppendsFront, AnswersIs, SendsIs, Written, WrittenFront}
-use Rattle.ls_server.specs.declared.serve.ServeFault.{ServeFault}
-use Rattle.ls_server.specs.declared.serve.ServeFault.TheVariants.{Read, Write, Strayed, Memory}
+use Rattle.ls_server.specs.Runs.{AnswersIs, SendsIs, Written, WrittenFront}
+use Rattle.ls_devices.specs.Devices.{AppendsFront}
+use Rattle.ls_devices.specs.declared.fault.ServeFault.{ServeFault}
+use Rattle.ls_devices.specs.declared.fault.ServeFault.TheVariants.{Read, Write, Strayed, Memory}
 use Rattle.ls_session.specs.declared.event.Status.{Status}
-use Rattle.ls_server.proofs.Known.{appends-appends, appends-none, as-front}
+use Rattle.ls_devices.proofs.Known.{appends-appends, appends-none, as-front}
 use Rattle.ls_server.proofs.Sending.{FrontOfAll, front-of-all, some-of-all}
-
-pub lists-nil : (xs : List (List ℕ)) → xs ++ [] ≡ xs
-lists-nil [] = refl
-lists-nil (x ∷ xs) = ap (λ l. x ∷ l) (lists-nil xs)
 
 says-none : (state : Going) → Says true state [] state []
 unfolding Says
@@ -52,7 +49,7 @@ front-append state now xs ys a b c w f = record {
 
 -- all of it is a front
 pub front-whole : (state after : Going) (xs : List (List ℕ)) (a b : Option (List ℕ)) → Written state xs after a b → WrittenFront state xs a b
-front-whole state after xs a b w = record { answered = xs; left = []; contents_are = sym (lists-nil xs); after = after; bytes = w.bytes; said = w.said; written = as-front a b w.bytes w.written }
+front-whole state after xs a b w = record { answered = xs; left = []; contents_are = sym (append-nil xs); after = after; bytes = w.bytes; said = w.said; written = as-front a b w.bytes w.written }
 
 -- and so is nothing
 pub front-none : (state : Going) (xs : List (List ℕ)) (a : Option (List ℕ)) → WrittenFront state xs a a

@@ -6,8 +6,8 @@ use Rattle.abnf_cert.specs.declared.fault.CertFault.{CertFault}
 use Rattle.abnf_cert.specs.declared.fault.CertFault.TheVariants as cert
 use Rattle.ls_session.specs.declared.event.Status.{Status}
 use Rattle.ls_session.specs.declared.event.Status.TheVariants as status
-use Rattle.ls_server.specs.declared.serve.ServeFault.{ServeFault}
-use Rattle.ls_server.specs.declared.serve.ServeFault.TheVariants.{Read, Write, Strayed, Memory}
+use Rattle.ls_devices.specs.declared.fault.ServeFault.{ServeFault}
+use Rattle.ls_devices.specs.declared.fault.ServeFault.TheVariants.{Read, Write, Strayed, Memory}
 use Rattle.text_files.specs.declared.file.FileFault.{FileFault}
 use Rattle.text_files.specs.declared.file.FileFault.TheVariants as file
 use Rattle.ls_server.specs.declared.ending.Ending.{Ending}

@@ -1,4 +1,3 @@
-pub mod Devices
 pub mod Runs
 pub mod Endings
 pub mod Commands

@@ -9,18 +9,10 @@ use Rattle.ls_steps.specs.Runs.{Going, Runs, Steps, begun, send}
 use Rattle.ls_steps.specs.Plain.{Replies, Says, times}
 use Rattle.ls_session.specs.declared.event.Status.{Status}
 use Rattle.ls_session.specs.declared.event.Status.TheVariants.{BadFrame, Unclean}
-use Rattle.ls_server.specs.declared.serve.ServeFault.{ServeFault}
-use Rattle.ls_server.specs.declared.serve.ServeFault.TheVariants.{Read, Write, Strayed, Memory}
-
--- the status where no exit comes before the end of the stream
-abbrev pub end_status : Option FrameFault → List ℕ → Status
-end_status (Some fault) rest = BadFrame fault
-end_status None [] = Unclean
-end_status None (b ∷ rest) = BadFrame Truncated
-
--- the bytes grow by a front of these
-abbrev pub AppendsFront : Option (List ℕ) → Option (List ℕ) → List ℕ → Type 0
-AppendsFront old new bytes = (part : List ℕ) × (more : List ℕ) × ((bytes ≡ part ++ more) × Appends old new part)
+use Rattle.ls_devices.specs.Devices.{AppendsFront}
+use Rattle.ls_devices.specs.Ends.{end_status, or_else}
+use Rattle.ls_devices.specs.declared.fault.ServeFault.{ServeFault}
+use Rattle.ls_devices.specs.declared.fault.ServeFault.TheVariants.{Read, Write, Strayed, Memory}
 
 -- What is said on contents from a state on has been written. A job in it may have been refused memory.
 pub record Written (state : Going) (contents : List (List ℕ)) (after : Going) (old new : Option (List ℕ)) : Type 0 where
@@ -65,11 +57,6 @@ SendsIs state old (Err Read) after new = ⊥
 SendsIs state old (Err Write) after new = SentFront state after old new
 SendsIs state old (Err Strayed) after new = ⊥
 SendsIs state old (Err Memory) after new = (now : Going) × SomeSent state now old new
-
-abbrev pub or_else : Option Status → Option FrameFault → Option Status
-or_else (Some status) fault = Some status
-or_else None None = None
-or_else None (Some fault) = Some (BadFrame fault)
 
 -- From a state the contents are answered: what r says, what the state is then, and what is written.
 abbrev pub AnswersIs : Going → List (List ℕ) → Option (List ℕ) → Result (Option Status) ServeFault → Going → Option (List ℕ) → Type 0

@@ -2,8 +2,8 @@
 ghost use Rattle.std.specs.Prelude.{◌≡◌, ◌++◌, string_bytes};
 ghost use Rattle.ls_server.specs.Endings.{cert_fault_text, ending_of, ending_of_check, ending_of_file, fault_text, line_of_ending, status_of_ending, text_of_check};
 
-use crate::serve::ServeFault;
 use abnf_cert::CertFault;
+use ls_devices::ServeFault;
 use ls_frame::FrameFault;
 use ls_lists::Text;
 use ls_session::Status;

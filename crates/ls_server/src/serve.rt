@@ -4,63 +4,17 @@ ghost use Rattle.std.specs.Io.KnownBytes.{Appends};
 ghost use Rattle.ls_frame.specs.Frames.{HasNoFrame};
 ghost use Rattle.ls_frame.specs.Faults.{fault_of};
 ghost use Rattle.ls_frame.specs.Feeds.{contents_of};
-ghost use Rattle.ls_server.specs.Devices.{is_failed};
-ghost use Rattle.ls_server.specs.Runs.{AnswersIs, AppendsFront, IsOutput, PieceIs, RunIs, SendsIs, ServedIs, WasServed, is_write, outcome};
+ghost use Rattle.ls_devices.specs.Devices.{AppendsFront};
+ghost use Rattle.ls_server.specs.Runs.{AnswersIs, IsOutput, PieceIs, RunIs, SendsIs, ServedIs, WasServed, is_write, outcome};
 ghost use Rattle.ls_steps.specs.Plain.{CanSendAll};
 ghost use Rattle.ls_steps.specs.Runs.{begun};
 ghost use Rattle.ls_session.specs.declared.event.Status.{Status};
 
-use crate::device::{DeviceFault, Sink, Source};
+use ls_devices::{DeviceFault, READ_MOST, READS_END, ServeFault, Sink, Source, write_all};
 use ls_frame::{FrameFault, Framer};
 use ls_session::Status;
 use ls_steps::Conversation;
-use std::alloc::{AllocError, Global};
-use thiserror::Error;
-
-/// The most bytes that one read takes.
-pub const READ_MOST: usize = 65_536;
-
-/// A session makes fewer reads than this: the read with this number is answered as `Read`.
-pub const READS_END: u64 = 1_099_511_627_776;
-
-/// Why a run broke off.
-#[derive(Clone, Copy, Debug, Drop, PartialEq, Eq, Error)]
-pub enum ServeFault {
-    #[error("the source failed")]
-    Read,
-    #[error("the sink failed")]
-    Write,
-    /// What was done at the desk isn't what its journal has, or something was left undone. Only a run by several threads tests that.
-    #[error("strayed")]
-    Strayed,
-    #[error("out of memory")]
-    Memory,
-}
-
-impl From<AllocError> for ServeFault {
-    ghost use Rattle.std.specs.Prelude.{◌≡◌};
-    ghost use Rattle.ls_server.specs.declared.serve.ServeFault.TheVariants.{Memory};
-
-    ghost from_gives = { λ e f. f ≡ Memory };
-
-    fn from(_: AllocError) -> ServeFault {
-        ServeFault::Memory
-    }
-}
-
-/// Writes all the bytes, unless the sink fails. Its one fault is `Failed`; a front of the bytes has been written then.
-pub fn write_all<W: Sink>(writer: &mut W, bytes: &[u8]) -> Result<(), DeviceFault>
-    ensures ok { OnOk result (Appends (W.contents writer.old) (W.contents writer.new) bytes.now) }
-    ensures front { AppendsFront (W.contents writer.old) (W.contents writer.new) bytes.now }
-    ensures failed { W.failed writer.new ≡ (W.failed writer.old || is_failed result) }
-    ensures fault { IfErr result (λ e. e ≡ DeviceFault.Failed) }
-{
-    let mut at = 0;
-    'writes: while at < bytes.len() {
-        at += writer.write(&bytes[at..])?;
-    }
-    Ok(())
-}
+use std::alloc::Global;
 
 /// Writes a frame and flushes it.
 fn send_frame<W: Sink>(writer: &mut W, frame: &[u8]) -> Result<(), ServeFault>

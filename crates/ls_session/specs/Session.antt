@@ -12,6 +12,7 @@ use Rattle.ls_bodies.specs.Refusal.{error_body, refusal_of_code}
 use Rattle.ls_bodies.specs.declared.refusal.Refusal.{Refusal}
 use Rattle.ls_bodies.specs.declared.refusal.Refusal.TheVariants as refusal
 use Rattle.ls_answers.specs.declared.ask.Ask.{Ask}
+use Rattle.ls_machine.specs.Client.{IsAllowed}
 use Rattle.ls_machine.specs.declared.client.ClientEvent.{ClientEvent}
 use Rattle.ls_machine.specs.declared.client.ClientEvent.TheVariants as event
 use Rattle.ls_session.specs.declared.event.Turn.{Turn}
@@ -102,3 +103,11 @@ turn_of stage (request id method params) = request_turn stage id (request_named 
 turn_of stage (notice method params) = notice_turn stage (notice_named method) params
 turn_of stage response = (Nothing, stage)
 turn_of stage (bad id code) = (bad_turn stage id code, stage)
+
+-- ---- what clients may bring
+
+-- the event of a turn, where there is one, is one that clients may bring
+abbrev pub IsAllowedOn : Turn → Type 0
+IsAllowedOn Nothing = Unit {0}
+IsAllowedOn (Event event) = IsAllowed event
+IsAllowedOn (Exit status) = Unit {0}

@@ -7,6 +7,7 @@
 
 mod bodies;
 mod event;
+mod frame;
 mod initialize;
 mod kind;
 mod laws;
@@ -16,6 +17,7 @@ mod session;
 
 pub use bodies::{body_of, refusal_body};
 pub use event::{Status, Turn};
+pub use frame::framed;
 pub use laws::failures_have_their_code;
 pub use ls_machine::ClientEvent;
 pub use session::{Agreed, Session, Stage};

@@ -1,5 +1,6 @@
 -- The events that each act enters.
 use Rattle.std.proofs.Common.{◌≡◌, ℕ, Bool, true, false, cond, List, [], ◌∷◌, ◌++◌, Option, Some, None, refl, sym, ap, subst, ◌∙◌, append_assoc}
+use Rattle.std.proofs.lemmas.List.{append-nil}
 use Rattle.std.specs.Prelude.{find, is_some, slice_get, if◌then◌else◌}
 use Rattle.ls_answers.specs.Told.{Told}
 use Rattle.ls_answers.specs.declared.answer.Answer.{Answer}
@@ -168,11 +169,7 @@ end-after events d e end = end-by events d e (is_client e) (is_long d) end
 
 end-come : (events : List Event) (d : Seen) (es : List Event) → EndWith events d → EndWith (events ++ es) (come d es)
 unfolding come
-end-come events d [] end = subst (λ (l : List Event). EndWith l d) (sym (append_nil events)) end
-  where
-    append_nil : (xs : List Event) → xs ++ [] ≡ xs
-    append_nil [] = refl
-    append_nil (x ∷ xs) = ap (λ (l : List Event). x ∷ l) (append_nil xs)
+end-come events d [] end = subst (λ (l : List Event). EndWith l d) (sym (append-nil events)) end
 end-come events d (e ∷ es) end =
     subst (λ (l : List Event). EndWith l (come (after d e) es)) (append_assoc events (e ∷ []) es) (end-come (events ++ e ∷ []) (after d e) es (end-after events d e end))
 

@@ -2,7 +2,7 @@
 use Rattle.std.proofs.Common.{◌≡◌, ℕ, ℤ, ◌+◌, ◌≤◌, Bool, true, false, not, ◌&&◌, cond, List, [], ◌∷◌, ◌++◌, length, Option, Some, None, refl, sym, ap, subst, ◌∙◌, length-append, arith}
 use Rattle.std.specs.Prelude.{find, is_none, is_some, nat_le, nat_lt, slice_get, if◌then◌else◌}
 use Rattle.std.specs.Str.{chars, encode_utf8_all}
-use Rattle.std.proofs.lemmas.Bool.{leb-false, ltb-false}
+use Rattle.std.proofs.lemmas.Bool.{not-false, leb-false, ltb-false}
 use Rattle.ls_text.specs.Positions.{Measured}
 use Rattle.ls_rpc.specs.Message.{message_of}
 use Rattle.ls_rpc.specs.declared.message.Id.{Id}
@@ -103,10 +103,6 @@ good-entered d e good possible room short = record {
 or-none : (b : Bool) (f : DeskFault) (next : Option DeskFault) → or_else b f next ≡ None → (b ≡ false) × (next ≡ None)
 or-none true f next e = absurd (cc)
 or-none false f next e = (refl, e)
-
-not-false : (b : Bool) → not b ≡ false → b ≡ true
-not-false true e = refl
-not-false false e = absurd (cc)
 
 room-for : (d : Seen) (need : ℕ) → full_fault d need ≡ None → total (counts_of d) + length (state_of d).unsent + need ≤ d.max_events
 room-for d need e = ltb-false d.max_events (total (counts_of d) + length (state_of d).unsent + need) (or-none (is_full d need) fault.SessionFull None e).0

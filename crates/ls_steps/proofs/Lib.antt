@@ -1,4 +1,3 @@
-pub mod Asks
 pub mod Bounds
 pub mod ByActs
 pub mod Coming

@@ -1,5 +1,6 @@
 -- What the loops of the plain schedule keep.
 use Rattle.std.proofs.Common.{◌≡◌, ℕ, zero, suc, ◌+◌, ◌-◌, ◌<◌, ◌≤◌, Bool, true, false, not, ◌&&◌, List, [], ◌∷◌, ◌++◌, length, Option, Some, None, refl, sym, ap, subst, ◌∙◌, arith}
+use Rattle.std.proofs.lemmas.List.{append-nil}
 use Rattle.std.specs.Prelude.{find, is_none, is_some, IfNone, IfSome, slice_get, ◌||◌, Vec, if◌then◌else◌}
 use Rattle.std.specs.declared.alloc.Global.{Global}
 use Rattle.ls_answers.specs.Told.{Told}
@@ -11,11 +12,10 @@ use Rattle.ls_machine.specs.declared.state.Entry.{Entry}
 use Rattle.ls_machine.specs.declared.state.Waiting.{Waiting}
 use Rattle.ls_machine.specs.Machine.{step, first_ticket, is_queued, ticket_of, rest}
 use Rattle.ls_desk.specs.Faults.{finish_fault, take_fault}
-use Rattle.ls_desk.specs.Stands.{Seen}
+use Rattle.ls_desk.specs.Stands.{Seen, counts_of}
 use Rattle.ls_machine.specs.declared.base.Counts.{Counts}
 use Rattle.ls_machine.specs.declared.event.Event.{Event}
 use Rattle.ls_machine.specs.Counts.{counted, total}
-use Rattle.ls_desk.specs.Stands.{counts_of}
 use Rattle.ls_machine.proofs.Replays.{counted-push, replay-push, total-one}
 use Rattle.ls_steps.specs.Runs.{Going, Held, IsSent, Runs, Steps, bytes_in, counts_at, desk_of, finish_job, finished_by, is_filled, ran, runs, send, state_at, take_job, takes, took, unless_full}
 use Rattle.ls_steps.specs.Plain.{CanSendAll, Replies, RunsUntil, Works, has_run_all, has_sent_all, job_acts}
@@ -132,13 +132,9 @@ unfolding step
 left-is g m e es u s =
     ap (λ (x : Going). (state_at x).unsent) s ∙ (ap (λ x. x.unsent) (replay-push g.base.state g.journal (Sent (ticket_of e))) ∙ ap rest u)
 
-pub append_nil : {A : Type 0} (xs : List A) → xs ++ [] ≡ xs
-append_nil [] = refl
-append_nil (x ∷ xs) = ap (λ l. x ∷ l) (append_nil xs)
-
 pub send-runs : (f : Bool) (g m : Going) (frame : List ℕ) → Steps f g send m frame → Runs f g (send ∷ []) m frame
 unfolding Runs
-send-runs f g m frame s = (m, frame, [], (s, (refl, refl), sym (append_nil frame)))
+send-runs f g m frame s = (m, frame, [], (s, (refl, refl), sym (append-nil frame)))
 
 not-none : (o : Option ℕ) → is_some o ≡ true → is_none o ≡ false
 not-none None e = absurd (cc)

@@ -1,5 +1,6 @@
 -- A session that is served plainly has nothing left to run or to send between its messages.
 use Rattle.std.proofs.Common.{◌≡◌, inr, inl, ℕ, zero, suc, Bool, true, false, List, [], ◌∷◌, ◌++◌, Option, refl, sym, ap, subst, ◌∙◌, append_assoc}
+use Rattle.std.proofs.lemmas.List.{append-nil}
 use Rattle.std.specs.Prelude.{find, is_none, is_some, slice_get, ◌⊎◌, ◌||◌, if◌then◌else◌}
 use Rattle.ls_machine.specs.declared.event.Event.{Event}
 use Rattle.ls_machine.specs.declared.event.Event.TheVariants.{Sent}
@@ -18,10 +19,6 @@ unfolding replay_from
 settled-begun = record { idle = refl; sent = refl }
 
 -- ---- what is left once all has been sent
-
-append_nil : {A : Type 0} (xs : List A) → xs ++ [] ≡ xs
-append_nil [] = refl
-append_nil (x ∷ xs) = ap (λ l. x ∷ l) (append_nil xs)
 
 none_unsent : (es : List Entry) → is_none (first_ticket es) ≡ true → es ≡ []
 none_unsent [] e = refl
@@ -76,7 +73,7 @@ says-more f g m h (x ∷ xs) ys a b s t =
 
 pub says-one : (f : Bool) (g h : Going) (body bytes : List ℕ) → Serves f g body h bytes → Says f g (body ∷ []) h bytes
 unfolding Says
-says-one f g h body bytes s = (h, bytes, [], (s, (refl, refl), sym (append_nil bytes)))
+says-one f g h body bytes s = (h, bytes, [], (s, (refl, refl), sym (append-nil bytes)))
 
 -- where the session has ended nothing is said
 served-ended : (f : Bool) (g : Going) (body : List ℕ) → IsSettled g → is_some g.status ≡ true → Serves f g body g []
@@ -100,7 +97,7 @@ says-nothing f g (body ∷ bodies) settled ended = (g, [], [], (served-ended f g
 
 pub says-stays : (f : Bool) (g h : Going) (xs ys : List (List ℕ)) (a : List ℕ) → IsSettled g → is_some h.status ≡ true → Says f g xs h a → Says f g (xs ++ ys) h a
 says-stays f g h xs ys a settled ended s =
-    subst (Says f g (xs ++ ys) h) (append_nil a) (says-more f g h h xs ys a [] s (says-nothing f h ys (settled-said f g h xs a settled s) ended))
+    subst (Says f g (xs ++ ys) h) (append-nil a) (says-more f g h h xs ys a [] s (says-nothing f h ys (settled-said f g h xs a settled s) ended))
 
 -- ---- a session in which no job fails is one in which jobs may fail
 

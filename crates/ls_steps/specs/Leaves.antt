@@ -1,9 +1,6 @@
 -- What the calls of a step leave at the desk.
 use Rattle.std.specs.Prelude.{◌≡◌, Bool}
 use Rattle.ls_desk.specs.Stands.{Seen, IsSound}
-use Rattle.ls_machine.specs.Client.{IsAllowed}
-use Rattle.ls_session.specs.declared.event.Turn.{Turn}
-use Rattle.ls_session.specs.declared.event.Turn.TheVariants.{Nothing, Event, Exit}
 use Rattle.ls_steps.specs.Runs.{Left}
 
 -- this is left
@@ -14,9 +11,3 @@ pub record Leaves (left : Left) (full : Bool) (old new : Seen) : Type 0 where
   pub most : new.max_events ≡ old.max_events
   pub most_journal : new.max_journal ≡ old.max_journal
   pub sound : IsSound old → IsSound new
-
--- the event of a turn, where there is one, is one that clients may bring
-abbrev pub IsAllowedOn : Turn → Type 0
-IsAllowedOn Nothing = Unit {0}
-IsAllowedOn (Event event) = IsAllowed event
-IsAllowedOn (Exit status) = Unit {0}

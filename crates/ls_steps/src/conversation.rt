@@ -4,15 +4,13 @@ ghost use Rattle.ls_machine.specs.Machine.{first_ticket};
 ghost use Rattle.ls_machine.specs.Counts.{total};
 ghost use Rattle.ls_steps.specs.Plain.{has_run_all};
 ghost use Rattle.ls_desk.specs.Stands.{IsSound};
-ghost use Rattle.ls_frame.specs.Frames.{frame_of};
-ghost use Rattle.ls_session.specs.Bodies.{body_of};
 ghost use Rattle.ls_steps.specs.Runs.{Steps, begun, break_off, bytes_in, counts_at, finish_job, hear, is_filled, send, state_at, take_job};
 
 use crate::at_desk::{finish, meet};
 use ls_answers::{Job, run};
 use ls_desk::{Desk, DeskFault, Out};
-use ls_frame::{FrameFault, write_frame};
-use ls_session::{Session, Status, Turn, body_of};
+use ls_frame::FrameFault;
+use ls_session::{Session, Status, Turn, framed};
 use std::alloc::{AllocError as Memory, Global};
 use std::marker::Model;
 
@@ -24,30 +22,6 @@ const MOST_EVENTS: u64 = 18_446_744_073_709_551_614;
 
 /// The number of the worker.
 const WORKER: u32 = 0;
-
-/// The room that a frame has beside its body.
-const HEADER_ROOM: usize = 64;
-
-/// The frame of what is to be said.
-fn frame_about(alloc: Global, out: &Out) -> Result<Vec<u8>, Memory>
-    ensures { IfOk result (λ frame. (body : List ℕ) × (body_of out.now ≡ Some body) × (frame.items ≡ frame_of body)) }
-{
-    let body = body_of(alloc, out)?;
-    let mut frame = Vec::with_capacity(alloc, body.len() + HEADER_ROOM)?;
-    match write_frame(alloc, &body, &mut frame) {
-        Ok(()) => Ok(frame),
-        Err(_) => Err(Memory),
-    }
-}
-
-/// The frame of what is to be said.
-///
-/// `Memory` says that an allocation was refused.
-pub fn framed(alloc: Global, out: Out) -> Result<Vec<u8>, Memory>
-    ensures { IfOk result (λ frame. (body : List ℕ) × (body_of out ≡ Some body) × (frame.items ≡ frame_of body)) }
-{
-    frame_about(alloc, &out)
-}
 
 /// The session of one client, the desk with its documents, and the jobs that the worker holds. Its methods are the steps
 /// that can come in any order.
@@ -197,7 +171,7 @@ impl Conversation {
         let Some(out) = self.desk.next_out() else {
             return Ok(None);
         };
-        Ok(Some(framed(self.alloc, out)?))
+        Ok(Some(framed(self.alloc, &out)?))
     }
 
     /// The desk, as the session leaves it.

@@ -10,7 +10,7 @@ mod laws;
 mod plain;
 mod steps;
 
-pub use conversation::{Conversation, framed};
+pub use conversation::Conversation;
 pub use laws::{
     runs_are_unique, runs_exist, runs_have_events, sessions_are_runs, sessions_are_unique,
     sessions_exist,

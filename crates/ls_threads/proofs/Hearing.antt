@@ -3,7 +3,6 @@ use Rattle.std.proofs.Common.{◌≡◌, ◌∙◌, ℕ, ◌+◌, ◌<◌, List,
 use Rattle.std.specs.declared.alloc.Global.{Global}
 use Rattle.std.proofs.lemmas.List.{take_more, take-append-drop, map-append}
 use Rattle.ls_frame.specs.Feeds.{contents_of}
-use Rattle.ls_machine.specs.declared.event.Event.{Event}
 use Rattle.ls_session.specs.declared.event.Status.{Status}
 use Rattle.ls_session.specs.declared.session.Stage.{Stage}
 use Rattle.ls_workers.specs.Seats.{ToldClient}
@@ -51,9 +50,8 @@ hears-front bodies i stage next old told h =
     (contents_of (take i bodies), contents_of (drop i bodies), next, (all, h))
 
 -- where the seat was left as it was
-pub front-same : (bodies : List (List ℕ)) (stage : Stage) (old : ToldClient) (list later : List Event) (seen after : ℕ) (strayed strays : Bool) → later ≡ list → after ≡ seen → strays ≡ strayed
-    → HearsFront bodies stage old (record { list = list; checkpoints = seen; strayed = strayed }) → HearsFront bodies stage old (record { list = later; checkpoints = after; strayed = strays })
-front-same bodies stage old list later seen after strayed strays e f g h = rw (e, f, g) h
+pub front-same : (bodies : List (List ℕ)) (stage : Stage) (old told new : ToldClient) → new ≡ told → HearsFront bodies stage old told → HearsFront bodies stage old new
+front-same bodies stage old told new e h = subst (HearsFront bodies stage old) (sym e) h
 
 pub on-err : {P : Type 0} (r : Result (Option Status) Early) → P → OnErr r P
 on-err (Ok status) p = tt

@@ -3,10 +3,9 @@ use Rattle.std.proofs.Common.{◌≡◌, ◌∙◌, inl, inr, ℕ, List, [], ◌
 use Rattle.std.specs.Io.KnownBytes.{Consumes, IsAtEnd}
 use Rattle.ls_frame.specs.Faults.{fault_of}
 use Rattle.ls_frame.proofs.Streams.{no-fault, none-yet, stream-append}
-use Rattle.ls_server.specs.Runs.{end_status}
-use Rattle.ls_server.proofs.Known.{append-nil}
-use Rattle.ls_server.proofs.Pieces.{no-stream}
-use Rattle.ls_server.proofs.Served.{consumes-consumes, stream-behind}
+use Rattle.ls_devices.specs.Ends.{end_status}
+use Rattle.std.proofs.lemmas.List.{append-nil}
+use Rattle.ls_devices.proofs.Input.{no-stream, consumes-consumes, stream-behind}
 use Rattle.ls_session.specs.declared.event.Status.{Status}
 use Rattle.ls_session.specs.declared.session.Stage.{Stage}
 use Rattle.ls_workers.specs.Seats.{ToldClient}

@@ -5,9 +5,8 @@ use Rattle.ls_frame.specs.Faults.{fault_of}
 use Rattle.ls_frame.specs.Feeds.{FeedIs}
 use Rattle.ls_frame.specs.declared.fault.FrameFault.{FrameFault}
 use Rattle.ls_frame.specs.declared.fault.FrameFault.TheVariants.{HeaderTooLong, BadHeader, NoLength, TwoLengths, BadLength, TooLarge, Truncated, Memory as NoMemory}
-use Rattle.ls_server.proofs.Known.{append-nil}
-use Rattle.ls_server.proofs.Pieces.{no-stream}
-use Rattle.ls_server.proofs.Writing.{lists-nil}
+use Rattle.std.proofs.lemmas.List.{append-nil}
+use Rattle.ls_devices.proofs.Input.{no-stream}
 use Rattle.ls_session.specs.declared.event.Status.{Status}
 use Rattle.ls_session.specs.declared.event.Status.TheVariants.{BadFrame}
 use Rattle.ls_session.specs.declared.session.Stage.{Stage}
@@ -57,7 +56,7 @@ fed-stream old piece new after (Err NoMemory) f = inr f
 
 -- all of the messages are a front of them
 front-all : (bodies : List (List ℕ)) (stage after : Stage) (a b : ToldClient) → HearsOn bodies stage a after b → HearsFront bodies stage a b
-front-all bodies stage after a b h = (bodies, [], after, (sym (lists-nil bodies), h))
+front-all bodies stage after a b h = (bodies, [], after, (sym (append-nil bodies), h))
 
 -- nothing of the piece was heard
 some-before : (old piece : List ℕ) (after : List (List ℕ)) (stage : Stage) (a b : ToldClient) → HasNoFrame old → after ≡ [] → HearsFront after stage a b → HearsSome old piece stage a b

@@ -4,7 +4,7 @@ use Rattle.std.specs.List.{AllByRecursion}
 use Rattle.std.specs.Option.{option_map_or}
 use Rattle.std.specs.Prelude.{if◌then◌else◌}
 use Rattle.std.specs.Io.KnownBytes.{Appends}
-use Rattle.std.proofs.lemmas.List.{map-append}
+use Rattle.std.proofs.lemmas.List.{map-append, append-nil}
 use Rattle.std.proofs.lemmas.Grind.{flat_map-append}
 use Rattle.std.proofs.lemmas.List.Elements.{filter_map-append}
 use Rattle.ls_frame.specs.Frames.{frame_of}
@@ -19,9 +19,9 @@ use Rattle.ls_session.specs.Bodies.{body_of}
 use Rattle.ls_session.specs.declared.event.Status.{Status}
 use Rattle.ls_session.specs.declared.session.Stage.TheVariants.{BeforeInitialize}
 use Rattle.ls_desk.specs.Stands.{Seen, Sends, counts_of, ticket_of_out, used}
-use Rattle.ls_server.specs.Runs.{AppendsFront}
-use Rattle.ls_server.proofs.Known.{append-nil, appends-appends, appends-none}
-use Rattle.ls_workers.specs.Seats.{ToldClient}
+use Rattle.ls_devices.specs.Devices.{AppendsFront}
+use Rattle.ls_devices.proofs.Known.{appends-appends, appends-none}
+use Rattle.ls_workers.specs.Seats.{ToldClient, told_nothing}
 use Rattle.ls_workers.specs.Ends.{Leaves}
 use Rattle.ls_workers.specs.Jobs.{HasLimits}
 use Rattle.ls_workers.specs.Sent.{noted_of, sent_by}
@@ -29,7 +29,7 @@ use Rattle.ls_workers.specs.declared.replies.Noted.{Noted}
 use Rattle.ls_workers.proofs.SentLaws.{sends_noted}
 use Rattle.ls_threads.specs.Ends.{has_failed}
 use Rattle.ls_threads.specs.Input.{HasHeard}
-use Rattle.ls_threads.specs.Served.{IsServed, told_nothing, told_of}
+use Rattle.ls_threads.specs.Served.{IsServed, told_of}
 use Rattle.ls_threads.specs.declared.ending.Heard.{Heard}
 use Rattle.ls_threads.specs.Settled.{IsSettled}
 use Rattle.ls_threads.specs.Writing.{HasTold, HasWritten, IsFinished, LastAre, WritesFrames, WritesFront, frame_for, frames_for}

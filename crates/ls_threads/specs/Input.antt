@@ -5,7 +5,7 @@ use Rattle.ls_frame.specs.Frames.{Stream}
 use Rattle.ls_frame.specs.Faults.{fault_of}
 use Rattle.ls_frame.specs.declared.fault.FrameFault.{FrameFault}
 use Rattle.ls_frame.specs.declared.fault.FrameFault.TheVariants.{Memory as NoMemory}
-use Rattle.ls_server.specs.Runs.{end_status, or_else}
+use Rattle.ls_devices.specs.Ends.{end_status, or_else}
 use Rattle.ls_session.specs.declared.event.Status.{Status}
 use Rattle.ls_session.specs.declared.event.Status.TheVariants.{BadFrame}
 use Rattle.ls_session.specs.declared.session.Stage.{Stage}

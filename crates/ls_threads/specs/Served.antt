@@ -1,5 +1,5 @@
 -- What a run has done that ended well.
-use Rattle.std.specs.Prelude.{◌≡◌, ℕ, List, [], length, false, Option}
+use Rattle.std.specs.Prelude.{◌≡◌, ℕ, List, length, false, Option}
 use Rattle.std.specs.List.{AllByRecursion}
 use Rattle.std.specs.Io.KnownBytes.{Appends}
 use Rattle.ls_machine.specs.Client.{client_events, sent_tickets}
@@ -9,16 +9,12 @@ use Rattle.ls_session.specs.declared.session.Stage.TheVariants.{BeforeInitialize
 use Rattle.ls_desk.specs.Stands.{IsSound, Seen, counts_of, ticket_of_out}
 use Rattle.ls_workers.specs.Ends.{Leaves}
 use Rattle.ls_workers.specs.Jobs.{HasLimits}
-use Rattle.ls_workers.specs.Seats.{ToldClient}
+use Rattle.ls_workers.specs.Seats.{ToldClient, told_nothing}
 use Rattle.ls_workers.specs.Sent.{noted_of, sent_by}
 use Rattle.ls_threads.specs.Input.{HasHeard}
 use Rattle.ls_threads.specs.Settled.{IsSettled}
 use Rattle.ls_threads.specs.Writing.{LastAre, frames_for}
 use Rattle.ls_threads.specs.declared.ending.Heard.{Heard}
-
--- a client's seat was told nothing
-abbrev pub told_nothing : ToldClient
-told_nothing = record { list = []; checkpoints = 0; strayed = false }
 
 -- what a seat was told is what a desk has of its client
 abbrev pub told_of : Seen → ToldClient

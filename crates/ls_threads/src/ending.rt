@@ -3,7 +3,8 @@ ghost use Rattle.std.specs.Prelude.{◌≡◌};
 ghost use Rattle.ls_threads.specs.Ends.{ended_by, has_met_full_session, is_ended, result_of, worse};
 
 use ls_desk::DeskFault;
-use ls_server::{ServeFault, Status};
+use ls_devices::ServeFault;
+use ls_session::Status;
 use std::alloc::AllocError;
 
 /// Why the reader broke off before the end of its input.

@@ -4,18 +4,19 @@ ghost use Rattle.ls_frame.specs.Feeds.{contents_of};
 ghost use Rattle.ls_frame.specs.Faults.{fault_of};
 ghost use Rattle.ls_frame.specs.Frames.{HasNoFrame};
 ghost use Rattle.ls_machine.specs.Client.{IsAllowed};
-ghost use Rattle.ls_server.specs.Runs.{end_status};
+ghost use Rattle.ls_devices.specs.Ends.{end_status};
+ghost use Rattle.ls_workers.specs.Seats.{told_by};
 ghost use Rattle.ls_threads.specs.Ends.{has_cause};
 ghost use Rattle.ls_threads.specs.Input.{HearsInput, HearsPiece, end_of_piece};
 ghost use Rattle.ls_threads.specs.Reading.{Hears, HearsAll, HearsFront, IsMet, IsTold, refusal_to};
 
 use crate::ending::{Early, Heard};
 use ls_desk::DeskFault;
+use ls_devices::{DeviceFault, READ_MOST, READS_END, Source};
 use ls_frame::{FrameFault, Framer};
 use ls_lists::List;
 use ls_rpc::Id;
-use ls_server::{DeviceFault, READ_MOST, READS_END, Source, Status};
-use ls_session::{ClientEvent, Session, Turn, refusal_body};
+use ls_session::{ClientEvent, Session, Status, Turn, refusal_body};
 use ls_workers::{Board, ClientSeat, Crew};
 use std::alloc::Global;
 use std::sync::Wait;
@@ -59,8 +60,8 @@ impl<C: Crew> Reader<C> {
         id: Option<Id>,
         fault: DeskFault,
     ) -> Result<(), Early>
-        ensures ok { OnOk result (IsTold (refusal_to id fault) (record { list = self.old.seat.list.items; checkpoints = self.old.seat.checkpoints; strayed = self.old.seat.strayed }) (record { list = self.new.seat.list.items; checkpoints = self.new.seat.checkpoints; strayed = self.new.seat.strayed })) }
-        ensures err { OnErr result ((self.new.seat.list.items ≡ self.old.seat.list.items) × (self.new.seat.checkpoints ≡ self.old.seat.checkpoints) × (self.new.seat.strayed ≡ self.old.seat.strayed)) }
+        ensures ok { OnOk result (IsTold (refusal_to id fault) (told_by self.old.seat.told) (told_by self.new.seat.told)) }
+        ensures err { OnErr result (told_by self.new.seat.told ≡ told_by self.old.seat.told) }
         ensures session { self.new.session ≡ self.old.session }
     {
         let Some(id) = id else {
@@ -76,8 +77,8 @@ impl<C: Crew> Reader<C> {
     /// Enters an event of the client. A refused request is told so.
     fn meet<R: Wait>(&mut self, rt: &R, board: &Board<C>, event: ClientEvent) -> Result<(), Early>
         requires { IsAllowed event }
-        ensures ok { OnOk result (IsMet event (record { list = self.old.seat.list.items; checkpoints = self.old.seat.checkpoints; strayed = self.old.seat.strayed }) (record { list = self.new.seat.list.items; checkpoints = self.new.seat.checkpoints; strayed = self.new.seat.strayed })) }
-        ensures err { OnErr result ((self.new.seat.list.items ≡ self.old.seat.list.items) × (self.new.seat.checkpoints ≡ self.old.seat.checkpoints) × (self.new.seat.strayed ≡ self.old.seat.strayed)) }
+        ensures ok { OnOk result (IsMet event (told_by self.old.seat.told) (told_by self.new.seat.told)) }
+        ensures err { OnErr result (told_by self.new.seat.told ≡ told_by self.old.seat.told) }
         ensures session { self.new.session ≡ self.old.session }
     {
         let id = event.asker()?;
@@ -95,9 +96,9 @@ impl<C: Crew> Reader<C> {
         board: &Board<C>,
         body: &[u8],
     ) -> Result<Option<Status>, Early>
-        ensures ok { IfOk result (λ status. Hears body.now self.old.session (record { list = self.old.seat.list.items; checkpoints = self.old.seat.checkpoints; strayed = self.old.seat.strayed })
-            status self.new.session (record { list = self.new.seat.list.items; checkpoints = self.new.seat.checkpoints; strayed = self.new.seat.strayed })) }
-        ensures err { OnErr result ((self.new.seat.list.items ≡ self.old.seat.list.items) × (self.new.seat.checkpoints ≡ self.old.seat.checkpoints) × (self.new.seat.strayed ≡ self.old.seat.strayed)) }
+        ensures ok { IfOk result (λ status. Hears body.now self.old.session (told_by self.old.seat.told)
+            status self.new.session (told_by self.new.seat.told)) }
+        ensures err { OnErr result (told_by self.new.seat.told ≡ told_by self.old.seat.told) }
     {
         match self.session.event(body)? {
             Turn::Nothing => Ok(None),
@@ -117,10 +118,10 @@ impl<C: Crew> Reader<C> {
         bodies: &[Vec<u8>],
         halted: &AtomicU64,
     ) -> Result<Option<Status>, Early>
-        ensures ok { IfOk result (λ status. HearsAll (contents_of bodies.now) self.old.session (record { list = self.old.seat.list.items; checkpoints = self.old.seat.checkpoints; strayed = self.old.seat.strayed })
-            status self.new.session (record { list = self.new.seat.list.items; checkpoints = self.new.seat.checkpoints; strayed = self.new.seat.strayed })) }
-        ensures err { OnErr result (HearsFront (contents_of bodies.now) self.old.session (record { list = self.old.seat.list.items; checkpoints = self.old.seat.checkpoints; strayed = self.old.seat.strayed })
-            (record { list = self.new.seat.list.items; checkpoints = self.new.seat.checkpoints; strayed = self.new.seat.strayed })) }
+        ensures ok { IfOk result (λ status. HearsAll (contents_of bodies.now) self.old.session (told_by self.old.seat.told)
+            status self.new.session (told_by self.new.seat.told)) }
+        ensures err { OnErr result (HearsFront (contents_of bodies.now) self.old.session (told_by self.old.seat.told)
+            (told_by self.new.seat.told)) }
     {
         for body in bodies {
             if halted.load(Ordering::SeqCst) != 0 {
@@ -142,8 +143,8 @@ impl<C: Crew> Reader<C> {
         piece: &[u8],
         halted: &AtomicU64,
     ) -> Result<Option<Status>, Early>
-        ensures { HasNoFrame framer.old → fault_of framer.old ≡ None → HearsPiece framer.old piece.now self.old.session (record { list = self.old.seat.list.items; checkpoints = self.old.seat.checkpoints; strayed = self.old.seat.strayed })
-            result framer.new self.new.session (record { list = self.new.seat.list.items; checkpoints = self.new.seat.checkpoints; strayed = self.new.seat.strayed }) }
+        ensures { HasNoFrame framer.old → fault_of framer.old ≡ None → HearsPiece framer.old piece.now self.old.session (told_by self.old.seat.told)
+            result framer.new self.new.session (told_by self.new.seat.told) }
     {
         let mut bodies = Vec::new(self.alloc);
         let fed = framer.feed(piece, &mut bodies);
@@ -167,8 +168,8 @@ impl<C: Crew> Reader<C> {
         requires none { I.reads source.old ≡ 0 }
         requires good { I.failed source.old ≡ false }
         ensures cause { has_cause result (I.failed source.new) (I.reads source.new) ≡ true }
-        ensures heard { HearsInput (I.remaining source.old) (I.remaining source.new) self.old.session (record { list = self.old.seat.list.items; checkpoints = self.old.seat.checkpoints; strayed = self.old.seat.strayed })
-            result self.new.session (record { list = self.new.seat.list.items; checkpoints = self.new.seat.checkpoints; strayed = self.new.seat.strayed }) }
+        ensures heard { HearsInput (I.remaining source.old) (I.remaining source.new) self.old.session (told_by self.old.seat.told)
+            result self.new.session (told_by self.new.seat.told) }
     {
         let Ok(mut buffer) = vec![in self.alloc; 0u8; READ_MOST] else {
             return Heard::Broken(Early::Memory);
@@ -190,8 +191,8 @@ impl<C: Crew> Reader<C> {
         requires good { I.failed source.old ≡ false }
         requires room { 0 < length buffer.old }
         ensures cause { has_cause result (I.failed source.new) (I.reads source.new) ≡ true }
-        ensures heard { HearsInput (I.remaining source.old) (I.remaining source.new) self.old.session (record { list = self.old.seat.list.items; checkpoints = self.old.seat.checkpoints; strayed = self.old.seat.strayed })
-            result self.new.session (record { list = self.new.seat.list.items; checkpoints = self.new.seat.checkpoints; strayed = self.new.seat.strayed }) }
+        ensures heard { HearsInput (I.remaining source.old) (I.remaining source.new) self.old.session (told_by self.old.seat.told)
+            result self.new.session (told_by self.new.seat.told) }
     {
         let mut framer = Framer::new(self.alloc);
         for i in 1..READS_END {

@@ -6,12 +6,12 @@ ghost use Rattle.ls_session.specs.declared.session.Stage.TheVariants.{BeforeInit
 ghost use Rattle.ls_desk.specs.Stands.{Seen};
 ghost use Rattle.ls_workers.specs.Count.{Counts};
 ghost use Rattle.ls_workers.specs.Jobs.{HasLimits};
-ghost use Rattle.ls_workers.specs.Seats.{AreAll, HasCause};
+ghost use Rattle.ls_workers.specs.Seats.{AreAll, HasCause, told_by, told_nothing};
 ghost use Rattle.ls_workers.specs.declared.behind.SeatFault.{SeatFault};
 ghost use Rattle.ls_threads.specs.Audit.{IsAudited};
 ghost use Rattle.ls_threads.specs.Ends.{has_cause, has_failed, has_met_full_session, result_of};
 ghost use Rattle.ls_threads.specs.Input.{HasHeard};
-ghost use Rattle.ls_threads.specs.Served.{IsServed, told_nothing};
+ghost use Rattle.ls_threads.specs.Served.{IsServed};
 ghost use Rattle.ls_threads.specs.Settled.{is_settled};
 ghost use Rattle.ls_threads.specs.Writing.{HasWritten, IsFinished, WritesFrames};
 
@@ -22,8 +22,8 @@ use crate::settling::is_settled;
 use crate::working::work_on;
 use crate::writing::{Writer, Writes, Written, write_rest};
 use ls_desk::Desk;
-use ls_server::{ServeFault, Sink, Source, Status};
-use ls_session::Session;
+use ls_devices::{ServeFault, Sink, Source};
+use ls_session::{Session, Status};
 use ls_workers::{Blanks, Board, ClientSeat, Crew, Gate, Stop, WorkerSeat};
 use std::alloc::Global;
 use std::marker::Brand;
@@ -73,7 +73,7 @@ struct Unread<C: Crew, I: Source> {
 impl<C: Crew, I: Source> Unread<C, I> {
     /// Reads up to the end, and ends the board as that asks for.
     fn read_up<R: Wait>(self, rt: &R, board: &Board<C>, halted: &AtomicU64) -> ReadUp<C, I>
-        ensures { HasHeard (I.remaining self.source) (I.remaining result.source) self.reader.session (record { list = self.reader.seat.list.items; checkpoints = self.reader.seat.checkpoints; strayed = self.reader.seat.strayed }) result.end (record { list = result.seat.list.items; checkpoints = result.seat.checkpoints; strayed = result.seat.strayed }) }
+        ensures { HasHeard (I.remaining self.source) (I.remaining result.source) self.reader.session (told_by self.reader.seat.told) result.end (told_by result.seat.told) }
     {
         let Unread {
             mut reader,
@@ -90,7 +90,7 @@ impl<C: Crew, I: Source> Unread<C, I> {
 
     /// Reads nothing, where memory for the threads was refused.
     fn given_up(self) -> ReadUp<C, I>
-        ensures { HasHeard (I.remaining self.source) (I.remaining result.source) self.reader.session (record { list = self.reader.seat.list.items; checkpoints = self.reader.seat.checkpoints; strayed = self.reader.seat.strayed }) result.end (record { list = result.seat.list.items; checkpoints = result.seat.checkpoints; strayed = result.seat.strayed }) }
+        ensures { HasHeard (I.remaining self.source) (I.remaining result.source) self.reader.session (told_by self.reader.seat.told) result.end (told_by result.seat.told) }
     {
         let Unread { reader, source } = self;
         let Reader { seat, .. } = reader;
@@ -115,7 +115,7 @@ struct Done<C: Crew, I: Source> {
 impl<C: Crew, I: Source> Done<C, I> {
     /// Nothing was read, and nobody has worked.
     fn nothing(unread: Unread<C, I>, workers: Vec<WorkerSeat<C>>) -> Done<C, I>
-        ensures { HasHeard (I.remaining unread.source) (I.remaining result.read.source) unread.reader.session (record { list = unread.reader.seat.list.items; checkpoints = unread.reader.seat.checkpoints; strayed = unread.reader.seat.strayed }) result.read.end (record { list = result.read.seat.list.items; checkpoints = result.read.seat.checkpoints; strayed = result.read.seat.strayed }) }
+        ensures { HasHeard (I.remaining unread.source) (I.remaining result.read.source) unread.reader.session (told_by unread.reader.seat.told) result.read.end (told_by result.read.seat.told) }
     {
         Done {
             read: unread.given_up(),
@@ -143,13 +143,13 @@ fn read_and_work<
     gate: &'a G,
     halted: &'a AtomicU64,
 ) -> Done<C, I>
-    ensures { HasHeard (I.remaining unread.source) (I.remaining result.read.source) unread.reader.session (record { list = unread.reader.seat.list.items; checkpoints = unread.reader.seat.checkpoints; strayed = unread.reader.seat.strayed }) result.read.end (record { list = result.read.seat.list.items; checkpoints = result.read.seat.checkpoints; strayed = result.read.seat.strayed }) }
+    ensures { HasHeard (I.remaining unread.source) (I.remaining result.read.source) unread.reader.session (told_by unread.reader.seat.told) result.read.end (told_by result.read.seat.told) }
 {
     thread::scope(
         thread::scope_env(),
         rt,
         |scope| -> Done<C, I>
-            ensures { HasHeard (I.remaining unread.source) (I.remaining result.read.source) unread.reader.session (record { list = unread.reader.seat.list.items; checkpoints = unread.reader.seat.checkpoints; strayed = unread.reader.seat.strayed }) result.read.end (record { list = result.read.seat.list.items; checkpoints = result.read.seat.checkpoints; strayed = result.read.seat.strayed }) }
+            ensures { HasHeard (I.remaining unread.source) (I.remaining result.read.source) unread.reader.session (told_by unread.reader.seat.told) result.read.end (told_by result.read.seat.told) }
         {
             let (Ok(mut handles), Ok(mut workers)) = (
                 Vec::with_capacity(alloc, seats.len()),
@@ -221,7 +221,7 @@ fn run_threads<
 ) -> Ran<C, I, W>
     requires none { (writer.seat.sent.share.amount ≡ 0) × (writer.seat.tickets.items ≡ []) × (writer.seat.notes.items ≡ []) }
     ensures written { HasWritten (W.contents writer.sink) (W.contents result.written.sink) (W.unflushed writer.sink) (W.unflushed result.written.sink) result.written.end result.written.seat.sent.share.amount result.written.seat.tickets.items result.written.seat.notes.items }
-    ensures heard { HasHeard (I.remaining unread.source) (I.remaining result.done.read.source) unread.reader.session (record { list = unread.reader.seat.list.items; checkpoints = unread.reader.seat.checkpoints; strayed = unread.reader.seat.strayed }) result.done.read.end (record { list = result.done.read.seat.list.items; checkpoints = result.done.read.seat.checkpoints; strayed = result.done.read.seat.strayed }) }
+    ensures heard { HasHeard (I.remaining unread.source) (I.remaining result.done.read.source) unread.reader.session (told_by unread.reader.seat.told) result.done.read.end (told_by result.done.read.seat.told) }
 {
     thread::scope(
         thread::scope_env(),
@@ -230,7 +230,7 @@ fn run_threads<
             requires send { IsSend C.row }
             requires none { (writer.seat.sent.share.amount ≡ 0) × (writer.seat.tickets.items ≡ []) × (writer.seat.notes.items ≡ []) }
             ensures written { HasWritten (W.contents writer.sink) (W.contents result.written.sink) (W.unflushed writer.sink) (W.unflushed result.written.sink) result.written.end result.written.seat.sent.share.amount result.written.seat.tickets.items result.written.seat.notes.items }
-            ensures heard { HasHeard (I.remaining unread.source) (I.remaining result.done.read.source) unread.reader.session (record { list = unread.reader.seat.list.items; checkpoints = unread.reader.seat.checkpoints; strayed = unread.reader.seat.strayed }) result.done.read.end (record { list = result.done.read.seat.list.items; checkpoints = result.done.read.seat.checkpoints; strayed = result.done.read.seat.strayed }) }
+            ensures heard { HasHeard (I.remaining unread.source) (I.remaining result.done.read.source) unread.reader.session (told_by unread.reader.seat.told) result.done.read.end (told_by result.done.read.seat.told) }
         {
             let promise = Writes(Snapshot::of(&writer.sink));
             match scope.spawn_with(promise, move || writer.write_on(rt, alloc, board, halted)) {
@@ -295,7 +295,7 @@ fn closed<C: Crew, I: Source + Drop, W: Sink + Drop>(
     requires parts { (C.workers ≡ C.parts) × (0 < C.parts) }
     requires limit { C.max_events ≡ MOST_EVENTS }
     requires written { HasWritten (W.contents begun.value) (W.contents ran.written.sink) (W.unflushed begun.value) (W.unflushed ran.written.sink) ran.written.end ran.written.seat.sent.share.amount ran.written.seat.tickets.items ran.written.seat.notes.items }
-    requires heard { HasHeard (I.remaining input.value) (I.remaining ran.done.read.source) BeforeInitialize told_nothing ran.done.read.end (record { list = ran.done.read.seat.list.items; checkpoints = ran.done.read.seat.checkpoints; strayed = ran.done.read.seat.strayed }) }
+    requires heard { HasHeard (I.remaining input.value) (I.remaining ran.done.read.source) BeforeInitialize told_nothing ran.done.read.end (told_by ran.done.read.seat.told) }
     ensures read { result.answer ≡ Err ServeFault.Read → (I.failed result.source || (I.reads result.source + 1 == 1099511627776)) ≡ true }
     ensures write { result.answer ≡ Err ServeFault.Write → W.failed result.sink ≡ true }
     ensures frames { WritesFrames (W.failed result.sink) (W.contents begun.value) (W.contents result.sink) }
@@ -308,17 +308,16 @@ fn closed<C: Crew, I: Source + Drop, W: Sink + Drop>(
         (λ desk. Counts ran.done.read.seat.asked.share.amount (sum_by (λ seat. seat.took.share.amount) ran.done.workers.items)
         (sum_by (λ seat. seat.returned.share.amount) ran.done.workers.items) (sum_by (λ seat. seat.finished.share.amount) ran.done.workers.items)
         ran.written.seat.sent.share.amount desk × HasLimits C.max_journal C.max_events desk)
-        (record { list = ran.done.read.seat.list.items; checkpoints = ran.done.read.seat.checkpoints; strayed = ran.done.read.seat.strayed })
-        ran.written.seat.checkpoints ran.written.seat.tickets.items ran.written.seat.notes.items fault)
+        (told_by ran.done.read.seat.told) ran.written.seat.checkpoints ran.written.seat.tickets.items ran.written.seat.notes.items fault)
         × (audited ≡ true → settled ≡ false → (desk : Seen) × HasLimits C.max_journal C.max_events desk × IsAudited ran.done.read.seat.asked.share.amount
         (sum_by (λ seat. seat.took.share.amount) ran.done.workers.items) (sum_by (λ seat. seat.returned.share.amount) ran.done.workers.items)
         (sum_by (λ seat. seat.finished.share.amount) ran.done.workers.items) ran.written.seat.sent.share.amount
-        ran.done.read.seat.list.items ran.written.seat.checkpoints ran.written.seat.tickets.items desk
+        ran.done.read.seat.told.list.items ran.written.seat.checkpoints ran.written.seat.tickets.items desk
         × (is_settled C.max_events ran.done.read.end ran.done.worked desk ≡ false))) }
     ensures audited { OnOk result.answer ((desk : Seen) × HasLimits C.max_journal C.max_events desk × IsAudited ran.done.read.seat.asked.share.amount
         (sum_by (λ seat. seat.took.share.amount) ran.done.workers.items) (sum_by (λ seat. seat.returned.share.amount) ran.done.workers.items)
         (sum_by (λ seat. seat.finished.share.amount) ran.done.workers.items) ran.written.seat.sent.share.amount
-        ran.done.read.seat.list.items ran.written.seat.checkpoints ran.written.seat.tickets.items desk
+        ran.done.read.seat.told.list.items ran.written.seat.checkpoints ran.written.seat.tickets.items desk
         × (is_settled C.max_events ran.done.read.end ran.done.worked desk ≡ true)) }
     ensures served { IfOk result.answer (λ status. IsServed C.max_journal C.max_events status (I.remaining input.value) (I.remaining result.source) (W.contents begun.value) (W.contents result.sink)) }
 {
@@ -426,7 +425,7 @@ fn serve<
 /// their order. What was written are the frames of as many replies as it sent, of which the last are its own but for their answers. The status
 /// is how the reader ended, no job waits and no reply is unsent; or it says that the session is full, and this desk nearly is.
 ///
-/// `Read`: the source failed, or was read one time less than [`ls_server::READS_END`]. `Write`: the sink failed. `Strayed`: the board wasn't
+/// `Read`: the source failed, or was read one time less than [`ls_devices::READS_END`]. `Write`: the sink failed. `Strayed`: the board wasn't
 /// closed, the desk didn't know what ran, or something was left undone. `Memory`: an allocation was refused, or a thread couldn't be made.
 /// With any answer what was written are whole frames, and a front of one more only where the sink failed; and where it held nothing back and
 /// hasn't failed, it holds nothing back.

@@ -1,15 +1,15 @@
 //! What the writer's thread does.
 ghost use Rattle.std.specs.Prelude.{◌≡◌, [], false};
 ghost use Rattle.std.specs.Io.KnownBytes.{Appends};
-ghost use Rattle.ls_server.specs.Runs.{AppendsFront};
+ghost use Rattle.ls_devices.specs.Devices.{AppendsFront};
 ghost use Rattle.ls_threads.specs.Ends.{has_failed};
 ghost use Rattle.ls_threads.specs.Writing.{HasTold, HasWritten, frame_for};
 
 use crate::ending::Wrote;
 use crate::halt::halt;
 use ls_desk::{Desk, Out};
-use ls_server::{Sink, write_all};
-use ls_steps::framed;
+use ls_devices::{Sink, write_all};
+use ls_session::framed;
 use ls_workers::{Board, Crew, WriterSeat};
 use std::alloc::Global;
 use std::snapshot::Snapshot;
@@ -52,7 +52,9 @@ pub fn put<W: Sink>(alloc: Global, sink: &mut W, out: Out) -> Wrote
     ensures none { result ≡ Wrote.Memory → Appends (W.contents sink.old) (W.contents sink.new) [] }
     ensures flushed { W.unflushed sink.old ≡ false → has_failed result ≡ false → W.unflushed sink.new ≡ false }
 {
-    let Ok(frame) = framed(alloc, out) else {
+    let frame = framed(alloc, &out);
+    drop(out);
+    let Ok(frame) = frame else {
         return Wrote::Memory;
     };
     if write_all(sink, &frame).is_err() {

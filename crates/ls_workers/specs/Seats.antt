@@ -1,5 +1,5 @@
 -- The seats that a board is closed with.
-use Rattle.std.specs.Prelude.{◌≡◌, ◌<◌, ◌==◌, ◌⊎◌, ◌↔◌, ℕ, List, [], length, Bool, true, IsTrue, count_by, if◌then◌else◌}
+use Rattle.std.specs.Prelude.{◌≡◌, ◌<◌, ◌==◌, ◌⊎◌, ◌↔◌, ℕ, List, [], length, Bool, true, false, IsTrue, count_by, if◌then◌else◌}
 use Rattle.std.specs.List.{list_all}
 use Rattle.ls_machine.specs.declared.event.Event.{Event}
 use Rattle.ls_desk.specs.Anew.{base_after, journal_after}
@@ -9,6 +9,7 @@ use Rattle.ls_machine.specs.declared.client.ClientEvent.{ClientEvent}
 use Rattle.ls_machine.specs.declared.client.ClientAnswer.{ClientAnswer}
 use Rattle.ls_workers.specs.Sent.{sent_by}
 use Rattle.ls_workers.specs.declared.replies.Noted.{Noted}
+use Rattle.ls_workers.specs.declared.seats.ToldClient as held
 use Rattle.ls_workers.specs.declared.behind.SeatFault.{SeatFault}
 use Rattle.ls_workers.specs.declared.behind.SeatFault.TheVariants.{SeatMissing, Strayed}
 
@@ -38,6 +39,14 @@ pub record ToldClient : Type 0 where
   pub checkpoints : ℕ
   pub strayed : Bool
 
+-- it was told nothing
+abbrev pub told_nothing : ToldClient
+told_nothing = record { list = []; checkpoints = 0; strayed = false }
+
+-- what a seat holds that was told
+abbrev pub told_by : held.ToldClient → ToldClient
+told_by told = record { list = told.list.items; checkpoints = told.checkpoints; strayed = told.strayed }
+
 -- An event with its answer comes to the journal and to the seat's list. Where the event makes a checkpoint, list and journal begin anew with
 -- it, and the seat keeps whether they differed.
 pub record Heard (e : ClientEvent) (answer : ClientAnswer) (before after : Seen) (old new : ToldClient) : Type 0 where
@@ -52,12 +61,12 @@ abbrev pub IsHeard : ClientEvent → ClientAnswer → ToldClient → ToldClient 
 IsHeard e answer old new = (before after : Seen) × Heard e answer before after old new
 
 -- what the seats were told is what the desk's journal has, how many checkpoints there were, and what was sent since the last
-abbrev pub AgreesAll : Seen → List Event → ℕ → ℕ → List ℕ → List Noted → Type 0
-AgreesAll desk list checkpoints seen tickets notes =
-    Agrees desk.journal list (since desk.base.checkpoints seen tickets) × (sent_by desk ≡ since desk.base.checkpoints seen notes)
-    × (desk.base.checkpoints ≡ checkpoints)
+abbrev pub AgreesAll : Seen → ToldClient → ℕ → List ℕ → List Noted → Type 0
+AgreesAll desk client seen tickets notes =
+    Agrees desk.journal client.list (since desk.base.checkpoints seen tickets) × (sent_by desk ≡ since desk.base.checkpoints seen notes)
+    × (desk.base.checkpoints ≡ client.checkpoints)
 
 -- Why a board isn't closed: the seats aren't all its own; or they are, with these counts, and a list wasn't the journal's, at a checkpoint or now.
 abbrev pub HasCause : Type 0 → (Seen → Type 0) → ToldClient → ℕ → List ℕ → List Noted → SeatFault → Type 0
 HasCause AreOwn HasCounts client seen tickets notes SeatMissing = AreOwn → ⊥
-HasCause AreOwn HasCounts client seen tickets notes (Strayed desk) = AreOwn × HasCounts desk × (IsTrue client.strayed ⊎ (AgreesAll desk client.list client.checkpoints seen tickets notes → ⊥))
+HasCause AreOwn HasCounts client seen tickets notes (Strayed desk) = AreOwn × HasCounts desk × (IsTrue client.strayed ⊎ (AgreesAll desk client seen tickets notes → ⊥))

@@ -2,11 +2,12 @@
 ghost use Rattle.std.specs.Prelude.{◌≡◌, ◌↔◌, IsTrue};
 ghost use Rattle.std.specs.Option.{option_map};
 ghost use Rattle.ls_machine.specs.Client.{client_event, client_events, sent_ticket, sent_tickets};
-ghost use Rattle.ls_workers.specs.Seats.{Agrees, AgreesAll, since};
+ghost use Rattle.ls_workers.specs.Seats.{Agrees, AgreesAll, since, told_by};
 ghost use Rattle.ls_workers.specs.Sent.{sent_by};
 
 use crate::replies::{Noted, same_notes};
 use crate::same::same_event;
+use crate::seats::ToldClient;
 use ls_desk::{Desk, Event};
 
 // The event where it is a client's.
@@ -91,23 +92,22 @@ fn since<'t, T>(desk: &Desk, seen: u64, list: &'t [T]) -> &'t [T]
     }
 }
 
-/// Whether the seats' lists are what the journal of a desk has, and what it sent, of which these are the notes, and there were so many
-/// checkpoints.
+/// Whether what the seats were told is what the journal of a desk has, what it sent, of which these are the notes, and how many checkpoints
+/// there were.
 pub fn agrees_all(
     desk: &Desk,
     left: &[Noted],
-    list: &[Event],
-    checkpoints: u64,
+    told: &ToldClient,
     seen: u64,
     tickets: &[u64],
     notes: &[Noted],
 ) -> bool
     requires { left.now ≡ sent_by desk.now }
-    ensures { IsTrue result ↔ AgreesAll desk.now list.now checkpoints seen tickets.now notes.now }
+    ensures { IsTrue result ↔ AgreesAll desk.now (told_by told.now) seen tickets.now notes.now }
 {
     let tickets = since(desk, seen, tickets);
     let notes = since(desk, seen, notes);
-    agrees(desk.journal(), list, tickets)
+    agrees(desk.journal(), &told.list, tickets)
         && same_notes(left, notes)
-        && desk.checkpoints() == checkpoints
+        && desk.checkpoints() == told.checkpoints
 }

@@ -7,13 +7,12 @@ ghost use Rattle.ls_machine.specs.Client.{HasSmallText, IsAllowed, note_of, is_t
 ghost use Rattle.ls_desk.specs.Faults.{Refuses, Takes, take_fault, give_back_fault, finish_fault};
 ghost use Rattle.ls_workers.specs.Jobs.{Finishes, HasLimits, Returns};
 ghost use Rattle.ls_workers.specs.Refusals.{RefusesEvent, client_fault, is_shortage, may_refuse, may_refuse_return, may_refuse_run};
-ghost use Rattle.ls_workers.specs.Seats.{Heard, since};
+ghost use Rattle.ls_workers.specs.Seats.{Heard, since, told_by};
 ghost use Rattle.ls_workers.specs.Sent.{noted_of, sent_by};
 ghost use Rattle.ls_workers.specs.Ends.{is_over, ended_by, first_waiting, is_first, has_job, has_job_for, has_news};
 
 use crate::calls::{count_none, enter, finish, give_back, is_long, next_out, strays, take};
 use crate::ledgers::{Crew, OfClient, OfFinished, OfReturned, OfSent, OfTook};
-use crate::lists::{write_event, write_reply};
 use crate::notes::filled;
 use crate::replies::{Noted, begin_anew, first_notes};
 use crate::seats::{ClientSeat, WorkerSeat, WriterSeat};
@@ -189,13 +188,11 @@ impl<C: Crew> Behind<C> {
         requires allowed { IsAllowed event }
         requires some { IfSome note (λ noted. (noted ≡ note_of event) × (is_too_long event ≡ false) × HasSmallText noted) }
         requires none { IfNone note (is_too_long event ≡ true) }
-        requires room { vec_len seat.old.list < vec_capacity seat.old.list }
+        requires room { vec_len seat.old.told.list < vec_capacity seat.old.told.list }
         ensures ok { OnOk result (seat.new.asked.share.amount ≡ seat.old.asked.share.amount + 1) }
         ensures heard { IfOk result (λ answer. Heard event answer self.old.desk self.new.desk
-            (record { list = seat.old.list.items; checkpoints = seat.old.checkpoints; strayed = seat.old.strayed })
-            (record { list = seat.new.list.items; checkpoints = seat.new.checkpoints; strayed = seat.new.strayed })) }
-        ensures err { OnErr result ((seat.new.asked.share.amount ≡ seat.old.asked.share.amount) × (seat.new.list.items ≡ seat.old.list.items)
-            × (seat.new.checkpoints ≡ seat.old.checkpoints) × (seat.new.strayed ≡ seat.old.strayed)) }
+            (told_by seat.old.told) (told_by seat.new.told)) }
+        ensures err { OnErr result ((seat.new.asked.share.amount ≡ seat.old.asked.share.amount) × (told_by seat.new.told ≡ told_by seat.old.told)) }
         ensures same { OnErr result ((self.new.desk ≡ self.old.desk) × (self.new.asked.total ≡ self.old.asked.total)) }
         ensures cause { IfErr result (λ fault. RefusesEvent (client_fault self.old.desk event) self.old.desk self.new.desk fault) }
         ensures refused { IfErr result (λ fault. may_refuse event fault ≡ true) }
@@ -209,13 +206,14 @@ impl<C: Crew> Behind<C> {
             ..
         } = self;
         let long = is_long(desk);
-        let strays = strays(desk, &seat.list);
+        let strays = strays(desk, &seat.told.list);
         let answer = enter(desk, event, note.as_ref())?;
         let _counts = desk.counts();
         let Some(note) = note else { unreachable!() };
         seat.asked.one_more(asked);
         begin_anew(left, long);
-        write_event(seat, long, desk.checkpoints(), strays, filled(note, answer));
+        seat.told
+            .add(long, desk.checkpoints(), strays, filled(note, answer));
         Ok(answer)
     }
 
@@ -328,7 +326,7 @@ impl<C: Crew> Behind<C> {
         let _counts = desk.counts();
         seat.sent.one_more(sent);
         left.push_reserved(note);
-        write_reply(seat, desk.checkpoints(), ticket_of(&out), own);
+        seat.add(desk.checkpoints(), ticket_of(&out), own);
         Ok(Some(out))
     }
 

@@ -6,7 +6,7 @@ ghost use Rattle.ls_workers.specs.Ends.{Leaves};
 ghost use Rattle.ls_workers.specs.Jobs.{HasLimits, IsFinished, IsReturned, IsTaken};
 ghost use Rattle.ls_workers.specs.Refusals.{is_shortage, may_refuse, may_refuse_return, may_refuse_run};
 ghost use Rattle.ls_workers.specs.Sent.{noted_of, sent_by};
-ghost use Rattle.ls_workers.specs.Seats.{Agrees, AreAll, HasCause, IsHeard, since};
+ghost use Rattle.ls_workers.specs.Seats.{Agrees, AreAll, HasCause, IsHeard, since, told_by, told_nothing};
 ghost use Rattle.ls_machine.specs.Client.{IsAllowed};
 
 use crate::agree::agrees_all;
@@ -52,7 +52,7 @@ impl<C: Crew> Board<C> {
         requires workers { (workers ≡ C.workers) × (workers ≡ C.parts) × (0 < workers) × (workers ≤ 8) }
         requires empty { desk.journal ≡ [] }
         requires limits { HasLimits C.max_journal C.max_events desk }
-        ensures client { IfOk result (λ made. (made.1.mark ≡ mark) × (made.1.asked.share.amount ≡ 0) × (made.1.list.items ≡ []) × (made.1.checkpoints ≡ 0) × (made.1.strayed ≡ false)) }
+        ensures client { IfOk result (λ made. (made.1.mark ≡ mark) × (made.1.asked.share.amount ≡ 0) × (told_by made.1.told ≡ told_nothing)) }
         ensures writer { IfOk result (λ made. (made.2.mark ≡ mark) × (made.2.sent.share.amount ≡ 0) × (made.2.tickets.items ≡ []) × (made.2.notes.items ≡ []) × (made.2.checkpoints ≡ 0)) }
         ensures workers { IfOk result (λ made. AreAll (λ seat. seat.mark) (λ seat. seat.number) mark workers made.3.items) }
         ensures none { IfOk result (λ made. (sum_by (λ seat. seat.took.share.amount) made.3.items ≡ 0) × (sum_by (λ seat. seat.returned.share.amount) made.3.items ≡ 0)
@@ -107,14 +107,12 @@ impl<C: Crew> Board<C> {
         requires { IsAllowed event }
         ensures ok { OnOk result (seat.new.asked.share.amount ≡ seat.old.asked.share.amount + 1) }
         ensures heard { IfOk result (λ answer. IsHeard event answer
-            (record { list = seat.old.list.items; checkpoints = seat.old.checkpoints; strayed = seat.old.strayed })
-            (record { list = seat.new.list.items; checkpoints = seat.new.checkpoints; strayed = seat.new.strayed })) }
-        ensures err { OnErr result ((seat.new.asked.share.amount ≡ seat.old.asked.share.amount) × (seat.new.list.items ≡ seat.old.list.items)
-            × (seat.new.checkpoints ≡ seat.old.checkpoints) × (seat.new.strayed ≡ seat.old.strayed)) }
+            (told_by seat.old.told) (told_by seat.new.told)) }
+        ensures err { OnErr result ((seat.new.asked.share.amount ≡ seat.old.asked.share.amount) × (told_by seat.new.told ≡ told_by seat.old.told)) }
         ensures refused { IfErr result (λ fault. may_refuse event fault ≡ true) }
         ensures mark { seat.new.mark ≡ seat.old.mark }
     {
-        let note = seat.note_with_room(&event)?;
+        let note = seat.told.note_with_room(&event)?;
         let result = self.behind.lock(rt).client(seat, event, note);
         self.changed.notify_all();
         result
@@ -249,17 +247,17 @@ impl<C: Crew> Board<C> {
         ensures counts { IfOk result (λ desk. Counts client.asked.share.amount (sum_by (λ seat. seat.took.share.amount) workers.items)
             (sum_by (λ seat. seat.returned.share.amount) workers.items) (sum_by (λ seat. seat.finished.share.amount) workers.items)
             writer.sent.share.amount desk) }
-        ensures agrees { IfOk result (λ desk. Agrees desk.journal client.list.items (since desk.base.checkpoints writer.checkpoints writer.tickets.items)) }
+        ensures agrees { IfOk result (λ desk. Agrees desk.journal client.told.list.items (since desk.base.checkpoints writer.checkpoints writer.tickets.items)) }
         ensures replies { IfOk result (λ desk. sent_by desk ≡ since desk.base.checkpoints writer.checkpoints writer.notes.items) }
-        ensures checkpoints { IfOk result (λ desk. desk.base.checkpoints ≡ client.checkpoints) }
-        ensures strayed { OnOk result (client.strayed ≡ false) }
+        ensures checkpoints { IfOk result (λ desk. desk.base.checkpoints ≡ client.told.checkpoints) }
+        ensures strayed { OnOk result (client.told.strayed ≡ false) }
         ensures limits { IfOk result (λ desk. HasLimits C.max_journal C.max_events desk) }
         ensures err { IfErr result (λ fault. HasCause ((client.mark ≡ self.mark) × (writer.mark ≡ self.mark)
             × AreAll (λ seat. seat.mark) (λ seat. seat.number) self.mark self.workers workers.items)
             (λ desk. Counts client.asked.share.amount (sum_by (λ seat. seat.took.share.amount) workers.items)
             (sum_by (λ seat. seat.returned.share.amount) workers.items) (sum_by (λ seat. seat.finished.share.amount) workers.items)
             writer.sent.share.amount desk × HasLimits C.max_journal C.max_events desk)
-            (record { list = client.list.items; checkpoints = client.checkpoints; strayed = client.strayed }) writer.checkpoints writer.tickets.items writer.notes.items fault) }
+            (told_by client.told) writer.checkpoints writer.tickets.items writer.notes.items fault) }
     {
         let own = client.mark == self.mark && writer.mark == self.mark;
         if !own || !are_all(&workers, self.mark, self.workers) {
@@ -268,9 +266,7 @@ impl<C: Crew> Board<C> {
         let ClientSeat {
             mark: _,
             asked,
-            list,
-            checkpoints: made,
-            strayed,
+            told,
         } = client;
         let WriterSeat {
             mark: _,
@@ -291,7 +287,7 @@ impl<C: Crew> Board<C> {
             &mut finished,
             &mut sent,
         );
-        if strayed || !agrees_all(&desk, &left, &list, made, checkpoints, &tickets, &notes) {
+        if told.strayed || !agrees_all(&desk, &left, &told, checkpoints, &tickets, &notes) {
             return Err(SeatFault::Strayed(desk));
         }
         Ok(desk)

@@ -1,6 +1,7 @@
 //! Seats: what the client's reader, the workers and the writer hold.
-ghost use Rattle.std.specs.Prelude.{◌≡◌, ◌+◌, ◌<◌, ◌^◌, [], IfOk, IfNone, IfSome, OnOk, vec_len, vec_capacity, true, false};
+ghost use Rattle.std.specs.Prelude.{◌≡◌, ◌↔◌, ◌⊎◌, ◌+◌, ◌++◌, ◌∷◌, ◌<◌, ◌^◌, [], IfOk, IfNone, IfSome, IsTrue, OnOk, vec_len, vec_capacity, true, false, if◌then◌else◌};
 ghost use Rattle.ls_machine.specs.Client.{HasSmallText, note_of, is_too_long};
+ghost use Rattle.ls_workers.specs.Seats.{since, told_by, told_nothing};
 
 use crate::ledgers::{Ledgers, OfClient, OfFinished, OfReturned, OfSent, OfTook};
 use crate::notes::note_of;
@@ -49,31 +50,23 @@ impl<L: Ledger> Count<L> {
     }
 }
 
-/// The seat of a board's client: whoever has it enters the client's events.
+/// What a client's seat was told.
 #[derive(Drop)]
-pub struct ClientSeat<C: Ledgers> {
-    /// The mark of its board.
-    pub mark: u64,
-    /// How many events it has entered.
-    pub asked: Count<OfClient<C>>,
+pub struct ToldClient {
     /// The events that it has entered since the last checkpoint, each with the answer that it got, as they stand in the journal.
     pub list: Vec<Event>,
     /// How many checkpoints its events have made.
     pub checkpoints: u64,
     /// Whether its list wasn't the journal's at one of them.
     pub strayed: bool,
-    pub ghost whole: { asked.share.parts ≡ 1 },
 }
 
-impl<C: Ledgers> ClientSeat<C> {
-    /// A seat that has entered nothing.
-    pub fn new(alloc: Global, mark: u64, share: Share<OfClient<C>>) -> ClientSeat<C>
-        requires { (share.parts ≡ 1) × (share.amount ≡ 0) }
-        ensures { (result.mark ≡ mark) × (result.asked.share.amount ≡ 0) × (result.list.items ≡ []) × (result.checkpoints ≡ 0) × (result.strayed ≡ false) }
+impl ToldClient {
+    /// Nothing yet.
+    pub fn nothing(alloc: Global) -> ToldClient
+        ensures { told_by result ≡ told_nothing }
     {
-        ClientSeat {
-            mark,
-            asked: Count::new(share),
+        ToldClient {
             list: Vec::new(alloc),
             checkpoints: 0,
             strayed: false,
@@ -89,11 +82,51 @@ impl<C: Ledgers> ClientSeat<C> {
         ensures none { IfOk result (λ noted. IfNone noted (is_too_long event.now ≡ true)) }
         ensures fits { IfOk result (λ noted. IfSome noted (λ note. (is_too_long event.now ≡ false) × HasSmallText note)) }
         ensures room { OnOk result (vec_len self.new.list < vec_capacity self.new.list) }
-        ensures list { self.new.list.items ≡ self.old.list.items }
-        ensures kept { (self.new.asked ≡ self.old.asked) × (self.new.mark ≡ self.old.mark) × (self.new.checkpoints ≡ self.old.checkpoints) × (self.new.strayed ≡ self.old.strayed) }
+        ensures kept { told_by self.new ≡ told_by self.old }
     {
         self.list.reserve(1)?;
         note_of(*self.list.allocator(), event)
+    }
+
+    /// An event comes with its answer. Where it made a checkpoint the list begins anew with it, and it is kept whether the list wasn't the
+    /// journal's then.
+    pub(crate) fn add(&mut self, anew: bool, checkpoints: u64, strays: bool, entry: Event)
+        requires { vec_len self.old.list < vec_capacity self.old.list }
+        ensures list { self.new.list.items ≡ (if anew then [] else self.old.list.items) ++ entry ∷ [] }
+        ensures checkpoints { self.new.checkpoints ≡ (if anew then checkpoints else self.old.checkpoints) }
+        ensures strayed { IsTrue self.new.strayed ↔ (IsTrue self.old.strayed ⊎ IsTrue strays) }
+    {
+        if anew {
+            self.list.clear();
+            self.checkpoints = checkpoints;
+        }
+        self.strayed = self.strayed || strays;
+        self.list.push_reserved(entry);
+    }
+}
+
+/// The seat of a board's client: whoever has it enters the client's events.
+#[derive(Drop)]
+pub struct ClientSeat<C: Ledgers> {
+    /// The mark of its board.
+    pub mark: u64,
+    /// How many events it has entered.
+    pub asked: Count<OfClient<C>>,
+    pub told: ToldClient,
+    pub ghost whole: { asked.share.parts ≡ 1 },
+}
+
+impl<C: Ledgers> ClientSeat<C> {
+    /// A seat that has entered nothing.
+    pub fn new(alloc: Global, mark: u64, share: Share<OfClient<C>>) -> ClientSeat<C>
+        requires { (share.parts ≡ 1) × (share.amount ≡ 0) }
+        ensures { (result.mark ≡ mark) × (result.asked.share.amount ≡ 0) × (told_by result.told ≡ told_nothing) }
+    {
+        ClientSeat {
+            mark,
+            asked: Count::new(share),
+            told: ToldClient::nothing(alloc),
+        }
     }
 }
 
@@ -126,6 +159,24 @@ impl<C: Ledgers> WriterSeat<C> {
             notes: Vec::new(alloc),
             checkpoints: 0,
         }
+    }
+
+    /// A reply leaves. The lists begin anew with it where there was a checkpoint since the last one.
+    pub(crate) fn add(&mut self, checkpoints: u64, ticket: u64, note: Noted)
+        requires tickets { vec_len self.old.tickets < vec_capacity self.old.tickets }
+        requires notes { vec_len self.old.notes < vec_capacity self.old.notes }
+        ensures tickets { self.new.tickets.items ≡ since checkpoints self.old.checkpoints self.old.tickets.items ++ ticket ∷ [] }
+        ensures notes { self.new.notes.items ≡ since checkpoints self.old.checkpoints self.old.notes.items ++ note ∷ [] }
+        ensures seen { self.new.checkpoints ≡ checkpoints }
+        ensures kept { (self.new.sent.share.amount ≡ self.old.sent.share.amount) × (self.new.mark ≡ self.old.mark) }
+    {
+        if self.checkpoints != checkpoints {
+            self.tickets.clear();
+            self.notes.clear();
+            self.checkpoints = checkpoints;
+        }
+        self.tickets.push_reserved(ticket);
+        self.notes.push_reserved(note);
     }
 }
 

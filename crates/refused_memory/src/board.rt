@@ -77,14 +77,9 @@ fn entered<C: Crew, R: Wait>(
 // What a client's seat was told: how many events it has entered in all and since the last checkpoint, how many checkpoints these made, and whether
 // it has strayed.
 fn told<C: Crew>(client: &ClientSeat<C>) -> (u64, usize, u64, bool) {
-    let ClientSeat {
-        asked,
-        list,
-        checkpoints,
-        strayed,
-        ..
-    } = client;
-    (asked.get(), list.len(), *checkpoints, *strayed)
+    let told = &client.told;
+    let entered = client.asked.get();
+    (entered, told.list.len(), told.checkpoints, told.strayed)
 }
 
 // Which of the first eight tickets wait, by a bit for each.

@@ -42,7 +42,7 @@ fn opens<C: Crew, R: Wait>(
     let first = board.client(rt, client, opening(alloc)?)?;
     let second = board.client(rt, client, opening(alloc)?);
     let refused = second == Err(DeskFault::AlreadyOpen);
-    let counted = client.asked.get() == 1 && client.list.len() == 1;
+    let counted = client.asked.get() == 1 && client.told.list.len() == 1;
     Ok(first == ClientAnswer::Version(1) && refused && counted)
 }
 
@@ -73,7 +73,7 @@ fn drains<C: Crew, R: Wait>(
 // The client forgets what it entered, where the session says so.
 fn forgets<C: Crew>(client: &mut ClientSeat<C>, session: Session) {
     if matches!(session, Session::Altered) {
-        drop(client.list.pop());
+        drop(client.told.list.pop());
     }
 }
 
@@ -125,7 +125,7 @@ fn closes<C: Crew>(
     requires { (C.workers ≡ C.parts) × (0 < C.parts) }
 {
     match session {
-        Session::Forgotten => drop(client.list.pop()),
+        Session::Forgotten => drop(client.told.list.pop()),
         Session::Unsent => drop(writer.tickets.pop()),
         Session::Renoted => renotes(&mut writer),
         Session::Drained | Session::Stopped | Session::Altered | Session::Unheard => {}

@@ -44,14 +44,12 @@ fn sends<C: Crew, R: Wait>(
     ticket: u64,
     id: i64,
 ) -> bool {
-    match board.next_out(rt, writer) {
-        Ok(Some(out)) => {
-            let is_it = answers_hover(&out, ticket, id);
-            drop(out);
-            is_it
-        }
-        _ => false,
-    }
+    let Ok(Some(out)) = board.next_out(rt, writer) else {
+        return false;
+    };
+    let is_it = answers_hover(&out, ticket, id);
+    drop(out);
+    is_it
 }
 
 // The workers' seats as they come back, and whether the second hover was answered before the first, and both workers have worked up to the end.

@@ -25,14 +25,23 @@ impl Gate for Open {
 // How many events of each kind there were: of the client, taken, returned, finished and sent.
 type Counts = (u64, u64, u64, u64, u64);
 
+// Whether a reply could be sent.
+fn sends_one(desk: &mut Desk) -> bool {
+    let Some(out) = desk.next_out() else {
+        return false;
+    };
+    drop(out);
+    true
+}
+
 // Whether so many replies can be sent still, and no more.
 fn sends_rest(desk: &mut Desk, count: u64) -> bool {
     for _ in 0..count {
-        if desk.next_out().is_none() {
+        if !sends_one(desk) {
             return false;
         }
     }
-    desk.next_out().is_none()
+    !sends_one(desk)
 }
 
 // Whether the board is closed with these counts, and its desk then sends what is unsent, also where the session is full.

@@ -1,5 +1,5 @@
 use Rattle.std.proofs.Common.{rules}
-use Rattle.ls_server.proofs.Known.{appends-keeps, front-keeps}
+use Rattle.ls_devices.proofs.Known.{appends-keeps, front-keeps}
 use Rattle.ls_server.proofs.serve.send_frame.Goals as goal
 
 pub returns-then-is_err-2-clause-front : goal.returns-then-is_err-2-clause-front

@@ -1,5 +1,7 @@
 use Rattle.std.proofs.Common.{rules, arith, Ok, None, [], inl, inr, take, refl, length-take}
-use Rattle.ls_server.proofs.Served.{begins, consumes-none, consumes-keeps, consumes-consumes, finished, end-ok, end-err, served-status, served-fault, still-open, still-served, piece-more, or-true, or-false, write-failed, not-write}
+use Rattle.ls_server.proofs.Served.{begins, finished, end-ok, end-err, served-status, served-fault, still-open, still-served, piece-more, write-failed, not-write}
+use Rattle.ls_devices.proofs.Known.{or-true, or-false}
+use Rattle.ls_devices.proofs.Input.{consumes-none, consumes-keeps, consumes-consumes}
 use Rattle.ls_server.proofs.serve.serve_from.Goals as goal
 
 pub loop-i-init : goal.loop-i-init

@@ -1,4 +1,5 @@
 use Rattle.std.proofs.Common.{◌∙◌, ◌==◌, false, refl, sym, subst, ap, true}
+use Rattle.ls_workers.specs.Seats.{told_by}
 use Rattle.ls_threads.specs.Ends.{has_failed}
 use Rattle.ls_threads.specs.Settled.{is_settled}
 use Rattle.ls_threads.specs.Writing.{WritesFrames}
@@ -57,7 +58,7 @@ returns-clause-served g c = if-ok c.result_of-2.result (λ s e.
     (ap (λ n. is_settled n h k c.in-Ok.desk) c.requires.limit ∙ (sym c.is_settled-settled.ensures ∙ shown.is_settled))
     shown.not_read (λ q. shown.is_full (sym met ∙ q)) (λ q. shown.is_last (sym met ∙ q)) f.rest f.same f.told.used_is in
     is-served g.C.Crew.max_journal g.C.Crew.max_events s (g.I.Source.remaining c.args.input.value) (g.I.Source.remaining c.args.ran.done.read.source) (g.W.Sink.contents c.args.begun.value) (g.W.Sink.contents w.sink) (g.W.Sink.contents c.finished-wrote.new.sink)
-    h (record { list = c.args.ran.done.read.seat.list.items; checkpoints = c.args.ran.done.read.seat.checkpoints; strayed = c.args.ran.done.read.seat.strayed })
+    h (told_by c.args.ran.done.read.seat.told)
     (g.W.Sink.unflushed c.args.begun.value) (g.W.Sink.unflushed w.sink) w.end w.seat.sent.share.amount w.seat.tickets.items w.seat.notes.items (w.seat.checkpoints == c.in-Ok.desk.base.checkpoints)
     c.has_met_full_session.result c.in-Ok.desk c.requires.written finished.0 c.in-Ok.ensures.limits c.in-Ok.ensures.counts.sent_is c.in-Ok.ensures.agrees.1 c.in-Ok.ensures.replies f settled
     c.requires.heard c.in-Ok.ensures.agrees.0 c.in-Ok.ensures.checkpoints c.in-Ok.ensures.strayed)

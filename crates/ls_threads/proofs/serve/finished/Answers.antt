@@ -1,9 +1,7 @@
-use Rattle.std.proofs.Common.{◌≡◌, ◌∙◌, false, refl, rules, sym, ap, subst, true}
-use Rattle.ls_server.proofs.Known.{appends-none}
+use Rattle.std.proofs.Common.{◌∙◌, refl, sym, true}
+use Rattle.ls_devices.proofs.Known.{appends-none}
 use Rattle.ls_threads.specs.Ends.{has_failed}
-use Rattle.ls_threads.specs.Writing.{WritesFrames}
-use Rattle.ls_threads.specs.declared.ending.Wrote.TheVariants.{Failed}
-use Rattle.ls_threads.proofs.Told.{none-written, told-frames, told-none}
+use Rattle.ls_threads.proofs.Told.{none-written, told-none}
 use Rattle.ls_threads.proofs.Ends.{true-false}
 use Rattle.ls_threads.proofs.serve.finished.Goals as goal
 
@@ -18,29 +16,3 @@ returns-then-not-full-clause-frames g c = none-written (has_failed c.args.wrote)
 
 pub returns-in-Failed-clause-frames : goal.returns-in-Failed-clause-frames
 returns-in-Failed-clause-frames g c = none-written true _ _ (appends-none _)
-
-pub returns-in_default-Failed : goal.returns-in_default-Failed
-returns-in_default-Failed g c =
-    let rest = c.write_rest-rest in
-    let broken : c.write_rest-rest.result ≡ Failed = search rules in
-    record {
-      failed = rest.ensures.failed ∙ ap has_failed broken;
-      all = search rules;
-      kept = search rules;
-      frames = subst (λ end. WritesFrames (has_failed end) (g.W.Sink.contents c.args.sink.now) (g.W.Sink.contents rest.new.sink)) broken (told-frames rest.result _ _ _ _ rest.ensures.told);
-      still = search rules;
-      flushed = search rules;
-    }
-
-pub returns-in_default-2 : goal.returns-in_default-2
-returns-in_default-2 g c =
-    let rest = c.write_rest-rest in
-    let fine : has_failed c.write_rest-rest.result ≡ false = search rules in
-    record {
-      failed = rest.ensures.failed ∙ fine;
-      all = search rules;
-      kept = search rules;
-      frames = subst (λ failed. WritesFrames failed (g.W.Sink.contents c.args.sink.now) (g.W.Sink.contents rest.new.sink)) fine (told-frames rest.result _ _ _ _ rest.ensures.told);
-      still = search rules;
-      flushed = λ e q. rest.ensures.flushed e fine;
-    }

@@ -1,4 +1,4 @@
-use Rattle.ls_steps.proofs.Asks.{event-is-allowed}
+use Rattle.ls_session.proofs.Asks.{event-is-allowed}
 use Rattle.ls_steps.proofs.conversation.Conversation.hear.Goals as goal
 
 pub meet-requires : goal.meet-requires

@@ -1,6 +1,7 @@
 use Rattle.std.proofs.Common.{◌++◌, true, suc, [], sym, ap, subst, ◌∙◌, append_assoc}
 use Rattle.ls_steps.specs.Plain.{Replies}
-use Rattle.ls_steps.proofs.Serving.{append_nil, frame-sent, replies-end, replies-more}
+use Rattle.std.proofs.lemmas.List.{append-nil}
+use Rattle.ls_steps.proofs.Serving.{frame-sent, replies-end, replies-more}
 use Rattle.ls_steps.proofs.conversation.Conversation.send_all.Goals as goal
 
 pub frames-init : goal.frames-init
@@ -25,4 +26,4 @@ pub returns : goal.returns
 returns c =
     let end = replies-end c.frames.self c.send.new.self _ c.in_default.not-Some c.in_ok-frame.ensures.sent c.in_ok-frame.ensures.none in
     let all = c.frames.invariant.goes_on 0 c.send.new.self [] end in
-    (all.0, subst (Replies true all.0 c.args.self.now c.send.new.self) (append_nil c.frames.bytes.items) all.1)
+    (all.0, subst (Replies true all.0 c.args.self.now c.send.new.self) (append-nil c.frames.bytes.items) all.1)

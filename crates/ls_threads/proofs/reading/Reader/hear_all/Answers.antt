@@ -16,5 +16,5 @@ pub returns-then-load-ne0-clause-err : goal.returns-then-load-ne0-clause-err
 returns-then-load-ne0-clause-err g c = hears-front c.args.bodies.now c.loop-body.body-index _ c.loop-body.self.session _ _ c.loop-body.invariant
 
 pub returns-in_err-status-clause-err : goal.returns-in_err-status-clause-err
-returns-in_err-status-clause-err g c = on-err c.from_residual.result (front-same _ _ _ _ _ _ _ _ _ c.in_err-status.ensures.err.0 c.in_err-status.ensures.err.1 c.in_err-status.ensures.err.2
+returns-in_err-status-clause-err g c = on-err c.from_residual.result (front-same _ _ _ _ _ c.in_err-status.ensures.err
     (hears-front c.args.bodies.now c.loop-body.body-index _ c.loop-body.self.session _ _ c.loop-body.invariant))

@@ -1,5 +1,5 @@
 use Rattle.std.proofs.Common.{[]}
-use Rattle.ls_server.proofs.Served.{consumes-none}
+use Rattle.ls_devices.proofs.Input.{consumes-none}
 use Rattle.ls_threads.proofs.Input.{some-begun}
 use Rattle.ls_threads.proofs.reading.Reader.read_on.Goals as goal
 

@@ -1,5 +1,6 @@
 use Rattle.std.proofs.Common.{rules, arith, Ok, None, [], take, refl, length-take}
-use Rattle.ls_server.proofs.Served.{consumes-consumes, consumes-keeps, consumes-none, or-true}
+use Rattle.ls_devices.proofs.Known.{or-true}
+use Rattle.ls_devices.proofs.Input.{consumes-consumes, consumes-keeps, consumes-none}
 use Rattle.ls_threads.proofs.Input.{begins, by-fault, by-status, ended, piece-more}
 use Rattle.ls_threads.proofs.Spent.{spent}
 use Rattle.ls_threads.proofs.reading.Reader.read_with.Goals as goal

@@ -11,7 +11,7 @@ use Rattle.ls_text.specs.declared.position.Encoding.{Encoding}
 use Rattle.ls_answers.specs.declared.ask.Ask.{Ask}
 use Rattle.ls_answers.specs.declared.ask.Ask.TheVariants.{Hover, Definition, References, Rename, Action, Diagnose}
 use Rattle.ls_session.specs.Params.{◌>>=◌, ask_of, changes_of, declarations_of, document_member, event_of, label_of, position_in, question_of, range_of, uri_of}
-use Rattle.ls_session.specs.Session.{asked, bad_turn, event_or_nothing, exit_turn, first_turn, late_event, notice_turn, request_turn, running_turn, stage_event, turn_of}
+use Rattle.ls_session.specs.Session.{asked, bad_turn, event_or_nothing, exit_turn, first_turn, late_event, notice_turn, request_turn, running_turn, stage_event, turn_of, IsAllowedOn}
 use Rattle.ls_machine.specs.declared.client.ClientEvent.{ClientEvent}
 use Rattle.ls_machine.specs.declared.client.ClientEvent.TheVariants as event
 use Rattle.ls_session.specs.declared.event.Turn.{Turn}
@@ -24,7 +24,6 @@ use Rattle.ls_session.specs.declared.session.Agreed.{Agreed}
 use Rattle.ls_session.specs.declared.session.Stage.{Stage}
 use Rattle.ls_session.specs.declared.session.Stage.TheVariants.{BeforeInitialize, Running, ShutDown, Ended}
 use Rattle.ls_session.specs.Kind.{request_named, notice_named}
-use Rattle.ls_steps.specs.Leaves.{IsAllowedOn}
 use Rattle.ls_machine.specs.Client.{IsAllowed}
 
 -- ---- questions

@@ -1,11 +1,8 @@
 -- Known bytes that grow.
-use Rattle.std.proofs.Common.{ℕ, ◌≡◌, List, [], ◌∷◌, ◌++◌, Option, None, Some, refl, sym, ◌∙◌, ap, append_assoc}
+use Rattle.std.proofs.Common.{◌≡◌, ◌||◌, Bool, true, false, ℕ, List, [], ◌++◌, Option, None, Some, sym, ◌∙◌, ap, append_assoc}
+use Rattle.std.proofs.lemmas.List.{append-nil}
 use Rattle.std.specs.Io.KnownBytes.{Appends, Keeps}
-use Rattle.ls_server.specs.Runs.{AppendsFront}
-
-pub append-nil : (xs : List ℕ) → xs ++ [] ≡ xs
-append-nil [] = refl
-append-nil (x ∷ xs) = ap (λ ys. x ∷ ys) (append-nil xs)
+use Rattle.ls_devices.specs.Devices.{AppendsFront}
 
 pub appends-keeps : (a b c : Option (List ℕ)) (x : List ℕ) → Appends a b x → Keeps b c → Appends a c x
 appends-keeps None b c x p q = tt
@@ -28,3 +25,11 @@ front-keeps a b c x f k = (f.0, f.1, (f.2.0, appends-keeps a b c f.0 f.2.1 k))
 
 pub as-front : (a b : Option (List ℕ)) (bytes : List ℕ) → Appends a b bytes → AppendsFront a b bytes
 as-front a b bytes w = (bytes, [], (sym (append-nil bytes), w))
+
+pub or-true : (a b : Bool) → a ≡ (b || true) → a ≡ true
+or-true a true e = e
+or-true a false e = e
+
+pub or-false : (a b : Bool) → b ≡ false → a ≡ (b || false) → a ≡ false
+or-false a true f e = cc
+or-false a false f e = e
