@@ -1,6 +1,6 @@
 -- The text of a certificate is read as that certificate.
-use Rattle.std.proofs.Common.{◌≡◌, ◌≢◌, ℕ, zero, suc, ◌+◌, ◌<◌, ◌≤◌, ◌^◌, ◌&&◌, Bool, true, false, Some, None, List, [], ◌∷◌, ◌++◌, length, take, drop, get_or, min, refl, sym, ◌∙◌, ap, subst, arith, append_assoc}
-use Rattle.std.proofs.lemmas.Bool.{eqb-true, lt-ltb}
+use Rattle.std.proofs.Common.{◌≡◌, ◌≢◌, ℕ, zero, suc, ◌+◌, ◌<◌, ◌≤◌, ◌^◌, Bool, true, false, Some, None, List, [], ◌∷◌, ◌++◌, length, take, drop, get_or, min, refl, sym, ◌∙◌, ap, subst, arith, append_assoc}
+use Rattle.std.proofs.lemmas.Bool.{eqb-true, lt-ltb, and_parts}
 use Rattle.std.proofs.lemmas.Option.{same_Some, none-some}
 use Rattle.std.proofs.Math.Seq.{take-append_seam, drop-append_seam}
 use Rattle.std.proofs.lemmas.Str.Parse.{IsNumeralModel, numerals_by_value, tells_all_ascii_digits}
@@ -16,33 +16,29 @@ use Rattle.abnf_cert.specs.declared.entry.Entry.TheVariants.{Nothing, Least}
 use Rattle.abnf_cert.specs.declared.fault.CertFault.{CertFault}
 use Rattle.abnf_cert.specs.declared.fault.CertFault.TheVariants.{BadLine, OutOfOrder, NumberTooLarge, Memory}
 use Rattle.abnf_cert.specs.Text.{entry_line, lines_from, cert_text}
-use Rattle.abnf_cert.specs.Read.{digit_count, is_plain, number_at, Told, told_at, rest_at, line_at, entry_told, IsWide, IsLineFault, IsFirstFault, Reads, TextsAreUnique, TextsAreRead}
+use Rattle.abnf_cert.specs.Read.{digit_count, is_plain_number, number_at, ToldEntry, told_at, rest_at, line_read, entry_told, IsWide, IsLineFault, IsFirstFault, Reads, TextsAreUnique, TextsAreRead}
 use Rattle.abnf_cert.proofs.Lines.{line_takes}
 
 own : IsNumeralModel (λ ds. all_ascii_digits ds ≡ true) (digits_value 10)
 own = numerals_by_value (λ ds. all_ascii_digits ds ≡ true) tells_all_ascii_digits
 
-digit_parts : (a b : Bool) → (a && b) ≡ true → (a ≡ true) × (b ≡ true)
-digit_parts true b h = (refl, h)
-digit_parts false b h = absurd (cc)
-
 count_front : (ds : List ℕ) (b : ℕ) (rest : List ℕ) → is_ascii_digit b ≡ false → all_ascii_digits ds ≡ true → digit_count (ds ++ b ∷ rest) ≡ length ds
 count_front [] b rest e h = rw e refl
 count_front (c ∷ ds) b rest e h =
-    let both = digit_parts (is_ascii_digit c) (all_ascii_digits ds) h in
+    let both = and_parts (is_ascii_digit c) (all_ascii_digits ds) h in
     rw (both.0, count_front ds b rest e both.1) refl
 
-not_zero_by : (c d : ℕ) (cs : List ℕ) (b : Bool) → (c == 48) ≡ b → 48 < c → is_plain (c ∷ d ∷ cs) ≡ true
+not_zero_by : (c d : ℕ) (cs : List ℕ) (b : Bool) → (c == 48) ≡ b → 48 < c → is_plain_number (c ∷ d ∷ cs) ≡ true
 not_zero_by c d cs true e lt = absurd (omega (arith, eqb-true c 48 e))
 not_zero_by c d cs false e lt = rw e refl
 
-plain_first : (ds : List ℕ) → 0 < length ds → 48 < get_or ds 0 0 → is_plain ds ≡ true
+plain_first : (ds : List ℕ) → 0 < length ds → 48 < get_or ds 0 0 → is_plain_number ds ≡ true
 plain_first [] some lt = absurd (omega arith)
 plain_first (c ∷ []) some lt = refl
 plain_first (c ∷ d ∷ cs) some lt = not_zero_by c d cs (c == 48) refl lt
 
-plain_decimal : (v : ℕ) → v < 2 ^ 64 → is_plain (decimal v) ≡ true
-plain_decimal zero low = ap is_plain (decimal_digit 0 (omega arith))
+plain_decimal : (v : ℕ) → v < 2 ^ 64 → is_plain_number (decimal v) ≡ true
+plain_decimal zero low = ap is_plain_number (decimal_digit 0 (omega arith))
 plain_decimal (suc v) low = plain_first (decimal (suc v)) (decimal_nonempty (suc v) low) (first_decimal (suc v) (omega arith) low)
 
 number_again : (v b : ℕ) (rest : List ℕ) → v < 2 ^ 64 → is_ascii_digit b ≡ false → number_at (decimal v ++ b ∷ rest) ≡ Some (v, b ∷ rest)
@@ -51,7 +47,7 @@ number_again v b rest low e =
     let front : take (digit_count (decimal v ++ b ∷ rest)) (decimal v ++ b ∷ rest) ≡ decimal v = ap (λ k. take k (decimal v ++ b ∷ rest)) count ∙ take-append_seam (decimal v) (b ∷ rest) in
     let back : drop (digit_count (decimal v ++ b ∷ rest)) (decimal v ++ b ∷ rest) ≡ b ∷ rest = ap (λ k. drop k (decimal v ++ b ∷ rest)) count ∙ drop-append_seam (decimal v) (b ∷ rest) in
     let value : min (digits_value 10 (decimal v)) 18446744073709551616 ≡ v = omega (arith, digits_value-decimal own v low) in
-    ap (λ ds. if is_plain ds then Some (min (digits_value 10 ds) 18446744073709551616, drop (digit_count (decimal v ++ b ∷ rest)) (decimal v ++ b ∷ rest)) else None) front
+    ap (λ ds. if is_plain_number ds then Some (min (digits_value 10 ds) 18446744073709551616, drop (digit_count (decimal v ++ b ∷ rest)) (decimal v ++ b ∷ rest)) else None) front
     ∙ (ap (λ p. if p then Some (min (digits_value 10 (decimal v)) 18446744073709551616, drop (digit_count (decimal v ++ b ∷ rest)) (decimal v ++ b ∷ rest)) else None) (plain_decimal v low)
     ∙ (ap (λ (x : ℕ). Some (x, drop (digit_count (decimal v ++ b ∷ rest)) (decimal v ++ b ∷ rest))) value ∙ ap (λ (x : List ℕ). Some (v, x)) back))
 
@@ -63,7 +59,7 @@ told_again l h c rest x y z =
     (rw (number_again c 10 rest z refl) refl))
 
 -- what an entry's line tells
-abbrev told_of : Entry → Told
+abbrev told_of : Entry → ToldEntry
 told_of Nothing = None
 told_of (Least l h c) = Some (l, h, c)
 
@@ -99,8 +95,8 @@ line_text n l h c rest = regroup (decimal n) (decimal l) (decimal h) (decimal c)
     regroup : (a b c d s e r : List ℕ) → (a ++ s ++ (b ++ s ++ (c ++ s ++ (d ++ e)))) ++ r ≡ a ++ (s ++ (b ++ (s ++ (c ++ (s ++ (d ++ (e ++ r)))))))
     regroup a b c d s e r = simp append_assoc
 
-line_again : (n : ℕ) (e : Entry) (rest : List ℕ) → n < 2 ^ 64 → IsWide e → line_at (entry_line n e ++ rest) ≡ Some (n, told_of e, rest)
-unfolding line_at
+line_again : (n : ℕ) (e : Entry) (rest : List ℕ) → n < 2 ^ 64 → IsWide e → line_read (entry_line n e ++ rest) ≡ Some (n, told_of e, rest)
+unfolding line_read
 line_again n Nothing rest low w =
     rw (append_assoc (decimal n) (32 ∷ 45 ∷ 10 ∷ []) rest) (rw (number_again n 32 (45 ∷ 10 ∷ rest) low refl) refl)
 line_again n (Least l h c) rest low w =
@@ -108,8 +104,8 @@ line_again n (Least l h c) rest low w =
     (rw (number_again n 32 (decimal l ++ 32 ∷ (decimal h ++ 32 ∷ (decimal c ++ 10 ∷ rest))) low refl)
     (rw (rest_again l h c rest w.0 w.1 w.2) refl))
 
-nothing_there : line_at [] ≡ None
-unfolding line_at
+nothing_there : line_read [] ≡ None
+unfolding line_read
 nothing_there = refl
 
 abbrev AllWide : List Entry → Type 0
@@ -117,15 +113,15 @@ AllWide es = AllByRecursion IsWide es
 
 no_line : (n : ℕ) (e : Entry) (rest : List ℕ) → n < 2 ^ 64 → IsWide e → entry_line n e ++ rest ≡ [] → ⊥
 no_line n e rest low w is =
-    let line : ℕ × Told × List ℕ = (n, told_of e, rest) in
-    absurd (none-some line (sym nothing_there ∙ (sym (ap line_at is) ∙ line_again n e rest low w)))
+    let line : ℕ × ToldEntry × List ℕ = (n, told_of e, rest) in
+    absurd (none-some line (sym nothing_there ∙ (sym (ap line_read is) ∙ line_again n e rest low w)))
 
 -- two lines that begin one text are one
 one_line : (n : ℕ) (e f : Entry) (rest more : List ℕ) → n < 2 ^ 64 → IsWide e → IsWide f → entry_line n e ++ rest ≡ entry_line n f ++ more → (e ≡ f) × (rest ≡ more)
 one_line n e f rest more low w u is =
-    let all : (n, told_of e, rest) ≡ (n, told_of f, more) = same_Some (n, told_of e, rest) (n, told_of f, more) (sym (line_again n e rest low w) ∙ (ap line_at is ∙ line_again n f more low u)) in
-    let told : told_of e ≡ told_of f = ap (λ (x : ℕ × Told × List ℕ). x.1) all in
-    (same_Some e f (sym (told_read e w) ∙ (ap entry_told told ∙ told_read f u)), ap (λ (x : ℕ × Told × List ℕ). x.2) all)
+    let all : (n, told_of e, rest) ≡ (n, told_of f, more) = same_Some (n, told_of e, rest) (n, told_of f, more) (sym (line_again n e rest low w) ∙ (ap line_read is ∙ line_again n f more low u)) in
+    let told : told_of e ≡ told_of f = ap (λ (x : ℕ × ToldEntry × List ℕ). x.1) all in
+    (same_Some e f (sym (told_read e w) ∙ (ap entry_told told ∙ told_read f u)), ap (λ (x : ℕ × ToldEntry × List ℕ). x.2) all)
 
 same_text : (k : ℕ) (es cs : List Entry) → AllWide es → AllWide cs → k + length es < 2 ^ 64 → k + length cs < 2 ^ 64 → lines_from k es ≡ lines_from k cs → es ≡ cs
 same_text k [] [] w u low high is = refl
@@ -138,14 +134,14 @@ same_text k (e ∷ es) (c ∷ cs) w u low high is =
 -- the line of an entry shows no fault
 good_line : (f : CertFault) (n : ℕ) (e : Entry) (rest : List ℕ) → n < 2 ^ 64 → IsWide e → IsLineFault f n (entry_line n e ++ rest) → f ≡ Memory
 good_line BadLine n e rest low w fault =
-    let line : ℕ × Told × List ℕ = (n, told_of e, rest) in
+    let line : ℕ × ToldEntry × List ℕ = (n, told_of e, rest) in
     absurd (none-some line (sym fault.1 ∙ line_again n e rest low w))
 good_line OutOfOrder n e rest low w fault =
     let same : fault.0 ≡ (n, told_of e, rest) = same_Some fault.0 (n, told_of e, rest) (sym fault.1 ∙ line_again n e rest low w) in
-    absurd (fault.2 (ap (λ (x : ℕ × Told × List ℕ). x.0) same))
+    absurd (fault.2 (ap (λ (x : ℕ × ToldEntry × List ℕ). x.0) same))
 good_line NumberTooLarge n e rest low w fault =
     let same : fault.0 ≡ (n, told_of e, rest) = same_Some fault.0 (n, told_of e, rest) (sym fault.1 ∙ line_again n e rest low w) in
-    let both : Some e ≡ None = sym (told_read e w) ∙ (sym (ap entry_told (ap (λ (x : ℕ × Told × List ℕ). x.1) same)) ∙ fault.3) in absurd (cc)
+    let both : Some e ≡ None = sym (told_read e w) ∙ (sym (ap entry_told (ap (λ (x : ℕ × ToldEntry × List ℕ). x.1) same)) ∙ fault.3) in absurd (cc)
 good_line Memory n e rest low w fault = refl
 
 -- no fault stands at an entry's line, or at the end
@@ -183,14 +179,14 @@ one_fault BadLine NumberTooLarge n rest other h k = absurd (none-some k.0 (sym h
 one_fault BadLine Memory n rest other h k = absurd (none-some k.0 (sym h.1 ∙ k.1))
 one_fault OutOfOrder BadLine n rest other h k = absurd (none-some h.0 (sym k.1 ∙ h.1))
 one_fault OutOfOrder OutOfOrder n rest other h k = refl
-one_fault OutOfOrder NumberTooLarge n rest other h k = absurd (h.2 (ap (λ (x : ℕ × Told × List ℕ). x.0) (same_Some h.0 k.0 (sym h.1 ∙ k.1)) ∙ k.2))
-one_fault OutOfOrder Memory n rest other h k = absurd (h.2 (ap (λ (x : ℕ × Told × List ℕ). x.0) (same_Some h.0 k.0 (sym h.1 ∙ k.1)) ∙ k.2))
+one_fault OutOfOrder NumberTooLarge n rest other h k = absurd (h.2 (ap (λ (x : ℕ × ToldEntry × List ℕ). x.0) (same_Some h.0 k.0 (sym h.1 ∙ k.1)) ∙ k.2))
+one_fault OutOfOrder Memory n rest other h k = absurd (h.2 (ap (λ (x : ℕ × ToldEntry × List ℕ). x.0) (same_Some h.0 k.0 (sym h.1 ∙ k.1)) ∙ k.2))
 one_fault NumberTooLarge BadLine n rest other h k = absurd (none-some h.0 (sym k.1 ∙ h.1))
-one_fault NumberTooLarge OutOfOrder n rest other h k = absurd (k.2 (ap (λ (x : ℕ × Told × List ℕ). x.0) (same_Some k.0 h.0 (sym k.1 ∙ h.1)) ∙ h.2))
+one_fault NumberTooLarge OutOfOrder n rest other h k = absurd (k.2 (ap (λ (x : ℕ × ToldEntry × List ℕ). x.0) (same_Some k.0 h.0 (sym k.1 ∙ h.1)) ∙ h.2))
 one_fault NumberTooLarge NumberTooLarge n rest other h k = refl
 one_fault NumberTooLarge Memory n rest other h k =
     let same : h.0 ≡ k.0 = same_Some h.0 k.0 (sym h.1 ∙ k.1) in
-    absurd (none-some k.3 (sym h.3 ∙ (ap (λ (x : ℕ × Told × List ℕ). entry_told x.1) same ∙ k.4)))
+    absurd (none-some k.3 (sym h.3 ∙ (ap (λ (x : ℕ × ToldEntry × List ℕ). entry_told x.1) same ∙ k.4)))
 
 first_by : (f g : CertFault) (es : List Entry) (rest bytes : List ℕ) → (f ≡ Memory → ⊥) → AllWide es → bytes ≡ cert_text es ++ rest → IsLineFault g (length es) rest → IsLineFault f 0 bytes → f ≡ g
 first_by f g [] rest bytes other w is fault here = one_fault f g 0 rest other (subst (λ x. IsLineFault f 0 x) is here) fault
@@ -222,17 +218,17 @@ reads_lines n (e ∷ es) w low =
 one_reading : (n : ℕ) (bytes : List ℕ) (es cs : List Entry) → Reads n bytes es → Reads n bytes cs → cs ≡ es
 one_reading n bytes [] [] r q = refl
 one_reading n bytes [] (c ∷ cs) r q =
-    let line : ℕ × Told × List ℕ = (n, q.0, q.1) in
-    absurd (none-some line (sym nothing_there ∙ (sym (ap line_at r) ∙ q.2)))
+    let line : ℕ × ToldEntry × List ℕ = (n, q.0, q.1) in
+    absurd (none-some line (sym nothing_there ∙ (sym (ap line_read r) ∙ q.2)))
 one_reading n bytes (e ∷ es) [] r q =
-    let line : ℕ × Told × List ℕ = (n, r.0, r.1) in
-    absurd (none-some line (sym nothing_there ∙ (sym (ap line_at q) ∙ r.2)))
+    let line : ℕ × ToldEntry × List ℕ = (n, r.0, r.1) in
+    absurd (none-some line (sym nothing_there ∙ (sym (ap line_read q) ∙ r.2)))
 one_reading n bytes (e ∷ es) (c ∷ cs) r q =
-    let line : ℕ × Told × List ℕ = (n, r.0, r.1) in
-    let other : ℕ × Told × List ℕ = (n, q.0, q.1) in
+    let line : ℕ × ToldEntry × List ℕ = (n, r.0, r.1) in
+    let other : ℕ × ToldEntry × List ℕ = (n, q.0, q.1) in
     let same : line ≡ other = same_Some line other (sym r.2 ∙ q.2) in
-    let told : r.0 ≡ q.0 = ap (λ (x : ℕ × Told × List ℕ). x.1) same in
-    let rest : r.1 ≡ q.1 = ap (λ (x : ℕ × Told × List ℕ). x.2) same in
+    let told : r.0 ≡ q.0 = ap (λ (x : ℕ × ToldEntry × List ℕ). x.1) same in
+    let rest : r.1 ≡ q.1 = ap (λ (x : ℕ × ToldEntry × List ℕ). x.2) same in
     let first : c ≡ e = same_Some c e (sym q.3 ∙ (ap entry_told (sym told) ∙ r.3)) in
     let more : cs ≡ es = one_reading (suc n) r.1 es cs r.4 (subst (λ x. Reads (suc n) x cs) (sym rest) q.4) in
     ap (λ x. x ∷ cs) first ∙ ap (λ x. e ∷ x) more

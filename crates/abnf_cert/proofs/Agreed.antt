@@ -183,9 +183,6 @@ module _ (roots : List Part) (cert other : List Entry) (accepted : IsAccepted ro
   abbrev at : ℕ → Entry
   at n = entry_at cert n
 
-  abbrev bt : ℕ → Entry
-  bt n = entry_at other n
-
   abbrev FitBoth : ℕ → Part → Type 0
   FitBoth n p = TreeFits (entry_at cert) (root_number roots) n p × TreeFits (entry_at other) (root_number roots) n p
 

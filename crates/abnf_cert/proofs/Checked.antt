@@ -12,7 +12,7 @@ use Rattle.abnf_parts.specs.Part.{Part, quoted, series, span, seq, alt, rep, ref
 use Rattle.abnf_parts.specs.Nodes.{IsNode, RefersWithin, AreNodes}
 use Rattle.abnf_cert.specs.FitsNode.{FitsNode, NodeRefersWithin}
 use Rattle.abnf_cert.specs.Test.{entries_at}
-use Rattle.abnf_cert.specs.Accepted.{HasPair, top, Fits, entry_at, Saturated, IsFirstLeast, IsChoice, IsAccepted}
+use Rattle.abnf_cert.specs.Accepted.{HasPair, top, EntryFits, entry_at, Saturated, IsFirstLeast, IsChoice, IsAccepted}
 
 -- the chosen part has the pair
 pub chosen : (cert : List Entry) (ns : List ℕ) (l h c x : ℕ) → c < length ns → x ≡ get_or ns c x → HasPair l h (entry_at cert x) → (d : ℕ) × (slice_get (entries_at cert ns) c ≡ Some (Least l h d))
@@ -39,16 +39,16 @@ module _ (at : ℕ → Entry) (root : ℕ → ℕ) (e : Entry) where
   same : (X : Type 0) → X ↔ X
   same X = (λ x. x, λ x. x)
 
-  pub node_fits : (n : ℕ) (p : Part) (node : Node) → IsNode n p node → FitsNode at root node e ↔ Fits at root n p e
+  pub node_fits : (n : ℕ) (p : Part) (node : Node) → IsNode n p node → FitsNode at root node e ↔ EntryFits at root n p e
   node_fits n (quoted text exact) node is =
       along node (Quoted is.0 exact) (e ≡ Least (length text) 0 0) is.1 (subst (λ s. (e ≡ Least (length is.0.now) 0 0) ↔ (e ≡ Least (length s) 0 0)) is.2 (same (e ≡ Least (length is.0.now) 0 0)))
-  node_fits n (series characters) node is = along node (Series characters) (Fits at root n (series characters) e) is (same (Fits at root n (series characters) e))
-  node_fits n (span low high) node is = along node (Span low high) (Fits at root n (span low high) e) is (same (Fits at root n (span low high) e))
-  node_fits n (seq ps) node is = along node (Seq (numbers (suc n) ps)) (Fits at root n (seq ps) e) is (same (Fits at root n (seq ps) e))
-  node_fits n (alt ps) node is = along node (Alt (numbers (suc n) ps)) (Fits at root n (alt ps) e) is (same (Fits at root n (alt ps) e))
-  node_fits n (rep least most p) node is = along node (Rep least most (suc n)) (Fits at root n (rep least most p) e) is (same (Fits at root n (rep least most p) e))
+  node_fits n (series characters) node is = along node (Series characters) (EntryFits at root n (series characters) e) is (same (EntryFits at root n (series characters) e))
+  node_fits n (span low high) node is = along node (Span low high) (EntryFits at root n (span low high) e) is (same (EntryFits at root n (span low high) e))
+  node_fits n (seq ps) node is = along node (Seq (numbers (suc n) ps)) (EntryFits at root n (seq ps) e) is (same (EntryFits at root n (seq ps) e))
+  node_fits n (alt ps) node is = along node (Alt (numbers (suc n) ps)) (EntryFits at root n (alt ps) e) is (same (EntryFits at root n (alt ps) e))
+  node_fits n (rep least most p) node is = along node (Rep least most (suc n)) (EntryFits at root n (rep least most p) e) is (same (EntryFits at root n (rep least most p) e))
   node_fits n (ref name None) node is = along node (Ref is.0 None) (e ≡ Nothing) is.1 (same (e ≡ Nothing))
-  node_fits n (ref name (Some r)) node is = along node (Ref is.0 (Some r)) (Fits at root n (ref name (Some r)) e) is.1 (same (Fits at root n (ref name (Some r)) e))
+  node_fits n (ref name (Some r)) node is = along node (Ref is.0 (Some r)) (EntryFits at root n (ref name (Some r)) e) is.1 (same (EntryFits at root n (ref name (Some r)) e))
   node_fits n opaque node is = along node Opaque (e ≡ Nothing) is (same (e ≡ Nothing))
 
 node_refers : (count n : ℕ) (p : Part) (node : Node) → IsNode n p node → RefersWithin count p → NodeRefersWithin count node
@@ -81,23 +81,20 @@ stands_at trees nodes n node are within is =
 
 -- the entries of the parts below number n fit
 abbrev pub FitBelow : List Part → List Entry → ℕ → Type 0
-FitBelow trees cert n = (k : ℕ) (p : Part) → k < n → slice_get (parts_of trees) k ≡ Some p → Fits (entry_at cert) (root_number trees) k p (entry_at cert k)
-
-none_below : (trees : List Part) (cert : List Entry) → FitBelow trees cert 0
-none_below trees cert k p lt is = absurd (omega arith)
+FitBelow trees cert n = (k : ℕ) (p : Part) → k < n → slice_get (parts_of trees) k ≡ Some p → EntryFits (entry_at cert) (root_number trees) k p (entry_at cert k)
 
 module _ (trees : List Part) (cert : List Entry) (n : ℕ) (node : Node) (stands : StandsAt trees n node) where
-  one_fits : FitsNode (entry_at cert) (root_number trees) node (entry_at cert n) → (p : Part) → slice_get (parts_of trees) n ≡ Some p → Fits (entry_at cert) (root_number trees) n p (entry_at cert n)
+  one_fits : FitsNode (entry_at cert) (root_number trees) node (entry_at cert n) → (p : Part) → slice_get (parts_of trees) n ≡ Some p → EntryFits (entry_at cert) (root_number trees) n p (entry_at cert n)
   one_fits fits p is =
       let same_part : stands.part ≡ p = same_Some stands.part p (sym stands.is ∙ is) in
-      subst (λ q. Fits (entry_at cert) (root_number trees) n q (entry_at cert n)) same_part ((node_fits (entry_at cert) (root_number trees) (entry_at cert n) n stands.part node stands.of_part).0 fits)
+      subst (λ q. EntryFits (entry_at cert) (root_number trees) n q (entry_at cert n)) same_part ((node_fits (entry_at cert) (root_number trees) (entry_at cert n) n stands.part node stands.of_part).0 fits)
 
   more_fit : FitsNode (entry_at cert) (root_number trees) node (entry_at cert n) → FitBelow trees cert n → FitBelow trees cert (n + 1)
   more_fit fits below k p lt is =
       ⊎_elim
       (λ less. below k p less is)
       (λ equal. let e : n ≡ k = omega arith in
-      let Holds : ℕ → Type 0 = λ m. slice_get (parts_of trees) m ≡ Some p → Fits (entry_at cert) (root_number trees) m p (entry_at cert m) in
+      let Holds : ℕ → Type 0 = λ m. slice_get (parts_of trees) m ≡ Some p → EntryFits (entry_at cert) (root_number trees) m p (entry_at cert m) in
       subst Holds e (one_fits fits p) is)
       (cases_lt k n)
 

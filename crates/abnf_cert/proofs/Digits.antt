@@ -13,7 +13,7 @@ use Rattle.std.proofs.lemmas.Fmt.{decimal-digits_value}
 use Rattle.std.specs.Fmt.{decimal}
 use Rattle.std.specs.Str.{all_ascii_digits}
 use Rattle.std.specs.Prelude.{if◌then◌else◌, ◌==◌}
-use Rattle.abnf_cert.specs.Read.{digit_count, is_plain, number_at}
+use Rattle.abnf_cert.specs.Read.{digit_count, is_plain_number, number_at}
 
 capped : (v n r d : ℕ) → n ≡ min v 18446744073709551616 → r ≡ min (n * 10 + d) 18446744073709551616 → r ≡ min (v * 10 + d) 18446744073709551616
 capped v n r d e f = omega arith
@@ -41,11 +41,11 @@ list_by (c ∷ cs) = ap (λ b. is_ascii_digit c && b) (list_by cs)
 pub front_listed : (bs : List ℕ) → list_all is_ascii_digit (take (digit_count bs) bs) ≡ true
 front_listed bs = sym (list_by (take (digit_count bs) bs)) ∙ front_digits bs
 
-plain_some : (ds : List ℕ) → is_plain ds ≡ true → 0 < length ds
+plain_some : (ds : List ℕ) → is_plain_number ds ≡ true → 0 < length ds
 plain_some [] h = absurd (cc)
 plain_some (c ∷ ds) h = omega arith
 
-plain_zero : (ds : List ℕ) → is_plain ds ≡ true → get_or ds 0 0 ≡ 48 → length ds ≡ 1
+plain_zero : (ds : List ℕ) → is_plain_number ds ≡ true → get_or ds 0 0 ≡ 48 → length ds ≡ 1
 plain_zero [] h e = absurd (cc)
 plain_zero (c ∷ []) h e = refl
 plain_zero (c ∷ d ∷ ds) h e = let g : false ≡ true = subst (λ x. (if x == 48 then false else true) ≡ true) e h in absurd (cc)
@@ -55,7 +55,7 @@ pub number_takes : (bs : List ℕ) (v : ℕ) (rest : List ℕ) → number_at bs 
 number_takes bs v rest h low =
     let ds : List ℕ = take (digit_count bs) bs in
     let read : ℕ × List ℕ = (min (digits_value 10 ds) 18446744073709551616, drop (digit_count bs) bs) in
-    let both : (is_plain ds ≡ true) × (read ≡ (v, rest)) = cond_some (is_plain ds) read (v, rest) h in
+    let both : (is_plain_number ds ≡ true) × (read ≡ (v, rest)) = cond_some (is_plain_number ds) read (v, rest) h in
     let value : min (digits_value 10 ds) 18446744073709551616 ≡ v = ap (λ (x : ℕ × List ℕ). x.0) both.1 in
     let behind : drop (digit_count bs) bs ≡ rest = ap (λ (x : ℕ × List ℕ). x.1) both.1 in
     let small : digits_value 10 ds < 2 ^ 64 = omega arith in

@@ -6,7 +6,7 @@ use Rattle.abnf_cert.specs.declared.entry.Entry.TheVariants.{Nothing, Least}
 use Rattle.abnf_parts.specs.Part.{Part, root_number}
 use Rattle.abnf_parts.specs.Generates.{Gen, RuleGen, IsLeastLength, IsValue}
 use Rattle.abnf_cert.specs.Accepted.{top, entry_at, IsAccepted}
-use Rattle.abnf_cert.specs.Says.{Says, AcceptedIsRight}
+use Rattle.abnf_cert.specs.Says.{EntrySays, AcceptedIsRight}
 use Rattle.abnf_cert.proofs.Below.{TreeFits, part_fits}
 use Rattle.abnf_cert.proofs.Lower.{NotBelow, lower, rule_lower}
 use Rattle.abnf_cert.proofs.Upper.{Reached, upper, rule_upper}
@@ -22,7 +22,7 @@ least_of_value roots p n k v =
     shorter s (inl h) = omega arith
     shorter s (inr h) = omega (arith, h.0)
 
-said : (roots : List Part) (p : Part) (e : Entry) → ((k : ℕ) (s : List ℕ) → Gen roots k p s → NotBelow k s e) → ((k : ℕ) → Reached k (Gen roots k p) e) → Says roots p e
+said : (roots : List Part) (p : Part) (e : Entry) → ((k : ℕ) (s : List ℕ) → Gen roots k p s → NotBelow k s e) → ((k : ℕ) → Reached k (Gen roots k p) e) → EntrySays roots p e
 said roots p Nothing low up = λ s g. low g.0 s g.1
 said roots p (Least l h c) low up =
     let s = up h (omega arith) in
@@ -42,7 +42,7 @@ module _ (roots : List Part) (cert : List Entry) (accepted : IsAccepted roots ce
   pub low_at : (n : ℕ) (p : Part) → TreeFits (entry_at cert) (root_number roots) n p → (k : ℕ) (s : List ℕ) → Gen roots k p s → NotBelow k s (entry_at cert n)
   low_at n p fits k s g = lower (entry_at cert) (root_number roots) k (RuleGen roots k) (rule_lower roots cert accepted k) n p s fits g
 
-  pub says_at : (n : ℕ) (p : Part) → TreeFits (entry_at cert) (root_number roots) n p → Says roots p (entry_at cert n)
+  pub says_at : (n : ℕ) (p : Part) → TreeFits (entry_at cert) (root_number roots) n p → EntrySays roots p (entry_at cert n)
   says_at n p fits =
       said roots p (entry_at cert n) (low_at n p fits)
       (λ k. upper (entry_at cert) (root_number roots) k (RuleGen roots k) (rule_upper roots cert accepted k) n p fits)

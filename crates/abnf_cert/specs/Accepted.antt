@@ -79,17 +79,17 @@ IsChoice es (Least l h c) =
     ((d : ℕ) × (slice_get es c ≡ Some (Least l h d))) × (IsFirstLeast es l h c ⊎ IsSaturated es l)
 
 -- an entry fits part n, where the entry of each part and the number of each rule's root are known
-abbrev pub Fits : (ℕ → Entry) → (ℕ → ℕ) → ℕ → Part → Entry → Type 0
-Fits at root n (quoted text exact) e = e ≡ Least (length text) 0 0
-Fits at root n (series characters) e = e ≡ Least (length characters) 0 0
-Fits at root n (span low high) e = ((low ≤ high) × (e ≡ Least 1 0 0)) ⊎ ((high < low) × (e ≡ Nothing))
-Fits at root n (seq ps) e = e ≡ all_in_a_row (map at (numbers (suc n) ps))
-Fits at root n (alt ps) e = IsChoice (map at (numbers (suc n) ps)) e
-Fits at root n (rep least most p) e =
+abbrev pub EntryFits : (ℕ → Entry) → (ℕ → ℕ) → ℕ → Part → Entry → Type 0
+EntryFits at root n (quoted text exact) e = e ≡ Least (length text) 0 0
+EntryFits at root n (series characters) e = e ≡ Least (length characters) 0 0
+EntryFits at root n (span low high) e = ((low ≤ high) × (e ≡ Least 1 0 0)) ⊎ ((high < low) × (e ≡ Nothing))
+EntryFits at root n (seq ps) e = e ≡ all_in_a_row (map at (numbers (suc n) ps))
+EntryFits at root n (alt ps) e = IsChoice (map at (numbers (suc n) ps)) e
+EntryFits at root n (rep least most p) e =
     (UpTo most least × (e ≡ times least (at (suc n)))) ⊎ (Exceeds most least × (e ≡ Nothing))
-Fits at root n (ref name None) e = e ≡ Nothing
-Fits at root n (ref name (Some r)) e = e ≡ referred (at (root r))
-Fits at root n opaque e = e ≡ Nothing
+EntryFits at root n (ref name None) e = e ≡ Nothing
+EntryFits at root n (ref name (Some r)) e = e ≡ referred (at (root r))
+EntryFits at root n opaque e = e ≡ Nothing
 
 -- the entry of a part, nothing past the end
 abbrev pub entry_at : List Entry → ℕ → Entry
@@ -99,4 +99,4 @@ entry_at cert n = slice_index_or cert n Nothing
 pub record IsAccepted (roots : List Part) (cert : List Entry) : Type 0 where
   pub one_each : length cert ≡ length (parts_of roots)
   pub fits : (n : ℕ) (p : Part) → slice_get (parts_of roots) n ≡ Some p →
-      Fits (entry_at cert) (root_number roots) n p (entry_at cert n)
+      EntryFits (entry_at cert) (root_number roots) n p (entry_at cert n)

@@ -21,45 +21,45 @@ digit_count [] = 0
 digit_count (c ∷ cs) = if is_ascii_digit c then suc (digit_count cs) else 0
 
 -- a number has no leading zero, and is 0 alone otherwise
-abbrev pub is_plain : List ℕ → Bool
-is_plain [] = false
-is_plain (c ∷ []) = true
-is_plain (c ∷ d ∷ cs) = if c == 48 then false else true
+abbrev pub is_plain_number : List ℕ → Bool
+is_plain_number [] = false
+is_plain_number (c ∷ []) = true
+is_plain_number (c ∷ d ∷ cs) = if c == 48 then false else true
 
 -- the number at the front and the bytes behind it; one above 64 bits counts as 2 ^ 64
 abbrev pub number_at : List ℕ → Option (ℕ × List ℕ)
 number_at bytes =
-    if is_plain (take (digit_count bytes) bytes)
+    if is_plain_number (take (digit_count bytes) bytes)
     then Some (min (digits_value 10 (take (digit_count bytes) bytes)) 18446744073709551616, drop (digit_count bytes) bytes)
     else None
 
 -- the bytes behind this one
-abbrev pub behind : ℕ → List ℕ → Option (List ℕ)
-behind b [] = None
-behind b (c ∷ cs) = if c == b then Some cs else None
+abbrev pub past_byte : ℕ → List ℕ → Option (List ℕ)
+past_byte b [] = None
+past_byte b (c ∷ cs) = if c == b then Some cs else None
 
 -- what a line tells of its part: nothing, or a length, a height and a choice
-abbrev pub Told : Type 0
-Told = Option (ℕ × ℕ × ℕ)
+abbrev pub ToldEntry : Type 0
+ToldEntry = Option (ℕ × ℕ × ℕ)
 
 -- three numbers with a blank between, and the line's end
-unfoldable pub told_at : List ℕ → Option (Told × List ℕ)
+unfoldable pub told_at : List ℕ → Option (ToldEntry × List ℕ)
 told_at bytes =
-    number_at bytes >>= λ l. behind 32 l.1 >>= λ r. number_at r >>= λ h. behind 32 h.1 >>= λ s. number_at s >>= λ c.
-    behind 10 c.1 >>= λ rest.
+    number_at bytes >>= λ l. past_byte 32 l.1 >>= λ r. number_at r >>= λ h. past_byte 32 h.1 >>= λ s. number_at s >>= λ c.
+    past_byte 10 c.1 >>= λ rest.
     Some (Some (l.0, h.0, c.0), rest)
 
 -- what a line tells behind its number
-abbrev pub rest_at : List ℕ → Option (Told × List ℕ)
+abbrev pub rest_at : List ℕ → Option (ToldEntry × List ℕ)
 rest_at [] = None
-rest_at (c ∷ cs) = if c == 45 then (behind 10 cs >>= λ rest. Some (None, rest)) else told_at (c ∷ cs)
+rest_at (c ∷ cs) = if c == 45 then (past_byte 10 cs >>= λ rest. Some (None, rest)) else told_at (c ∷ cs)
 
 -- the line at the front: its number, what it tells, and the bytes behind it
-unfoldable pub line_at : List ℕ → Option (ℕ × Told × List ℕ)
-line_at bytes = number_at bytes >>= λ n. behind 32 n.1 >>= λ r. rest_at r >>= λ t. Some (n.0, t.0, t.1)
+unfoldable pub line_read : List ℕ → Option (ℕ × ToldEntry × List ℕ)
+line_read bytes = number_at bytes >>= λ n. past_byte 32 n.1 >>= λ r. rest_at r >>= λ t. Some (n.0, t.0, t.1)
 
 -- the entry that is told, if its numbers are of 64 bits
-abbrev pub entry_told : Told → Option Entry
+abbrev pub entry_told : ToldEntry → Option Entry
 entry_told None = Some Nothing
 entry_told (Some x) =
     if nat_lt x.0 18446744073709551616 && nat_lt x.1 18446744073709551616 && nat_lt x.2 18446744073709551616
@@ -69,10 +69,10 @@ entry_told (Some x) =
 -- The fault of the line at the front, which is to have number n: of two that it shows, the one that stands first here. Memory is
 -- asked for where the line is an entry's.
 abbrev pub IsLineFault : CertFault → ℕ → List ℕ → Type 0
-IsLineFault BadLine n rest = (rest ≢ []) × (line_at rest ≡ None)
-IsLineFault OutOfOrder n rest = (x : ℕ × Told × List ℕ) × (line_at rest ≡ Some x) × (x.0 ≢ n)
-IsLineFault NumberTooLarge n rest = (x : ℕ × Told × List ℕ) × (line_at rest ≡ Some x) × (x.0 ≡ n) × (entry_told x.1 ≡ None)
-IsLineFault Memory n rest = (x : ℕ × Told × List ℕ) × (line_at rest ≡ Some x) × (x.0 ≡ n) × (e : Entry) × (entry_told x.1 ≡ Some e)
+IsLineFault BadLine n rest = (rest ≢ []) × (line_read rest ≡ None)
+IsLineFault OutOfOrder n rest = (x : ℕ × ToldEntry × List ℕ) × (line_read rest ≡ Some x) × (x.0 ≢ n)
+IsLineFault NumberTooLarge n rest = (x : ℕ × ToldEntry × List ℕ) × (line_read rest ≡ Some x) × (x.0 ≡ n) × (entry_told x.1 ≡ None)
+IsLineFault Memory n rest = (x : ℕ × ToldEntry × List ℕ) × (line_read rest ≡ Some x) × (x.0 ≡ n) × (e : Entry) × (entry_told x.1 ≡ Some e)
 
 -- the numbers of an entry are of 64 bits
 abbrev pub IsWide : Entry → Type 0
@@ -92,7 +92,7 @@ IsFirstFault fault bytes =
 abbrev pub Reads : ℕ → List ℕ → List Entry → Type 0
 Reads n bytes [] = bytes ≡ []
 Reads n bytes (e ∷ es) =
-    (told : Told) × (rest : List ℕ) × (line_at bytes ≡ Some (n, told, rest)) × (entry_told told ≡ Some e) × Reads (suc n) rest es
+    (told : ToldEntry) × (rest : List ℕ) × (line_read bytes ≡ Some (n, told, rest)) × (entry_told told ≡ Some e) × Reads (suc n) rest es
 
 -- what reads as a certificate is its text
 abbrev pub TextsAreUnique : Type 0

@@ -8,15 +8,15 @@ use Rattle.abnf_cert.specs.Accepted.{top, entry_at, IsAccepted}
 
 -- Nothing: the part generates no string. A length below the top: it is the part's least length, and with the height its value.
 -- The top: the part generates a string, and none that is shorter.
-abbrev pub Says : List Part → Part → Entry → Type 0
-Says roots p Nothing = (s : List ℕ) → Generates roots p s → ⊥
-Says roots p (Least l h c) =
+abbrev pub EntrySays : List Part → Part → Entry → Type 0
+EntrySays roots p Nothing = (s : List ℕ) → Generates roots p s → ⊥
+EntrySays roots p (Least l h c) =
     (l < top → IsValue roots p l h × IsLeastLength roots p l)
     × (l ≡ top → ((s : List ℕ) × Generates roots p s) × ((s : List ℕ) → Generates roots p s → top ≤ length s))
 
 -- each entry is right
 abbrev pub EachSays : List Part → List Entry → Type 0
-EachSays roots cert = (n : ℕ) (p : Part) → slice_get (parts_of roots) n ≡ Some p → Says roots p (entry_at cert n)
+EachSays roots cert = (n : ℕ) (p : Part) → slice_get (parts_of roots) n ≡ Some p → EntrySays roots p (entry_at cert n)
 
 -- each entry of an accepted certificate is right
 abbrev pub AcceptedIsRight : Type 0

@@ -7,7 +7,7 @@ ghost use Rattle.abnf_cert.specs.declared.fault.CertFault.TheVariants.{Memory};
 ghost use Rattle.std.specs.Char.{is_ascii_digit};
 ghost use Rattle.std.specs.Str.Parse.{digits_value};
 ghost use Rattle.abnf_cert.specs.Text.{cert_text};
-ghost use Rattle.abnf_cert.specs.Read.{digit_count, is_plain, number_at, behind, told_at, rest_at, line_at, entry_told, IsOf64Bits, IsWide, IsFirstFault, IsLineFault};
+ghost use Rattle.abnf_cert.specs.Read.{digit_count, is_plain_number, number_at, past_byte, told_at, rest_at, line_read, entry_told, IsOf64Bits, IsWide, IsFirstFault, IsLineFault};
 ghost use Rattle.abnf_cert.specs.declared.fault.CertFault.{CertFault};
 
 use crate::entry::{Cert, Entry};
@@ -30,7 +30,7 @@ fn count_digits(bytes: &[u8]) -> usize
 }
 
 fn is_without_zero(digits: &[u8]) -> bool
-    ensures { result ≡ is_plain digits.now }
+    ensures { result ≡ is_plain_number digits.now }
 {
     match digits {
         [] => false,
@@ -40,7 +40,7 @@ fn is_without_zero(digits: &[u8]) -> bool
 }
 
 fn behind_byte(byte: u8, bytes: &[u8]) -> Option<&[u8]>
-    ensures { option_map (λ x. x.now) result ≡ behind byte bytes.now }
+    ensures { option_map (λ x. x.now) result ≡ past_byte byte bytes.now }
 {
     match bytes {
         [] => None,
@@ -113,9 +113,9 @@ fn rest_in(bytes: &[u8]) -> Option<(Told, &[u8])>
 }
 
 /// The line at the front.
-#[tactic(auto, unfolding(crate::specs::Read::line_at))]
+#[tactic(auto, unfolding(crate::specs::Read::line_read))]
 fn line_in(bytes: &[u8]) -> Option<(u128, Told, &[u8])>
-    ensures { option_map (λ x. (x.0, x.1, x.2.now)) result ≡ line_at bytes.now }
+    ensures { option_map (λ x. (x.0, x.1, x.2.now)) result ≡ line_read bytes.now }
 {
     let (number, rest) = number_in(bytes)?;
     let rest = behind_byte(b' ', rest)?;

@@ -7,8 +7,8 @@ use Rattle.abnf_cert.specs.declared.entry.Entry.TheVariants.{Nothing, Least}
 use Rattle.abnf_parts.specs.declared.node.Node.{Node}
 use Rattle.abnf_parts.specs.Nodes.{IsNode}
 use Rattle.abnf_parts.specs.Part.{Part, quoted, series, span, seq, alt, rep, ref, opaque, parts_of, root_number, numbers}
-use Rattle.abnf_cert.specs.Accepted.{top, in_a_row, all_in_a_row, times, referred, Fits, entry_at, IsAccepted}
-use Rattle.abnf_least.specs.Form.{Form, text, never, row, one_of, repeated, refers, entry_given, better, first_least, part_form, node_form, repetition}
+use Rattle.abnf_cert.specs.Accepted.{top, in_a_row, all_in_a_row, times, referred, EntryFits, entry_at, IsAccepted}
+use Rattle.abnf_least.specs.Form.{Form, text, never, row, one_of, repeated, refers, entry_given, better, first_least, part_form, node_form, repetition_form}
 use Rattle.abnf_least.proofs.Choice.{is_choice}
 use Rattle.abnf_least.specs.Table.{InRange}
 use Rattle.abnf_least.specs.Search.{Settled, IsDone, AreGiven, form_or, form_at}
@@ -80,26 +80,26 @@ all_range at (n ∷ ns) r = (r n, all_range at ns r)
 
 -- the value of a part's form fits the part
 module _ (at : ℕ → Entry) (root : ℕ → ℕ) (range : (n : ℕ) → InRange (at n)) where
-  span_fits : (n low high : ℕ) → Fits at root n (span low high) (entry_given at (part_form root n (span low high)))
+  span_fits : (n low high : ℕ) → EntryFits at root n (span low high) (entry_given at (part_form root n (span low high)))
   span_fits n low high =
       ⊎_elim
       (λ t. inr (ltb-true high low t, ap (entry_given at) (cond-true (ltb high low) never (text 1) t)))
       (λ f. inl (ltb-false high low f, ap (entry_given at) (cond-false (ltb high low) never (text 1) f)))
       (cases_Bool (ltb high low))
 
-  times_fits : (least n : ℕ) → entry_given at (repetition least n) ≡ times least (at n)
+  times_fits : (least n : ℕ) → entry_given at (repetition_form least n) ≡ times least (at n)
   times_fits zero n = refl
   times_fits (suc more) n = refl
 
-  rep_fits : (n least : ℕ) (most : Option ℕ) (p : Part) → Fits at root n (rep least most p) (entry_given at (part_form root n (rep least most p)))
+  rep_fits : (n least : ℕ) (most : Option ℕ) (p : Part) → EntryFits at root n (rep least most p) (entry_given at (part_form root n (rep least most p)))
   rep_fits n least None p = inl (tt, times_fits least (suc n))
   rep_fits n least (Some most) p =
       ⊎_elim
-      (λ t. inr (ltb-true most least t, ap (entry_given at) (cond-true (ltb most least) never (repetition least (suc n)) t)))
-      (λ f. inl (ltb-false most least f, ap (entry_given at) (cond-false (ltb most least) never (repetition least (suc n)) f) ∙ times_fits least (suc n)))
+      (λ t. inr (ltb-true most least t, ap (entry_given at) (cond-true (ltb most least) never (repetition_form least (suc n)) t)))
+      (λ f. inl (ltb-false most least f, ap (entry_given at) (cond-false (ltb most least) never (repetition_form least (suc n)) f) ∙ times_fits least (suc n)))
       (cases_Bool (ltb most least))
 
-  pub given_fits : (n : ℕ) (p : Part) → InRange (entry_given at (part_form root n p)) → Fits at root n p (entry_given at (part_form root n p))
+  pub given_fits : (n : ℕ) (p : Part) → InRange (entry_given at (part_form root n p)) → EntryFits at root n p (entry_given at (part_form root n p))
   given_fits n (quoted t exact) r = refl
   given_fits n (series characters) r = refl
   given_fits n (span low high) r = span_fits n low high
@@ -134,7 +134,7 @@ accepted trees at cert s done one_each is range =
           let form_is : form_at trees n ≡ part_form (root_number trees) n p = ap (form_or (root_number trees) n) there in
           let given : entry_at cert n ≡ entry_given (entry_at cert) (part_form (root_number trees) n p) =
           is n ∙ ap (entry_given at) form_is ∙ sym (given_alike at (entry_at cert) same (part_form (root_number trees) n p)) in
-          subst (λ e. Fits (entry_at cert) (root_number trees) n p e) (sym given)
+          subst (λ e. EntryFits (entry_at cert) (root_number trees) n p e) (sym given)
           (given_fits (entry_at cert) (root_number trees) range n p (subst InRange given (range n)));
     }
 

@@ -9,7 +9,7 @@ use Rattle.abnf_parts.specs.declared.node.Node.{Node}
 use Rattle.abnf_parts.specs.declared.node.Node.TheVariants.{Quoted, Series, Span, Seq, Alt, Rep, Ref, Opaque}
 use Rattle.abnf_parts.specs.Part.{Part, parts_of}
 use Rattle.abnf_cert.specs.Accepted.{in_a_row, all_in_a_row, times, referred, entry_at, IsAccepted}
-use Rattle.abnf_least.specs.Form.{Form, text, never, row, one_of, repeated, refers, repetition, node_form, entry_given, first_least}
+use Rattle.abnf_least.specs.Form.{Form, text, never, row, one_of, repeated, refers, repetition_form, node_form, entry_given, first_least}
 use Rattle.abnf_least.specs.Table.{InRange, IsUnchosen}
 use Rattle.abnf_least.specs.Search.{IsDone, Stands, AreGiven, form_at}
 use Rattle.abnf_least.proofs.Accept.{SamePair, given_alike, done_same, accepted_given}
@@ -46,7 +46,7 @@ unless_never : (b : Bool) (f : Form) → (IsChoiceForm f → ⊥) → IsChoiceFo
 unless_never true f other is = is
 unless_never false f other is = other is
 
-repeated_other : (least n : ℕ) → IsChoiceForm (repetition least n) → ⊥
+repeated_other : (least n : ℕ) → IsChoiceForm (repetition_form least n) → ⊥
 repeated_other zero n is = is
 repeated_other (suc more) n is = is
 
@@ -58,7 +58,7 @@ other_form root (Span low high) apart is = unless_never (nat_lt high low) (text 
 other_form root (Seq ns) apart is = is
 other_form root (Alt ns) apart is = apart ns refl
 other_form root (Rep least None n) apart is = repeated_other least n is
-other_form root (Rep least (Some most) n) apart is = unless_never (nat_lt most least) (repetition least n) (repeated_other least n) is
+other_form root (Rep least (Some most) n) apart is = unless_never (nat_lt most least) (repetition_form least n) (repeated_other least n) is
 other_form root (Ref name None) apart is = is
 other_form root (Ref name (Some r)) apart is = is
 other_form root Opaque apart is = is

@@ -15,7 +15,7 @@ use Rattle.abnf_parts.specs.Nodes.{IsNode, AreNodes}
 use Rattle.abnf_cert.specs.Accepted.{entry_at, IsAccepted}
 use Rattle.abnf_least.specs.declared.work.Task.{Task}
 use Rattle.abnf_least.specs.declared.work.Task.TheVariants.{Write, End}
-use Rattle.abnf_least.specs.Walk.{IsBelowTop, choice_of, keep, keep_by, keep_all, keep_times, keep_some, work_after, text_of, Place, LiesWithin, AllLieWithin, IsNodeOf, IsTaskOf, Writes, Does}
+use Rattle.abnf_least.specs.Walk.{IsBelowTop, choice_of, keep, keep_by, keep_all, keep_times, keep_some, work_after, leaf_text, Place, LiesWithin, AllLieWithin, IsNodeOf, IsTaskOf, Writes, Does}
 use Rattle.abnf_least.proofs.Weight.{room, weight_of, weight}
 use Rattle.abnf_least.proofs.Complete.{IsShort, NodeSentence, Complete, part_at}
 use Rattle.abnf_least.proofs.WalkStep.{AllShort, keep_short, start, short_below, next_step}
@@ -133,7 +133,7 @@ module _ (roots : List Part) (cert : List Entry) (accepted : IsAccepted roots ce
         )
 
     expanded : (n : ℕ) → IsDraft roots cert r (Write n ∷ ts) w ps → (node : Node) → IsNodeOf roots n node →
-        LeadsTo (left (entry_at cert) (length (parts_of roots)) (Write n ∷ ts)) (work_after (entry_at cert) (root_number roots) node (choice_of (entry_at cert n)) (End n (length w) ∷ ts)) (w ++ text_of node) ps
+        LeadsTo (left (entry_at cert) (length (parts_of roots)) (Write n ∷ ts)) (work_after (entry_at cert) (root_number roots) node (choice_of (entry_at cert n)) (End n (length w) ∷ ts)) (w ++ leaf_text node) ps
     expanded n d node of =
         let within : n < length (parts_of roots) = slice_get_within (parts_of roots) n of.part of.stands in
         let f : Complete roots r (Write n ∷ End n (length w) ∷ ts) w =
@@ -144,7 +144,7 @@ module _ (roots : List Part) (cert : List Entry) (accepted : IsAccepted roots ce
           record {
             short = step.0;
             complete = step.2;
-            noted = λ m. noted_more roots w (text_of node) m (get_or ps m None) (d.noted m);
+            noted = λ m. noted_more roots w (leaf_text node) m (get_or ps m None) (d.noted m);
             one_each = d.one_each;
           },
           omega arith,
@@ -154,7 +154,7 @@ module _ (roots : List Part) (cert : List Entry) (accepted : IsAccepted roots ce
         LeadsTo (left (entry_at cert) (length (parts_of roots)) (Write n ∷ ts)) ts' w' ps'
     written n None e ts' w' ps' does d =
         let x = does.0 in
-        led (left (entry_at cert) (length (parts_of roots)) (Write n ∷ ts)) (work_after (entry_at cert) (root_number roots) x.0 (choice_of (entry_at cert n)) (End n (length w) ∷ ts)) ts' (w ++ text_of x.0) w' ps ps' x.2 x.3 does.1
+        led (left (entry_at cert) (length (parts_of roots)) (Write n ∷ ts)) (work_after (entry_at cert) (root_number roots) x.0 (choice_of (entry_at cert n)) (End n (length w) ∷ ts)) ts' (w ++ leaf_text x.0) w' ps ps' x.2 x.3 does.1
         (expanded n d x.0 x.1)
     written n (Some x) e ts' w' ps' does d = led (left (entry_at cert) (length (parts_of roots)) (Write n ∷ ts)) ts ts' (w ++ slice_range w x.0 x.1) w' ps ps' does.0 does.1 does.2 (copied n x d e)
 

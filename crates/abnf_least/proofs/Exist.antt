@@ -8,7 +8,7 @@ use Rattle.abnf_cert.specs.declared.entry.Entry.{Entry}
 use Rattle.abnf_cert.specs.declared.entry.Entry.TheVariants.{Nothing, Least}
 use Rattle.abnf_parts.specs.Part.{Part, quoted, series, span, seq, alt, rep, ref, opaque, parts_of, root_number}
 use Rattle.abnf_cert.specs.Accepted.{NotBefore, top, times, referred, entry_at, IsAccepted}
-use Rattle.abnf_least.specs.Form.{Form, text, never, row, one_of, repeated, refers, entry_given, better, first_least, is_before, part_form, repetition}
+use Rattle.abnf_least.specs.Form.{Form, text, never, row, one_of, repeated, refers, entry_given, better, first_least, is_before, part_form, repetition_form}
 use Rattle.abnf_least.specs.Table.{InRange, unsettled}
 use Rattle.abnf_least.specs.Search.{Settled, IsNext, IsDone, form_or, form_at}
 use Rattle.abnf_least.proofs.Choice.{earlier}
@@ -33,7 +33,7 @@ abbrev IsShortForm : Form → Type 0
 IsShortForm (text n) = n ≤ top
 IsShortForm _ = Unit {0}
 
-short_repetition : (least n : ℕ) → IsShortForm (repetition least n)
+short_repetition : (least n : ℕ) → IsShortForm (repetition_form least n)
 short_repetition zero n = omega arith
 short_repetition (suc more) n = tt
 
@@ -45,7 +45,7 @@ short_form root n (seq ps) h = tt
 short_form root n (alt ps) h = tt
 short_form root n (rep least None p) h = short_repetition least (suc n)
 short_form root n (rep least (Some most) p) h =
-    cond_both (ltb most least) never (repetition least (suc n)) IsShortForm (λ t. tt) (λ f. short_repetition least (suc n))
+    cond_both (ltb most least) never (repetition_form least (suc n)) IsShortForm (λ t. tt) (λ f. short_repetition least (suc n))
 short_form root n (ref name None) h = tt
 short_form root n (ref name (Some r)) h = tt
 short_form root n opaque h = tt

@@ -1,5 +1,5 @@
 -- A queue over a row and a heap.
-use Rattle.std.proofs.Common.{◌≡◌, not, ◌+◌, ◌-◌, ◌<◌, ◌⊎◌, inl, inr, ⊎_elim, Bool, true, false, List, [], ◌∷◌, ◌++◌, Option, Some, None, Result, Ok, Err, option_to_list, length, get_or, refl, sym, ap, ◌∙◌, subst, arith, length-append}
+use Rattle.std.proofs.Common.{◌≡◌, ◌+◌, ◌-◌, ◌<◌, ◌⊎◌, inl, inr, ⊎_elim, true, false, List, [], ◌∷◌, ◌++◌, Option, Some, None, Result, Ok, Err, option_to_list, length, get_or, refl, sym, ap, ◌∙◌, subst, arith, length-append}
 use Rattle.std.specs.Prelude.{IfSome, OnOk}
 use Rattle.std.proofs.lemmas.Bool.{cases_Bool, cases_lt}
 use Rattle.std.proofs.lemmas.List.{get_or_append_left, get_or_push, get_or_default}
@@ -155,10 +155,3 @@ ahead row first other f before y here = after_both other first y (sooner (before
 
 pub behind : (heap : List Candidate) (first other : Candidate) → IsFirst heap other → comes_before other first ≡ false → (y : Candidate) → Contains heap y → NotAfter first y
 behind heap first other f later y here = after_both first other y (before_false other.length other.height first.length first.height later) (f.1 y here)
-
-pub not_true : (b : Bool) → not b ≡ true → b ≡ false
-not_true true e = absurd (cc e)
-not_true false e = refl
-
-pub is_not : (b : Bool) → b ≡ false → not b ≡ true
-is_not b e = ap not e

@@ -7,7 +7,7 @@ use Rattle.abnf_cert.specs.declared.entry.Entry.TheVariants as entry
 use Rattle.abnf_parts.specs.Part.{Part, root_number}
 use Rattle.abnf_parts.specs.Generates.{RuleGen}
 use Rattle.abnf_cert.specs.Accepted.{top, referred, entry_at, IsAccepted}
-use Rattle.abnf_cert.specs.Says.{Says}
+use Rattle.abnf_cert.specs.Says.{EntrySays}
 use Rattle.abnf_names.specs.Rules.{Grammar, IsGrammar}
 use Rattle.abnf_least.specs.declared.shortest.Shortest.{Shortest}
 use Rattle.abnf_least.specs.declared.shortest.Shortest.TheVariants as shortest
@@ -34,7 +34,7 @@ module _ (roots : List Part) (cert : List Entry) (accepted : IsAccepted roots ce
   abbrev SomeKnown : Part → Type 0
   SomeKnown root = (shown : Shortest) × IsKnownOf roots r root shown
 
-  below_top : (root : Part) → slice_get roots r ≡ Some root → (l h c : ℕ) → entry_at cert (root_number roots r) ≡ entry.Least l h c → l < top → Says roots root (entry.Least l h c) → SomeKnown root
+  below_top : (root : Part) → slice_get roots r ≡ Some root → (l h c : ℕ) → entry_at cert (root_number roots r) ≡ entry.Least l h c → l < top → EntrySays roots root (entry.Least l h c) → SomeKnown root
   below_top root is_root l h c is below says =
       ⊎_elim
       (λ long. (shortest.Long l, ((says.0 below).1, long, below)))
@@ -44,7 +44,7 @@ module _ (roots : List Part) (cert : List Entry) (accepted : IsAccepted roots ce
       (shortest.Shown l s.0, ((says.0 below).1, short, s.1, shown.0, shown.1)))
       (cases_lt 4096 l)
 
-  known_by : (root : Part) → slice_get roots r ≡ Some root → (e : Entry) → entry_at cert (root_number roots r) ≡ e → InRange e → Says roots root e → SomeKnown root
+  known_by : (root : Part) → slice_get roots r ≡ Some root → (e : Entry) → entry_at cert (root_number roots r) ≡ e → InRange e → EntrySays roots root e → SomeKnown root
   known_by root is_root entry.Nothing is range says = (shortest.Nothing, says)
   known_by root is_root (entry.Least l h c) is range says =
       ⊎_elim

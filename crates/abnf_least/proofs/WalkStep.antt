@@ -18,7 +18,7 @@ use Rattle.abnf_cert.proofs.Below.{TreeFits, part_fits}
 use Rattle.abnf_least.specs.Sentence.{PartSentence, RuleSentence}
 use Rattle.abnf_least.specs.declared.work.Task.{Task}
 use Rattle.abnf_least.specs.declared.work.Task.TheVariants.{Write, End}
-use Rattle.abnf_least.specs.Walk.{IsBelowTop, choice_of, keep, keep_by, keep_all, keep_times, keep_some, work_after, text_of}
+use Rattle.abnf_least.specs.Walk.{IsBelowTop, choice_of, keep, keep_by, keep_all, keep_times, keep_some, work_after, leaf_text}
 use Rattle.abnf_least.proofs.Named.{value_at}
 use Rattle.abnf_least.proofs.Weight.{room, weight_of, weight, keep_weight, below_weight, root_weight, row_of, row_weight, times_weight}
 use Rattle.abnf_least.proofs.Complete.{IsShort, StandsAt, NodeSentence, Complete, keep_complete, row_complete, times_complete, first_sentence}
@@ -88,7 +88,7 @@ module _ (roots : List Part) (cert : List Entry) (accepted : IsAccepted roots ce
   pub record IsStep (node : Node) : Type 0 where
     pub short : AllShort (entry_at cert) (work_after (entry_at cert) (root_number roots) node c ts)
     pub less : weight (entry_at cert) count (work_after (entry_at cert) (root_number roots) node c ts) < weight_of count (Least l h c) n + weight (entry_at cert) count ts
-    pub complete : Complete roots r (work_after (entry_at cert) (root_number roots) node c ts) (w ++ text_of node)
+    pub complete : Complete roots r (work_after (entry_at cert) (root_number roots) node c ts) (w ++ leaf_text node)
 
   module _ (is : entry_at cert n ≡ Least l h c) (some : 0 < l) (below : l < top) (within : n < count) (all : AllShort (entry_at cert) ts) (f : Complete roots r (Write n ∷ ts) w) where
     -- what each character may take is less than what the part had
@@ -101,12 +101,12 @@ module _ (roots : List Part) (cert : List Entry) (accepted : IsAccepted roots ce
     no_text : (ms : List Task) → Complete roots r ms w → Complete roots r ms (w ++ [])
     no_text ms h = subst (λ x. Complete roots r ms x) (sym (append-nil w)) h
 
-    pub leaf : (p : Part) (t : List ℕ) (node : Node) → StandsAt roots n p → PartSentence roots (RuleSentence roots 0) p t → work_after (entry_at cert) (root_number roots) node c ts ≡ ts → text_of node ≡ t → IsStep node
+    pub leaf : (p : Part) (t : List ℕ) (node : Node) → StandsAt roots n p → PartSentence roots (RuleSentence roots 0) p t → work_after (entry_at cert) (root_number roots) node c ts ≡ ts → leaf_text node ≡ t → IsStep node
     leaf p t node stands s same written =
         record {
           short = subst (λ ms. AllShort (entry_at cert) ms) (sym same) all;
           less = subst (λ ms. weight (entry_at cert) count ms < weight_of count (Least l h c) n + weight (entry_at cert) count ts) (sym same) stays;
-          complete = subst (λ ms. Complete roots r ms (w ++ text_of node)) (sym same) (subst (λ u. Complete roots r ts (w ++ u)) (sym written) (f t (p, stands, 0, s)));
+          complete = subst (λ ms. Complete roots r ms (w ++ leaf_text node)) (sym same) (subst (λ u. Complete roots r ts (w ++ u)) (sym written) (f t (p, stands, 0, s)));
         }
 
     row_step : (ps : Parts) → StandsAt roots n (seq ps) → TreeHolds (StandsAt roots) n (seq ps) → entry_at cert n ≡ all_in_a_row (map (entry_at cert) (numbers (suc n) ps)) → IsStep (Seq (numbers (suc n) ps))
@@ -120,7 +120,7 @@ module _ (roots : List Part) (cert : List Entry) (accepted : IsAccepted roots ce
           complete = no_text (keep_all (entry_at cert) (numbers (suc n) ps) ts) (row_complete roots cert accepted r (suc n) ps ts w holds.1 each (λ k t s. f t (seq ps, stands, k, s)));
         }
 
-    one_step : (m j d : ℕ) (node : Node) → entry_at cert m ≡ Least l j d → weight_of count (Least l j d) m ≤ l * room count n h → ((t : List ℕ) → NodeSentence roots m t → NodeSentence roots n t) → work_after (entry_at cert) (root_number roots) node c ts ≡ keep (entry_at cert) m ts → text_of node ≡ [] → IsStep node
+    one_step : (m j d : ℕ) (node : Node) → entry_at cert m ≡ Least l j d → weight_of count (Least l j d) m ≤ l * room count n h → ((t : List ℕ) → NodeSentence roots m t → NodeSentence roots n t) → work_after (entry_at cert) (root_number roots) node c ts ≡ keep (entry_at cert) m ts → leaf_text node ≡ [] → IsStep node
     one_step m j d node e le g same written =
         let part_below : IsBelowTop (entry_at cert m) = subst IsBelowTop (sym e) below in
         let kept = keep_weight (entry_at cert) count m ts in
@@ -130,7 +130,7 @@ module _ (roots : List Part) (cert : List Entry) (accepted : IsAccepted roots ce
           short = subst (λ ms. AllShort (entry_at cert) ms) (sym same) (keep_short (entry_at cert) m ts part_below all);
           less = subst (λ ms. weight (entry_at cert) count ms < weight_of count (Least l h c) n + weight (entry_at cert) count ts) (sym same)
               (falls (weight (entry_at cert) count (keep (entry_at cert) m ts)) (weight (entry_at cert) count ts) bound);
-          complete = subst (λ ms. Complete roots r ms (w ++ text_of node)) (sym same)
+          complete = subst (λ ms. Complete roots r ms (w ++ leaf_text node)) (sym same)
               (subst (λ u. Complete roots r (keep (entry_at cert) m ts) (w ++ u)) (sym written)
               (no_text (keep (entry_at cert) m ts) (keep_complete roots cert accepted r m ts w part_below (λ t s. f t (g t s)))));
         }
@@ -173,7 +173,7 @@ module _ (roots : List Part) (cert : List Entry) (accepted : IsAccepted roots ce
         shorter zero a e = absurd (omega arith)
         shorter (suc k) a e = omega arith
 
-    refer_step : (name : List ℕ) (q : ℕ) (node : Node) → StandsAt roots n (ref name (Some q)) → q < length roots → referred (entry_at cert (root_number roots q)) ≡ Least l h c → work_after (entry_at cert) (root_number roots) node c ts ≡ keep (entry_at cert) (root_number roots q) ts → text_of node ≡ [] → IsStep node
+    refer_step : (name : List ℕ) (q : ℕ) (node : Node) → StandsAt roots n (ref name (Some q)) → q < length roots → referred (entry_at cert (root_number roots q)) ≡ Least l h c → work_after (entry_at cert) (root_number roots) node c ts ≡ keep (entry_at cert) (root_number roots q) ts → leaf_text node ≡ [] → IsStep node
     refer_step name q node stands known e same written =
         let entry = referred_entry l h c (entry_at cert (root_number roots q)) e in
         let root = get_or roots q opaque in
@@ -235,7 +235,7 @@ module _ (roots : List Part) (cert : List Entry) (accepted : IsAccepted roots ce
       let after = work_after (entry_at cert) (root_number roots) node (choice_of (entry_at cert n)) ts in
       AllShort (entry_at cert) after
       × (weight (entry_at cert) (length (parts_of roots)) after < weight (entry_at cert) (length (parts_of roots)) (Write n ∷ ts))
-      × Complete roots r after (w ++ text_of node)
+      × Complete roots r after (w ++ leaf_text node)
 
   next_by : (e : Entry) → entry_at cert n ≡ e → IsShort e → (node : Node) (p : Part) → IsNode n p node → RefersWithin (length roots) p → StandsAt roots n p → n < length (parts_of roots) → AllShort (entry_at cert) ts → Complete roots r (Write n ∷ ts) w → NextStep node
   next_by Nothing is short node p is_node known stands within all f = absurd short
@@ -244,7 +244,7 @@ module _ (roots : List Part) (cert : List Entry) (accepted : IsAccepted roots ce
       let same = sym is in (
         subst (λ e. AllShort (entry_at cert) (work_after (entry_at cert) (root_number roots) node (choice_of e) ts)) same step.short,
         subst (λ e. weight (entry_at cert) (length (parts_of roots)) (work_after (entry_at cert) (root_number roots) node (choice_of e) ts) < weight_of (length (parts_of roots)) e n + weight (entry_at cert) (length (parts_of roots)) ts) same step.less,
-        subst (λ e. Complete roots r (work_after (entry_at cert) (root_number roots) node (choice_of e) ts) (w ++ text_of node)) same step.complete,
+        subst (λ e. Complete roots r (work_after (entry_at cert) (root_number roots) node (choice_of e) ts) (w ++ leaf_text node)) same step.complete,
       )
 
   pub next_step : (node : Node) (p : Part) → IsNode n p node → RefersWithin (length roots) p → StandsAt roots n p → n < length (parts_of roots) → AllShort (entry_at cert) (Write n ∷ ts) → Complete roots r (Write n ∷ ts) w → NextStep node

@@ -16,13 +16,13 @@ pub data Form : Type 0 where
   refers : (root : ℕ) → Form
 
 -- the form of a repetition
-abbrev pub repetition : ℕ → ℕ → Form
-repetition zero n = text 0
-repetition (suc more) n = repeated more n
+abbrev pub repetition_form : ℕ → ℕ → Form
+repetition_form zero n = text 0
+repetition_form (suc more) n = repeated more n
 
 abbrev pub repetition_up_to : ℕ → Option ℕ → ℕ → Form
-repetition_up_to least None n = repetition least n
-repetition_up_to least (Some most) n = cond (nat_lt most least) never (repetition least n)
+repetition_up_to least None n = repetition_form least n
+repetition_up_to least (Some most) n = cond (nat_lt most least) never (repetition_form least n)
 
 -- the form of part n of a grammar whose rules have their roots at these numbers
 abbrev pub part_form : (ℕ → ℕ) → ℕ → Part → Form

@@ -52,11 +52,11 @@ work_after at root (Ref name (Some r)) c ts = keep at (root r) ts
 work_after at root _ c ts = ts
 
 -- the characters of a node without parts
-abbrev pub text_of : Node → List ℕ
-text_of (Quoted text exact) = text.now
-text_of (Series characters) = characters
-text_of (Span low high) = low ∷ []
-text_of _ = []
+abbrev pub leaf_text : Node → List ℕ
+leaf_text (Quoted text exact) = text.now
+leaf_text (Series characters) = characters
+leaf_text (Span low high) = low ∷ []
+leaf_text _ = []
 
 -- where a part stands in the text that is written, if it was written before
 abbrev pub Place : Type 0
@@ -87,7 +87,7 @@ module _ (roots : List Part) (at : ℕ → Entry) where
   abbrev pub Expands : ℕ → List Task → List ℕ → List Task → List ℕ → Type 0
   Expands n ts w ts' w' =
       (node : Node) × IsNodeOf roots n node
-      × (ts' ≡ work_after at (root_number roots) node (choice_of (at n)) (End n (length w) ∷ ts)) × (w' ≡ w ++ text_of node)
+      × (ts' ≡ work_after at (root_number roots) node (choice_of (at n)) (End n (length w) ∷ ts)) × (w' ≡ w ++ leaf_text node)
 
   -- A part that was written before is copied from there.
   abbrev pub Writes : ℕ → Place → List Task → List ℕ → List Place → List Task → List ℕ → List Place → Type 0

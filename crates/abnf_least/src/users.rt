@@ -10,7 +10,7 @@ use abnf_names::Grammar;
 use abnf_parts::{Node, NodeNo};
 use std::alloc::{AllocError, Global};
 
-// A place below this one is 0, which is none, or one more than the number of a user. Places from here on are those of links.
+/// A place below this one is 0, which is none, or one more than the number of a user. Places from here on are those of links.
 const LINKS: u32 = 0x8000_0000;
 
 /// A user of a part, and the place of the part's next one.

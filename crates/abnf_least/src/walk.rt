@@ -8,7 +8,7 @@ ghost use Rattle.abnf_parts.specs.Part.{parts_of, root_number};
 ghost use Rattle.abnf_cert.specs.Accepted.{IsAccepted, entry_at};
 ghost use Rattle.abnf_cert.specs.FitsNode.{NodeRefersWithin};
 ghost use Rattle.abnf_least.specs.Sentence.{IsSentence};
-ghost use Rattle.abnf_least.specs.Walk.{AllLieWithin, Does, Expands, IsBelowTop, IsTaskOf, choice_of, text_of, work_after};
+ghost use Rattle.abnf_least.specs.Walk.{AllLieWithin, Does, Expands, IsBelowTop, IsTaskOf, choice_of, leaf_text, work_after};
 
 use crate::work::{Task, Work};
 use abnf_cert::Entry;
@@ -55,7 +55,7 @@ fn replace(
 
 /// Writes the characters of a part that has no parts.
 fn write(node: &Node, text: &mut Vec<u32>) -> Result<(), AllocError>
-    ensures { OnOk result (text.new.items ≡ text.old.items ++ text_of node.now) }
+    ensures { OnOk result (text.new.items ≡ text.old.items ++ leaf_text node.now) }
 {
     match node {
         Node::Quoted { text: quoted, .. } => {

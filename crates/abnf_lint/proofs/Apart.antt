@@ -19,7 +19,7 @@ use Rattle.abnf_syntax.specs.Blocks.{AreBlocks}
 use Rattle.abnf_syntax.specs.Grammar.{kind_of}
 use Rattle.abnf_syntax.specs.Faults.{place_of}
 use Rattle.abnf_syntax.specs.Heads.{head_of}
-use Rattle.abnf_parts.specs.Leaf.{bounds, ends_of, number_part}
+use Rattle.abnf_parts.specs.Leaf.{repeat_limits, ends_of, number_part}
 use Rattle.abnf_parts.specs.Names.{Name, rule_number}
 use Rattle.abnf_names.specs.Said.{AreWithin, Block, Says, name_of}
 use Rattle.abnf_names.specs.Places.{Named, is_touched, use_after}
@@ -30,13 +30,13 @@ use Rattle.abnf_names.proofs.Ascending.{Ahead, Point, Run, ahead_behind, ahead_t
 use Rattle.abnf_lint.specs.declared.finding.Code.{Code}
 use Rattle.abnf_lint.specs.declared.finding.Code.TheVariants as c
 use Rattle.abnf_lint.specs.declared.finding.Finding.{Finding}
-use Rattle.abnf_lint.specs.Order.{row}
+use Rattle.abnf_lint.specs.Order.{code_row}
 use Rattle.abnf_lint.specs.Findings.{based, block_findings, body_findings, fault_findings, findings_after, found_if, has_name, head_findings, is_empty_range, is_empty_repeat, is_marked, item_findings, items_findings, number_findings, said_findings, use_findings}
 use Rattle.abnf_lint.proofs.FaultLines.{FaultWithin, IsAtLine, ItemWithin, fault_within}
 
 -- they differ in line, start or row
 abbrev pub Differ : Finding → Finding → Type 0
-Differ f g = f.place.line ≡ g.place.line → f.place.start ≡ g.place.start → row f.code ≡ row g.code → ⊥
+Differ f g = f.place.line ≡ g.place.line → f.place.start ≡ g.place.start → code_row f.code ≡ code_row g.code → ⊥
 
 -- each differs from all that follow it
 abbrev pub AllDiffer : List Finding → Type 0
@@ -73,14 +73,14 @@ point_of f = (f.place.line, f.place.start)
 
 -- at this point, of a use or of a repeat or a number
 abbrev IsUseAt : Point → Finding → Type 0
-IsUseAt p f = (f.place.line ≡ p.0) × (f.place.start ≡ p.1) × (row f.code ≡ 4)
+IsUseAt p f = (f.place.line ≡ p.0) × (f.place.start ≡ p.1) × (code_row f.code ≡ 4)
 
 abbrev IsNumberAt : Point → Finding → Type 0
-IsNumberAt p f = (f.place.line ≡ p.0) × (f.place.start ≡ p.1) × (6 < row f.code) × (row f.code < 9)
+IsNumberAt p f = (f.place.line ≡ p.0) × (f.place.start ≡ p.1) × (6 < code_row f.code) × (code_row f.code < 9)
 
 -- the rows of what a block says
 abbrev IsSaid : Finding → Type 0
-IsSaid f = (row f.code < 5) ⊎ ((6 < row f.code) × (row f.code < 9))
+IsSaid f = (code_row f.code < 5) ⊎ ((6 < code_row f.code) × (code_row f.code < 9))
 
 -- of what a block says, between these points
 abbrev IsBetween : Point → Point → Finding → Type 0
@@ -113,12 +113,12 @@ use_differ names before item =
     (if_differ (not (is_some (rule_number names (lowercase n.text)))) c.Undefined n.place n.text)
 
 number_all : (kind : Kind) (place : Place) (text : List ℕ) → AllByRecursion (IsNumberAt (place.line, place.start)) (number_findings kind place text)
-number_all Repeat place text = if_all (IsNumberAt (place.line, place.start)) (is_empty_repeat (bounds text)) c.EmptyRepeat place [] (refl, refl, omega arith, omega arith)
+number_all Repeat place text = if_all (IsNumberAt (place.line, place.start)) (is_empty_repeat (repeat_limits text)) c.EmptyRepeat place [] (refl, refl, omega arith, omega arith)
 number_all Number place text = if_all (IsNumberAt (place.line, place.start)) (is_empty_range (ends_of (number_part text))) c.EmptyRange place [] (refl, refl, omega arith, omega arith)
 number_all _ place text = tt
 
 number_differ : (kind : Kind) (place : Place) (text : List ℕ) → AllDiffer (number_findings kind place text)
-number_differ Repeat place text = if_differ (is_empty_repeat (bounds text)) c.EmptyRepeat place []
+number_differ Repeat place text = if_differ (is_empty_repeat (repeat_limits text)) c.EmptyRepeat place []
 number_differ Number place text = if_differ (is_empty_range (ends_of (number_part text))) c.EmptyRange place []
 number_differ _ place text = tt
 
@@ -198,7 +198,7 @@ abbrev SaidAt : ℕ → ℕ → Finding → Type 0
 SaidAt low high f = At low high f × IsSaid f
 
 abbrev HeadAt : ℕ → ℕ → Finding → Type 0
-HeadAt low high f = At low high f × ((row f.code ≡ 5) ⊎ ((row f.code ≡ 6) ⊎ (row f.code ≡ 9)))
+HeadAt low high f = At low high f × ((code_row f.code ≡ 5) ⊎ ((code_row f.code ≡ 6) ⊎ (code_row f.code ≡ 9)))
 
 lines_between : (low high : ℕ) (x : Point) → Ahead (low, 0) x → Ahead (behind x) (high, 0) → IsAtLine low high x.0
 lines_between low high x a b = (from a, to b)
@@ -261,13 +261,13 @@ heads_differ marks names heads bases low high head at =
     let xs = found_if b1 c.Duplicate place head.name.text.now in
     let ys = found_if b2 c.NoBase place head.name.text.now in
     let zs = found_if b3 c.Unproductive place head.name.text.now in
-    let xs_row : AllByRecursion (λ g. row g.code ≡ 5) xs = if_all (λ g. row g.code ≡ 5) b1 c.Duplicate place head.name.text.now refl in
-    let ys_row : AllByRecursion (λ g. row g.code ≡ 6) ys = if_all (λ g. row g.code ≡ 6) b2 c.NoBase place head.name.text.now refl in
-    let zs_row : AllByRecursion (λ g. row g.code ≡ 9) zs = if_all (λ g. row g.code ≡ 9) b3 c.Unproductive place head.name.text.now refl in
-    let early : AllByRecursion (λ g. row g.code < 9) (xs ++ ys) =
-    all_joined (λ g. row g.code < 9) xs ys (all_by (λ g. row g.code ≡ 5) (λ g. row g.code < 9) xs (λ g e. omega (arith, e)) xs_row) (all_by (λ g. row g.code ≡ 6) (λ g. row g.code < 9) ys (λ g e. omega (arith, e)) ys_row) in (
-      joined (λ g. row g.code < 9) (λ g. row g.code ≡ 9) (xs ++ ys) zs (λ g h a b line start same. omega (arith, a, b, same)) early zs_row
-          (joined (λ g. row g.code ≡ 5) (λ g. row g.code ≡ 6) xs ys (λ g h a b line start same. omega (arith, a, b, same)) xs_row ys_row (if_differ b1 c.Duplicate place head.name.text.now) (if_differ b2 c.NoBase place head.name.text.now))
+    let xs_row : AllByRecursion (λ g. code_row g.code ≡ 5) xs = if_all (λ g. code_row g.code ≡ 5) b1 c.Duplicate place head.name.text.now refl in
+    let ys_row : AllByRecursion (λ g. code_row g.code ≡ 6) ys = if_all (λ g. code_row g.code ≡ 6) b2 c.NoBase place head.name.text.now refl in
+    let zs_row : AllByRecursion (λ g. code_row g.code ≡ 9) zs = if_all (λ g. code_row g.code ≡ 9) b3 c.Unproductive place head.name.text.now refl in
+    let early : AllByRecursion (λ g. code_row g.code < 9) (xs ++ ys) =
+    all_joined (λ g. code_row g.code < 9) xs ys (all_by (λ g. code_row g.code ≡ 5) (λ g. code_row g.code < 9) xs (λ g e. omega (arith, e)) xs_row) (all_by (λ g. code_row g.code ≡ 6) (λ g. code_row g.code < 9) ys (λ g e. omega (arith, e)) ys_row) in (
+      joined (λ g. code_row g.code < 9) (λ g. code_row g.code ≡ 9) (xs ++ ys) zs (λ g h a b line start same. omega (arith, a, b, same)) early zs_row
+          (joined (λ g. code_row g.code ≡ 5) (λ g. code_row g.code ≡ 6) xs ys (λ g h a b line start same. omega (arith, a, b, same)) xs_row ys_row (if_differ b1 c.Duplicate place head.name.text.now) (if_differ b2 c.NoBase place head.name.text.now))
           (if_differ b3 c.Unproductive place head.name.text.now),
       all_joined (HeadAt low high) (xs ++ ys) zs
           (all_joined (HeadAt low high) xs ys (if_all (HeadAt low high) b1 c.Duplicate place head.name.text.now (at, inl refl)) (if_all (HeadAt low high) b2 c.NoBase place head.name.text.now (at, inr (inl refl))))
@@ -311,14 +311,14 @@ block_differ marks names heads bases low high block run says =
 abbrev From : ℕ → Finding → Type 0
 From low f = low ≤ f.place.line
 
-pub blocks_differ : (marks : List Bool) (names : List Name) (ls : List Text) (from : ℕ) (bounds : List (ℕ × ℕ)) (before blocks : List Block) → AreBlocks ls from bounds → AreWithin ls bounds blocks →
+pub blocks_differ : (marks : List Bool) (names : List Name) (ls : List Text) (from : ℕ) (repeat_limits : List (ℕ × ℕ)) (before blocks : List Block) → AreBlocks ls from repeat_limits → AreWithin ls repeat_limits blocks →
     AllDiffer (findings_after marks names before blocks) × AllByRecursion (From from) (findings_after marks names before blocks)
 blocks_differ marks names ls from [] before [] all each = (tt, tt)
 blocks_differ marks names ls from [] before (block ∷ blocks) all each = absurd each
-blocks_differ marks names ls from (b ∷ bounds) before [] all each = absurd each
-blocks_differ marks names ls from (b ∷ bounds) before (block ∷ blocks) all each =
+blocks_differ marks names ls from (b ∷ repeat_limits) before [] all each = absurd each
+blocks_differ marks names ls from (b ∷ repeat_limits) before (block ∷ blocks) all each =
     let own = block_differ marks names (defined before) (based before) b.0 b.1 block (block_run ls b.0 b.1 block.items each.0.items) each.0.says in
-    let rest = blocks_differ marks names ls b.1 bounds (before ++ block ∷ []) blocks all.3 each.1 in
+    let rest = blocks_differ marks names ls b.1 repeat_limits (before ++ block ∷ []) blocks all.3 each.1 in
     let xs = block_findings marks names (defined before) (based before) (excerpt_of block) in
     let ys = findings_after marks names (before ++ block ∷ []) blocks in
     let first : b.0 < b.1 = all.2.some in

@@ -9,7 +9,7 @@ use Rattle.abnf_syntax.specs.declared.fault.SyntaxFault.{SyntaxFault}
 use Rattle.abnf_syntax.specs.declared.fault.SyntaxFault.TheVariants as f
 use Rattle.abnf_syntax.specs.Kinds.{closes, is_defined_as, is_name, opens}
 use Rattle.abnf_syntax.specs.Grammar.{kind_of}
-use Rattle.abnf_syntax.specs.Faults.{Faults, Row, innermost, last_of, least, open_after, open_from, place_after, place_of, rows_of, shown, without_first}
+use Rattle.abnf_syntax.specs.Faults.{Faults, FaultRow, innermost, last_of, least, open_after, open_from, place_after, place_of, rows_of, shown, without_first}
 use Rattle.abnf_names.specs.Rules.{fault_place}
 
 module _ (low high : ℕ) where
@@ -26,10 +26,10 @@ module _ (low high : ℕ) where
   abbrev pub FaultWithin : SyntaxFault → Type 0
   FaultWithin fault = IfSome (fault_place fault) (λ p. IsAtLine p.line)
 
-  abbrev RowWithin : Row → Type 0
+  abbrev RowWithin : FaultRow → Type 0
   RowWithin row = FaultWithin row.1
 
-  least_within : (rows : List Row) (fault : SyntaxFault) → AllByRecursion RowWithin rows → least rows ≡ Some fault → FaultWithin fault
+  least_within : (rows : List FaultRow) (fault : SyntaxFault) → AllByRecursion RowWithin rows → least rows ≡ Some fault → FaultWithin fault
   least_within [] fault all is = absurd (none-some fault is)
   least_within (row ∷ rows) fault all is = by row.0 is (λ e. least_within rows fault all.1 e)
     where

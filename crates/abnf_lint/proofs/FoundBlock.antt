@@ -3,6 +3,7 @@ use Rattle.std.proofs.Common.{◌≡◌, ◌∙◌, ℕ, ◌<◌, Bool, true, fa
 use Rattle.std.specs.Prelude.{Contains, IsTrue, not, ◌&&◌, slice_index_or, Option, Some, None, Result, Ok, Err, if◌then◌else◌}
 use Rattle.std.specs.Option.{is_some, option_map_or}
 use Rattle.std.proofs.lemmas.List.Elements.{Contains-append_cases, Contains-append_left, Contains-append_right}
+use Rattle.std.proofs.lemmas.Bool.{not-true, and_parts}
 use Rattle.ls_text.specs.declared.position.Place.{Place}
 use Rattle.abnf_token.specs.declared.token.Kind.TheVariants as k
 use Rattle.abnf_token.specs.Folded.{lowercase}
@@ -15,7 +16,7 @@ use Rattle.abnf_syntax.specs.Grammar.{Derives, defined_as, kind_of}
 use Rattle.abnf_syntax.specs.Kinds.{is_adds, is_defined_as, is_name}
 use Rattle.abnf_syntax.specs.Faults.{place_of}
 use Rattle.abnf_syntax.specs.Heads.{head_of}
-use Rattle.abnf_parts.specs.Leaf.{bounds, ends_of, number_part}
+use Rattle.abnf_parts.specs.Leaf.{repeat_limits, ends_of, number_part}
 use Rattle.abnf_parts.specs.Names.{Name, rule_number}
 use Rattle.abnf_names.specs.Said.{Block, Says, name_of}
 use Rattle.abnf_names.specs.Places.{Named, named, places_in, uses_after}
@@ -27,18 +28,10 @@ use Rattle.abnf_lint.specs.declared.finding.Code.TheVariants as c
 use Rattle.abnf_lint.specs.declared.finding.Finding.{Finding}
 use Rattle.abnf_lint.specs.Unproductive.{AreUnproductive}
 use Rattle.abnf_lint.specs.Findings.{based, block_findings, body_findings, fault_findings, found_if, has_name, head_findings, is_empty_range, is_empty_repeat, is_marked, number_findings, said_findings, use_findings}
-use Rattle.abnf_lint.specs.Rows.{HasHead, HasItem, IsEmptyRange, IsEmptyRepeat, IsIdle, IsSound, RowHolds, syntax_place}
+use Rattle.abnf_lint.specs.Rows.{HasHead, HasItem, IsEmptyRange, IsEmptyRepeat, IsIdle, HasNoFault, RowHolds, syntax_place}
 use Rattle.abnf_lint.proofs.FoundItems.{OfNumber, empty_range_is, empty_repeat_is, finding, found_in, in_found, in_items, is_empty_of, is_turned_of, number_found, number_in, use_in, uses_define_nothing}
 use Rattle.abnf_lint.proofs.Heads.{bases_is, defines_is}
 use Rattle.abnf_lint.proofs.Member.{in_cons, later_in, none_in, one_in}
-
-not_true : (b : Bool) → not b ≡ true → b ≡ false
-not_true true e = absurd (cc e)
-not_true false e = refl
-
-both : (a b : Bool) → (a && b) ≡ true → (a ≡ true) × (b ≡ true)
-both true b e = (refl, e)
-both false b e = absurd (cc e)
 
 join : (a b : Bool) → a ≡ true → b ≡ true → (a && b) ≡ true
 join true b e h = h
@@ -104,19 +97,19 @@ module _ (blocks before : List Block) (block : Block) (marks : List Bool) (are :
   -- ---- a block without fault
 
   -- what is found of a number or a repeat among its items
-  of_number : IsSound block → (item : Item) → Contains block.items item → (g : Finding) → OfNumber item g → Row g
+  of_number : HasNoFault block → (item : Item) → Contains block.items item → (g : Finding) → OfNumber item g → Row g
   of_number sound item among g h = elim (number_found (kind_of item) (place_of item.token) item.token.text.now g h) [
     | inl n ↦ subst Row n.2 (sound, (let has : HasItem block (place_of item.token) IsEmptyRepeat = record { item = item; among = among; at = refl; is = empty_repeat_is item n.0 n.1 } in has), refl)
     | inr n ↦ subst Row n.2 (sound, (let has : HasItem block (place_of item.token) IsEmptyRange = record { item = item; among = among; at = refl; is = empty_range_is item n.0 n.1 } in has), refl)
   ]
 
-  of_use : IsSound block → (n : Named) → Contains (places_in block.items) n → n.defines ≡ false → (g : Finding) → Contains (use_findings names n) g → Row g
+  of_use : HasNoFault block → (n : Named) → Contains (places_in block.items) n → n.defines ≡ false → (g : Finding) → Contains (use_findings names n) g → Row g
   of_use sound n among plain g h =
       let k = in_found (not (is_some (rule_number names (lowercase n.text)))) c.Undefined n.place n.text g h in
       let is : n ≡ record { text = n.text; place = n.place; defines = false } = λ i. record { text = n.text; place = n.place; defines = plain i } in
       subst Row k.1 (sound, subst (λ m. Contains (places_in block.items) m) is among, some_or (rule_number names (lowercase n.text)) k.0)
 
-  of_body : IsSound block → (xs : List Item) → block.items ≡ xs → (g : Finding) → Contains (body_findings names xs) g → Row g
+  of_body : HasNoFault block → (xs : List Item) → block.items ≡ xs → (g : Finding) → Contains (body_findings names xs) g → Row g
   of_body sound [] e g h = none_in g h
   of_body sound (x ∷ xs) e g h = elim (in_items names g (kind_of x) xs h) [
     | inl u ↦ of_use sound u.0
@@ -159,23 +152,23 @@ module _ (blocks before : List Block) (block : Block) (marks : List Bool) (are :
   of_twice : (head : Head) → head_of block.items ≡ Some head → (g : Finding) → Contains (if_head (twice head) c.Duplicate head) g → Row g
   of_twice head e g h =
       let k = in_found (twice head) c.Duplicate (place_of head.name) head.name.text.now g h in
-      let t = both (not head.adds) (has_name (based before) (name_of head)) k.0 in
-      subst Row k.1 (head, has_head head e, not_true head.adds t.0, (bases_is before (name_of head)).0 t.1)
+      let t = and_parts (not head.adds) (has_name (based before) (name_of head)) k.0 in
+      subst Row k.1 (head, has_head head e, not-true head.adds t.0, (bases_is before (name_of head)).0 t.1)
 
   of_alone : (head : Head) → head_of block.items ≡ Some head → (g : Finding) → Contains (if_head (alone head) c.NoBase head) g → Row g
   of_alone head e g h =
       let k = in_found (alone head) c.NoBase (place_of head.name) head.name.text.now g h in
-      let t = both head.adds (not (has_name (based before) (name_of head))) k.0 in
-      subst Row k.1 (head, has_head head e, t.0, λ any. never_both (has_name (based before) (name_of head)) ((bases_is before (name_of head)).1 any) (not_true (has_name (based before) (name_of head)) t.1))
+      let t = and_parts head.adds (not (has_name (based before) (name_of head))) k.0 in
+      subst Row k.1 (head, has_head head e, t.0, λ any. never_both (has_name (based before) (name_of head)) ((bases_is before (name_of head)).1 any) (not-true (has_name (based before) (name_of head)) t.1))
 
   of_nothing : (head : Head) → head_of block.items ≡ Some head → (g : Finding) → Contains (if_head (idle head) c.Unproductive head) g → Row g
   of_nothing head e g h =
       let k = in_found (idle head) c.Unproductive (place_of head.name) head.name.text.now g h in
-      let t = both (not (has_name (defined before) (name_of head))) (is_marked marks names (name_of head)) k.0 in
+      let t = and_parts (not (has_name (defined before) (name_of head))) (is_marked marks names (name_of head)) k.0 in
       subst Row k.1 (
         head,
         has_head head e,
-        (λ any. never_both (has_name (defined before) (name_of head)) ((defines_is before (name_of head)).1 any) (not_true (has_name (defined before) (name_of head)) t.0)),
+        (λ any. never_both (has_name (defined before) (name_of head)) ((defines_is before (name_of head)).1 any) (not-true (has_name (defined before) (name_of head)) t.0)),
         idle_of (name_of head) t.1,
       )
 
@@ -290,7 +283,7 @@ module _ (blocks before : List Block) (block : Block) (marks : List Bool) (are :
       let kind : kind_of item ≡ k.Repeat = row.1.is.repeat in
       placed c.EmptyRepeat place at name [] row.1.at row.2
       (number_row row.0.0 row.0.1 item row.1.among (λ e. let clash : k.Name ≡ k.Repeat = sym e ∙ kind in cc clash) g
-      (subst (λ x. Contains (number_findings x at item.token.text.now) g) (sym kind) (found_in (is_empty_repeat (bounds item.token.text.now)) c.EmptyRepeat at [] (is_empty_of item row.1.is))))
+      (subst (λ x. Contains (number_findings x at item.token.text.now) g) (sym kind) (found_in (is_empty_repeat (repeat_limits item.token.text.now)) c.EmptyRepeat at [] (is_empty_of item row.1.is))))
   row_in c.EmptyRange place name row =
       let item = row.1.item in
       let at = place_of item.token in

@@ -11,7 +11,7 @@ use Rattle.abnf_syntax.specs.declared.item.Item.{Item}
 use Rattle.abnf_syntax.specs.Kinds.{is_name}
 use Rattle.abnf_syntax.specs.Grammar.{kind_of}
 use Rattle.abnf_syntax.specs.Faults.{place_of}
-use Rattle.abnf_parts.specs.Leaf.{bounds, ends_of, number_part}
+use Rattle.abnf_parts.specs.Leaf.{repeat_limits, ends_of, number_part}
 use Rattle.abnf_parts.specs.Names.{Name}
 use Rattle.abnf_names.specs.Places.{Named, is_touched, named, use_after, uses_after}
 use Rattle.abnf_lint.specs.declared.finding.Code.{Code}
@@ -42,11 +42,11 @@ OfNumber item f = Contains (number_findings (kind_of item) (place_of item.token)
 -- what is found of a repeat or a number
 abbrev pub NumberFound : Kind → Place → List ℕ → Finding → Type 0
 NumberFound kind place text f =
-    ((kind ≡ Repeat) × (is_empty_repeat (bounds text) ≡ true) × (finding c.EmptyRepeat place [] ≡ f))
+    ((kind ≡ Repeat) × (is_empty_repeat (repeat_limits text) ≡ true) × (finding c.EmptyRepeat place [] ≡ f))
     ⊎ ((kind ≡ Number) × (is_empty_range (ends_of (number_part text)) ≡ true) × (finding c.EmptyRange place [] ≡ f))
 
 pub number_found : (kind : Kind) (place : Place) (text : List ℕ) (f : Finding) → Contains (number_findings kind place text) f → NumberFound kind place text f
-number_found Repeat place text f h = let k = in_found (is_empty_repeat (bounds text)) c.EmptyRepeat place [] f h in inl (refl, k.0, k.1)
+number_found Repeat place text f h = let k = in_found (is_empty_repeat (repeat_limits text)) c.EmptyRepeat place [] f h in inl (refl, k.0, k.1)
 number_found Number place text f h = let k = in_found (is_empty_range (ends_of (number_part text))) c.EmptyRange place [] f h in inr (refl, k.0, k.1)
 number_found _ place text f h = none_in f h
 
@@ -120,11 +120,11 @@ most_of : (o : Option ℕ) (least : ℕ) → option_map_or (λ most. nat_lt most
 most_of None least e = absurd (cc e)
 most_of (Some most) least e = (most, refl, less_by most least e)
 
-pub empty_repeat_is : (item : Item) → kind_of item ≡ Repeat → is_empty_repeat (bounds item.token.text.now) ≡ true → IsEmptyRepeat item
-empty_repeat_is item kind e = let m = most_of (bounds item.token.text.now).1 (bounds item.token.text.now).0 e in record { repeat = kind; most = m.0; bounded = m.1; above = m.2 }
+pub empty_repeat_is : (item : Item) → kind_of item ≡ Repeat → is_empty_repeat (repeat_limits item.token.text.now) ≡ true → IsEmptyRepeat item
+empty_repeat_is item kind e = let m = most_of (repeat_limits item.token.text.now).1 (repeat_limits item.token.text.now).0 e in record { repeat = kind; most = m.0; bounded = m.1; above = m.2 }
 
-pub is_empty_of : (item : Item) → IsEmptyRepeat item → is_empty_repeat (bounds item.token.text.now) ≡ true
-is_empty_of item r = ap (λ o. option_map_or (λ most. nat_lt most (bounds item.token.text.now).0) o false) r.bounded ∙ lt-ltb r.most (bounds item.token.text.now).0 r.above
+pub is_empty_of : (item : Item) → IsEmptyRepeat item → is_empty_repeat (repeat_limits item.token.text.now) ≡ true
+is_empty_of item r = ap (λ o. option_map_or (λ most. nat_lt most (repeat_limits item.token.text.now).0) o false) r.bounded ∙ lt-ltb r.most (repeat_limits item.token.text.now).0 r.above
 
 ends_by : (o : Option (ℕ × ℕ)) → is_empty_range o ≡ true → (ends : ℕ × ℕ) × (o ≡ Some ends) × (ends.1 < ends.0)
 ends_by None e = absurd (cc e)

@@ -5,6 +5,7 @@ use Rattle.std.specs.List.{list_any}
 use Rattle.std.specs.Str.{bytes_eq}
 use Rattle.std.proofs.lemmas.List.Elements.{Contains-append_left, Contains-push, Contains-push_cases}
 use Rattle.std.proofs.lemmas.Map.Views.{Contains-from_any}
+use Rattle.std.proofs.lemmas.Bool.{not-true}
 use Rattle.abnf_parts.specs.Names.{Name, with_name}
 use Rattle.abnf_parts.proofs.NameLaws.{position_any, same_is, same_refl}
 use Rattle.abnf_names.specs.Said.{Block}
@@ -81,12 +82,8 @@ defines_is blocks n = (λ h. defined_down blocks n (from_has (defined blocks) n 
 
 -- ---- by `=`
 
-not_true : (b : Bool) → not b ≡ true → b ≡ false
-not_true true e = absurd (cc e)
-not_true false e = refl
-
 bases_down : (blocks : List Block) (n : Name) → AnyDefines (filter (λ block. not (adds block)) blocks) n → AnyBases blocks n
-bases_down blocks n h = let k = in_filter (λ block. not (adds block)) blocks h.0 h.1 in (h.0, k.0, h.2, not_true (adds h.0) k.1)
+bases_down blocks n h = let k = in_filter (λ block. not (adds block)) blocks h.0 h.1 in (h.0, k.0, h.2, not-true (adds h.0) k.1)
 
 bases_up : (blocks : List Block) (n : Name) → AnyBases blocks n → AnyDefines (filter (λ block. not (adds block)) blocks) n
 bases_up blocks n h = (h.0, filter_in (λ block. not (adds block)) blocks h.0 h.1 (ap not h.3), h.2)

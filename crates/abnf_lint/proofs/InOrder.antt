@@ -54,10 +54,6 @@ module _ {X : Type 0} (lt : X → X → Bool) (o : IsStrictWeakOrder lt) where
   leads x y [] p q = p
   leads x y (z ∷ zs) p q = leads_by (lt z x) x y z zs (put x zs) p q
 
-  put_rises_by : (b : Bool) (x y : X) (ys rest : List X) → lt y x ≡ b → Rises (y ∷ ys) → Rises rest → Leads y rest → Rises (put_by b x y ys rest)
-  put_rises_by true x y ys rest e up rest_up first = (first, rest_up)
-  put_rises_by false x y ys rest e up rest_up first = (e, up)
-
   one_way_by : (b : Bool) (x y : X) (ys : List X) → lt y x ≡ b → Rises (y ∷ ys) → Rises (put x ys) → Rises (put_by b x y ys (put x ys))
   one_way_by true x y ys e up rest = (leads x y ys (o.one_way y x e) up.0, rest)
   one_way_by false x y ys e up rest = (e, up)

@@ -15,17 +15,16 @@ use Rattle.abnf_syntax.specs.declared.block.Head.{Head}
 use Rattle.abnf_syntax.specs.declared.item.Item.{Item}
 use Rattle.abnf_syntax.specs.declared.fault.SyntaxFault.{SyntaxFault}
 use Rattle.abnf_syntax.specs.declared.tree.Rule.{Rule}
-use Rattle.abnf_syntax.specs.Blocks.{line_texts}
 use Rattle.abnf_syntax.specs.Grammar.{kind_of}
 use Rattle.abnf_syntax.specs.Heads.{head_of}
-use Rattle.abnf_syntax.proofs.Bare.{bare, bare_head, head_bare, one_list, same_items, same_fault, no_fault}
+use Rattle.abnf_syntax.proofs.Bare.{bare, bare_head, head_bare, same_items, same_fault, no_fault}
 use Rattle.abnf_parts.specs.Part.{Part}
 use Rattle.abnf_parts.specs.Names.{Name, with_name}
-use Rattle.abnf_names.specs.Said.{Block, Says, IsWithin, AreWithin, AreSaid, name_of}
+use Rattle.abnf_names.specs.Said.{Block, Says, IsWithin, AreSaid, name_of}
 use Rattle.abnf_names.specs.Rules.{Grammar, grammar_of, names_of, rules_of}
 use Rattle.abnf_names.specs.Excerpts.{Excerpt, excerpt_of}
 use Rattle.abnf_names.specs.Shown.{fault_shown}
-use Rattle.abnf_names.proofs.OneGrammar.{one_grammar}
+use Rattle.abnf_names.proofs.OneGrammar.{one_grammar, same_seen}
 use Rattle.abnf_lint.specs.declared.finding.Finding.{Finding}
 use Rattle.abnf_lint.specs.Unproductive.{AreUnproductive}
 use Rattle.abnf_lint.specs.Order.{AreOrdered, Key, key, key_cmp}
@@ -54,18 +53,8 @@ same_block ls at b c p q =
     let shown = same_shown b.items c.items b.said c.said items_are p.says q.says in
     (λ i. record { items = items_are i; fault = shown i })
 
-same_within : (ls : List Text) (bounds : List (ℕ × ℕ)) (bs cs : List Block) → AreWithin ls bounds bs → AreWithin ls bounds cs → map plain bs ≡ map plain cs
-same_within ls [] [] [] p q = refl
-same_within ls [] [] (c ∷ cs) p q = absurd q
-same_within ls [] (b ∷ bs) cs p q = absurd p
-same_within ls (at ∷ bounds) [] cs p q = absurd p
-same_within ls (at ∷ bounds) (b ∷ bs) [] p q = absurd q
-same_within ls (at ∷ bounds) (b ∷ bs) (c ∷ cs) p q = (λ i. same_block ls at b c p.0 q.0 i ∷ same_within ls bounds bs cs p.1 q.1 i)
-
 same_blocks : (text : List ℕ) (bs cs : List Block) → AreSaid text bs → AreSaid text cs → map plain bs ≡ map plain cs
-same_blocks text bs cs p q =
-    let e = one_list (line_texts text) 0 p.bounds q.bounds p.all q.all in
-    same_within (line_texts text) p.bounds bs cs p.each (subst (λ bounds. AreWithin (line_texts text) bounds cs) (sym e) q.each)
+same_blocks = same_seen plain same_block
 
 -- ---- what is found in bare blocks
 

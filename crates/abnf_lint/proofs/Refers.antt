@@ -18,7 +18,7 @@ use Rattle.abnf_syntax.specs.Grammar.IsConcatenation.{one, and}
 use Rattle.abnf_syntax.specs.Grammar.IsRepetition.{once, times}
 use Rattle.abnf_syntax.specs.Grammar.IsElement.{name as is_named, quoted as is_quoted, number as is_number, prose as is_prose, group as is_group, choice as is_choice}
 use Rattle.abnf_parts.specs.Part.{Part, Parts, quoted, series, span, seq, alt, rep, ref, opaque, subparts, all_subparts, parts_of}
-use Rattle.abnf_parts.specs.Leaf.{bounds, number_part, repeated}
+use Rattle.abnf_parts.specs.Leaf.{repeat_limits, number_part, repeated}
 use Rattle.abnf_parts.specs.Names.{Name}
 use Rattle.abnf_parts.specs.Tree.{ElementLayer, join, parts, element_part, repetition_part, concatenation_part, tree_inside, alternatives}
 use Rattle.abnf_parts.proofs.NameLaws.{never}
@@ -77,7 +77,7 @@ module _ (number : Name → Option ℕ) where
   abbrev pub TellsBy : Kind → Item → Part → Type 0
   TellsBy k.Name item x = x ≡ reference item
   TellsBy k.Number item x = x ≡ number_part item.token.text.now
-  TellsBy k.Repeat item x = (p : Part) × (x ≡ rep (bounds item.token.text.now).0 (bounds item.token.text.now).1 p)
+  TellsBy k.Repeat item x = (p : Part) × (x ≡ rep (repeat_limits item.token.text.now).0 (repeat_limits item.token.text.now).1 p)
   TellsBy _ item x = Unit {0}
 
   -- a part below this one is the item's own

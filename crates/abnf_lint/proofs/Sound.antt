@@ -6,7 +6,7 @@ use Rattle.std.specs.Option.{is_some, option_map_or}
 use Rattle.std.specs.Str.{bytes_eq}
 use Rattle.std.proofs.lemmas.List.Elements.{All-contains, Contains-append_right, filter-append}
 use Rattle.std.proofs.Math.ListN.{get_or-append}
-use Rattle.std.proofs.lemmas.Bool.{cases_lt}
+use Rattle.std.proofs.lemmas.Bool.{cases_lt, not-true, true_from_ne_false}
 use Rattle.std.proofs.lemmas.List.{get_or-append-add, get_or-drop, get_or-map, get_or-take, length-map, length-take, take_all}
 use Rattle.std.proofs.lemmas.List.Folds.{list_all_at}
 use Rattle.std.proofs.lemmas.List.Quantifiers.{position-Some}
@@ -25,7 +25,7 @@ use Rattle.abnf_syntax.specs.Heads.{head_of}
 use Rattle.abnf_syntax.specs.Kinds.{is_name}
 use Rattle.abnf_parts.specs.declared.node.Node.{Node}
 use Rattle.abnf_parts.specs.Names.{Name, rule_number}
-use Rattle.abnf_parts.specs.Leaf.{bounds, ends_of, number_part}
+use Rattle.abnf_parts.specs.Leaf.{repeat_limits, ends_of, number_part}
 use Rattle.abnf_parts.specs.Nodes.{AreNodes, IsNode}
 use Rattle.abnf_parts.specs.Core.{core_name}
 use Rattle.abnf_parts.specs.Part.{Part, quoted, series, span, seq, alt, rep, ref, opaque, subparts, all_subparts, parts_of, root_number}
@@ -44,12 +44,8 @@ use Rattle.abnf_lint.specs.Findings.{based, found_if, has_name, body_findings, f
 use Rattle.abnf_lint.specs.Passes.{AreSoundMarks, AreSoundWhereMarked, IsSoundRule, IsSoundWhereMarked, counts, is_sound, is_sound_part}
 use Rattle.abnf_lint.proofs.Behind.{bases_more}
 use Rattle.abnf_lint.proofs.Heads.{bases_is, defines_is, from_has}
-use Rattle.abnf_lint.proofs.Member.{filter_in, first_in, flat_in, in_cons, in_filter, later_in, none_in}
+use Rattle.abnf_lint.proofs.Member.{filter_in, first_in, flat_in, in_filter, later_in}
 use Rattle.abnf_lint.proofs.Refers.{Among, TellsBy, below, is_told, items_told}
-
-not_true : (b : Bool) → not b ≡ true → b ≡ false
-not_true true e = absurd (cc e)
-not_true false e = refl
 
 is_name_kind : (kind : Kind) → is_name kind ≡ true → kind ≡ k.Name
 is_name_kind k.Name h = refl
@@ -68,10 +64,6 @@ node_sound n (rep least (Some most) p) node h = ap is_sound h
 node_sound n (ref name None) node h = ap is_sound h.1
 node_sound n (ref name (Some r)) node h = ap is_sound h.1
 node_sound n opaque node h = ap is_sound h
-
-true_of_not_false : (b : Bool) → (b ≡ false → ⊥) → b ≡ true
-true_of_not_false true h = refl
-true_of_not_false false h = absurd (h refl)
 
 next_is : (rules : List Part) (r : ℕ) → root_number rules (r + 1) ≡ root_number rules (suc r)
 next_is rules r = ap (root_number rules) (let e : r + 1 ≡ suc r = omega arith in e)
@@ -93,7 +85,7 @@ rule_sound rules nodes are r start end at_start at_next e tree is p c =
     let low : k < length (subparts tree) = c.1 in
     let within : start + k < length (parts_of rules) = omega (arith, at, all, more, low) in
     let one = are.each (start + k) p (slice_get-get_or (parts_of rules) (start + k) p within ∙ ap Some here) in
-    true_of_not_false (is_sound_part p) (λ bad.
+    true_from_ne_false (is_sound_part p) (λ bad.
     let unsound : is_sound one.0 ≡ false = node_sound (start + k) p one.0 one.2 ∙ bad in
     let behind : start + k < length nodes = slice_get_within nodes (start + k) one.0 one.1 in
     let few : k < end - start = omega (arith, at_start, at_end, size, low) in
@@ -148,7 +140,7 @@ none_marked rules r e = absurd (cc e)
 -- ---- the items
 
 range_sound : (p : Part) → is_sound_part p ≡ true → is_empty_range (ends_of p) ≡ false
-range_sound (span low high) e = not_true (nat_lt high low) e
+range_sound (span low high) e = not-true (nat_lt high low) e
 range_sound (quoted text exact) e = refl
 range_sound (series characters) e = refl
 range_sound (seq ps) e = refl
@@ -159,7 +151,7 @@ range_sound opaque e = refl
 
 repeat_sound : (b : ℕ × Option ℕ) (p : Part) → is_sound_part (rep b.0 b.1 p) ≡ true → is_empty_repeat b ≡ false
 repeat_sound (least, None) p e = refl
-repeat_sound (least, Some most) p e = not_true (nat_lt most least) e
+repeat_sound (least, Some most) p e = not-true (nat_lt most least) e
 
 found_none : (o : Option ℕ) (place : Place) (text : List ℕ) → (o ≡ None → ⊥) → found_if (not (is_some o)) c.Undefined place text ≡ []
 found_none None place text known = absurd (known refl)
@@ -186,14 +178,14 @@ module _ (names : List Name) where
   use_none true item known = refl
   use_none false item known = named_none (is_name (kind_of item)) item known
 
-  number_none : (kind : Kind) (place : Place) (text : List ℕ) → (kind ≡ k.Repeat → is_empty_repeat (bounds text) ≡ false) → (kind ≡ k.Number → is_empty_range (ends_of (number_part text)) ≡ false)
+  number_none : (kind : Kind) (place : Place) (text : List ℕ) → (kind ≡ k.Repeat → is_empty_repeat (repeat_limits text) ≡ false) → (kind ≡ k.Number → is_empty_range (ends_of (number_part text)) ≡ false)
       → number_findings kind place text ≡ []
   number_none k.Repeat place text counts ranges = ap (λ b. found_if b c.EmptyRepeat place []) (counts refl)
   number_none k.Number place text counts ranges = ap (λ b. found_if b c.EmptyRange place []) (ranges refl)
   number_none _ place text counts ranges = refl
 
   silent : (item : Item) → (is_name (kind_of item) ≡ true → stands_for (lowercase item.token.text.now) ≡ None → ⊥)
-      → (kind_of item ≡ k.Repeat → is_empty_repeat (bounds item.token.text.now) ≡ false) → (kind_of item ≡ k.Number → is_empty_range (ends_of (number_part item.token.text.now)) ≡ false) → IsSilent item
+      → (kind_of item ≡ k.Repeat → is_empty_repeat (repeat_limits item.token.text.now) ≡ false) → (kind_of item ≡ k.Number → is_empty_range (ends_of (number_part item.token.text.now)) ≡ false) → IsSilent item
   silent item known counts ranges before =
       (λ i. use_none (is_touched before item) item known i ++ number_none (kind_of item) (place_of item.token) item.token.text.now counts ranges i)
 
@@ -224,7 +216,7 @@ counts_by bases (Some head) e = (head, refl, either head.adds (has_name bases (n
   where
     either : (a b : Bool) → (a || not b) ≡ true → (a ≡ true) ⊎ (b ≡ false)
     either true b e = inl refl
-    either false b e = inr (not_true b e)
+    either false b e = inr (not-true b e)
 
 one_head : (a b : Head) → Some a ≡ Some b → a ≡ b
 one_head a b e = cc e
@@ -258,13 +250,6 @@ counted_there before b after head e h =
     let either : (adds b ≡ true) ⊎ (has_name (based before) name ≡ false) = elim h [ inl so ↦ inl (added ∙ so) | inr none ↦ inr none ] in
     subst (λ bs. Contains (counted bs) b) (sym split)
     (counted_in (filter (defines name) before) b (filter (defines name) after) (λ x m. either_adds before b name either x m (adds x) refl))
-
-in_map : {X Y : Type 0} (f : X → Y) (xs : List X) (x : X) → Contains xs x → Contains (map f xs) (f x)
-in_map f [] x h = none_in x h
-in_map f (y ∷ xs) x h = elim (in_cons y xs x h) [
-  | inl e ↦ subst (λ z. Contains (f y ∷ map f xs) (f z)) e (first_in (f y) (map f xs))
-  | inr r ↦ later_in (f y) (map f xs) (f x) (in_map f xs x r)
-]
 
 -- ---- all blocks
 
@@ -312,7 +297,7 @@ module _ (blocks : List Block) (says : All (λ block. Says block.items block.sai
   by_kind item tells = silent names item
       (λ named none. let t = tells_of k.Name (is_name_kind (kind_of item) named) refl in
       never_unsound item.token.text.now (number (lowercase item.token.text.now)) (ap is_sound_part (sym t.1) ∙ t.2) none)
-      (λ e. let t = tells_of k.Repeat e refl in repeat_sound (bounds item.token.text.now) t.1.0 (ap is_sound_part (sym t.1.1) ∙ t.2))
+      (λ e. let t = tells_of k.Repeat e refl in repeat_sound (repeat_limits item.token.text.now) t.1.0 (ap is_sound_part (sym t.1.1) ∙ t.2))
       (λ e. let t = tells_of k.Number e refl in range_sound (number_part item.token.text.now) (ap is_sound_part (sym t.1) ∙ t.2))
     where
       tells_of : (kind : Kind) → kind_of item ≡ kind → is_told kind ≡ true → (x : Part) × TellsBy number kind item x × (is_sound_part x ≡ true)

@@ -12,7 +12,7 @@ use Rattle.abnf_syntax.specs.declared.fault.SyntaxFault.TheVariants as f
 use Rattle.abnf_syntax.specs.Grammar.{kind_of}
 use Rattle.abnf_syntax.specs.Faults.{place_of}
 use Rattle.abnf_syntax.specs.Heads.{head_of}
-use Rattle.abnf_parts.specs.Leaf.{bounds, ends_of, number_part}
+use Rattle.abnf_parts.specs.Leaf.{repeat_limits, ends_of, number_part}
 use Rattle.abnf_parts.specs.Names.{Name, rule_number}
 use Rattle.abnf_names.specs.Said.{Block, AreSaid, name_of}
 use Rattle.abnf_names.specs.Places.{Named, use_after}
@@ -54,7 +54,7 @@ is_empty_range ends = option_map_or (λ e. nat_lt e.1 e.0) ends false
 
 -- of a repeat or a number
 abbrev pub number_findings : Kind → Place → List ℕ → List Finding
-number_findings Repeat place text = found_if (is_empty_repeat (bounds text)) c.EmptyRepeat place []
+number_findings Repeat place text = found_if (is_empty_repeat (repeat_limits text)) c.EmptyRepeat place []
 number_findings Number place text = found_if (is_empty_range (ends_of (number_part text))) c.EmptyRange place []
 number_findings _ place text = []
 

@@ -8,23 +8,23 @@ use Rattle.abnf_lint.specs.declared.finding.Code.{Code}
 use Rattle.abnf_lint.specs.declared.finding.Code.TheVariants as c
 use Rattle.abnf_lint.specs.declared.finding.Finding.{Finding}
 
-abbrev pub row : Code → ℕ
-row (c.Syntax fault) = 1
-row c.NumberTooLarge = 2
-row c.TooDeep = 3
-row c.Undefined = 4
-row c.Duplicate = 5
-row c.NoBase = 6
-row c.EmptyRepeat = 7
-row c.EmptyRange = 8
-row c.Unproductive = 9
+abbrev pub code_row : Code → ℕ
+code_row (c.Syntax fault) = 1
+code_row c.NumberTooLarge = 2
+code_row c.TooDeep = 3
+code_row c.Undefined = 4
+code_row c.Duplicate = 5
+code_row c.NoBase = 6
+code_row c.EmptyRepeat = 7
+code_row c.EmptyRange = 8
+code_row c.Unproductive = 9
 
 -- line, start and row
 abbrev pub Key : Type 0
 Key = ℕ × ℕ × ℕ
 
 abbrev pub key : Finding → Key
-key f = (f.place.line, f.place.start, row f.code)
+key f = (f.place.line, f.place.start, code_row f.code)
 
 abbrev pub key_cmp : Key → Key → Ordering
 key_cmp a b = ordering_then (ordering_then (nat_cmp a.0 b.0) (nat_cmp a.1 b.1)) (nat_cmp a.2 b.2)
@@ -36,10 +36,10 @@ pub record AreOrdered (given found : List Finding) : Type 0 where
   pub stable : IsStableByKey key key_cmp given found
 
 -- the one stands before the other by line, start and row
-abbrev pub comes_before : Finding → Finding → Bool
-comes_before f g = is_lt (key_cmp (key f) (key g))
+abbrev pub finding_before : Finding → Finding → Bool
+finding_before f g = is_lt (key_cmp (key f) (key g))
 
 -- each finding comes before all that follow it
-abbrev pub Ascend : List Finding → Type 0
-Ascend [] = Unit {0}
-Ascend (f ∷ fs) = AllByRecursion (λ g. comes_before f g ≡ true) fs × Ascend fs
+abbrev pub FindingsAscend : List Finding → Type 0
+FindingsAscend [] = Unit {0}
+FindingsAscend (f ∷ fs) = AllByRecursion (λ g. finding_before f g ≡ true) fs × FindingsAscend fs

@@ -11,7 +11,7 @@ use Rattle.abnf_syntax.specs.declared.tree.Rule.{Rule}
 use Rattle.abnf_syntax.specs.Grammar.{kind_of}
 use Rattle.abnf_syntax.specs.Faults.{place_of}
 use Rattle.abnf_syntax.specs.Heads.{head_of}
-use Rattle.abnf_parts.specs.Leaf.{bounds, ends_of, number_part}
+use Rattle.abnf_parts.specs.Leaf.{repeat_limits, ends_of, number_part}
 use Rattle.abnf_parts.specs.Names.{Name, rule_number}
 use Rattle.abnf_names.specs.Said.{Block, AreSaid, name_of}
 use Rattle.abnf_names.specs.Places.{places_in}
@@ -19,7 +19,7 @@ use Rattle.abnf_names.specs.Rules.{adds, fault_place, head_name, names_of, rules
 use Rattle.abnf_lint.specs.declared.finding.Code.{Code}
 use Rattle.abnf_lint.specs.declared.finding.Code.TheVariants as c
 use Rattle.abnf_lint.specs.declared.finding.Finding.{Finding}
-use Rattle.abnf_lint.specs.Order.{Ascend}
+use Rattle.abnf_lint.specs.Order.{FindingsAscend}
 use Rattle.abnf_lint.specs.Unproductive.{IsUnproductive}
 
 -- the place of a fault of the syntax: of all but a number too large and brackets too deep, which have codes of their own
@@ -29,8 +29,8 @@ syntax_place (f.TooDeep p) = None
 syntax_place fault = fault_place fault
 
 -- the block shows no fault
-abbrev pub IsSound : Block → Type 0
-IsSound block = (rule : Rule) × (block.said ≡ Ok rule)
+abbrev pub HasNoFault : Block → Type 0
+HasNoFault block = (rule : Rule) × (block.said ≡ Ok rule)
 
 -- this holds of one of the block's items, which stands at this place
 pub record HasItem (block : Block) (place : Place) (Holds : Item → Type 0) : Type 0 where
@@ -43,8 +43,8 @@ pub record HasItem (block : Block) (place : Place) (Holds : Item → Type 0) : T
 pub record IsEmptyRepeat (item : Item) : Type 0 where
   pub repeat : kind_of item ≡ Repeat
   pub most : ℕ
-  pub bounded : (bounds item.token.text.now).1 ≡ Some most
-  pub above : most < (bounds item.token.text.now).0
+  pub bounded : (repeat_limits item.token.text.now).1 ≡ Some most
+  pub above : most < (repeat_limits item.token.text.now).0
 
 -- a range with its low end above its high end (RFC 5234 section 3.4)
 pub record IsEmptyRange (item : Item) : Type 0 where
@@ -79,11 +79,11 @@ module _ (blocks before : List Block) (block : Block) where
   RowHolds place name c.NumberTooLarge = (block.said ≡ Err (f.NumberTooLarge place)) × (name ≡ [])
   RowHolds place name c.TooDeep = (block.said ≡ Err (f.TooDeep place)) × (name ≡ [])
   RowHolds place name c.Undefined =
-      IsSound block × Contains (places_in block.items) (record { text = name; place = place; defines = false }) × (rule_number (names_of blocks) (lowercase name) ≡ None)
+      HasNoFault block × Contains (places_in block.items) (record { text = name; place = place; defines = false }) × (rule_number (names_of blocks) (lowercase name) ≡ None)
   RowHolds place name c.Duplicate = (head : Head) × HasHead block place name head × (head.adds ≡ false) × AnyBases before (name_of head)
   RowHolds place name c.NoBase = (head : Head) × HasHead block place name head × (head.adds ≡ true) × (AnyBases before (name_of head) → ⊥)
-  RowHolds place name c.EmptyRepeat = IsSound block × HasItem block place IsEmptyRepeat × (name ≡ [])
-  RowHolds place name c.EmptyRange = IsSound block × HasItem block place IsEmptyRange × (name ≡ [])
+  RowHolds place name c.EmptyRepeat = HasNoFault block × HasItem block place IsEmptyRepeat × (name ≡ [])
+  RowHolds place name c.EmptyRange = HasNoFault block × HasItem block place IsEmptyRange × (name ≡ [])
   RowHolds place name c.Unproductive = (head : Head) × HasHead block place name head × (AnyDefines before (name_of head) → ⊥) × IsIdle blocks (name_of head)
 
 -- A row of the table holds of one of the text's blocks.
@@ -99,4 +99,4 @@ pub record Stands (text : List ℕ) (found : Finding) : Type 0 where
 -- These are the rows of the table that hold of the text, each once, by line, start and row.
 pub record AreRows (text : List ℕ) (rows : List Finding) : Type 0 where
   pub each : (f : Finding) → Contains rows f ↔ Stands text f
-  pub ordered : Ascend rows
+  pub ordered : FindingsAscend rows

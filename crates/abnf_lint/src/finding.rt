@@ -33,7 +33,7 @@ pub enum Code {
 impl Code {
     /// The row of the table, from 1.
     pub fn row(self) -> u8
-        ensures { result ≡ order.row self }
+        ensures { result ≡ order.code_row self }
     {
         match self {
             Code::Syntax(_) => 1,

@@ -3,7 +3,7 @@
 ghost use Rattle.std.specs.Prelude.{◌≡◌, ◌↔◌, ℕ, List, Contains};
 ghost use Rattle.abnf_lint.specs.declared.finding.Finding.{Finding};
 ghost use Rattle.abnf_lint.specs.Findings.{AreFindings};
-ghost use Rattle.abnf_lint.specs.Order.{Ascend};
+ghost use Rattle.abnf_lint.specs.Order.{FindingsAscend};
 ghost use Rattle.abnf_lint.specs.Rows.{AreRows, Stands};
 
 /// A text has at most one list of findings.
@@ -18,7 +18,7 @@ pub fn findings_are_the_rows()
 
 /// The findings of a text come by line, start and row of the table, and no two share all three.
 pub fn findings_ascend()
-    ensures { (text : List ℕ) (found : List Finding) → AreFindings text found → Ascend found }
+    ensures { (text : List ℕ) (found : List Finding) → AreFindings text found → FindingsAscend found }
 {}
 
 /// The rows of the table in their order are the findings of the text.

@@ -5,6 +5,7 @@ use Rattle.std.specs.List.{filter_map, cons_option, list_any}
 use Rattle.std.specs.Option.{is_some}
 use Rattle.std.specs.Str.{bytes_eq}
 use Rattle.std.proofs.lemmas.List.Folds.{list_any-append}
+use Rattle.abnf_token.proofs.Language.{and_false, and_true}
 use Rattle.abnf_token.specs.Folded.{lowercase}
 use Rattle.abnf_token.specs.declared.token.Kind.{Kind}
 use Rattle.abnf_syntax.specs.declared.block.Head.{Head}
@@ -18,14 +19,6 @@ use Rattle.abnf_parts.proofs.NeededLaws.{any_folded}
 use Rattle.abnf_names.specs.Said.{Block, AreSaid, name_of}
 use Rattle.abnf_names.specs.Places.{Named, is_touched, named, places_in, places_of, places_of_name, use_after, uses_after}
 use Rattle.abnf_names.specs.Rules.{Grammar, IsGrammar, defined, head_name}
-
-and_false : (b : Bool) → (b && false) ≡ false
-and_false true = refl
-and_false false = refl
-
-and_true : (b : Bool) → (b && true) ≡ b
-and_true true = refl
-and_true false = refl
 
 or_false : (b : Bool) → (b || false) ≡ b
 or_false true = refl

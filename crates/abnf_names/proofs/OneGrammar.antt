@@ -47,18 +47,23 @@ same_block ls bounds b c p q =
     let said = same_said b.items c.items b.said c.said items_are p.says q.says in
     (λ i. (items_are i, (λ number. said.0 number i), said.1 i))
 
-same_within : (ls : List Text) (bounds : List (ℕ × ℕ)) (bs cs : List Block) → AreWithin ls bounds bs → AreWithin ls bounds cs → map plain bs ≡ map plain cs
-same_within ls [] [] [] p q = refl
-same_within ls [] [] (c ∷ cs) p q = absurd q
-same_within ls [] (b ∷ bs) cs p q = absurd p
-same_within ls (at ∷ bounds) [] cs p q = absurd p
-same_within ls (at ∷ bounds) (b ∷ bs) [] p q = absurd q
-same_within ls (at ∷ bounds) (b ∷ bs) (c ∷ cs) p q = (λ i. same_block ls at b c p.0 q.0 i ∷ same_within ls bounds bs cs p.1 q.1 i)
+-- what is seen of a block is the same for all lists of blocks that a text has, if it is so of one block
+module _ {X : Type 0} (seen : Block → X) (same : (ls : List Text) (bounds : ℕ × ℕ) (b c : Block) → IsWithin ls bounds b → IsWithin ls bounds c → seen b ≡ seen c) where
+  same_within : (ls : List Text) (bounds : List (ℕ × ℕ)) (bs cs : List Block) → AreWithin ls bounds bs → AreWithin ls bounds cs → map seen bs ≡ map seen cs
+  same_within ls [] [] [] p q = refl
+  same_within ls [] [] (c ∷ cs) p q = absurd q
+  same_within ls [] (b ∷ bs) cs p q = absurd p
+  same_within ls (at ∷ bounds) [] cs p q = absurd p
+  same_within ls (at ∷ bounds) (b ∷ bs) [] p q = absurd q
+  same_within ls (at ∷ bounds) (b ∷ bs) (c ∷ cs) p q = (λ i. same ls at b c p.0 q.0 i ∷ same_within ls bounds bs cs p.1 q.1 i)
+
+  pub same_seen : (text : List ℕ) (bs cs : List Block) → AreSaid text bs → AreSaid text cs → map seen bs ≡ map seen cs
+  same_seen text bs cs p q =
+      let e = one_list (line_texts text) 0 p.bounds q.bounds p.all q.all in
+      same_within (line_texts text) p.bounds bs cs p.each (subst (λ bounds. AreWithin (line_texts text) bounds cs) (sym e) q.each)
 
 same_blocks : (text : List ℕ) (bs cs : List Block) → AreSaid text bs → AreSaid text cs → map plain bs ≡ map plain cs
-same_blocks text bs cs p q =
-    let e = one_list (line_texts text) 0 p.bounds q.bounds p.all q.all in
-    same_within (line_texts text) p.bounds bs cs p.each (subst (λ bounds. AreWithin (line_texts text) bounds cs) (sym e) q.each)
+same_blocks = same_seen plain same_block
 
 -- ---- heads
 

@@ -10,7 +10,7 @@ use Rattle.abnf_parts.specs.declared.node.Node.{Node}
 use Rattle.abnf_parts.specs.Part.{Part, quoted, series, span, seq, alt, rep, ref, opaque, subparts, parts_of, root_number}
 use Rattle.abnf_parts.specs.Nodes.{IsNode, AreNodes, AreRoots}
 use Rattle.abnf_parts.specs.Reach.{ReachesOpaque, AreReaching}
-use Rattle.abnf_names.specs.Search.{users_at, LeadsBy, LeadsToLast, AreWithin, AreMarks}
+use Rattle.abnf_names.specs.Search.{users_at, LeadsBy, LeadsToLast, AreUsersWithin, AreMarks}
 use Rattle.abnf_names.specs.Users.{place_of_part, place_of_node, LeadsTo, IsRangeOf, nodes_of, with_user, AreUsers}
 use Rattle.abnf_names.proofs.ReachLaws.{marked, reaches_first, reaches_more}
 
@@ -275,7 +275,7 @@ users_none trees users len none = record {
   all = λ place x l leads. absurd (omega arith);
 }
 
-pub users_within : (trees : List Part) (count : ℕ) (users : List (List ℕ)) → AreUsers trees count users → AreWithin users
+pub users_within : (trees : List Part) (count : ℕ) (users : List (List ℕ)) → AreUsers trees count users → AreUsersWithin users
 users_within trees count users h place x c =
     let leads : LeadsTo trees x place = h.right place x c in
     let l : x < length trees = slice_get_within trees x leads.0 leads.1 in

@@ -33,18 +33,18 @@ numbered (f.NumberTooLarge p) = (7, p)
 numbered (f.TooDeep p) = (8, p)
 numbered f.Memory = (0, record { line = 0; start = 0; end = 0 })
 
-abbrev fault_at : ℕ × Place → SyntaxFault
-fault_at (suc zero, p) = f.NoName p
-fault_at (suc (suc zero), p) = f.NoDefinedAs p
-fault_at (suc (suc (suc zero)), p) = f.BadToken p
-fault_at (suc (suc (suc (suc zero))), p) = f.ElementExpected p
-fault_at (suc (suc (suc (suc (suc zero)))), p) = f.BlankExpected p
-fault_at (suc (suc (suc (suc (suc (suc zero))))), p) = f.Unclosed p
-fault_at (suc (suc (suc (suc (suc (suc (suc zero)))))), p) = f.NumberTooLarge p
-fault_at (suc (suc (suc (suc (suc (suc (suc (suc zero))))))), p) = f.TooDeep p
-fault_at (_, p) = f.Memory
+abbrev numbered_fault : ℕ × Place → SyntaxFault
+numbered_fault (suc zero, p) = f.NoName p
+numbered_fault (suc (suc zero), p) = f.NoDefinedAs p
+numbered_fault (suc (suc (suc zero)), p) = f.BadToken p
+numbered_fault (suc (suc (suc (suc zero))), p) = f.ElementExpected p
+numbered_fault (suc (suc (suc (suc (suc zero)))), p) = f.BlankExpected p
+numbered_fault (suc (suc (suc (suc (suc (suc zero))))), p) = f.Unclosed p
+numbered_fault (suc (suc (suc (suc (suc (suc (suc zero)))))), p) = f.NumberTooLarge p
+numbered_fault (suc (suc (suc (suc (suc (suc (suc (suc zero))))))), p) = f.TooDeep p
+numbered_fault (_, p) = f.Memory
 
-pub fault_back : (fault : SyntaxFault) → fault_at (numbered fault) ≡ fault
+pub fault_back : (fault : SyntaxFault) → numbered_fault (numbered fault) ≡ fault
 fault_back (f.NoName p) = refl
 fault_back (f.NoDefinedAs p) = refl
 fault_back (f.BadToken p) = refl
@@ -56,7 +56,7 @@ fault_back (f.TooDeep p) = refl
 fault_back f.Memory = refl
 
 abbrev fault_code : Coded SyntaxFault
-fault_code = code_by (ℕ × Place) (coded× coded_ℕ place_code) numbered fault_at fault_back
+fault_code = code_by (ℕ × Place) (coded× coded_ℕ place_code) numbered numbered_fault fault_back
 
 abbrev Fields : Type 0
 Fields = List ℕ × (List (List ℕ) × (List Part × (List Named × List (Place × SyntaxFault))))

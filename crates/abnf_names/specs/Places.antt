@@ -37,13 +37,13 @@ name_place n = record { place = n.place; defines = n.defines }
 abbrev pub named : Bool → Item → List Named
 named defines item = if is_name (kind_of item) then record { text = item.token.text.now; place = place_of item.token; defines = defines } ∷ [] else []
 
-abbrev pub is_number : Kind → Bool
-is_number Number = true
-is_number _ = false
+abbrev pub is_number_kind : Kind → Bool
+is_number_kind Number = true
+is_number_kind _ = false
 
 -- A name that follows a bad token or a number at once has no place, as it is the rest of something misspelled.
 abbrev pub is_touched : Kind → Item → Bool
-is_touched before item = not item.apart && (is_bad before || is_number before)
+is_touched before item = not item.apart && (is_bad before || is_number_kind before)
 
 abbrev pub use_after : Kind → Item → List Named
 use_after before item = if is_touched before item then [] else named false item

@@ -15,8 +15,8 @@ abbrev pub LeadsToLast : List (List ℕ) → ℕ → Type 0
 LeadsToLast users place = (steps : ℕ) × LeadsBy users steps place
 
 -- each user is one of the places
-abbrev pub AreWithin : List (List ℕ) → Type 0
-AreWithin users = (place user : ℕ) → Contains (users_at users place) user → user < length users
+abbrev pub AreUsersWithin : List (List ℕ) → Type 0
+AreUsersWithin users = (place user : ℕ) → Contains (users_at users place) user → user < length users
 
 -- the marks say of each place whether steps lead from it to the last one
 pub record AreMarks (users : List (List ℕ)) (marks : List Bool) : Type 0 where

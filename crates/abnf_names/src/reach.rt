@@ -93,7 +93,7 @@ fn add_all(places: &[usize], found: &mut Found) -> Result<(), AllocError>
 /// For each place whether steps lead from it to the last one, where each place has its users.
 fn marks_of(alloc: Global, users: &[List<usize>]) -> Result<Vec<bool>, AllocError>
     requires some { 0 < length users.now }
-    requires within { search.AreWithin users.now }
+    requires within { search.AreUsersWithin users.now }
     ensures { IfOk result (λ marks. search.AreMarks users.now marks.items) }
 {
     let count = users.len();

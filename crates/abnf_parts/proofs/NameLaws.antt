@@ -124,11 +124,3 @@ old_place test xs k h e = ap Some e ∙ by (nat_lt (position_or_len test xs) (le
     by : (b : Bool) → is_some (cond b (Some (position_or_len test xs)) None) ≡ true → Some (position_or_len test xs) ≡ cond b (Some (position_or_len test xs)) None
     by true g = refl
     by false g = absurd (cc g)
-
-pub is_off : (b : Bool) → not b ≡ true → b ≡ false
-is_off true e = absurd (cc e)
-is_off false e = refl
-
-pub is_on : (b : Bool) → not b ≡ false → b ≡ true
-is_on true e = refl
-is_on false e = absurd (cc e)

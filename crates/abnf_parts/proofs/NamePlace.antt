@@ -3,6 +3,7 @@ use Rattle.std.proofs.Common.{◌≡◌, ◌∙◌, ℕ, zero, suc, Bool, true, 
 use Rattle.std.specs.Prelude.{slice_get, Option, Some, option_map, if◌then◌else◌, position}
 use Rattle.std.specs.List.{IsDistinct, AllByRecursion}
 use Rattle.std.specs.Str.{bytes_eq}
+use Rattle.std.proofs.lemmas.Bool.{false_from_ne_true}
 use Rattle.abnf_token.specs.declared.folded.Folded.{Folded}
 use Rattle.abnf_parts.specs.Names.{Name, folded_text, rule_number}
 use Rattle.abnf_parts.proofs.NameLaws.{never, position-cons, same_is, same_refl}
@@ -26,10 +27,6 @@ on : (b : Bool) (first rest : Option ℕ) → b ≡ true → (if b then first el
 on true first rest e = refl
 on false first rest e = absurd (cc e)
 
-not_true : (b : Bool) → (b ≡ true → ⊥) → b ≡ false
-not_true true h = absurd (h refl)
-not_true false h = refl
-
 pub place_is : (keys : List Folded) (i : ℕ) (x : Folded) (name : Name) → IsDistinct alike keys → slice_get keys i ≡ Some x → bytes_eq (folded_text x) name ≡ true → rule_number (map folded_text keys) name ≡ Some i
 unfolding IsDistinct
 place_is [] i x name apart e same = absurd (cc e)
@@ -40,7 +37,7 @@ place_is (k ∷ keys) zero x name apart e same =
 place_is (k ∷ keys) (suc i) x name apart e same =
     let other : alike k x ≡ false = all_at (λ y. alike k y ≡ false) keys i x apart.0 e in
     let differs : bytes_eq name (folded_text k) ≡ false =
-    not_true (bytes_eq name (folded_text k)) (λ h.
+    false_from_ne_true (bytes_eq name (folded_text k)) (λ h.
     let first : folded_text k ≡ folded_text x = sym (same_is name (folded_text k) h) ∙ sym (same_is (folded_text x) name same) in
     never (alike k x) (ap (bytes_eq (folded_text k)) (sym first) ∙ same_refl (folded_text k)) other) in
     position-cons (bytes_eq name) (folded_text k) (map folded_text keys)

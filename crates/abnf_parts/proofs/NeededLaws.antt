@@ -6,19 +6,20 @@ use Rattle.std.specs.Char.{to_ascii_lowercase}
 use Rattle.std.proofs.lemmas.Bool.{lt-leb}
 use Rattle.std.proofs.lemmas.List.{length-map}
 use Rattle.std.proofs.lemmas.List.Folds.{list_any-append}
+use Rattle.abnf_token.proofs.Language.{and_false}
 use Rattle.abnf_token.specs.Folded.{lowercase}
 use lib.Dec.{leb}
 use Rattle.abnf_parts.specs.declared.core_rule.Core.{Core}
 use Rattle.abnf_parts.specs.declared.core_rule.Core.TheVariants.{Alpha, Bit, Char, Cr, Crlf, Ctl, Digit, Dquote, Hexdig, Htab, Lf, Lwsp, Octet, Sp, Vchar, Wsp}
 use Rattle.std.specs.Str.{bytes_eq}
 use Rattle.abnf_parts.specs.Names.{Name, names_beside, with_name}
-use Rattle.abnf_parts.specs.Core.{CoreRule, core_rules, core_name, is_core_name, names_used, needs, is_needed}
-use Rattle.abnf_parts.specs.CoreTable.{core_of, users_of, is_wanted}
+use Rattle.abnf_parts.specs.Core.{CoreRule, core_rules, core_name, is_core_name, names_used, core_needs, is_needed}
+use Rattle.abnf_parts.specs.CoreTable.{core_of, users_of, is_core_wanted}
 use Rattle.abnf_parts.proofs.NameLaws.{same_is, same_sym, never}
 
 -- for a core rule, at a name
 abbrev Agrees : Core → Name → Type 0
-Agrees core name = list_any (bytes_eq name) (users_of core) ≡ list_any (bytes_eq (core_name (core_of core))) (needs (length core_rules) name)
+Agrees core name = list_any (bytes_eq name) (users_of core) ≡ list_any (bytes_eq (core_name (core_of core))) (core_needs (length core_rules) name)
 
 abbrev is_core : Name → CoreRule → Bool
 is_core name core = bytes_eq (core_name core) name
@@ -108,8 +109,8 @@ own_false Sp name h = same_sym (core_name (core_of Sp)) name ∙ first_false (by
 own_false Vchar name h = same_sym (core_name (core_of Vchar)) name ∙ first_false (bytes_eq name (core_name (core_of Vchar))) _ h
 own_false Wsp name h = same_sym (core_name (core_of Wsp)) name ∙ first_false (bytes_eq name (core_name (core_of Wsp))) _ h
 
-needs_none : (steps : ℕ) (name : Name) → find (is_core name) core_rules ≡ None → needs (suc steps) name ≡ name ∷ []
-needs_none steps name e = ap (λ o. name ∷ flat_map (needs steps) (names_used o)) e
+needs_none : (steps : ℕ) (name : Name) → find (is_core name) core_rules ≡ None → core_needs (suc steps) name ≡ name ∷ []
+needs_none steps name e = ap (λ o. name ∷ flat_map (core_needs steps) (names_used o)) e
 
 agrees_other : (core : Core) (name : Name) → find (is_core name) core_rules ≡ None → list_any (is_core name) core_rules ≡ false → Agrees core name
 agrees_other core name e f =
@@ -138,15 +139,15 @@ any_sym : (n : Name) (users : List Name) → list_any (λ u. bytes_eq u n) users
 any_sym n [] = refl
 any_sym n (u ∷ users) = ap (λ b. b || list_any (λ v. bytes_eq v n) users) (same_sym u n) ∙ ap (λ b. bytes_eq n u || b) (any_sym n users)
 
-swapped : (core : Core) (unknown : List Name) → is_wanted unknown (users_of core) ≡ is_needed unknown (core_of core)
+swapped : (core : Core) (unknown : List Name) → is_core_wanted unknown (users_of core) ≡ is_needed unknown (core_of core)
 swapped core [] = none_any (users_of core)
 swapped core (n ∷ unknown) =
     or_split (λ u. bytes_eq u n) (λ u. list_any (bytes_eq u) unknown) (users_of core)
     ∙ (ap (λ b. b || list_any (λ u. list_any (bytes_eq u) unknown) (users_of core)) (any_sym n (users_of core) ∙ agrees core n)
-    ∙ ap (λ b. list_any (bytes_eq (core_name (core_of core))) (needs (length core_rules) n) || b) (swapped core unknown))
+    ∙ ap (λ b. list_any (bytes_eq (core_name (core_of core))) (core_needs (length core_rules) n) || b) (swapped core unknown))
 
-pub needed_is : (core : Core) (unknown users : List Name) (b : Bool) → users ≡ users_of core → b ≡ is_wanted unknown users → b ≡ is_needed unknown (core_of core)
-needed_is core unknown users b u h = h ∙ (ap (is_wanted unknown) u ∙ swapped core unknown)
+pub needed_is : (core : Core) (unknown users : List Name) (b : Bool) → users ≡ users_of core → b ≡ is_core_wanted unknown users → b ≡ is_needed unknown (core_of core)
+needed_is core unknown users b u h = h ∙ (ap (is_core_wanted unknown) u ∙ swapped core unknown)
 
 or_true : (b : Bool) → (b || true) ≡ true
 or_true true = refl
@@ -194,10 +195,6 @@ module _ (n : Name) (own : List Name) where
     where
       is : list_any (bytes_eq n) own ≡ true
       is = subst (λ x. list_any (bytes_eq x) own ≡ true) (sym (same_is n m f)) e
-
-      and_false : (b : Bool) → (b && false) ≡ false
-      and_false true = refl
-      and_false false = refl
   beside_by true false m left found e f h = h
 
   moved : (b c : Bool) (m : Name) (rest : List Name) → list_any (bytes_eq n) (if b then m ∷ rest else rest) ≡ (if b then bytes_eq n m || list_any (bytes_eq n) rest else list_any (bytes_eq n) rest)
@@ -222,17 +219,17 @@ any_passed test kept (n ∷ names) = by (kept n) (any_passed test kept names)
 needed_beside : (own xs : List Name) (core : CoreRule) → is_needed (names_beside own (fold with_name [] xs)) core ≡ is_needed (names_beside own xs) core
 needed_beside own xs core =
     let kept : Name → Bool = λ name. not (list_any (bytes_eq name) own) in
-    let test : Name → Bool = λ name. list_any (bytes_eq (core_name core)) (needs (length core_rules) name) in
+    let test : Name → Bool = λ name. list_any (bytes_eq (core_name core)) (core_needs (length core_rules) name) in
     any_passed test kept (fold with_name [] xs) ∙ (any_folded (λ n. kept n && test n) [] xs ∙ sym (any_passed test kept xs))
 
 -- a name that no core rule has needs none of them
-none_needed : (core : Core) (name : Name) → is_core_name name ≡ false → list_any (bytes_eq (core_name (core_of core))) (needs (length core_rules) name) ≡ false
+none_needed : (core : Core) (name : Name) → is_core_name name ≡ false → list_any (bytes_eq (core_name (core_of core))) (core_needs (length core_rules) name) ≡ false
 none_needed core name none = sym (agrees core name) ∙ none_of name (users_of core) (covered core) none
 
 -- so the names of core rules among some need all that these need
 module _ (core : Core) (kept : Name → Bool) where
   abbrev needs_it : Name → Bool
-  needs_it name = list_any (bytes_eq (core_name (core_of core))) (needs (length core_rules) name)
+  needs_it name = list_any (bytes_eq (core_name (core_of core))) (core_needs (length core_rules) name)
 
   core_among : (names : List Name) → list_any needs_it (filter kept (filter is_core_name names)) ≡ list_any needs_it (filter kept names)
   core_among [] = refl

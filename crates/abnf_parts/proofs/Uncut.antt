@@ -5,7 +5,7 @@ use Rattle.std.specs.List.{list_all, flat_map, position_or_len}
 use Rattle.std.specs.Char.{digit_value, is_ascii_digit}
 use Rattle.std.proofs.Math.Dec.{eqb-suc-zero}
 use Rattle.std.proofs.Math.Nat.{min-eq_left}
-use Rattle.std.proofs.lemmas.Bool.{eqb-true, ltb-true, false≢true}
+use Rattle.std.proofs.lemmas.Bool.{eqb-true, ltb-true, false≢true, and_parts}
 use Rattle.std.proofs.lemmas.List.Elements.{All-nil, All-cons, All-head, All-tail, All-append}
 use Rattle.abnf_token.specs.declared.token.Kind.{Kind}
 use Rattle.abnf_token.specs.declared.token.Kind.TheVariants as k
@@ -25,7 +25,7 @@ use Rattle.abnf_syntax.specs.Grammar.IsRepetition.{once, times}
 use Rattle.abnf_syntax.specs.Grammar.IsElement.{name as a_name, quoted as a_text, number as a_number, prose as a_prose, group as a_group, choice as a_choice}
 use Rattle.abnf_syntax.specs.Items.{with_line_end, items_behind, items_of, AreTokens, AreItems, view}
 use Rattle.abnf_syntax.specs.Kinds.{is_item}
-use Rattle.abnf_syntax.specs.Numbers.{is_sign, parts_from, parts, is_small, numbers_fit}
+use Rattle.abnf_syntax.specs.Numbers.{is_sign, parts_from, number_pieces, is_small, numbers_fit}
 use Rattle.abnf_syntax.proofs.NumberLaws.{fit_based}
 use Rattle.abnf_parts.specs.Leaf.{before, behind, has, max_number, numbers_from}
 use Rattle.abnf_parts.specs.Uncut.{bound_of, IsUncut}
@@ -150,13 +150,9 @@ other test byte b fails h = by (nat_eq b byte) refl
     by false is = refl
     by true is = absurd (false≢true (sym fails ∙ (ap test (sym (eqb-true b byte is)) ∙ h)))
 
-both : (a b : Bool) → a && b ≡ true → (a ≡ true) × (b ≡ true)
-both true b h = (refl, h)
-both false b h = absurd (false≢true h)
-
 digits_no_star : (base : ℕ) (begun : Bool) (bs : Text) → is_digits base begun bs ≡ true → HasNoStar bs
 digits_no_star base begun [] h = tt
-digits_no_star base begun (b ∷ bs) h = let r = both (is_digit base b) (is_digits base true bs) h in (other (is_digit base) 0x2A b refl r.0, digits_no_star base true bs r.1)
+digits_no_star base begun (b ∷ bs) h = let r = and_parts (is_digit base b) (is_digits base true bs) h in (other (is_digit base) 0x2A b refl r.0, digits_no_star base true bs r.1)
 
 series_no_star : (base : ℕ) (begun : Bool) (bs : Text) → is_series base begun bs ≡ true → HasNoStar bs
 series_no_star base begun [] h = tt
@@ -166,7 +162,7 @@ series_no_star base begun (b ∷ bs) h = by (is_digit base b) refl h (series_no_
         → (is_series base true bs ≡ true → HasNoStar bs) → (is_series base false bs ≡ true → HasNoStar bs) → HasNoStar (b ∷ bs)
     by true e h more next = (other (is_digit base) 0x2A b refl e, more h)
     by false e h more next =
-        let r = both (nat_eq b 0x2E) (is_series base false bs) (both begun (nat_eq b 0x2E && is_series base false bs) h).1 in
+        let r = and_parts (nat_eq b 0x2E) (is_series base false bs) (and_parts begun (nat_eq b 0x2E && is_series base false bs) h).1 in
         (other (λ x. nat_eq x 0x2E) 0x2A b refl r.0, next r.1)
 
 number_no_star : (base : ℕ) (begun : Bool) (bs : Text) → is_number_rest base begun bs ≡ true → HasNoStar bs
@@ -177,9 +173,9 @@ number_no_star base begun (b ∷ bs) h = by (is_digit base b) (nat_eq b 0x2E) re
         → (if d then is_number_rest base true bs else (begun && (if dot then is_series base false bs else (nat_eq b 0x2D && is_digits base false bs)))) ≡ true
         → (is_number_rest base true bs ≡ true → HasNoStar bs) → HasNoStar (b ∷ bs)
     by true dot e s h more = (other (is_digit base) 0x2A b refl e, more h)
-    by false true e s h more = (other (λ x. nat_eq x 0x2E) 0x2A b refl s, series_no_star base false bs (both begun (is_series base false bs) h).1)
+    by false true e s h more = (other (λ x. nat_eq x 0x2E) 0x2A b refl s, series_no_star base false bs (and_parts begun (is_series base false bs) h).1)
     by false false e s h more =
-        let r = both (nat_eq b 0x2D) (is_digits base false bs) (both begun (nat_eq b 0x2D && is_digits base false bs) h).1 in
+        let r = and_parts (nat_eq b 0x2D) (is_digits base false bs) (and_parts begun (nat_eq b 0x2D && is_digits base false bs) h).1 in
         (other (λ x. nat_eq x 0x2D) 0x2A b refl r.0, digits_no_star base false bs r.1)
 
 value_snoc : (base v : ℕ) (xs : Text) (b : ℕ) → value_in base v (xs ++ b ∷ []) ≡ value_in base v xs * base + digit_value b
@@ -189,12 +185,12 @@ value_snoc base v (x ∷ xs) b = value_snoc base (v * base + digit_value x) xs b
 -- One byte more, which may be a sign.
 one_more : (base v w digit : ℕ) (since longer bs : Text) (sign : Bool) → v ≡ value_in base 0 since
     → (if sign then fit base 0 bs else (nat_lt digit base && (nat_lt w (2 ^ 32) && fit base w bs))) ≡ true
-    → (fit base 0 bs ≡ true → numbers_from base 0 bs ≡ map (value_in base 0) (parts bs))
+    → (fit base 0 bs ≡ true → numbers_from base 0 bs ≡ map (value_in base 0) (number_pieces bs))
     → (fit base w bs ≡ true → numbers_from base w bs ≡ map (value_in base 0) (parts_from longer bs))
-    → (if sign then v ∷ numbers_from base 0 bs else numbers_from base (min w max_number) bs) ≡ map (value_in base 0) (if sign then since ∷ parts bs else parts_from longer bs)
+    → (if sign then v ∷ numbers_from base 0 bs else numbers_from base (min w max_number) bs) ≡ map (value_in base 0) (if sign then since ∷ number_pieces bs else parts_from longer bs)
 one_more base v w digit since longer bs true e h next more = λ i. e i ∷ next h i
 one_more base v w digit since longer bs false e h next more =
-    let r = both (nat_lt w (2 ^ 32)) (fit base w bs) (both (nat_lt digit base) (nat_lt w (2 ^ 32) && fit base w bs) h).1 in
+    let r = and_parts (nat_lt w (2 ^ 32)) (fit base w bs) (and_parts (nat_lt digit base) (nat_lt w (2 ^ 32) && fit base w bs) h).1 in
     let small : w < 2 ^ 32 = ltb-true w (2 ^ 32) r.0 in
     ap (λ n. numbers_from base n bs) (min-eq_left (omega (arith, small))) ∙ more r.1
 
@@ -213,10 +209,10 @@ uncut_from base since (b ∷ bs) clean h =
 
 number_uncut : (text : Text) → is_number text ≡ true → numbers_fit k.Number text ≡ true → IsUncut k.Number text
 number_uncut [] is fit = absurd (false≢true is)
-number_uncut (percent ∷ []) is fit = absurd (false≢true (both (nat_eq percent 0x25) false is).1)
+number_uncut (percent ∷ []) is fit = absurd (false≢true (and_parts (nat_eq percent 0x25) false is).1)
 number_uncut (percent ∷ letter ∷ digits) is fit =
     let base = base_of letter in
-    uncut_from base [] digits (number_no_star base false digits (both (nat_eq percent 0x25) (is_number_rest base false digits) is).1) (fit_based letter digits ∙ fit)
+    uncut_from base [] digits (number_no_star base false digits (and_parts (nat_eq percent 0x25) (is_number_rest base false digits) is).1) (fit_based letter digits ∙ fit)
 
 -- ---- the bounds of a repeat
 
@@ -229,7 +225,7 @@ one_text t u e = ap (λ (t : Text). t ∷ []) e
 all_digits : (since bs : Text) → list_all is_ascii_digit bs ≡ true → parts_from since bs ≡ (since ++ bs) ∷ []
 all_digits since [] h = one_text since (since ++ []) (sym (append-nil since))
 all_digits since (b ∷ bs) h =
-    let r = both (is_ascii_digit b) (list_all is_ascii_digit bs) h in
+    let r = and_parts (is_ascii_digit b) (list_all is_ascii_digit bs) h in
     ap (λ s. if s then since ∷ parts_from [] bs else parts_from (since ++ b ∷ []) bs) (no_sign b r.0)
     ∙ (all_digits (since ++ b ∷ []) bs r.1 ∙ one_text ((since ++ b ∷ []) ++ bs) (since ++ b ∷ bs) (append_assoc since (b ∷ []) bs))
 
@@ -270,14 +266,14 @@ repeat_parts since (b ∷ bs) h = by (is_ascii_digit b) refl h (repeat_parts (si
         → (is_repeat_rest bs ≡ true → parts_from (since ++ b ∷ []) bs ≡ parts_by (has 0x2A bs) (since ++ b ∷ []) bs) → parts_from since (b ∷ bs) ≡ parts_by (has 0x2A (b ∷ bs)) since (b ∷ bs)
     by true e h more =
         let star : nat_eq b 0x2A ≡ false = other is_ascii_digit 0x2A b refl e in
-        ap (λ s. if s then since ∷ parts bs else parts_from (since ++ b ∷ []) bs) (no_sign b e)
+        ap (λ s. if s then since ∷ number_pieces bs else parts_from (since ++ b ∷ []) bs) (no_sign b e)
         ∙ (more h ∙ (shifted (has 0x2A bs) star ∙ ap (λ s. parts_by (s || has 0x2A bs) since (b ∷ bs)) (sym star)))
     by false e h more =
-        let r = both (nat_eq b 0x2A) (list_all is_ascii_digit bs) h in
-        let all : since ∷ parts bs ≡ parts_by true since (b ∷ bs) =
+        let r = and_parts (nat_eq b 0x2A) (list_all is_ascii_digit bs) h in
+        let all : since ∷ number_pieces bs ≡ parts_by true since (b ∷ bs) =
         ap (λ l. since ∷ l) (all_digits [] bs r.1)
         ∙ (λ i. sym (append-nil since) i ∷ bs ∷ []) ∙ (λ i. (since ++ sym (before_none b bs r.0) i) ∷ sym (behind_all b bs r.0) i ∷ []) in
-        ap (λ s. if s || (nat_eq b 0x2E || nat_eq b 0x2D) then since ∷ parts bs else parts_from (since ++ b ∷ []) bs) r.0
+        ap (λ s. if s || (nat_eq b 0x2E || nat_eq b 0x2D) then since ∷ number_pieces bs else parts_from (since ++ b ∷ []) bs) r.0
         ∙ (all ∙ ap (λ s. parts_by (s || has 0x2A bs) since (b ∷ bs)) (sym r.0))
 
 -- a number that fits, or none
@@ -313,9 +309,9 @@ bounds_by star two n = if star then two else (n, Some n)
 bounds_uncut : (x y z : Text) (star : Bool) → list_all (is_small 10) (if star then y ∷ z ∷ [] else x ∷ []) ≡ true
     → bounds_by star (unwrap_or (number_of y 10) 0, number_of z 10) (unwrap_or (number_of x 10) 0) ≡ bounds_by star (value_in 10 0 y, bound_of z) (value_in 10 0 x)
 bounds_uncut x y z true h =
-    let r = both (is_small 10 y) (is_small 10 z && true) h in
-    (λ i. (least y r.0 i, bound z (both (is_small 10 z) true r.1).0 i))
-bounds_uncut x y z false h = let n = least x (both (is_small 10 x) true h).0 in (λ i. (n i, Some (n i)))
+    let r = and_parts (is_small 10 y) (is_small 10 z && true) h in
+    (λ i. (least y r.0 i, bound z (and_parts (is_small 10 z) true r.1).0 i))
+bounds_uncut x y z false h = let n = least x (and_parts (is_small 10 x) true h).0 in (λ i. (n i, Some (n i)))
 
 repeat_rest : (text : Text) → is_repeat text ≡ true → is_repeat_rest text ≡ true
 repeat_rest [] h = refl

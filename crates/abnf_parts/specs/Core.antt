@@ -94,10 +94,10 @@ names_used None = []
 names_used (Some core) = filter_map name_used (subparts (core.tree (λ name. None)))
 
 -- a name, those that its core rule uses, those that these use, and so on for so many steps
-abbrev pub needs : ℕ → List ℕ → List (List ℕ)
-needs zero name = name ∷ []
-needs (suc steps) name = name ∷ flat_map (needs steps) (names_used (find (λ core. bytes_eq (core_name core) name) core_rules))
+abbrev pub core_needs : ℕ → List ℕ → List (List ℕ)
+core_needs zero name = name ∷ []
+core_needs (suc steps) name = name ∷ flat_map (core_needs steps) (names_used (find (λ core. bytes_eq (core_name core) name) core_rules))
 
 -- Needed is a core rule that one of these names stands for, and each that a needed one uses.
 abbrev pub is_needed : List Name → CoreRule → Bool
-is_needed names core = list_any (λ name. list_any (bytes_eq (core_name core)) (needs (length core_rules) name)) names
+is_needed names core = list_any (λ name. list_any (bytes_eq (core_name core)) (core_needs (length core_rules) name)) names

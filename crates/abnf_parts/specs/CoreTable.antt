@@ -58,8 +58,8 @@ abbrev pub number_in : ℕ → List Name → Name → Option ℕ
 number_in first names name = option_map (λ r. first + r) (position (bytes_eq name) names)
 
 -- a choice of one repetition was pushed, whose body comes next
-abbrev pub IsRepeated : List Node → List Node → Type 0
-IsRepeated old new = new ≡ old ++ Alt (suc (length old) ∷ []) ∷ Rep 0 None (suc (suc (length old))) ∷ []
+abbrev pub AddsRepeated : List Node → List Node → Type 0
+AddsRepeated old new = new ≡ old ++ Alt (suc (length old) ∷ []) ∷ Rep 0 None (suc (suc (length old))) ∷ []
 
 -- the names of the core rules that need this one: itself, those that use it, those that use these, and so on
 abbrev pub users_of : Core → List Name
@@ -81,5 +81,5 @@ users_of Vchar = codes "vchar" ∷ []
 users_of Wsp = codes "wsp" ∷ codes "lwsp" ∷ []
 
 -- one of these names stands in the text and is defined nowhere
-abbrev pub is_wanted : List Name → List Name → Bool
-is_wanted unknown users = list_any (λ user. list_any (bytes_eq user) unknown) users
+abbrev pub is_core_wanted : List Name → List Name → Bool
+is_core_wanted unknown users = list_any (λ user. list_any (bytes_eq user) unknown) users

@@ -46,11 +46,11 @@ span_of (low ∷ high ∷ rest) = span low high
 span_of _ = opaque
 
 -- Numbers with `-` are a range; others, one or more, are a series (RFC 5234 sections 2.3 and 3.4).
-abbrev pub number_in : ℕ → List ℕ → Part
-number_in base digits = if has 0x2D digits then span_of (numbers_from base 0 digits) else series (numbers_from base 0 digits)
+abbrev pub number_tree : ℕ → List ℕ → Part
+number_tree base digits = if has 0x2D digits then span_of (numbers_from base 0 digits) else series (numbers_from base 0 digits)
 
 abbrev pub number_part : List ℕ → Part
-number_part (percent ∷ letter ∷ digits) = number_in (base_of letter) digits
+number_part (percent ∷ letter ∷ digits) = number_tree (base_of letter) digits
 number_part _ = opaque
 
 -- the two ends of a range
@@ -70,12 +70,12 @@ both_ends _ = None
 
 -- `a*b` is at least a and at most b, where a is 0 and b has no bound if they don't stand there (RFC 5234 section 3.6); n is
 -- exactly n (RFC 5234 section 3.7).
-abbrev pub bounds : List ℕ → ℕ × Option ℕ
-bounds text =
+abbrev pub repeat_limits : List ℕ → ℕ × Option ℕ
+repeat_limits text =
     if has 0x2A text then (unwrap_or (number_of (before 0x2A text) 10) 0, number_of (behind 0x2A text) 10)
     else (unwrap_or (number_of text 10) 0, Some (unwrap_or (number_of text 10) 0))
 
 -- a part, repeated as told
 abbrev pub repeated : Option Token → Part → Part
 repeated None p = p
-repeated (Some t) p = let b = bounds t.text.now in rep b.0 b.1 p
+repeated (Some t) p = let b = repeat_limits t.text.now in rep b.0 b.1 p

@@ -37,21 +37,21 @@ all_below below [] = end
 all_below below (n ∷ ns) = next (below n) (all_below below ns)
 
 -- the tree of a node, read from the nodes
-abbrev pub tree_of : (ℕ → Part) → Option Node → Part
-tree_of below None = opaque
-tree_of below (Some (Quoted text exact)) = quoted text.now exact
-tree_of below (Some (Series characters)) = series characters
-tree_of below (Some (Span low high)) = span low high
-tree_of below (Some (Seq ns)) = seq (all_below below ns)
-tree_of below (Some (Alt ns)) = alt (all_below below ns)
-tree_of below (Some (Rep least most n)) = rep least most (below n)
-tree_of below (Some (Ref name rule)) = ref name.0.now rule
-tree_of below (Some Opaque) = opaque
+abbrev pub node_tree : (ℕ → Part) → Option Node → Part
+node_tree below None = opaque
+node_tree below (Some (Quoted text exact)) = quoted text.now exact
+node_tree below (Some (Series characters)) = series characters
+node_tree below (Some (Span low high)) = span low high
+node_tree below (Some (Seq ns)) = seq (all_below below ns)
+node_tree below (Some (Alt ns)) = alt (all_below below ns)
+node_tree below (Some (Rep least most n)) = rep least most (below n)
+node_tree below (Some (Ref name rule)) = ref name.0.now rule
+node_tree below (Some Opaque) = opaque
 
 -- the tree at a node, at most so deep
 abbrev pub tree_at : List Node → ℕ → ℕ → Part
 tree_at nodes zero n = opaque
-tree_at nodes (suc deep) n = tree_of (tree_at nodes deep) (slice_get nodes n)
+tree_at nodes (suc deep) n = node_tree (tree_at nodes deep) (slice_get nodes n)
 
 abbrev pub trees_at : List Node → List ℕ → List Part
 trees_at nodes roots = map (tree_at nodes (length nodes)) roots

@@ -37,26 +37,26 @@ abbrev mutual
 abbrev pub Run : Type 0
 Run = List Part → List Parts → Part
 
-abbrev pub step : Sign → Run → Run
-step (inl (text, exact)) go a b = go (quoted text exact ∷ a) b
-step (inr (inl characters)) go a b = go (series characters ∷ a) b
-step (inr (inr (inl (low, high)))) go a b = go (span low high ∷ a) b
-step (inr (inr (inr (inl (least, most))))) go (p ∷ a) b = go (rep least most p ∷ a) b
-step (inr (inr (inr (inr (inl (name, rule)))))) go a b = go (ref name rule ∷ a) b
-step (inr (inr (inr (inr (inr zero))))) go a b = go (opaque ∷ a) b
-step (inr (inr (inr (inr (inr (suc zero)))))) go a (ps ∷ b) = go (seq ps ∷ a) b
-step (inr (inr (inr (inr (inr (suc (suc zero))))))) go a (ps ∷ b) = go (alt ps ∷ a) b
-step (inr (inr (inr (inr (inr (suc (suc (suc zero)))))))) go a b = go a (end ∷ b)
-step (inr (inr (inr (inr (inr (suc (suc (suc (suc n))))))))) go (p ∷ a) (ps ∷ b) = go a (next p ps ∷ b)
-step _ go a b = opaque
+abbrev pub sign_read : Sign → Run → Run
+sign_read (inl (text, exact)) go a b = go (quoted text exact ∷ a) b
+sign_read (inr (inl characters)) go a b = go (series characters ∷ a) b
+sign_read (inr (inr (inl (low, high)))) go a b = go (span low high ∷ a) b
+sign_read (inr (inr (inr (inl (least, most))))) go (p ∷ a) b = go (rep least most p ∷ a) b
+sign_read (inr (inr (inr (inr (inl (name, rule)))))) go a b = go (ref name rule ∷ a) b
+sign_read (inr (inr (inr (inr (inr zero))))) go a b = go (opaque ∷ a) b
+sign_read (inr (inr (inr (inr (inr (suc zero)))))) go a (ps ∷ b) = go (seq ps ∷ a) b
+sign_read (inr (inr (inr (inr (inr (suc (suc zero))))))) go a (ps ∷ b) = go (alt ps ∷ a) b
+sign_read (inr (inr (inr (inr (inr (suc (suc (suc zero)))))))) go a b = go a (end ∷ b)
+sign_read (inr (inr (inr (inr (inr (suc (suc (suc (suc n))))))))) go (p ∷ a) (ps ∷ b) = go a (next p ps ∷ b)
+sign_read _ go a b = opaque
 
-abbrev pub run : List Sign → Run
-run [] [] b = opaque
-run [] (p ∷ a) b = p
-run (t ∷ ts) a b = step t (run ts) a b
+abbrev pub parts_read : List Sign → Run
+parts_read [] [] b = opaque
+parts_read [] (p ∷ a) b = p
+parts_read (t ∷ ts) a b = sign_read t (parts_read ts) a b
 
 mutual
-  run-post : (p : Part) (ts : List Sign) (a : List Part) (b : List Parts) → run (post p ts) a b ≡ run ts (p ∷ a) b
+  run-post : (p : Part) (ts : List Sign) (a : List Part) (b : List Parts) → parts_read (post p ts) a b ≡ parts_read ts (p ∷ a) b
   run-post (quoted text exact) ts a b = refl
   run-post (series characters) ts a b = refl
   run-post (span low high) ts a b = refl
@@ -66,15 +66,15 @@ mutual
   run-post (seq ps) ts a b = run-posts ps (mark 1 ∷ ts) a b
   run-post (alt ps) ts a b = run-posts ps (mark 2 ∷ ts) a b
 
-  run-posts : (ps : Parts) (ts : List Sign) (a : List Part) (b : List Parts) → run (posts ps ts) a b ≡ run ts a (ps ∷ b)
+  run-posts : (ps : Parts) (ts : List Sign) (a : List Part) (b : List Parts) → parts_read (posts ps ts) a b ≡ parts_read ts a (ps ∷ b)
   run-posts end ts a b = refl
   run-posts (next p ps) ts a b = run-post p (posts ps (mark 4 ∷ ts)) a b ∙ run-posts ps (mark 4 ∷ ts) (p ∷ a) b
 
-pub part_back : (p : Part) → run (post p []) [] [] ≡ p
+pub part_back : (p : Part) → parts_read (post p []) [] [] ≡ p
 part_back p = run-post p [] [] []
 
 abbrev pub part_code : Coded Part
-part_code = code_by (List Sign) (coded_list sign_code) (λ p. post p []) (λ ts. run ts [] []) part_back
+part_code = code_by (List Sign) (coded_list sign_code) (λ p. post p []) (λ ts. parts_read ts [] []) part_back
 
 abbrev pub trees_code : Coded (List Part)
 trees_code = coded_list part_code

@@ -4,8 +4,8 @@ use Rattle.abnf_token.specs.declared.token.Kind.{Kind}
 use Rattle.abnf_token.specs.declared.token.Kind.TheVariants.{Repeat, Number}
 use Rattle.abnf_token.specs.Classes.{Text, base_of}
 use Rattle.abnf_token.specs.Numbers.{value_in}
-use Rattle.abnf_syntax.specs.Numbers.{parts}
-use Rattle.abnf_parts.specs.Leaf.{has, before, behind, bounds, numbers_from}
+use Rattle.abnf_syntax.specs.Numbers.{number_pieces}
+use Rattle.abnf_parts.specs.Leaf.{has, before, behind, repeat_limits, numbers_from}
 
 -- the value of the digits of a bound, if any stand there
 abbrev pub bound_of : Text → Option ℕ
@@ -21,6 +21,6 @@ uncut_bounds text =
 -- A token is read as the values of its digits: a repeat in base 10, a number in the base of the letter behind `%`. No other token
 -- has digits that count.
 abbrev pub IsUncut : Kind → Text → Type 0
-IsUncut Repeat text = bounds text ≡ uncut_bounds text
-IsUncut Number text = let base = base_of (slice_index text 1) in numbers_from base 0 (drop 2 text) ≡ map (value_in base 0) (parts (drop 2 text))
+IsUncut Repeat text = repeat_limits text ≡ uncut_bounds text
+IsUncut Number text = let base = base_of (slice_index text 1) in numbers_from base 0 (drop 2 text) ≡ map (value_in base 0) (number_pieces (drop 2 text))
 IsUncut _ text = Unit {0}

@@ -158,7 +158,7 @@ fn is_undefined(defined: &Names<'_>, stated: &Names<'_>, name: Folded<'_>) -> bo
 
 /// Whether one of these names is stated and isn't defined.
 fn is_wanted(defined: &Names<'_>, stated: &Names<'_>, users: &[&'static str]) -> bool
-    ensures { result ≡ table.is_wanted (names_beside defined.now stated.now) (map (λ user. lowercase user.now) users.now) }
+    ensures { result ≡ table.is_core_wanted (names_beside defined.now stated.now) (map (λ user. lowercase user.now) users.now) }
 {
     for user in users {
         if is_undefined(defined, stated, Folded(*user)) {

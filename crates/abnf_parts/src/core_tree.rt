@@ -149,7 +149,7 @@ fn push_choice<'t>(
 
 /// A choice of one, which repeats what follows as often as one likes.
 fn push_repeated<'t>(alloc: Global, nodes: &mut Vec<Node<'t>>) -> Result<(), AllocError>
-    ensures { OnOk result (table.IsRepeated nodes.old.items nodes.new.items) }
+    ensures { OnOk result (table.AddsRepeated nodes.old.items nodes.new.items) }
 {
     let mut numbers = List::new(alloc);
     numbers.push(NodeNo::new(nodes.len() + 1))?;

@@ -133,7 +133,7 @@ pub(crate) fn number_node<'t>(alloc: Global, token: Token<'t>) -> Result<Node<'t
 /// The two ends of a range, if these are the digits of one.
 #[tactic(auto, using(crate::proofs::Ends::ends_in, crate::proofs::Ends::no_ends))]
 fn range_in(base: u32, digits: &[u8]) -> Option<(u32, u32)>
-    ensures { result ≡ leaf.ends_of (leaf.number_in base digits.now) }
+    ensures { result ≡ leaf.ends_of (leaf.number_tree base digits.now) }
 {
     if has(digits, b'-') {
         both_ends(first_ends(base, digits))
@@ -154,7 +154,7 @@ pub fn range_of<'t>(token: Token<'t>) -> Option<(u32, u32)>
 
 /// The least and the most of a repeat: as many as it says, where it has no `*`.
 pub fn repeat_bounds<'t>(token: Token<'t>) -> (u32, Option<u32>)
-    ensures { result ≡ leaf.bounds token.entry.text.now }
+    ensures { result ≡ leaf.repeat_limits token.entry.text.now }
 {
     if has(token.text.as_bytes(), b'*') {
         let (least, most) = cut(token.text, '*');

@@ -1,6 +1,6 @@
 -- What is marked as others are marked yields something, if these do.
-use Rattle.std.proofs.Common.{◌≡◌, ℕ, zero, suc, ◌+◌, ◌≤◌, ◌<◌, ◌⊎◌, inl, inr, ⊎_elim, ◌∙◌, Bool, true, false, Option, Some, None, List, length, refl, sym, subst, arith, get_or}
-use Rattle.std.proofs.lemmas.Bool.{and_parts, cases_eq, eqb-true, ltb-false, or_cases}
+use Rattle.std.proofs.Common.{◌≡◌, ℕ, zero, suc, ◌+◌, ◌≤◌, ◌<◌, ◌⊎◌, inl, inr, ⊎_elim, ◌∙◌, Bool, true, false, Option, Some, None, List, length, sym, subst, arith, get_or}
+use Rattle.std.proofs.lemmas.Bool.{and_parts, cases_eq, eqb-true, ltb-false, or_cases, not-true}
 use Rattle.std.proofs.lemmas.List.{get_or-set_other, length-set}
 use Rattle.std.proofs.lemmas.Option.{same_Some, slice_get-get_or}
 use Rattle.std.specs.Prelude.{slice_get, slice_set, not, ◌||◌, nat_lt, nat_eq}
@@ -17,12 +17,8 @@ none_or_more : (least : ℕ) (P Q : Type 0) → (P → Q) → (least ≡ 0) ⊎ 
 none_or_more least P Q to (inl z) = inl z
 none_or_more least P Q to (inr y) = inr (to y)
 
-then_not : (b : Bool) → not b ≡ true → b ≡ false
-then_not true e = absurd (cc e)
-then_not false e = refl
-
 not_above : (low high : ℕ) → not (nat_lt high low) ≡ true → low ≤ high
-not_above low high h = ltb-false high low (then_not (nat_lt high low) h)
+not_above low high h = ltb-false high low (not-true (nat_lt high low) h)
 
 module _ (Yes More : ℕ → Type 0) (up : (r : ℕ) → Yes r → More r) where
   mutual

@@ -14,7 +14,7 @@ use abnf_names::Grammar;
 use abnf_parts::{Node, NodeNo, RuleNo};
 
 /// How often all parts are swept in either order before they are given up.
-const ROUNDS: usize = 4;
+const ROUNDS: usize = 8;
 
 /// Whether a part is marked.
 pub(crate) fn is_marked(marks: &[bool], part: NodeNo) -> bool

@@ -16,7 +16,7 @@ use Rattle.abnf_names.specs.Places.{Named, places_in, places_of}
 use Rattle.abnf_names.specs.Rules.{defines, adds, counted, head_name, said_alternatives}
 use Rattle.abnf_rename.specs.Parts.{renamed_name, renamed_part}
 use Rattle.abnf_rename.proofs.ItemShapes.{shape, AreRenamedItems}
-use Rattle.abnf_rename.specs.Rules.{text_after, told}
+use Rattle.abnf_rename.specs.Rules.{text_after, text_and_role}
 use Rattle.abnf_rename.proofs.Rows.{Agrees}
 use Rattle.abnf_rename.proofs.SaidLaws.{Becomes, Tells}
 use Rattle.abnf_rename.proofs.Shapes.{shape_head, name_by_shape, adds_by_shape, defines_by_shape, places_by_shape, shape_places, head_after, places_after, pair_after, place_after, lower_after}
@@ -106,24 +106,24 @@ module _ (old : Name) (new : Text) where
   abbrev lower_text : Text × Bool → Name
   lower_text p = lowercase p.0
 
-  pub places_are : (bs cs : List Block) → AreRenamedBlocks bs cs → map told (places_of cs) ≡ map (place_after old new) (map told (places_of bs))
+  pub places_are : (bs cs : List Block) → AreRenamedBlocks bs cs → map text_and_role (places_of cs) ≡ map (place_after old new) (map text_and_role (places_of bs))
   places_are [] [] h = refl
   places_are [] (c ∷ cs) h = absurd h
   places_are (b ∷ bs) [] h = absurd h
   places_are (b ∷ bs) (c ∷ cs) h =
-      let one : map told (places_in c.items) ≡ map (place_after old new) (map told (places_in b.items)) =
+      let one : map text_and_role (places_in c.items) ≡ map (place_after old new) (map text_and_role (places_in b.items)) =
       places_by_shape c.items ∙ (ap shape_places h.0.items ∙ (places_after old new (map shape b.items) ∙ ap (map (place_after old new)) (sym (places_by_shape b.items))))
       in
-      map-append told (places_in c.items) (places_of cs)
+      map-append text_and_role (places_in c.items) (places_of cs)
       ∙ ((λ i. one i ++ places_are bs cs h.1 i)
-      ∙ (sym (map-append (place_after old new) (map told (places_in b.items)) (map told (places_of bs)))
-      ∙ ap (map (place_after old new)) (sym (map-append told (places_in b.items) (places_of bs)))))
+      ∙ (sym (map-append (place_after old new) (map text_and_role (places_in b.items)) (map text_and_role (places_of bs)))
+      ∙ ap (map (place_after old new)) (sym (map-append text_and_role (places_in b.items) (places_of bs)))))
 
   pub map_map : {A B C : Type 0} (f : A → B) (g : B → C) (xs : List A) → map g (map f xs) ≡ map (λ x. g (f x)) xs
   map_map f g [] = refl
   map_map f g (x ∷ xs) = ap (λ l. g (f x) ∷ l) (map_map f g xs)
 
-  lower_told : (ps : List Named) → map lower_text (map told ps) ≡ map (λ place. lowercase place.text) ps
+  lower_told : (ps : List Named) → map lower_text (map text_and_role ps) ≡ map (λ place. lowercase place.text) ps
   lower_told [] = refl
   lower_told (p ∷ ps) = ap (λ l. lowercase p.text ∷ l) (lower_told ps)
 
@@ -134,7 +134,7 @@ module _ (old : Name) (new : Text) where
   pub place_names : (bs cs : List Block) → AreRenamedBlocks bs cs → map (λ place. lowercase place.text) (places_of cs) ≡ map (after old new) (map (λ place. lowercase place.text) (places_of bs))
   place_names bs cs h =
       sym (lower_told (places_of cs))
-      ∙ (ap (map lower_text) (places_are bs cs h) ∙ (lower_place (map told (places_of bs)) ∙ ap (map (after old new)) (lower_told (places_of bs))))
+      ∙ (ap (map lower_text) (places_are bs cs h) ∙ (lower_place (map text_and_role (places_of bs)) ∙ ap (map (after old new)) (lower_told (places_of bs))))
 
   -- ---- blocks that count
 

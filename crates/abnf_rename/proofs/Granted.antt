@@ -4,6 +4,8 @@ use Rattle.std.specs.Prelude.{if◌then◌else◌, fold}
 use Rattle.std.specs.List.{list_any, filter_map, cons_option, AllByRecursion}
 use Rattle.std.specs.Option.{is_some}
 use Rattle.std.specs.Str.{bytes_eq}
+use Rattle.std.proofs.lemmas.Bool.{and_parts}
+use Rattle.abnf_token.proofs.Language.{and_true, and_false}
 use Rattle.abnf_token.specs.declared.token.Kind.{Kind}
 use Rattle.abnf_token.specs.declared.token.Kind.TheVariants as k
 use Rattle.abnf_token.specs.Classes.{Text}
@@ -46,10 +48,6 @@ or_true : (a b : Bool) → (a ≡ true) ⊎ (b ≡ true) → a || b ≡ true
 or_true true b h = refl
 or_true false b (inl e) = never false e refl
 or_true false b (inr e) = e
-
-and_both : (a b : Bool) → a && b ≡ true → (a ≡ true) × (b ≡ true)
-and_both true b e = (refl, e)
-and_both false b e = never false e refl
 
 -- ---- the names of places are fresh
 
@@ -114,7 +112,7 @@ module _ (old : Name) (new : Text) where
   head_fresh (x ∷ y ∷ xs) a =
       let d = is_some (head_of (x ∷ y ∷ xs)) in
       head_if (is_name (kind_of x) && is_defined_as (kind_of y)) _ _
-      (λ e. named_fresh d x (and_both (is_name (kind_of x)) (is_defined_as (kind_of y)) e).0 (all_front IsFreshPlace (named d x) (uses_after (kind_of x) (y ∷ xs)) a))
+      (λ e. named_fresh d x (and_parts (is_name (kind_of x)) (is_defined_as (kind_of y)) e).0 (all_front IsFreshPlace (named d x) (uses_after (kind_of x) (y ∷ xs)) a))
 
   pub heads_fresh : (bs : List Block) → AllByRecursion IsFreshPlace (places_of bs) → AreFreshHeads old new bs
   heads_fresh [] a = tt
@@ -146,7 +144,7 @@ module _ (old : Name) where
       ∙ (λ i. no_use (is_touched before x) (is_name (kind_of x)) (record { text = x.token.text.now; place = place_of x.token; defines = false }) refl i || no_uses (kind_of x) xs i)
 
   named_old : (b : Bool) (n : Named) → list_any defines_old (if b then n ∷ [] else []) ≡ true → (n.defines ≡ true) × (is_called old n.text ≡ true)
-  named_old true n e = elim (or_cases (defines_old n) false e) [ inl h ↦ and_both n.defines (is_called old n.text) h | inr h ↦ never false h refl ]
+  named_old true n e = elim (or_cases (defines_old n) false e) [ inl h ↦ and_parts n.defines (is_called old n.text) h | inr h ↦ never false h refl ]
   named_old false n e = never false e refl
 
   head_old : (c : Bool) (h : Head) → is_some (if c then Some h else None) ≡ true → option_map name_of (if c then Some h else None) ≡ Some (name_of h)
@@ -206,18 +204,10 @@ module _ (old : Name) where
   defined_by : (bs : List Block) → list_any defines_old (places_of bs) ≡ true → list_any (bytes_eq old) (defined bs) ≡ true
   defined_by bs e = any_fold (filter_map head_name bs) [] (inr (heads_old bs e))
 
-  and_true : (a : Bool) → a ≡ a && true
-  and_true true = refl
-  and_true false = refl
-
-  and_false : (a : Bool) → false ≡ a && false
-  and_false true = refl
-  and_false false = refl
-
   one_kept : (called defines : Bool) (n : Named) (ns : List Named) (more : Bool) → n.defines ≡ defines → list_any (λ n. n.defines) ns ≡ more →
       list_any (λ n. n.defines) (cond called (n ∷ ns) ns) ≡ (defines && called) || more
-  one_kept true defines n ns more d e = (λ i. (d ∙ and_true defines) i || e i)
-  one_kept false defines n ns more d e = e ∙ ap (λ b. b || more) (and_false defines)
+  one_kept true defines n ns more d e = (λ i. (d ∙ sym (and_true defines)) i || e i)
+  one_kept false defines n ns more d e = e ∙ ap (λ b. b || more) (sym (and_false defines))
 
   defining_places : (ns : List Named) → list_any (λ n. n.defines) (places_of_name old ns) ≡ list_any defines_old ns
   defining_places [] = refl

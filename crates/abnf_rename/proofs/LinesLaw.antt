@@ -5,6 +5,8 @@ use Rattle.std.specs.List.{flat_map, list_all}
 use Rattle.std.specs.Char.{is_ascii_alphabetic}
 use Rattle.std.proofs.lemmas.List.{map-append}
 use Rattle.std.proofs.lemmas.Bool.Decides.{nat_tests}
+use Rattle.std.proofs.lemmas.Bool.{and_parts}
+use Rattle.abnf_token.proofs.Language.{and_false, and_true}
 use Rattle.abnf_token.specs.declared.token.Kind.{Kind}
 use Rattle.abnf_token.specs.declared.token.Kind.TheVariants as k
 use Rattle.abnf_token.specs.declared.token.Token.{Token}
@@ -17,7 +19,6 @@ use Rattle.abnf_syntax.specs.declared.item.Item.{Item}
 use Rattle.abnf_syntax.specs.Kinds.{is_item}
 use Rattle.abnf_syntax.specs.Blocks.{indent, is_content, base_indent, begins_at, NoneBegins, IsBlock, AreBlocks}
 use Rattle.abnf_syntax.specs.Items.{with_line_end, items_behind, items_of, AreTokens, AreItems, view}
-use Rattle.abnf_syntax.proofs.Sound.{and_both}
 use Rattle.abnf_rename.specs.Lines.{IsRenamedLine, AreRenamedLines, HaveRenamedTokens}
 use Rattle.abnf_rename.proofs.ItemShapes.{Shape, shape, renamed_shapes, AreRenamedItems}
 
@@ -31,12 +32,12 @@ letter_comment b l = grind (arith, nat_tests)
 
 name_indent : (t r : Text) → is_name t ≡ true → indent (t ++ r) ≡ 0
 name_indent [] r n = never n
-name_indent (b ∷ bs) r n = rw (letter_blank b (and_both (is_ascii_alphabetic b) (list_all is_name_byte bs) n).0) refl
+name_indent (b ∷ bs) r n = rw (letter_blank b (and_parts (is_ascii_alphabetic b) (list_all is_name_byte bs) n).0) refl
 
 pub name_content : (t r : Text) → is_name t ≡ true → is_content (t ++ r) ≡ true
 name_content [] r n = never n
 name_content (b ∷ bs) r n =
-    let l = (and_both (is_ascii_alphabetic b) (list_all is_name_byte bs) n).0 in
+    let l = (and_parts (is_ascii_alphabetic b) (list_all is_name_byte bs) n).0 in
     rw (letter_blank b l, letter_comment b l) refl
 
 indent_tail : (t r s : Text) → indent r ≡ indent s → indent (t ++ r) ≡ indent (t ++ s)
@@ -205,14 +206,6 @@ module _ (old new : Text) where
   lines_renamed (ts ∷ tss) =
       ap (λ l. ended (renamed old new false (map piece ts)) ++ l) (lines_renamed tss)
       ∙ sym (ended_renamed false (map piece ts) (flat_map ended (map (map piece) tss)))
-
-  and_false : (a : Bool) → a && false ≡ false
-  and_false true = refl
-  and_false false = refl
-
-  and_true : (a : Bool) → a && true ≡ a
-  and_true true = refl
-  and_true false = refl
 
   if_renamed : (b touched : Bool) (x : Shape) (xs ys : List Shape) → renamed_shapes old new touched (if b then x ∷ xs else ys) ≡ (if b then renamed_shapes old new touched (x ∷ xs) else renamed_shapes old new touched ys)
   if_renamed true touched x xs ys = refl

@@ -2,6 +2,7 @@
 use Rattle.std.proofs.Common.{◌≡◌, ℕ, suc, ◌+◌, ◌<◌, ◌≤◌, Bool, true, false, Some, None, List, [], ◌∷◌, ◌++◌, length, map, refl, sym, ap, subst, ◌∙◌, arith, append_assoc, length-append}
 use Rattle.std.specs.Prelude.{if◌then◌else◌, sum_by, IfSome}
 use Rattle.std.specs.Str.{chars}
+use Rattle.std.proofs.lemmas.List.{append-nil}
 use Rattle.ls_text.specs.Lines.{starts_with_lf, offset_of}
 use Rattle.ls_text.specs.Edits.{replaced, edited, edited_all, is_too_large}
 use Rattle.ls_text.specs.Cut.{Row, row, line_text, text_of, end_text, AreLines, IsPlain, start_of, text_at}
@@ -13,7 +14,7 @@ use Rattle.ls_text.proofs.HeldLaws.{text_of-append}
 use Rattle.abnf_token.specs.Classes.{Text}
 use Rattle.abnf_rename.specs.Text.{renaming_edit, renaming_edits}
 use Rattle.abnf_rename.proofs.RoundLaws.{offset_behind}
-use Rattle.abnf_rename.proofs.SegmentLaws.{Segment, plain, changed, spots, put_in, replaced_between, RowOf, row_of, rows_text, AreRows, IsSolid, AreSolid, AreSolidRows, changed_rows, rows_changed, start_rows, start_tail, end_same, append_nil}
+use Rattle.abnf_rename.proofs.SegmentLaws.{Segment, plain, changed, spots, put_in, replaced_between, RowOf, row_of, rows_text, AreRows, IsSolid, AreSolid, AreSolidRows, changed_rows, rows_changed, start_rows, start_tail, end_same}
 use Rattle.abnf_rename.proofs.WholeText.{whole, put_in_whole}
 
 -- ---- edits one after another
@@ -137,7 +138,7 @@ module _ (w : ℕ → ℕ) (some : (c : ℕ) → 1 ≤ w c) (new : Text) (solid 
 
   after_is : (rows : List RowOf) → map row_of (changed_rows (chars new) solid new_plain rows) ≡ rows_after rows
   after_is [] = refl
-  after_is (r ∷ rows) = (λ i. row (append_nil (changed (chars new) r.0) i) r.1 ∷ after_is rows i)
+  after_is (r ∷ rows) = (λ i. row (append-nil (changed (chars new) r.0) i) r.1 ∷ after_is rows i)
 
   abbrev AreSolidAll : List RowOf → Type 0
   AreSolidAll rows = AreSolidRows (chars new) solid new_plain rows

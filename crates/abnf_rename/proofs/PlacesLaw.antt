@@ -6,6 +6,7 @@ use Rattle.std.specs.Option.{is_some}
 use Rattle.std.specs.Str.{bytes_eq}
 use Rattle.std.proofs.lemmas.List.{map-append}
 use Rattle.std.proofs.lemmas.List.Elements.{filter-append}
+use Rattle.abnf_token.proofs.Language.{and_false, and_true}
 use Rattle.ls_text.specs.declared.position.Place.{Place}
 use Rattle.abnf_token.specs.declared.token.Kind.{Kind}
 use Rattle.abnf_token.specs.declared.token.Kind.TheVariants as k
@@ -99,14 +100,6 @@ module _ (old : Text) where
   by_kind k.Comment text place here xs ys zs h g = g refl
   by_kind k.Blank text place here xs ys zs h g = g refl
   by_kind kind text place here xs ys zs h g = ap (λ l. at here kind text place ++ l) (h refl)
-
-  and_false : (a : Bool) → a && false ≡ false
-  and_false true = refl
-  and_false false = refl
-
-  and_true : (a : Bool) → a && true ≡ a
-  and_true true = refl
-  and_true false = refl
 
   behind_places : (apart here before : Bool) (os : List (Option Token)) → here ≡ before && not apart → pair_places before (items_behind apart os) ≡ token_places here os
   behind_places apart here before [] e = refl

@@ -24,7 +24,7 @@ use Rattle.abnf_names.specs.Places.{Named, places_of, places_of_name}
 use Rattle.abnf_names.specs.Rules.{Grammar, IsGrammar}
 use Rattle.abnf_rename.specs.Lines.{AreRenamedLines}
 use Rattle.abnf_rename.specs.Rules.{IsGranted, AreSameRules, KeepsNames}
-use Rattle.abnf_rename.specs.Text.{text_renamed, renaming_edits, EditsGive, ranges_of, KeepsTheGrammar}
+use Rattle.abnf_rename.specs.Text.{text_renamed, renaming_edits, EditsGive, name_ranges, KeepsTheGrammar}
 use Rattle.abnf_rename.proofs.AllPlaces.{ArePieces, range, all_places}
 use Rattle.abnf_rename.proofs.LinesLaw.{tokens_kept}
 use Rattle.abnf_rename.proofs.MadeEdits.{rows_ranges, edits_made}
@@ -149,21 +149,21 @@ scalars_of : (cs : List ℕ) → All IsScalar cs → scalars cs ≡ true
 scalars_of [] h = refl
 scalars_of (c ∷ cs) h = (λ i. All-head IsScalar c cs h i && scalars_of cs (All-tail IsScalar c cs h) i)
 
-pub grammar_kept : (encoding : Encoding) (old : Name) (new : Text) (g : Grammar) → IsGrammar g → All IsScalar g.text → IsGranted old new g → KeepsTheGrammar encoding old new g (ranges_of encoding g old)
+pub grammar_kept : (encoding : Encoding) (old : Name) (new : Text) (g : Grammar) → IsGrammar g → All IsScalar g.text → IsGranted old new g → KeepsTheGrammar encoding old new g (name_ranges encoding g old)
 grammar_kept encoding old new g right s granted =
     let places : places_of right.blocks ≡ g.places = sym (ap (λ (h : Grammar). h.places) right.is) in
-    let kept : (AreRenamedLines old new (line_texts g.text) (line_texts (text_renamed encoding g.text new (ranges_of encoding g old)))) × EditsGive encoding g.text new (ranges_of encoding g old) =
+    let kept : (AreRenamedLines old new (line_texts g.text) (line_texts (text_renamed encoding g.text new (name_ranges encoding g old)))) × EditsGive encoding g.text new (name_ranges encoding g old) =
     subst (λ ns. (AreRenamedLines old new (line_texts g.text) (line_texts (text_renamed encoding g.text new (map (range_in encoding g.text) (places_of_name old ns))))) × EditsGive encoding g.text new (map (range_in encoding g.text) (places_of_name old ns))) places
     (lines_kept encoding old new granted.named g.text (scalars_of g.text s) right.blocks right.of_text)
     in
-    let lines : AreRenamedLines old new (line_texts g.text) (line_texts (text_renamed encoding g.text new (ranges_of encoding g old))) = kept.0 in
-    let both : (after : Grammar) → IsGrammar after → after.text ≡ text_renamed encoding g.text new (ranges_of encoding g old) → AreSameRules old new g after × KeepsNames old new g after =
+    let lines : AreRenamedLines old new (line_texts g.text) (line_texts (text_renamed encoding g.text new (name_ranges encoding g old))) = kept.0 in
+    let both : (after : Grammar) → IsGrammar after → after.text ≡ text_renamed encoding g.text new (name_ranges encoding g old) → AreSameRules old new g after × KeepsNames old new g after =
     λ after is of_text. both_kept old new g after right is granted (subst (λ t. AreRenamedLines old new (line_texts g.text) (line_texts t)) (sym of_text) lines)
     in
     record {
       edits = kept.1;
       lines = lines;
-      tokens = tokens_kept old new granted.named (line_texts g.text) (line_texts (text_renamed encoding g.text new (ranges_of encoding g old))) lines;
+      tokens = tokens_kept old new granted.named (line_texts g.text) (line_texts (text_renamed encoding g.text new (name_ranges encoding g old))) lines;
       rules = λ after is of_text. (both after is of_text).0;
       names = λ after is of_text. (both after is of_text).1;
     }

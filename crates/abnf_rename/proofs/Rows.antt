@@ -21,7 +21,7 @@ use Rattle.abnf_syntax.specs.Grammar.IsConcatenation.{one, and}
 use Rattle.abnf_syntax.specs.Grammar.IsRepetition.{once, times}
 use Rattle.abnf_syntax.specs.Grammar.IsElement.{name as is_name, quoted as is_quoted, number as is_number, prose as is_prose, group as is_group, choice as is_choice}
 use Rattle.abnf_parts.specs.Part.{Part, series, seq, alt, rep, ref, next}
-use Rattle.abnf_parts.specs.Leaf.{repeated, bounds, number_part, numbers_from, span_of, quoted_part, has}
+use Rattle.abnf_parts.specs.Leaf.{repeated, repeat_limits, number_part, numbers_from, span_of, quoted_part, has}
 use Rattle.abnf_token.specs.Classes.{base_of}
 use Rattle.abnf_parts.specs.Names.{Name}
 use Rattle.abnf_parts.specs.Tree.{ElementLayer, join, parts, element_part, repetition_part, concatenation_part, tree_inside}
@@ -195,7 +195,7 @@ module _ (N : Text → Text → Type 0) where
           (
             repetition (Some y.token) x.2.0,
             times (l.0.kind ∙ is) (fits_like repeat y l.0 text fit) (l.1.0.apart ∙ apart) x.2.1,
-            repeated_like (Some repeat.token) (Some y.token) _ x.2.0 (λ q. ap (λ t. let b = bounds t in rep b.0 b.1 q) text) x.2.2,
+            repeated_like (Some repeat.token) (Some y.token) _ x.2.0 (λ q. ap (λ t. let b = repeat_limits t in rep b.0 b.1 q) text) x.2.2,
           ),
         )
 

@@ -16,7 +16,7 @@ use Rattle.abnf_names.specs.Rules.{defines, counted, head_name, defined, undefin
 use Rattle.abnf_parts.specs.Generates.{RuleGen}
 use Rattle.abnf_parts.specs.Reach.{ReachesOpaque}
 use Rattle.abnf_rename.specs.Parts.{renamed_part, renamed_rules, KeepsMeaning}
-use Rattle.abnf_rename.specs.Rules.{told, AreSameRules}
+use Rattle.abnf_rename.specs.Rules.{text_and_role, AreSameRules}
 use Rattle.abnf_rename.proofs.Rows.{parts_renamed}
 use Rattle.abnf_rename.proofs.TreeLaws.{meaning_kept}
 use Rattle.abnf_rename.proofs.Shapes.{place_after}
@@ -97,7 +97,7 @@ module _ (old : Name) (new : Text) (bs cs : List Block) (h : AreRenamedBlocks ol
     is_rule = own.is;
     names = names_kept;
     rules = rules_kept;
-    places = places_are old new bs cs h ∙ map_map old new told (place_after old new) (places_of bs);
+    places = places_are old new bs cs h ∙ map_map old new text_and_role (place_after old new) (places_of bs);
     stands = λ name f. ap (λ l. rule_number l (after old new name)) names_is ∙ number_after old new (defined bs) (map core_name (needed bs)) name there f own_fresh;
     generates = λ k r s. subst (λ rules. RuleGen (rules_of bs) k r s ↔ RuleGen rules k r s) (sym rules_kept) (kept_rules.rule_generates k r s);
     reaches = λ r. subst (λ rules. ReachesOpaque (rules_of bs) r ↔ ReachesOpaque rules r) (sym rules_kept) (kept_rules.reaches r);

@@ -1,6 +1,7 @@
 -- What a block says after a rename.
 use Rattle.std.proofs.Common.{◌≡◌, ℕ, Bool, true, false, not, ◌&&◌, List, [], ◌∷◌, map, Option, Result, Ok, Err, refl, sym, ap, subst, ◌∙◌}
 use Rattle.std.specs.Prelude.{if◌then◌else◌}
+use Rattle.abnf_token.proofs.Language.{and_false}
 use Rattle.abnf_token.specs.declared.token.Kind.{Kind}
 use Rattle.abnf_token.specs.declared.token.Kind.TheVariants as k
 use Rattle.abnf_token.specs.Classes.{Text}
@@ -48,11 +49,7 @@ not_name : (x : Item) (kind : Kind) (touched : Bool) → kind_of x ≡ kind → 
 not_name x kind touched is n e = absurd (n (sym is ∙ e))
 
 free_apart : (x : Item) (touched : Bool) → x.apart ≡ true → IsFree touched x
-free_apart x touched e n = ap (λ b. touched && not b) e ∙ both touched
-  where
-    both : (b : Bool) → b && false ≡ false
-    both true = refl
-    both false = refl
+free_apart x touched e n = ap (λ b. touched && not b) e ∙ and_false touched
 
 first_false : (xs : List Item) → FirstFree false xs
 first_false [] = tt

@@ -4,6 +4,7 @@ use Rattle.std.specs.Prelude.{if◌then◌else◌, nat_lt}
 use Rattle.std.specs.List.{list_any}
 use Rattle.std.proofs.Math.Seq.{take-append_seam, drop-append_seam, drop-append-add}
 use Rattle.std.proofs.lemmas.Bool.{lt-ltb}
+use Rattle.std.proofs.lemmas.List.{append-nil}
 use Rattle.ls_text.specs.Lines.{lines, starts_with_lf, is_break}
 use Rattle.ls_text.specs.Edits.{replaced, greater}
 use Rattle.ls_text.specs.Cut.{Row, row, line_text, text_of, end_text, is_end_before, IsPlain, AreLines}
@@ -75,10 +76,6 @@ rows_text rows = text_of (map row_of rows)
 abbrev pub AreRows : List RowOf → Type 0
 AreRows rows = AreLines (map row_of rows)
 
-pub append_nil : (xs : List ℕ) → xs ++ [] ≡ xs
-append_nil [] = refl
-append_nil (x ∷ xs) = ap (λ l. x ∷ l) (append_nil xs)
-
 row_texts : (rows : List RowOf) → map line_text (map row_of rows) ≡ map (λ (r : RowOf). plain r.0) rows
 row_texts [] = refl
 row_texts (r ∷ rows) = ap (λ l. plain r.0 ∷ l) (row_texts rows)
@@ -137,7 +134,7 @@ module _ (new : List ℕ) (solid : IsSolid new) (new_plain : IsPlain new) where
   pub start_rows : (rows : List RowOf) → AreSolidRows rows → starts_with_lf (rows_text (changed_rows rows)) ≡ starts_with_lf (rows_text rows)
   start_rows [] h = refl
   start_rows (r ∷ rows) h =
-      ap (λ l. starts_with_lf (l ++ (end_text r.1 ++ rows_text (changed_rows rows)))) (append_nil (changed new r.0))
+      ap (λ l. starts_with_lf (l ++ (end_text r.1 ++ rows_text (changed_rows rows)))) (append-nil (changed new r.0))
       ∙ start_changed r.0 (end_text r.1 ++ rows_text (changed_rows rows)) (end_text r.1 ++ rows_text rows) h.0
       (start_end r.1 (rows_text (changed_rows rows)) (rows_text rows) (start_rows rows h.1))
 
@@ -164,7 +161,7 @@ module _ (new : List ℕ) (solid : IsSolid new) (new_plain : IsPlain new) where
       plain_by x.0 x.1 (changed new xs) h.0 (plain_changed xs h.1)
 
   one_plain : (xs : List Segment) → IsPlain (plain xs) → IsPlain (changed new xs ++ [])
-  one_plain xs p = subst IsPlain (sym (append_nil (changed new xs))) (plain_changed xs p)
+  one_plain xs p = subst IsPlain (sym (append-nil (changed new xs))) (plain_changed xs p)
 
   pub rows_changed : (rows : List RowOf) → AreSolidRows rows → AreRows rows → AreRows (changed_rows rows)
   rows_changed [] s h = absurd h
@@ -174,7 +171,7 @@ module _ (new : List ℕ) (solid : IsSolid new) (new_plain : IsPlain new) where
 
   rows_lines : (rows : List RowOf) → map (λ (r : RowOf). plain r.0) (changed_rows rows) ≡ map (λ (r : RowOf). changed new r.0) rows
   rows_lines [] = refl
-  rows_lines (r ∷ rows) = (λ i. append_nil (changed new r.0) i ∷ rows_lines rows i)
+  rows_lines (r ∷ rows) = (λ i. append-nil (changed new r.0) i ∷ rows_lines rows i)
 
   -- The lines of the changed text are the lines, each changed by itself: no line end is made, lost or moved to another line.
   pub lines_changed : (rows : List RowOf) → AreSolidRows rows → AreRows rows → lines (rows_text (changed_rows rows)) ≡ map (λ (r : RowOf). changed new r.0) rows

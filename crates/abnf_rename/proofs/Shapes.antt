@@ -16,10 +16,10 @@ use Rattle.abnf_syntax.specs.Grammar.{kind_of}
 use Rattle.abnf_syntax.specs.Heads.{head_of}
 use Rattle.abnf_parts.specs.Names.{Name}
 use Rattle.abnf_names.specs.Said.{Block, name_of}
-use Rattle.abnf_names.specs.Places.{Named, named, is_number, is_touched, use_after, uses_after, places_in}
+use Rattle.abnf_names.specs.Places.{Named, named, is_number_kind, is_touched, use_after, uses_after, places_in}
 use Rattle.abnf_names.specs.Rules.{defines, adds, head_name}
 use Rattle.abnf_rename.proofs.ItemShapes.{Shape, shape, renamed_shapes}
-use Rattle.abnf_rename.specs.Rules.{text_after, name_after, told}
+use Rattle.abnf_rename.specs.Rules.{text_after, name_after, text_and_role}
 
 -- ---- heads
 
@@ -83,7 +83,7 @@ abbrev pub shape_places : List Shape → List Told
 shape_places [] = []
 shape_places (x ∷ xs) = shape_named (is_some (shape_head (x ∷ xs))) x ++ shape_uses (touches x.0) xs
 
-pub touches_is : (kind : Kind) → touches kind ≡ (is_bad kind || is_number kind)
+pub touches_is : (kind : Kind) → touches kind ≡ (is_bad kind || is_number_kind kind)
 touches_is k.Bad = refl
 touches_is k.Number = refl
 touches_is kind = refl
@@ -95,32 +95,32 @@ and_sym false true = refl
 and_sym false false = refl
 
 pub touched_is : (before : Kind) (x : Item) → is_touched before x ≡ touches before && not x.apart
-touched_is before x = and_sym (not x.apart) (is_bad before || is_number before) ∙ ap (λ b. b && not x.apart) (sym (touches_is before))
+touched_is before x = and_sym (not x.apart) (is_bad before || is_number_kind before) ∙ ap (λ b. b && not x.apart) (sym (touches_is before))
 
-named_if : (b d : Bool) (n : Named) → n.defines ≡ d → map told (if b then n ∷ [] else []) ≡ (if b then (n.text, d) ∷ [] else [])
+named_if : (b d : Bool) (n : Named) → n.defines ≡ d → map text_and_role (if b then n ∷ [] else []) ≡ (if b then (n.text, d) ∷ [] else [])
 named_if true d n e = ap (λ d. (n.text, d) ∷ []) e
 named_if false d n e = refl
 
-named_by_shape : (d : Bool) (x : Item) → map told (named d x) ≡ shape_named d (shape x)
+named_by_shape : (d : Bool) (x : Item) → map text_and_role (named d x) ≡ shape_named d (shape x)
 named_by_shape d x = named_if (is_name (kind_of x)) d _ refl
 
-use_if : (b : Bool) (xs : List Named) → map told (if b then [] else xs) ≡ (if b then [] else map told xs)
+use_if : (b : Bool) (xs : List Named) → map text_and_role (if b then [] else xs) ≡ (if b then [] else map text_and_role xs)
 use_if true xs = refl
 use_if false xs = refl
 
-use_by_shape : (before : Kind) (x : Item) → map told (use_after before x) ≡ shape_use (touches before) (shape x)
+use_by_shape : (before : Kind) (x : Item) → map text_and_role (use_after before x) ≡ shape_use (touches before) (shape x)
 use_by_shape before x =
     use_if (is_touched before x) (named false x) ∙ (λ i. if touched_is before x i then [] else named_by_shape false x i)
 
-pub uses_by_shape : (before : Kind) (xs : List Item) → map told (uses_after before xs) ≡ shape_uses (touches before) (map shape xs)
+pub uses_by_shape : (before : Kind) (xs : List Item) → map text_and_role (uses_after before xs) ≡ shape_uses (touches before) (map shape xs)
 uses_by_shape before [] = refl
 uses_by_shape before (x ∷ xs) =
-    map-append told (use_after before x) (uses_after (kind_of x) xs) ∙ (λ i. use_by_shape before x i ++ uses_by_shape (kind_of x) xs i)
+    map-append text_and_role (use_after before x) (uses_after (kind_of x) xs) ∙ (λ i. use_by_shape before x i ++ uses_by_shape (kind_of x) xs i)
 
-pub places_by_shape : (xs : List Item) → map told (places_in xs) ≡ shape_places (map shape xs)
+pub places_by_shape : (xs : List Item) → map text_and_role (places_in xs) ≡ shape_places (map shape xs)
 places_by_shape [] = refl
 places_by_shape (x ∷ xs) =
-    map-append told (named (is_some (head_of (x ∷ xs))) x) (uses_after (kind_of x) xs)
+    map-append text_and_role (named (is_some (head_of (x ∷ xs))) x) (uses_after (kind_of x) xs)
     ∙ (λ i. (named_by_shape (is_some (head_of (x ∷ xs))) x ∙ ap (λ d. shape_named d (shape x)) (some_pair (head_of (x ∷ xs)) ∙ ap is_some (head_shape (x ∷ xs)))) i ++ uses_by_shape (kind_of x) xs i)
 
 -- ---- a rename

@@ -2,6 +2,7 @@
 use Rattle.std.proofs.Common.{◌≡◌, ◌==◌, ℕ, Bool, true, false, not, ◌&&◌, ◌||◌, List, [], ◌∷◌, ◌++◌, refl, sym, ap, subst, ◌∙◌}
 use Rattle.std.specs.List.{list_any}
 use Rattle.std.proofs.lemmas.Bool.{eqb-true}
+use Rattle.abnf_token.proofs.Language.{and_false}
 use Rattle.ls_text.specs.Lines.{starts_with_lf, is_break}
 use Rattle.ls_text.specs.Cut.{Row, row, end_text, is_end_before, IsCut}
 use Rattle.ls_text.specs.declared.line_end.LineEnd.{LineEnd}
@@ -31,13 +32,9 @@ one_more c t apart rows = by (c == 10) (c == 13) refl refl
     by false true e f = subst (λ n. Rows (n ∷ t)) (sym (eqb-true c 13 f)) (with_end Cr t (ap not (ap (λ b. b && starts_with_lf t) (sym f) ∙ apart)) rows)
     by false false e f = with_plain c t (λ i. e i || f i) rows
 
-and_no : (a : Bool) → a && false ≡ false
-and_no true = refl
-and_no false = refl
-
 pub each_text : (t : List ℕ) → Rows t
 each_text [] = (row [] Eof ∷ [], ((refl, refl), refl))
-each_text (c ∷ []) = one_more c [] (and_no (c == 13)) (row [] Eof ∷ [], ((refl, refl), refl))
+each_text (c ∷ []) = one_more c [] (and_false (c == 13)) (row [] Eof ∷ [], ((refl, refl), refl))
 each_text (c ∷ d ∷ t) = by (c == 13) (d == 10) refl refl (each_text (d ∷ t)) (each_text t)
   where
     by : (x y : Bool) → (c == 13) ≡ x → (d == 10) ≡ y → Rows (d ∷ t) → Rows t → Rows (c ∷ d ∷ t)

@@ -1,9 +1,10 @@
 -- A whole text of rows, changed from its last segment to its first.
 use Rattle.std.proofs.Common.{◌≡◌, ℕ, false, List, [], ◌∷◌, ◌++◌, map, refl, sym, ap, ◌∙◌, append_assoc}
 use Rattle.std.specs.Prelude.{if◌then◌else◌}
+use Rattle.std.proofs.lemmas.List.{append-nil}
 use Rattle.ls_text.specs.Lines.{lines}
 use Rattle.ls_text.specs.Cut.{end_text, IsPlain}
-use Rattle.abnf_rename.proofs.SegmentLaws.{Segment, plain, changed, spots, put_in, put_in-is, RowOf, rows_text, AreRows, IsSolid, AreSolidRows, changed_rows, append_nil, lines_changed}
+use Rattle.abnf_rename.proofs.SegmentLaws.{Segment, plain, changed, spots, put_in, put_in-is, RowOf, rows_text, AreRows, IsSolid, AreSolidRows, changed_rows, lines_changed}
 
 -- the segments of the whole text, line ends among them
 abbrev pub whole : List RowOf → List Segment
@@ -28,7 +29,7 @@ module _ (new : List ℕ) (solid : IsSolid new) (new_plain : IsPlain new) where
   changed_whole [] = refl
   changed_whole (r ∷ rows) =
       changed_parts new r.0 ((false, end_text r.1) ∷ whole rows)
-      ∙ (λ i. sym (append_nil (changed new r.0)) i ++ (end_text r.1 ++ changed_whole rows i))
+      ∙ (λ i. sym (append-nil (changed new r.0)) i ++ (end_text r.1 ++ changed_whole rows i))
 
   -- A text of rows that is changed from its last segment to its first is that of the changed rows.
   pub put_in_whole : (rows : List RowOf) → put_in (rows_text rows) new (spots 0 (whole rows)) ≡ rows_text (changed_rows new solid new_plain rows)

@@ -22,8 +22,8 @@ abbrev pub name_after : Name → Text → Name → Name
 name_after old new name = if bytes_eq old name then lowercase new else name
 
 -- a place's text, and whether it defines
-abbrev pub told : Named → Text × Bool
-told n = (n.text, n.defines)
+abbrev pub text_and_role : Named → Text × Bool
+text_and_role n = (n.text, n.defines)
 
 -- the same after the rename
 abbrev pub told_after : Name → Text → Named → Text × Bool
@@ -52,7 +52,7 @@ pub record AreSameRules (old : Name) (new : Text) (g h : Grammar) : Type 0 where
   pub is_rule : rule_number g.names old ≡ Some rule
   pub names : h.names ≡ slice_set g.names rule (lowercase new)
   pub rules : h.rules ≡ renamed_rules rule new g.rules
-  pub places : map told h.places ≡ map (told_after old new) g.places
+  pub places : map text_and_role h.places ≡ map (told_after old new) g.places
   pub stands : (name : Name) → IsApart old new name → rule_number h.names (name_after old new name) ≡ rule_number g.names name
   pub generates : (k r : ℕ) (s : List ℕ) → RuleGen g.rules k r s ↔ RuleGen h.rules k r s
   pub reaches : (r : ℕ) → ReachesOpaque g.rules r ↔ ReachesOpaque h.rules r

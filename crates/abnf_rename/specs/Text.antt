@@ -42,8 +42,8 @@ EditsGive encoding text new ranges =
     IfSome (edited_all (units encoding) text (renaming_edits new ranges)) (λ edited. edited ≡ text_renamed encoding text new ranges)
 
 -- the ranges of the places of a name, in the order of the text
-abbrev pub ranges_of : Encoding → Grammar → Name → List Range
-ranges_of encoding g name = map (λ named. place_range (units encoding) g.text named.place) (places_of_name name g.places)
+abbrev pub name_ranges : Encoding → Grammar → Name → List Range
+name_ranges encoding g name = map (λ named. place_range (units encoding) g.text named.place) (places_of_name name g.places)
 
 -- What a rename of this name keeps, of the text after its edits.
 --

@@ -36,7 +36,7 @@ ghost use Rattle.abnf_names.specs.Rules.{Grammar, IsGrammar};
 ghost use Rattle.abnf_rename.specs.Lines.{AreRenamedLines};
 ghost use Rattle.abnf_rename.specs.Parts.{renamed_part, renamed_rules, KeepsMeaning};
 ghost use Rattle.abnf_rename.specs.Rules.{IsGranted, AreSameRules, KeepsNames};
-ghost use Rattle.abnf_rename.specs.Text.{ranges_of, KeepsTheGrammar};
+ghost use Rattle.abnf_rename.specs.Text.{name_ranges, KeepsTheGrammar};
 
 /// Trees that are the same but for the name in the references to one rule generate the same strings, with as many nested references,
 /// and the same rules lead to an opaque part. This holds of all trees, whatever text they are of.
@@ -64,5 +64,5 @@ pub fn grammars_are_kept()
 /// What a position counts within its line may be any of the encodings on which client and server agree. A text is made of Unicode scalar values, as every document is.
 pub fn renames_keep_grammars()
     ensures { (encoding : Encoding) (old : Name) (new : Text) (before : Grammar) → IsGrammar before → All IsScalar before.text → IsGranted old new before →
-        KeepsTheGrammar encoding old new before (ranges_of encoding before old) }
+        KeepsTheGrammar encoding old new before (name_ranges encoding before old) }
 {}

@@ -2,6 +2,7 @@
 use Rattle.std.proofs.Common.{◌≡◌, ℕ, suc, ◌+◌, Bool, true, false, not, ◌&&◌, List, [], ◌∷◌, ◌++◌, length, Option, Some, None, Ok, sym, refl, ap, subst, ◌∙◌, append_assoc, arith, if◌then◌else◌}
 use Rattle.std.specs.Prelude.{nat_le}
 use Rattle.std.proofs.lemmas.Bool.{lt-leb}
+use Rattle.abnf_token.proofs.Language.{and_false}
 use Rattle.abnf_token.specs.declared.token.Kind.{Kind}
 use Rattle.abnf_token.specs.declared.token.Kind.TheVariants as k
 use Rattle.abnf_token.specs.declared.token.Token.{Token}
@@ -18,7 +19,7 @@ use Rattle.abnf_syntax.specs.Grammar.IsConcatenation.{one, and}
 use Rattle.abnf_syntax.specs.Grammar.IsRepetition.{once, times}
 use Rattle.abnf_syntax.specs.Grammar.IsElement.{name, quoted, number, prose, group, choice}
 use Rattle.abnf_syntax.specs.Faults.{rows_of, least}
-use Rattle.abnf_syntax.specs.Machine.{State, brackets, empty, barred, counted, bracketed_by, close_in, shift, shift_by, fault_at, run, start}
+use Rattle.abnf_syntax.specs.Machine.{State, brackets, empty, barred, with_repeat, bracketed_by, close_in, shift, shift_by, fault_at, run, start}
 use Rattle.abnf_syntax.proofs.Rows.{never, never_too, Clear}
 
 row_skip : (b : Bool) (fault : SyntaxFault) (more : Option SyntaxFault) → b ≡ false → more ≡ None → (if b then Some fault else more) ≡ None
@@ -43,10 +44,6 @@ no_need k.Slash h = never h
 no_need k.ParenL h = never h
 no_need k.BracketL h = never h
 no_need _ h = refl
-
-and_false : (a : Bool) → a && false ≡ false
-and_false true = refl
-and_false false = refl
 
 -- no blank is wanted before the first item
 abbrev Free : Item → List Item → Type 0
@@ -194,7 +191,7 @@ mutual
       subst (λ x. Gets s from to s.level.done (s.level.row ++ repetition x el ∷ [])) none (element h s sum free)
   repetition_read (times {mid = mid} {repeat = t} {next = next} e small apart h) s sum free none =
       let st = stepped k.Repeat s t (next ∷ mid) e (repeat_clear s t next mid (begins h) apart free small) in
-      let g = element h (record { outer = s.outer; level = counted s.level t.token; last = t }) sum (free_after t (next ∷ mid) (ap ends_element e)) in
+      let g = element h (record { outer = s.outer; level = with_repeat s.level t.token; last = t }) sum (free_after t (next ∷ mid) (ap ends_element e)) in
       record { last = g.last; end_now = g.end_now; same = st ∙ g.same }
 
   element : {room : ℕ} {from to : List Item} {el : Element} → IsElement room from to el → (s : State) → room + length s.outer ≡ max_nesting → Free s.last from → Gets s from to s.level.done (s.level.row ++ repetition s.level.repeat el ∷ [])

@@ -1,8 +1,9 @@
 -- A line with content has an item.
-use Rattle.std.proofs.Common.{◌≡◌, ℕ, zero, suc, ◌+◌, ◌<◌, Bool, true, false, ◌&&◌, List, [], ◌∷◌, ◌++◌, length, take, drop, Option, Some, sym, refl, ap, subst, ◌∙◌, arith, ◌⊎◌, inl, inr}
+use Rattle.std.proofs.Common.{◌≡◌, ℕ, zero, suc, ◌+◌, ◌<◌, Bool, true, false, List, [], ◌∷◌, ◌++◌, length, take, drop, Option, Some, sym, refl, ap, subst, ◌∙◌, arith, ◌⊎◌, inl, inr}
 use Rattle.std.specs.Prelude.{slice_index_or}
 use Rattle.std.specs.List.{flat_map, list_all}
 use Rattle.std.proofs.lemmas.List.{length-map}
+use Rattle.std.proofs.lemmas.Bool.{and_parts}
 use Rattle.abnf_token.specs.declared.token.Kind.{Kind}
 use Rattle.abnf_token.specs.declared.token.Kind.TheVariants as k
 use Rattle.abnf_token.specs.declared.token.Token.{Token}
@@ -19,14 +20,10 @@ gap_cases k.Comment h = inl refl
 gap_cases k.Blank h = inr refl
 gap_cases _ h = never_too h
 
-and_both : (a b : Bool) → a && b ≡ true → (a ≡ true) × (b ≡ true)
-and_both true b h = (refl, h)
-and_both false b h = never h
-
 blanks_skipped : (n : ℕ) (left : Text) → list_all is_blank_byte (take n left) ≡ true → is_content left ≡ is_content (drop n left)
 blanks_skipped zero left h = refl
 blanks_skipped (suc n) [] h = refl
-blanks_skipped (suc n) (b ∷ bs) h = let both = and_both (is_blank_byte b) (list_all is_blank_byte (take n bs)) h in rw (both.0) (blanks_skipped n bs both.1)
+blanks_skipped (suc n) (b ∷ bs) h = let both = and_parts (is_blank_byte b) (list_all is_blank_byte (take n bs)) h in rw (both.0) (blanks_skipped n bs both.1)
 
 blank_all : (text : Text) → is_blank text ≡ true → list_all is_blank_byte text ≡ true
 blank_all [] h = refl
@@ -73,6 +70,6 @@ first_has ls at (ts ∷ tss) some are content = content_item at 0 (slice_index_o
 -- A block has an item.
 pub some_items : (ls : List Text) (first end : ℕ) (items : List Item) → first < end → begins_at ls first ≡ true → AreItems ls first end items → 0 < length items
 some_items ls first end items less begins are =
-    let content = and_both _ _ begins in
+    let content = and_parts _ _ begins in
     let some : 0 < length (items_of (flat_map with_line_end are.tokens)) = first_has ls first are.tokens (omega (arith, are.all, less)) are.tokens_are content.0 in
     omega (arith, some, length-map items view, ap length are.items_are)

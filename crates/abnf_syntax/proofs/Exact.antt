@@ -1,6 +1,7 @@
 -- A block that shows a fault is no rule, and shows one fault first.
 use Rattle.std.proofs.Common.{◌≡◌, suc, ◌<◌, true, List, [], ◌∷◌, ◌++◌, length, Option, Some, None, Result, Ok, Err, sym, refl, ap, subst, ◌∙◌, arith, ◌⊎◌, inl, inr}
 use Rattle.std.proofs.lemmas.Bool.{cases_order}
+use Rattle.std.proofs.lemmas.List.{append-nil}
 use Rattle.abnf_syntax.specs.declared.item.Item.{Item}
 use Rattle.abnf_syntax.specs.declared.fault.SyntaxFault.{SyntaxFault}
 use Rattle.abnf_syntax.specs.declared.fault.SyntaxFault.TheVariants.{Memory}
@@ -13,10 +14,6 @@ use Rattle.abnf_syntax.proofs.Sound.{unless_ok}
 use Rattle.abnf_syntax.proofs.FaultSide.{Tracks, tracks_more, same_fault, earlier, head_earlier}
 use Rattle.abnf_syntax.proofs.Cons.{cons_same}
 use Rattle.abnf_syntax.proofs.Whole.{chosen_ok, rule_ok, neither, parse_complete, parse_faulty}
-
-append-nil : (xs : List Item) → xs ++ [] ≡ xs
-append-nil [] = refl
-append-nil (x ∷ xs) = ap (λ l. x ∷ l) (append-nil xs)
 
 -- no fault here
 none_here : (head defined : Item) (front rest : List Item) (s : State) → Tracks defined front s → fault_at s rest ≡ None → (ys : List Item) → rest ≡ ys → shown (head ∷ defined ∷ front ++ []) ys ≡ None

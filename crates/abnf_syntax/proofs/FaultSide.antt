@@ -1,5 +1,6 @@
 -- The parser's fault is the first that the table shows.
 use Rattle.std.proofs.Common.{◌≡◌, ℕ, suc, ◌<◌, List, [], ◌∷◌, ◌++◌, length, Option, Some, None, Result, Ok, Err, sym, refl, ap, subst, ◌∙◌, append_assoc, arith, if◌then◌else◌, ◌⊎◌, inl, inr}
+use Rattle.std.proofs.lemmas.List.{append-nil}
 use Rattle.abnf_token.specs.declared.token.Kind.{Kind}
 use Rattle.abnf_token.specs.declared.token.Kind.TheVariants as k
 use Rattle.abnf_token.specs.declared.token.Token.{Token}
@@ -93,10 +94,6 @@ unless_err (Some f) go fault h = inl (cc)
 
 ok_not_err : (a : Alternation) (fault : SyntaxFault) → ◌≡◌ {A = Result Alternation SyntaxFault} (Ok a) (Err fault) → ⊥
 ok_not_err a fault h = cc
-
-append-nil : (xs : List Item) → xs ++ [] ≡ xs
-append-nil [] = refl
-append-nil (x ∷ xs) = ap (λ l. x ∷ l) (append-nil xs)
 
 here : (head defined : Item) (front rest : List Item) (s : State) (fault : SyntaxFault) → Tracks defined front s → fault_at s rest ≡ Some fault → Comes head defined front rest fault
 here head defined front rest s fault t h = record {

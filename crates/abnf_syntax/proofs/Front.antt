@@ -11,7 +11,7 @@ use Rattle.abnf_syntax.specs.Grammar.{kind_of, fits, repetition, Concatenation, 
 use Rattle.abnf_syntax.specs.Grammar.IsAlternation.{only, or}
 use Rattle.abnf_syntax.specs.Grammar.IsConcatenation.{one, and}
 use Rattle.abnf_syntax.specs.Grammar.IsRepetition.{once, times}
-use Rattle.abnf_syntax.specs.Machine.{State, counted}
+use Rattle.abnf_syntax.specs.Machine.{State, with_repeat}
 
 -- What may follow an element, up to the end of its alternation: the rest of the concatenation and the other concatenations.
 pub data Continues : ℕ → List Item → List Item → Concatenation → Alternation → Type 0 where
@@ -65,7 +65,7 @@ ready_awaits room start now l h none to element he =
     subst (λ r. After room start to l.done (l.row ++ repetition r element ∷ [])) (sym none) (h to (repetition None element) (once he))
 
 -- behind a repeat
-pub repeat_awaits : (room : ℕ) (start mid : List Item) (item next : Item) (l : Level) → Ready room start (item ∷ next ∷ mid) l.done l.row → kind_of item ≡ k.Repeat → fits item ≡ true → next.apart ≡ false → Awaits room start (next ∷ mid) (counted l item.token)
+pub repeat_awaits : (room : ℕ) (start mid : List Item) (item next : Item) (l : Level) → Ready room start (item ∷ next ∷ mid) l.done l.row → kind_of item ≡ k.Repeat → fits item ≡ true → next.apart ≡ false → Awaits room start (next ∷ mid) (with_repeat l item.token)
 unfolding Ready Awaits
 repeat_awaits room start mid item next l h p small q to element he = h to (repetition (Some item.token) element) (times p small q he)
 

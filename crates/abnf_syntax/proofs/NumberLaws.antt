@@ -6,7 +6,8 @@ use Rattle.abnf_token.specs.declared.token.Kind.{Kind}
 use Rattle.abnf_token.specs.declared.token.Kind.TheVariants.{Repeat, Number}
 use Rattle.std.specs.List.{list_all}
 use Rattle.std.specs.Char.{digit_value, to_ascii_lowercase}
-use Rattle.std.proofs.lemmas.Bool.{ltb-false, le-ltb}
+use Rattle.std.proofs.lemmas.Bool.{ltb-false, le-ltb, and_left, and_right}
+use Rattle.abnf_token.proofs.Language.{and_false, and_true}
 use Rattle.std.proofs.Math.Dec.{eqb-suc-zero}
 use Rattle.abnf_token.specs.Classes.{Text, base_of}
 use Rattle.abnf_token.specs.Numbers.{value_in, is_base, are_digits}
@@ -21,10 +22,6 @@ value_snoc base v (x ∷ xs) b = value_snoc base (v * base + digit_value x) xs b
 and_first : (a b : Bool) → a && b ≡ true → a ≡ true
 and_first true b h = refl
 and_first false b h = h
-
-and_true : (b : Bool) → b && true ≡ b
-and_true true = refl
-and_true false = refl
 
 and_assoc : (a b c : Bool) → (a && b) && c ≡ a && (b && c)
 and_assoc true b c = refl
@@ -58,10 +55,6 @@ no_length : (xs : Text) (b : ℕ) → nat_eq (length (xs ++ b ∷ [])) 0 ≡ fal
 no_length [] b = eqb-suc-zero 0
 no_length (x ∷ xs) b = eqb-suc-zero (length (xs ++ b ∷ []))
 
-and_false : (b : Bool) → b && false ≡ false
-and_false true = refl
-and_false false = refl
-
 small_bad : (base : ℕ) (digits : Text) → nat_eq (length digits) 0 ≡ false → gives base digits ≡ false → is_small base digits ≡ false
 small_bad base digits some h = small_is base digits ∙ rw (some, h) (and_false (is_base base))
 
@@ -73,19 +66,12 @@ two_false : (a b c : Bool) → a ≡ false → (a && b) && c ≡ false
 two_false true b c h = never_too h
 two_false false b c h = refl
 
-first_false : (a b : Bool) → a ≡ false → a && b ≡ false
-first_false true b h = never_too h
-first_false false b h = refl
-
-last_false : (a b : Bool) → b ≡ false → a && b ≡ false
-last_false a b h = rw h (and_false a)
-
 by_value : (base : ℕ) (xs : Text) (b : ℕ) → ((v : ℕ) → v ≤ v * base) → (digits : Bool) → are_digits base xs ≡ digits → digits && nat_lt (value_in base 0 xs) (2 ^ 32) ≡ false → gives base (xs ++ b ∷ []) ≡ false
 by_value base xs b grows false e h = gives_snoc base xs b ∙ two_false _ _ _ e
 by_value base xs b grows true e h =
     let large : 2 ^ 32 ≤ value_in base 0 xs = ltb-false (value_in base 0 xs) (2 ^ 32) h in
     let larger : 2 ^ 32 ≤ value_in base 0 xs * base + digit_value b = omega (arith, large, grows (value_in base 0 xs)) in
-    gives_snoc base xs b ∙ last_false _ _ (le-ltb (value_in base 0 xs * base + digit_value b) (2 ^ 32) larger)
+    gives_snoc base xs b ∙ and_right _ _ (le-ltb (value_in base 0 xs * base + digit_value b) (2 ^ 32) larger)
 
 -- Digits that give no small number give none with more behind them.
 stays_bad : (base : ℕ) (xs : Text) (b : ℕ) → ((v : ℕ) → v ≤ v * base) → gives base xs ≡ false → gives base (xs ++ b ∷ []) ≡ false
@@ -113,8 +99,8 @@ grow_by : (base : ℕ) (since : Text) (b : ℕ) (bs : Text) → ((v : ℕ) → v
     (digit low : Bool) → nat_lt (digit_value b) base ≡ digit → nat_lt (value_in base 0 since * base + digit_value b) (2 ^ 32) ≡ low →
     digit && (low && fit base (value_in base 0 since * base + digit_value b) bs) ≡ list_all (is_small base) (parts_from (since ++ b ∷ []) bs)
 grow_by base since b bs grows h more true true d l = more (gives_snoc base since b ∙ rw (and_first (are_digits base since) (nat_lt (value_in base 0 since) (2 ^ 32)) h, d, l) refl)
-grow_by base since b bs grows h more true false d l = sym (parts_bad base (since ++ b ∷ []) bs grows (no_length since b) (gives_snoc base since b ∙ last_false _ _ l))
-grow_by base since b bs grows h more false low d l = sym (parts_bad base (since ++ b ∷ []) bs grows (no_length since b) (gives_snoc base since b ∙ first_false _ _ (last_false (are_digits base since) _ d)))
+grow_by base since b bs grows h more true false d l = sym (parts_bad base (since ++ b ∷ []) bs grows (no_length since b) (gives_snoc base since b ∙ and_right _ _ l))
+grow_by base since b bs grows h more false low d l = sym (parts_bad base (since ++ b ∷ []) bs grows (no_length since b) (gives_snoc base since b ∙ and_left _ _ (and_right (are_digits base since) _ d)))
 
 fit_from : (base : ℕ) (since bs : Text) → is_base base ≡ true → ((v : ℕ) → v ≤ v * base) → gives base since ≡ true → fit base (value_in base 0 since) bs ≡ list_all (is_small base) (parts_from since bs)
 fit_from base since [] whole grows h = rw (small_good base since whole h) refl

@@ -9,7 +9,7 @@ use Rattle.abnf_syntax.specs.Kinds.{is_bad, is_defined_as, is_repeat, opens, clo
 use Rattle.abnf_syntax.specs.Numbers.{numbers_fit}
 use Rattle.abnf_syntax.specs.Grammar.{kind_of, max_nesting}
 use Rattle.abnf_syntax.specs.declared.fault.SyntaxFault.{SyntaxFault}
-use Rattle.abnf_syntax.specs.Faults.{Row, rows_of, least, is_followed, is_empty, is_other}
+use Rattle.abnf_syntax.specs.Faults.{FaultRow, rows_of, least, is_followed, is_empty, is_other}
 use Rattle.abnf_syntax.specs.Check.{fault_behind, shows_none}
 use Rattle.abnf_syntax.proofs.Rows.{never}
 
@@ -71,7 +71,7 @@ plain last k.Slash h = record {
 plain last _ h = never h
 
 -- none of these rows holds
-abbrev NoneHolds : List Row → Type 0
+abbrev NoneHolds : List FaultRow → Type 0
 NoneHolds [] = Unit {0}
 NoneHolds (row ∷ rows) = (row.0 ≡ false) × NoneHolds rows
 
@@ -79,7 +79,7 @@ passed : (b : Bool) (fault : SyntaxFault) (more : Option SyntaxFault) → b ≡ 
 passed false fault more h rest = rest
 passed true fault more h rest = absurd (cc)
 
-none_of : (rows : List Row) → NoneHolds rows → least rows ≡ None
+none_of : (rows : List FaultRow) → NoneHolds rows → least rows ≡ None
 none_of [] h = refl
 none_of (row ∷ rows) h = passed row.0 row.1 (least rows) h.0 (none_of rows h.1)
 

@@ -25,10 +25,6 @@ pub and_right : (a b : Bool) → a ≡ true → a && b ≡ false → b ≡ false
 and_right true b h e = e
 and_right false b h e = never h
 
-pub not_not : (b : Bool) → not b ≡ false → b ≡ true
-not_not true h = refl
-not_not false h = never_too h
-
 -- no row of the table holds of the next item
 pub record Clear (last : Kind) (bs : List Token) (apart small : Bool) (rest : List Item) (kind : Kind) : Type 0 where
   pub bad : is_bad kind ≡ false

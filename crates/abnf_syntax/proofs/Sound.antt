@@ -1,6 +1,7 @@
 -- What the parser answers with Ok is derived.
 use Rattle.std.proofs.Common.{◌≡◌, ℕ, zero, suc, ◌+◌, Bool, true, false, not, ◌&&◌, List, [], ◌∷◌, ◌++◌, length, Option, Some, None, Result, Ok, sym, refl, ap, subst, ◌∙◌, arith}
 use Rattle.std.specs.Prelude.{nat_le}
+use Rattle.std.proofs.lemmas.Bool.{and_parts, not-true, not-false}
 use borrow.Author.Tests.{leb-false}
 use Rattle.abnf_token.specs.declared.token.Kind.{Kind}
 use Rattle.abnf_token.specs.declared.token.Kind.TheVariants as k
@@ -13,10 +14,10 @@ use Rattle.abnf_syntax.specs.Kinds.{is_item, closes_it, begins_element, needs_el
 use Rattle.abnf_syntax.specs.Grammar.{kind_of, fits, repetition, Alternation, IsAlternation, IsElement, max_nesting}
 use Rattle.abnf_syntax.specs.Grammar.IsElement.{name, quoted, number, prose}
 use Rattle.abnf_syntax.specs.Faults.{is_followed, is_empty, is_other}
-use Rattle.abnf_syntax.specs.Machine.{State, brackets, empty, put, finish, barred, counted, bracketed, close_in, shift, shift_by, fault_at, unless, run}
+use Rattle.abnf_syntax.specs.Machine.{State, brackets, empty, put, finish, barred, with_repeat, bracketed, close_in, shift, shift_by, fault_at, unless, run}
 use Rattle.abnf_syntax.proofs.Front.{After, Ready, Awaits, Phase, ready_at_start, after_finish, ready_apart, ready_slash, ready_awaits, repeat_awaits}
 use Rattle.abnf_syntax.proofs.Front.Phase.{is_after, is_ready, is_counted}
-use Rattle.abnf_syntax.proofs.Rows.{never, never_too, and_right, not_not, Clear, clear, row_none}
+use Rattle.abnf_syntax.proofs.Rows.{never, never_too, and_right, Clear, clear, row_none}
 use Rattle.abnf_syntax.proofs.Opened.{opened}
 
 pub cons_head : {x y : Item} {xs ys : List Item} → x ∷ xs ≡ y ∷ ys → x ≡ y
@@ -37,26 +38,18 @@ module _ (body : List Item) where
 
 pub awaits : (room : ℕ) (start rest : List Item) (item : Item) (s : State) → Phase room start (item ∷ rest) s → ends_element (kind_of s.last) && not item.apart ≡ false → Awaits room start (item ∷ rest) s.level
 awaits room start rest item s (is_after end_now need none h) blank =
-    ready_awaits room start (item ∷ rest) s.level (ready_apart room start rest item _ _ h (not_not _ (and_right _ _ end_now blank))) none
+    ready_awaits room start (item ∷ rest) s.level (ready_apart room start rest item _ _ h (not-false _ (and_right _ _ end_now blank))) none
 awaits room start rest item s (is_ready need end_now none h) blank = ready_awaits room start (item ∷ rest) s.level h none
 awaits room start rest item s (is_counted next mid split begins w) blank = w
 
 pub ready : (room : ℕ) (start rest : List Item) (item : Item) (s : State) → Phase room start (item ∷ rest) s → begins_element (kind_of item) ≡ false → ends_element (kind_of s.last) && not item.apart ≡ false → Ready room start (item ∷ rest) s.level.done s.level.row
-ready room start rest item s (is_after end_now need none h) not_element blank = ready_apart room start rest item _ _ h (not_not _ (and_right _ _ end_now blank))
+ready room start rest item s (is_after end_now need none h) not_element blank = ready_apart room start rest item _ _ h (not-false _ (and_right _ _ end_now blank))
 ready room start rest item s (is_ready need end_now none h) not_element blank = h
 ready room start rest item s (is_counted next mid split begins w) not_element blank = never_too (sym begins ∙ ap begins_element (ap kind_of (sym (cons_head split))) ∙ not_element)
 
 pub and_left : (a b : Bool) → b ≡ true → a && b ≡ false → a ≡ false
 and_left false b h e = refl
 and_left true b h e = never_too (sym h ∙ e)
-
-pub and_both : (a b : Bool) → a && b ≡ true → (a ≡ true) × (b ≡ true)
-and_both true b h = (refl, h)
-and_both false b h = never h
-
-pub not_false : (b : Bool) → not b ≡ true → b ≡ false
-not_false true h = never h
-not_false false h = refl
 
 pub unless_ok : (o : Option SyntaxFault) (go : Result Alternation SyntaxFault) (a : Alternation) → unless o go ≡ Ok a → (o ≡ None) × (go ≡ Ok a)
 unless_ok None go a h = (refl, h)
@@ -94,7 +87,7 @@ module _ (body : List Item) where
         start = nest.0;
         nest = nest.1;
         sum = omega arith;
-        phase = is_after end_now need refl (nest.2 rest item (finish level) (after_finish room start (item ∷ rest) level.done level.row after) (not_not _ same));
+        phase = is_after end_now need refl (nest.2 rest item (finish level) (after_finish room start (item ∷ rest) level.done level.row after) (not-false _ same));
       }
 
   opening : (room : ℕ) (item : Item) (rest start : List Item) (s : State) → Nest body room start s.outer → room + length s.outer ≡ max_nesting → Awaits room start (item ∷ rest) s.level →
@@ -105,16 +98,16 @@ module _ (body : List Item) where
       record { room = room; start = rest; nest = (start, nest, opened room start rest item s.level w); sum = omega arith; phase = is_ready need end_now refl (ready_at_start room rest) }
 
   counting : (item : Item) (rest : List Item) (s : State) (st : Stands body (item ∷ rest) s) → kind_of item ≡ k.Repeat → fits item ≡ true → is_followed rest ≡ true → Ready st.room st.start (item ∷ rest) s.level.done s.level.row →
-      Stands body rest (record { outer = s.outer; level = counted s.level item.token; last = item })
+      Stands body rest (record { outer = s.outer; level = with_repeat s.level item.token; last = item })
   counting item [] s st e small followed h = never followed
   counting item (next ∷ mid) s st e small followed h =
-      let both = and_both _ _ followed in
+      let both = and_parts _ _ followed in
       record {
         room = st.room;
         start = st.start;
         nest = st.nest;
         sum = st.sum;
-        phase = is_counted next mid refl both.0 (repeat_awaits st.room st.start mid item next s.level h e small (not_false _ both.1));
+        phase = is_counted next mid refl both.0 (repeat_awaits st.room st.start mid item next s.level h e small (not-true _ both.1));
       }
 
   slash : (item : Item) (rest : List Item) (s : State) (st : Stands body (item ∷ rest) s) → kind_of item ≡ k.Slash → After st.room st.start (item ∷ rest) s.level.done s.level.row →
@@ -131,10 +124,10 @@ module _ (body : List Item) where
   step : (kind : Kind) (item : Item) (rest : List Item) (s : State) → kind_of item ≡ kind → is_item kind ≡ true → Clear (kind_of s.last) (brackets s.outer) item.apart (fits item) rest kind → Stands body (item ∷ rest) s → Stands body rest (shift_by kind s item)
   step k.Name item rest s e solid c st = leaf _ item rest s st (name e) (rw e refl) (rw e refl) c.blank
   step k.Quoted item rest s e solid c st = leaf _ item rest s st (quoted e) (rw e refl) (rw e refl) c.blank
-  step k.Number item rest s e solid c st = leaf _ item rest s st (number e (not_not _ c.number)) (rw e refl) (rw e refl) c.blank
+  step k.Number item rest s e solid c st = leaf _ item rest s st (number e (not-false _ c.number)) (rw e refl) (rw e refl) c.blank
   step k.Prose item rest s e solid c st = leaf _ item rest s st (prose e) (rw e refl) (rw e refl) c.blank
   step k.Slash item rest s e solid c st = slash item rest s st e (only_after _ _ _ _ _ st.phase (rw e refl) c.needed).after
-  step k.Repeat item rest s e solid c st = counting item rest s st e (not_not _ c.number) (not_not _ c.followed) (ready _ _ _ _ _ st.phase (rw e refl) c.blank)
+  step k.Repeat item rest s e solid c st = counting item rest s st e (not-false _ c.number) (not-false _ c.followed) (ready _ _ _ _ _ st.phase (rw e refl) c.blank)
   step k.ParenL item rest s e solid c st = opening st.room item rest st.start s st.nest st.sum (awaits _ _ _ _ _ st.phase c.blank) (rw e refl) (rw e refl) c.deep
   step k.BracketL item rest s e solid c st = opening st.room item rest st.start s st.nest st.sum (awaits _ _ _ _ _ st.phase c.blank) (rw e refl) (rw e refl) c.deep
   step k.ParenR item rest s e solid c st =

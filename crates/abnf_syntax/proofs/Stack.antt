@@ -20,11 +20,6 @@ first_opened : List Opened → Option Opened
 first_opened [] = None
 first_opened (o ∷ os) = Some o
 
-first_bracket : (os : List Opened) → first_of (brackets os) ≡ bracket_of (first_opened os)
-unfolding bracket_of first_opened
-first_bracket [] = refl
-first_bracket (o ∷ os) = refl
-
 first_top : (ys : List Opened) (d : Opened) → 0 < length ys → first_of (brackets ys) ≡ Some (get_or ys 0 d).bracket
 first_top [] d h = absurd (omega arith)
 first_top (y ∷ ys) d h = refl

@@ -66,11 +66,11 @@ abbrev pub innermost : List Token → Token → Token
 innermost brackets none = or_this (first_of brackets) none
 
 -- A row of the table: whether it holds, and the fault with its place.
-abbrev pub Row : Type 0
-Row = Bool × SyntaxFault
+abbrev pub FaultRow : Type 0
+FaultRow = Bool × SyntaxFault
 
 -- the least row that holds
-abbrev pub least : List Row → Option SyntaxFault
+abbrev pub least : List FaultRow → Option SyntaxFault
 least [] = None
 least (row ∷ rows) = if row.0 then Some row.1 else least rows
 
@@ -79,7 +79,7 @@ least (row ∷ rows) = if row.0 then Some row.1 else least rows
 -- Of an item: it is bad; an element must come and it begins none; it is `=` or `=/` behind an element; it closes a bracket
 -- outside all brackets; it is a repeat that no element follows at once; it begins a repetition right behind another; it
 -- closes another bracket than the innermost one, behind an element; its number is too large; it opens a bracket inside 64.
-abbrev pub rows_of : Item → List Token → List Item → List Row
+abbrev pub rows_of : Item → List Token → List Item → List FaultRow
 rows_of last brackets [] =
     (needs_element (kind_of last), f.ElementExpected (place_after last.token))
     ∷ (not (is_empty brackets) && ends_element (kind_of last), f.Unclosed (place_of (innermost brackets last.token)))

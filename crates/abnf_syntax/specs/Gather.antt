@@ -10,44 +10,44 @@ use Rattle.abnf_syntax.specs.Blocks.{begins_at, NoneBegins}
 use Rattle.abnf_syntax.specs.Items.{with_line_end, view, AreTokens}
 
 -- the items so far, and whether the next one is apart
-pub record State : Type 0 where
+pub record Gathering : Type 0 where
   pub items : List (Token × Bool)
   pub apart : Bool
 
-abbrev pub state_of : Gathered → State
-state_of g = record { items = map view g.items.items; apart = g.apart }
+abbrev pub gathering_of : Gathered → Gathering
+gathering_of g = record { items = map view g.items.items; apart = g.apart }
 
 abbrev pub is_some : List (Token × Bool) → Bool
 is_some [] = false
 is_some (item ∷ items) = true
 
-abbrev pub with_gap : State → State
+abbrev pub with_gap : Gathering → Gathering
 with_gap s = record { items = s.items; apart = is_some s.items }
 
 -- the state after one more token, or a line end
-abbrev pub after : State → Option Token → State
-after s None = with_gap s
-after s (Some t) = if is_item t.kind then record { items = s.items ++ (t, s.apart) ∷ []; apart = false } else with_gap s
+abbrev pub gathered_on : Gathering → Option Token → Gathering
+gathered_on s None = with_gap s
+gathered_on s (Some t) = if is_item t.kind then record { items = s.items ++ (t, s.apart) ∷ []; apart = false } else with_gap s
 
-abbrev pub after_all : State → List (Option Token) → State
+abbrev pub after_all : Gathering → List (Option Token) → Gathering
 after_all s [] = s
-after_all s (t ∷ ts) = after_all (after s t) ts
+after_all s (t ∷ ts) = after_all (gathered_on s t) ts
 
-abbrev pub start : State
-start = record { items = []; apart = false }
+abbrev pub nothing_gathered : Gathering
+nothing_gathered = record { items = []; apart = false }
 
 -- the tokens of this line and its end have come
-pub record AddsLine (at : ℕ) (line : Text) (old new : State) : Type 0 where
+pub record AddsLine (at : ℕ) (line : Text) (old new : Gathering) : Type 0 where
   pub tokens : List Token
   pub tokens_are : TokensOf at 0 line tokens
   pub state : new ≡ after_all old (with_line_end tokens)
 
 -- the tokens of these lines have come
-pub record HasLines (ls : List Text) (first end : ℕ) (now : State) : Type 0 where
+pub record HasLines (ls : List Text) (first end : ℕ) (now : Gathering) : Type 0 where
   pub tokens : List (List Token)
   pub all : first + length tokens ≡ end
   pub tokens_are : AreTokens ls first tokens
-  pub state : now ≡ after_all start (flat_map with_line_end tokens)
+  pub state : now ≡ after_all nothing_gathered (flat_map with_line_end tokens)
 
 -- the next line from a place on that begins a block, or the number of lines
 pub record IsNextBlock (ls : List Text) (from next : ℕ) : Type 0 where

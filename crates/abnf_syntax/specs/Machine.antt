@@ -40,8 +40,8 @@ finish l = l.done ++ l.row ∷ []
 abbrev pub barred : Level → Level
 barred l = record { done = finish l; row = []; repeat = None }
 
-abbrev pub counted : Level → Token → Level
-counted l repeat = record { done = l.done; row = l.row; repeat = Some repeat }
+abbrev pub with_repeat : Level → Token → Level
+with_repeat l repeat = record { done = l.done; row = l.row; repeat = Some repeat }
 
 abbrev pub bracketed_by : Kind → Alternation → Element
 bracketed_by ParenL a = e.Group a
@@ -60,7 +60,7 @@ shift_by Quoted s item = record { outer = s.outer; level = put s.level (e.Quoted
 shift_by Number s item = record { outer = s.outer; level = put s.level (e.Number item.token); last = item }
 shift_by Prose s item = record { outer = s.outer; level = put s.level (e.Prose item.token); last = item }
 shift_by Slash s item = record { outer = s.outer; level = barred s.level; last = item }
-shift_by Repeat s item = record { outer = s.outer; level = counted s.level item.token; last = item }
+shift_by Repeat s item = record { outer = s.outer; level = with_repeat s.level item.token; last = item }
 shift_by ParenL s item = record { outer = record { bracket = item.token; level = s.level } ∷ s.outer; level = empty; last = item }
 shift_by BracketL s item = record { outer = record { bracket = item.token; level = s.level } ∷ s.outer; level = empty; last = item }
 shift_by ParenR s item = close_in s.outer s.level item

@@ -15,15 +15,15 @@ abbrev pub parts_from : Text → Text → List Text
 parts_from since [] = since ∷ []
 parts_from since (b ∷ bs) = if is_sign b then since ∷ parts_from [] bs else parts_from (since ++ b ∷ []) bs
 
-abbrev pub parts : Text → List Text
-parts text = parts_from [] text
+abbrev pub number_pieces : Text → List Text
+number_pieces text = parts_from [] text
 
 -- The digits give a number up to 4,294,967,295. None may stand where a repeat leaves a bound out.
 abbrev pub is_small : ℕ → Text → Bool
 is_small base digits = nat_eq (length digits) 0 || is_some (number_of digits base)
 
 abbrev pub are_small : ℕ → Text → Bool
-are_small base text = list_all (is_small base) (parts text)
+are_small base text = list_all (is_small base) (number_pieces text)
 
 -- The numbers of a token are at most 4,294,967,295: a repeat has them in base 10, a number behind `%` and a letter in the
 -- letter's base, and no other token has one.

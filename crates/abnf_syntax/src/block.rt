@@ -149,14 +149,14 @@ impl<'t> Gathered<'t> {
 
     /// A blank, a comment or a line end comes.
     fn add_gap(&mut self)
-        ensures { spec.state_of self.new ≡ spec.with_gap (spec.state_of self.old) }
+        ensures { spec.gathering_of self.new ≡ spec.with_gap (spec.gathering_of self.old) }
     {
         self.apart = !self.items.is_empty();
     }
 
     /// A token comes.
     fn add_token(&mut self, token: Token<'t>) -> Result<(), AllocError>
-        ensures { OnOk result (spec.state_of self.new ≡ spec.after (spec.state_of self.old) (Some token.entry)) }
+        ensures { OnOk result (spec.gathering_of self.new ≡ spec.gathered_on (spec.gathering_of self.old) (Some token.entry)) }
     {
         if is_item(token.kind) {
             self.items.push(Item {
@@ -172,7 +172,7 @@ impl<'t> Gathered<'t> {
 
     /// Makes room for the items among these marks, so that a block of one line takes memory once, and no more than it needs.
     fn make_room(&mut self, marks: &[TokenMark]) -> Result<(), AllocError>
-        ensures { OnOk result (spec.state_of self.new ≡ spec.state_of self.old) }
+        ensures { OnOk result (spec.gathering_of self.new ≡ spec.gathering_of self.old) }
     {
         let count = marks.iter().filter(|mark| is_item(mark.kind)).count();
         self.items.reserve(count)
@@ -181,7 +181,7 @@ impl<'t> Gathered<'t> {
     /// The tokens of a line come, which have these marks, and its end.
     fn add_line(&mut self, line: &'t str, at: usize, marks: &[TokenMark]) -> Result<(), AllocError>
         requires { AreMarks line.now marks.now }
-        ensures { OnOk result (spec.AddsLine at line.entry.now (spec.state_of self.old) (spec.state_of self.new)) }
+        ensures { OnOk result (spec.AddsLine at line.entry.now (spec.gathering_of self.old) (spec.gathering_of self.new)) }
     {
         self.make_room(marks)?;
         for mark in marks {

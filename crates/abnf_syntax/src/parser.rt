@@ -72,7 +72,7 @@ impl<'t> Level<'t> {
 
     /// A repeat waits for its element.
     fn count(&mut self, repeat: Token<'t>)
-        ensures { self.new ≡ spec.counted self.old repeat.entry }
+        ensures { self.new ≡ spec.with_repeat self.old repeat.entry }
     {
         self.repeat = Some(repeat);
     }

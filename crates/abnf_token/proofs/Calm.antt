@@ -1,9 +1,9 @@
 -- What the machine does at a name that stands behind other pieces.
-use Rattle.std.proofs.Common.{◌≡◌, ℕ, Bool, true, false, not, ◌&&◌, ◌||◌, [], ◌∷◌, Option, Some, None, refl, sym, ap, subst, ◌∙◌, arith}
+use Rattle.std.proofs.Common.{◌≡◌, ℕ, Bool, true, false, not, ◌||◌, [], ◌∷◌, Option, Some, None, refl, sym, ap, subst, ◌∙◌, arith}
 use Rattle.std.specs.Prelude.{nat_eq, if◌then◌else◌}
 use Rattle.std.specs.List.{list_all}
 use Rattle.std.specs.Char.{is_ascii_alphabetic, is_ascii_digit, is_ascii_alphanumeric, to_ascii_lowercase, digit_value}
-use Rattle.std.proofs.lemmas.Bool.{cond_both, eqb-true, le-ltb, ne_eqb}
+use Rattle.std.proofs.lemmas.Bool.{cond_both, eqb-true, le-ltb, ne_eqb, and_parts}
 use Rattle.std.proofs.lemmas.Bool.Decides.{nat_tests}
 use Rattle.abnf_token.specs.declared.token.Kind.{Kind}
 use Rattle.abnf_token.specs.declared.token.Kind.TheVariants as k
@@ -12,11 +12,7 @@ use Rattle.abnf_token.specs.declared.machine.State.TheVariants as s
 use Rattle.abnf_token.specs.Classes.{Text, is_name, is_name_byte, is_blank_byte, is_quotable, is_case_letter, base_of, is_digit}
 use Rattle.abnf_token.specs.Machine.{begin, step, accepted, run}
 use Rattle.abnf_token.proofs.Cuts.{never}
-
-pub and_both : (a b : Bool) → a && b ≡ true → (a ≡ true) × (b ≡ true)
-and_both true true e = (refl, refl)
-and_both true false e = never e
-and_both false b e = never e
+use Rattle.abnf_token.proofs.Language.{and_false}
 
 -- No front of the text but the empty one is accepted from the state on.
 abbrev pub Quiet : State → Text → Type 0
@@ -245,10 +241,6 @@ letter_digit b l = grind (arith, nat_tests)
 
 below_zero : (b base : ℕ) → nat_eq base 0 ≡ true → is_digit base b ≡ false
 below_zero b base e = rw (eqb-true base 0 e, le-ltb (digit_value b) 0 (omega arith)) (and_false (is_ascii_alphanumeric b))
-  where
-    and_false : (a : Bool) → a && false ≡ false
-    and_false true = refl
-    and_false false = refl
 
 same_both : {A : Type 0} (b : Bool) (x : A) → (if b then x else x) ≡ x
 same_both true x = refl
@@ -292,7 +284,7 @@ pub record Passes (st : State) (t : Text) (to : State) : Type 0 where
 in_quote : (t : Text) → list_all is_name_byte t ≡ true → Passes s.Quote t s.Quote
 in_quote [] n = record { ends = refl; quiet = tt }
 in_quote (b ∷ bs) n =
-    let h = and_both (is_name_byte b) (list_all is_name_byte bs) n in
+    let h = and_parts (is_name_byte b) (list_all is_name_byte bs) n in
     let go : step s.Quote b ≡ s.Quote = rw (name_quotable b h.0, name_quote b h.0) refl in
     let more = in_quote bs h.1 in
     record { ends = ap (λ st. run st bs) go ∙ more.ends; quiet = (ap accepted go, subst (λ st. Quiet st bs) (sym go) more.quiet) }
@@ -300,13 +292,13 @@ in_quote (b ∷ bs) n =
 in_prose : (t : Text) → list_all is_name_byte t ≡ true → Passes s.Prose t s.Prose
 in_prose [] n = record { ends = refl; quiet = tt }
 in_prose (b ∷ bs) n =
-    let h = and_both (is_name_byte b) (list_all is_name_byte bs) n in
+    let h = and_parts (is_name_byte b) (list_all is_name_byte bs) n in
     let go : step s.Prose b ≡ s.Prose = rw (name_angle b h.0) refl in
     let more = in_prose bs h.1 in
     record { ends = ap (λ st. run st bs) go ∙ more.ends; quiet = (ap accepted go, subst (λ st. Quiet st bs) (sym go) more.quiet) }
 
 all_bytes : (b : ℕ) (bs : Text) → is_name (b ∷ bs) ≡ true → list_all is_name_byte (b ∷ bs) ≡ true
-all_bytes b bs n = let h = and_both (is_ascii_alphabetic b) (list_all is_name_byte bs) n in rw (letter_name b h.0) h.1
+all_bytes b bs n = let h = and_parts (is_ascii_alphabetic b) (list_all is_name_byte bs) n in rw (letter_name b h.0) h.1
 
 to_dead : (st : State) (b : ℕ) (bs : Text) → step st b ≡ s.Dead → Passes st (b ∷ bs) s.Dead
 to_dead st b bs go = record {
@@ -315,7 +307,7 @@ to_dead st b bs go = record {
 }
 
 other_name : (st : State) (b : ℕ) (bs : Text) → calm st ≡ true → is_name (b ∷ bs) ≡ true → past st ≡ s.Dead → Passes st (b ∷ bs) s.Dead
-other_name st b bs c n p = to_dead st b bs (letter_dead st b c (and_both (is_ascii_alphabetic b) (list_all is_name_byte bs) n).0 p)
+other_name st b bs c n p = to_dead st b bs (letter_dead st b c (and_parts (is_ascii_alphabetic b) (list_all is_name_byte bs) n).0 p)
 
 pub passes : (st : State) (t : Text) → calm st ≡ true → is_name t ≡ true → Passes st t (past st)
 passes st [] c n = never n

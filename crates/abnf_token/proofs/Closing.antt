@@ -1,7 +1,7 @@
 -- A `<` with no `>` behind it, once seen, is known of the rest of the line.
 use Rattle.std.proofs.Common.{◌≡◌, ℕ, zero, suc, ◌+◌, ◌<◌, ◌≤◌, Bool, true, false, [], ◌∷◌, length, take, drop, get_or, None, refl, sym, ap, subst, ◌∙◌, arith}
 use Rattle.std.specs.Prelude.{nat_eq, not, if◌then◌else◌}
-use Rattle.std.proofs.lemmas.Bool.{eqb-true}
+use Rattle.std.proofs.lemmas.Bool.{eqb-true, not-false}
 use Rattle.abnf_token.specs.declared.token.Kind.{Kind}
 use Rattle.abnf_token.specs.declared.token.Kind.TheVariants as k
 use Rattle.abnf_token.specs.declared.machine.State.TheVariants as s
@@ -43,12 +43,8 @@ same_first [] left some front = absurd (omega arith)
 same_first (b ∷ bs) [] some front = absurd (omega (arith, ap length front))
 same_first (b ∷ bs) (c ∷ cs) some front = sym (ap (λ l. get_or l 0 0) front)
 
-was_true : (x : Bool) → not x ≡ false → x ≡ true
-was_true true e = refl
-was_true false e = sym e
-
 pub no_close_after : (kind : Kind) (text bytes left : Text) → IsNext kind text left → kind ≡ k.Bad → bytes ≡ text → not (nat_eq (get_or bytes 0 0) 0x3C) ≡ false → HasNoClose left
 no_close_after kind text bytes left next bad same_as e =
     let fits : Fits k.Bad text left = subst (λ j. Fits j text left) bad next.fits in
-    let is : get_or text 0 0 ≡ 0x3C = ap (λ l. get_or l 0 0) (sym same_as) ∙ eqb-true (get_or bytes 0 0) 0x3C (was_true _ e) in
+    let is : get_or text 0 0 ≡ 0x3C = ap (λ l. get_or l 0 0) (sym same_as) ∙ eqb-true (get_or bytes 0 0) 0x3C (not-false _ e) in
     opened left (omega (arith, next.some, next.within)) (same_first text left next.some next.front ∙ is) fits.1

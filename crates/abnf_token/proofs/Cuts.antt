@@ -114,7 +114,7 @@ cut kind left n utf8 some within is longest = cut_at kind left n refl utf8 some 
 pub found_cut : (left : Text) (f : Kind × ℕ) → IsUtf8 left → IsLongest (Some f) left → IsCharBoundary left f.1
 found_cut left f utf8 l = cut f.0 left f.1 utf8 l.0 l.1 l.2 l.3
 
-fits_class : (kind : Kind) (text left : Text) → is_in kind text ≡ true → NoLonger (length text) left → Fits kind text left
+pub fits_class : (kind : Kind) (text left : Text) → is_in kind text ≡ true → NoLonger (length text) left → Fits kind text left
 fits_class k.Bad text left is longest = never is
 fits_class k.Name text left is longest = (is, longest)
 fits_class kind text left is longest = (is, longest)

@@ -9,7 +9,7 @@ use Rattle.abnf_token.specs.declared.token.Kind.{Kind}
 use Rattle.abnf_token.specs.declared.token.Kind.TheVariants as k
 use Rattle.abnf_token.specs.declared.machine.State.{State}
 use Rattle.abnf_token.specs.declared.machine.State.TheVariants as s
-use Rattle.abnf_token.specs.Classes.{Text, is_in, is_text, is_name_byte, is_blank_byte, is_quotable, is_prose_rest, is_repeat_rest, is_quoted_rest, is_quotation, is_case_letter, is_marked, base_of, is_digit, is_digits, is_series, is_number_rest, is_based}
+use Rattle.abnf_token.specs.Classes.{Text, is_in, is_text, is_name_byte, is_blank_byte, is_quotable, is_prose_rest, is_repeat_rest, is_quoted_rest, is_quotation, is_case_letter, is_case_quotation, base_of, is_digit, is_digits, is_series, is_number_rest, is_based}
 use Rattle.abnf_token.specs.Machine.{begin, accepted, run}
 
 abbrev pub tag : Kind → ℕ
@@ -43,7 +43,7 @@ pub and_false : (a : Bool) → a && false ≡ false
 and_false true = refl
 and_false false = refl
 
-and_true : (a : Bool) → a && true ≡ a
+pub and_true : (a : Bool) → a && true ≡ a
 and_true true = refl
 and_true false = refl
 
@@ -149,7 +149,7 @@ pick : (c x : Bool) (kind : Kind) (st other : State) (bs : Text) → accepts kin
 pick true x kind st other bs h g = h
 pick false x kind st other bs h g = g
 
-percent : (kind : Kind) (t : Text) → accepts kind (run s.Percent t) ≡ (if same k.Quoted kind then is_marked t else (same k.Number kind && is_based t))
+percent : (kind : Kind) (t : Text) → accepts kind (run s.Percent t) ≡ (if same k.Quoted kind then is_case_quotation t else (same k.Number kind && is_based t))
 percent k.Quoted [] = refl
 percent kind [] = refl
 percent k.Quoted (b ∷ bs) = pick (is_case_letter b) (is_quotation bs) k.Quoted s.Marked (s.First (base_of b) false) bs (quotation k.Quoted bs) (first k.Quoted (base_of b) false bs)

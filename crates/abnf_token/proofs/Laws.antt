@@ -9,7 +9,7 @@ use Rattle.abnf_token.specs.declared.token.Kind.{Kind}
 use Rattle.abnf_token.specs.declared.token.Kind.TheVariants as k
 use Rattle.abnf_token.specs.declared.machine.State.TheVariants as s
 use Rattle.abnf_token.specs.Classes.{Text, is_in, is_character}
-use Rattle.abnf_token.specs.Tokens.{NoLonger, IsNext, Fits, TokensOf, AreApart, HasOneAnswer, AreSlices, HasSlices, joined, HasJoin, GivesToken, GivesTokensOf, view}
+use Rattle.abnf_token.specs.Tokens.{NoLonger, IsNext, Fits, TokensOf, AreApart, HasOneAnswer, AreSlices, HasSlices, joined_tokens, HasJoin, GivesToken, GivesTokensOf, view}
 use Rattle.abnf_token.specs.Machine.{accepted, run}
 use Rattle.abnf_token.specs.Rest.{Rest}
 use Rattle.std.specs.Iterator.{Yields}
@@ -102,7 +102,7 @@ slices_from whole line start (t ∷ ts) p =
 pub slices : (whole : Text) → HasSlices whole
 slices whole line ts p = slices_from whole line 0 ts p
 
-joined_from : (left : Text) (line start : ℕ) (ts : List Token) → TokensOf line start left ts → joined ts ≡ left
+joined_from : (left : Text) (line start : ℕ) (ts : List Token) → TokensOf line start left ts → joined_tokens ts ≡ left
 joined_from left line start [] p = sym p
 joined_from left line start (t ∷ ts) p =
     ap₂ (λ x y. x ++ y) p.0.next.front (joined_from (drop (length t.text.now) left) line (start + length t.text.now) ts p.1)

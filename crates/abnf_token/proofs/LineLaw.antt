@@ -3,7 +3,7 @@ use Rattle.std.proofs.Common.{◌≡◌, inl, inr, ℕ, zero, suc, ◌+◌, ◌-
 use Rattle.std.specs.Prelude.{nat_eq, if◌then◌else◌}
 use Rattle.std.specs.List.{list_all}
 use Rattle.std.specs.Char.{is_ascii_alphabetic}
-use Rattle.std.proofs.lemmas.Bool.{eqb-true, or_cases}
+use Rattle.std.proofs.lemmas.Bool.{eqb-true, or_cases, and_parts}
 use Rattle.std.proofs.lemmas.List.{length-append, take-append-drop}
 use Rattle.std.proofs.Math.Seq.{take-append_seam, drop-append_seam, take-append-add}
 use Rattle.abnf_token.specs.declared.token.Kind.{Kind}
@@ -17,9 +17,9 @@ use Rattle.abnf_token.specs.Machine.{begin, step, accepted, run}
 use Rattle.abnf_token.specs.Renamed.{Piece, piece, joined, AreCut, touches, is_at_place, renamed, KeepsCut, KeepsTokens}
 use Rattle.abnf_token.proofs.Language.{is_kind, accepts, class_is, same}
 use Rattle.abnf_token.proofs.Longest.{same_self}
-use Rattle.abnf_token.proofs.Cuts.{never}
+use Rattle.abnf_token.proofs.Cuts.{never, fits_class}
 use Rattle.abnf_token.proofs.Laws.{one_next, same_kind}
-use Rattle.abnf_token.proofs.Calm.{and_both, Quiet, ends, calm, past, past_calm, calm_after, step_closes, step_calms, passes, begin_letter}
+use Rattle.abnf_token.proofs.Calm.{Quiet, ends, calm, past, past_calm, calm_after, step_closes, step_calms, passes, begin_letter}
 
 -- ---- the machine over a text in two pieces
 
@@ -92,11 +92,6 @@ fine k.Bad text rest f = is_bad refl f.0 (quiet_from [] (text ++ rest) f.1)
 fine k.Name text rest f = class_fine k.Name text rest f.0 f.1
 fine kind text rest f = class_fine kind text rest f.0 f.1
 
-fits_class : (kind : Kind) (text left : Text) → is_in kind text ≡ true → NoLonger (length text) left → Fits kind text left
-fits_class k.Bad text left is longest = never is
-fits_class k.Name text left is longest = (is, longest)
-fits_class kind text left is longest = (is, longest)
-
 fits : (kind : Kind) (text rest : Text) → Fine kind text rest → Fits kind text (text ++ rest)
 fits kind text rest (in_class acc q) =
     fits_class kind text (text ++ rest) (class_is kind text ∙ (ap (is_kind kind) acc ∙ same_self kind)) (to_longer text rest q)
@@ -129,14 +124,14 @@ piece_name p ps cut e = name_fine p.0 p.1 (joined ps) e (piece_fine p ps cut)
 names_run : (t : Text) → list_all is_name_byte t ≡ true → run s.Name t ≡ s.Name
 names_run [] n = refl
 names_run (b ∷ bs) n =
-    let h = and_both (is_name_byte b) (list_all is_name_byte bs) n in
+    let h = and_parts (is_name_byte b) (list_all is_name_byte bs) n in
     let go : step s.Name b ≡ s.Name = rw h.0 refl in
     ap (λ st. run st bs) go ∙ names_run bs h.1
 
 name_run : (t : Text) → is_name t ≡ true → run s.Start t ≡ s.Name
 name_run [] n = never n
 name_run (b ∷ bs) n =
-    let h = and_both (is_ascii_alphabetic b) (list_all is_name_byte bs) n in
+    let h = and_parts (is_ascii_alphabetic b) (list_all is_name_byte bs) n in
     ap (λ st. run st bs) (begin_letter b h.0) ∙ names_run bs h.1
 
 name_some : (t : Text) → is_name t ≡ true → 0 < length t
@@ -161,7 +156,7 @@ no_name_behind st (p ∷ ps) goes cut q h = by p.1 (name_fine p.0 p.1 (joined ps
   where
     by : {A : Type 0} (text : Text) → is_name text ≡ true → Quiet st (text ++ joined ps) → A
     by [] n q = never n
-    by (b ∷ bs) n q = let g = goes b (and_both (is_ascii_alphabetic b) (list_all is_name_byte bs) n).0 in some_none (accepted (step st b)) g.0 g.1 q.0
+    by (b ∷ bs) n q = let g = goes b (and_parts (is_ascii_alphabetic b) (list_all is_name_byte bs) n).0 in some_none (accepted (step st b)) g.0 g.1 q.0
 
 name_goes : (b : ℕ) → is_ascii_alphabetic b ≡ true → (kind : Kind) × (accepted (step s.Name b) ≡ Some kind)
 name_goes b l = (k.Name, rw l refl)

@@ -31,8 +31,8 @@ pub record IsToken (t : Token) (at_line at_byte : ℕ) (left : Text) : Type 0 wh
   pub start : t.start ≡ at_byte
 
 -- what is left after so many bytes more
-abbrev pub after : ℕ → Rest → Rest
-after n rest = record { text = drop n rest.text; line = rest.line; start = rest.start + n }
+abbrev pub rest_after : ℕ → Rest → Rest
+rest_after n rest = record { text = drop n rest.text; line = rest.line; start = rest.start + n }
 
 -- The tokens of what is left of a line from the byte start on: each is the next one where those before it end, and none is
 -- missing.
@@ -43,7 +43,7 @@ TokensOf line start left (t ∷ ts) = IsToken t line start left × TokensOf line
 -- What a call of `next` gives: the next token of what is left, which then follows it; or none at the line's end.
 abbrev pub GivesToken : Rest → Option Token → Rest → Type 0
 GivesToken old None new = (old.text ≡ []) × (new ≡ old)
-GivesToken old (Some t) new = IsToken t old.line old.start old.text × (new ≡ after (length t.text.now) old)
+GivesToken old (Some t) new = IsToken t old.line old.start old.text × (new ≡ rest_after (length t.text.now) old)
 
 -- what is left, as a list of bytes
 abbrev pub bytes_left : Rest → Text
@@ -74,9 +74,9 @@ abbrev pub HasSlices : Text → Type 0
 HasSlices whole = (line : ℕ) (ts : List Token) → TokensOf line 0 whole ts → AreSlices whole ts
 
 -- The texts of the tokens join to the line.
-abbrev pub joined : List Token → Text
-joined [] = []
-joined (t ∷ ts) = t.text.now ++ joined ts
+abbrev pub joined_tokens : List Token → Text
+joined_tokens [] = []
+joined_tokens (t ∷ ts) = t.text.now ++ joined_tokens ts
 
 abbrev pub HasJoin : Text → Type 0
-HasJoin whole = (line : ℕ) (ts : List Token) → TokensOf line 0 whole ts → joined ts ≡ whole
+HasJoin whole = (line : ℕ) (ts : List Token) → TokensOf line 0 whole ts → joined_tokens ts ≡ whole

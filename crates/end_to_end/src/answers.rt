@@ -7,11 +7,11 @@ use std::test::Fail;
 /// A duplicate, a block without a head, and a faulty one with a head, over several lines.
 const TEXT: &str = "a = \"x\" ; c\n  / b\n\"y\"\nA =/ \"z\"\nb = ?\n";
 
-/// The outline of that text, as a job that has run.
-fn outlined(alloc: Global) -> Result<Done, Fail> {
-    let snapshot = Snapshot::of_text(alloc, String::from_str(alloc, TEXT)?)?;
+/// The outline of a text, as a job with a ticket that has run.
+pub(crate) fn outlined(alloc: Global, ticket: u64, text: &str) -> Result<Done, Fail> {
+    let snapshot = Snapshot::of_text(alloc, String::from_str(alloc, text)?)?;
     let job = Job {
-        ticket: 7,
+        ticket,
         snapshot: Arc::new(alloc, snapshot)?,
         encoding: Encoding::Utf16,
         ask: Ask::Symbols.copy()?,
@@ -42,7 +42,7 @@ fn are_its_symbols(symbols: &[Symbol]) -> bool {
 
 #[test]
 fn an_outline(rt: HostRuntime) -> Result<(), Fail> {
-    let done = outlined(rt.alloc())?;
+    let done = outlined(rt.alloc(), 7, TEXT)?;
     let (ticket, lines) = (done.ticket(), done.snapshot().line_count());
     let asked = matches!(done.ask(), Ask::Symbols);
     let is_right = match done.answer() {

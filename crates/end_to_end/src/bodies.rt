@@ -1,12 +1,12 @@
-use ls_answers::{Ask, Done, Job, run};
+use super::answers::outlined;
+use ls_answers::{Ask, Done};
 use ls_bodies::Refusal;
 use ls_desk::{DeskFault, Out};
 use ls_lists::{List, Text};
 use ls_rpc::Id;
 use ls_session::{ClientEvent, Session, Turn, body_of, refusal_body};
-use ls_text::{Encoding, Snapshot};
+use ls_text::Encoding;
 use std::alloc::{AllocError as Memory, Global};
-use std::sync::Arc;
 use std::test::Fail;
 
 /// The body of `initialize` by a client that offers `documentChanges`.
@@ -33,19 +33,36 @@ fn pass(session: &mut Session, body: &[u8]) -> Result<(), Memory> {
     Ok(())
 }
 
-/// What the session makes of a body after `initialize`.
-fn turn_of(alloc: Global, body: &[u8]) -> Result<Turn, Memory> {
+/// Whether what the session makes of a body is this.
+fn makes<F: FnOnce(&Turn) -> bool>(
+    session: &mut Session,
+    body: &[u8],
+    is_it: F,
+) -> Result<bool, Memory>
+    requires { F.IsAlwaysCallable is_it }
+{
+    let turn = session.event(body)?;
+    let is_so = is_it(&turn);
+    drop(turn);
+    Ok(is_so)
+}
+
+/// The same after `initialize`.
+fn makes_after_initialize<F: FnOnce(&Turn) -> bool>(
+    alloc: Global,
+    body: &[u8],
+    is_it: F,
+) -> Result<bool, Memory>
+    requires { F.IsAlwaysCallable is_it }
+{
     let mut session = Session::new(alloc);
     pass(&mut session, INITIALIZE)?;
-    session.event(body)
+    makes(&mut session, body, is_it)
 }
 
 /// Whether the session makes nothing of a body.
 fn is_ignored(session: &mut Session, body: &[u8]) -> Result<bool, Memory> {
-    let turn = session.event(body)?;
-    let is_nothing = matches!(&turn, Turn::Nothing);
-    drop(turn);
-    Ok(is_nothing)
+    makes(session, body, |turn| matches!(turn, Turn::Nothing))
 }
 
 #[test]
@@ -69,22 +86,19 @@ fn is_open(event: &ClientEvent) -> bool {
 }
 
 /// Whether a copy of what the client does opens the document.
-fn opens(turn: &Turn) -> Result<bool, Memory> {
+fn opens(turn: &Turn) -> bool {
     let Turn::Event(event) = turn else {
-        return Ok(false);
+        return false;
     };
-    let event = event.copy()?;
-    let is_open = is_open(&event);
-    drop(event);
-    Ok(is_open)
+    match event.copy() {
+        Ok(event) => is_open(&event),
+        Err(Memory) => false,
+    }
 }
 
 #[test]
 fn an_open(rt: HostRuntime) -> Result<(), Fail> {
-    let turn = turn_of(rt.alloc(), OPEN)?;
-    let opens = opens(&turn);
-    drop(turn);
-    assert!(rt; opens?);
+    assert!(rt; makes_after_initialize(rt.alloc(), OPEN, opens)?);
     Ok(())
 }
 
@@ -100,10 +114,7 @@ fn asks_for_symbols(turn: &Turn) -> bool {
 
 #[test]
 fn a_request(rt: HostRuntime) -> Result<(), Fail> {
-    let turn = turn_of(rt.alloc(), SYMBOLS)?;
-    let asks = asks_for_symbols(&turn);
-    drop(turn);
-    assert!(rt; asks);
+    assert!(rt; makes_after_initialize(rt.alloc(), SYMBOLS, asks_for_symbols)?);
     Ok(())
 }
 
@@ -117,10 +128,7 @@ fn closes(turn: &Turn) -> bool {
 
 #[test]
 fn a_close(rt: HostRuntime) -> Result<(), Fail> {
-    let turn = turn_of(rt.alloc(), CLOSE)?;
-    let closes = closes(&turn);
-    drop(turn);
-    assert!(rt; closes);
+    assert!(rt; makes_after_initialize(rt.alloc(), CLOSE, closes)?);
     Ok(())
 }
 
@@ -134,10 +142,7 @@ fn cancels(turn: &Turn) -> bool {
 
 /// Whether the session cancels that request.
 fn is_cancelled(session: &mut Session) -> Result<bool, Memory> {
-    let turn = session.event(CANCEL)?;
-    let cancels = cancels(&turn);
-    drop(turn);
-    Ok(cancels)
+    makes(session, CANCEL, cancels)
 }
 
 #[test]
@@ -150,18 +155,6 @@ fn a_cancel(rt: HostRuntime) -> Result<(), Fail> {
     assert!(rt; is_cancelled(&mut session)?);
     assert!(rt; is_ignored(&mut session, CLOSE)?);
     Ok(())
-}
-
-/// The outline of a text, as a job that has run.
-fn outline_of(alloc: Global, text: &str) -> Result<Done, Fail> {
-    let text = String::from_str(alloc, text)?;
-    let job = Job {
-        ticket: 1,
-        snapshot: Arc::new(alloc, Snapshot::of_text(alloc, text)?)?,
-        encoding: Encoding::Utf16,
-        ask: Ask::Symbols,
-    };
-    Ok(run(alloc, job))
 }
 
 /// What replies with a job that has run.
@@ -187,7 +180,7 @@ fn body_for(alloc: Global, out: Out) -> Result<Vec<u8>, Memory> {
 fn a_reply(rt: HostRuntime) -> Result<(), Fail> {
     let alloc = rt.alloc();
     let uri = Text::from_str(alloc, "file:///g")?;
-    let body = body_for(alloc, replied(uri, outline_of(alloc, "a = \"x\"")?))?;
+    let body = body_for(alloc, replied(uri, outlined(alloc, 1, "a = \"x\"")?))?;
     assert_eq!(rt; body.len(), 215);
     assert!(rt;
         body.as_slice()

@@ -1,6 +1,7 @@
 -- What is printed of the findings in a draft: each at the place where it begins there.
 use Rattle.std.specs.Prelude.{◌≡◌, ◌<◌, ℕ, List, [], ◌∷◌, ◌++◌, codes, length}
 use Rattle.std.specs.Str.{IsUtf8, chars}
+use Rattle.ls_text.specs.Lines.{max_bytes}
 use Rattle.ls_text.specs.declared.position.Position.{Position}
 use Rattle.text_files.specs.declared.file.FileFault.{FileFault}
 use Rattle.text_files.specs.declared.file.FileFault.TheVariants.{CannotRead, Memory, NotText}
@@ -34,7 +35,7 @@ pub record IsTooLarge (text : List ℕ) : Type 0 where
   pub bytes : List ℕ
   pub utf8 : IsUtf8 bytes
   pub are : chars bytes ≡ text
-  pub large : 4194304 < length bytes
+  pub large : max_bytes < length bytes
 
 -- Why a text isn't made: it is too large, or memory was refused.
 abbrev pub IsTextRefused : List ℕ → FileFault → Type 0

@@ -13,7 +13,7 @@ use Rattle.abnf_names.specs.Places.{Named, named_at}
 use Rattle.abnf_names.specs.Rules.{Grammar, IsGrammar}
 use Rattle.abnf_names.proofs.Within.{rule_within}
 use Rattle.findings_text.specs.declared.rules.Head.{Head}
-use Rattle.findings_text.specs.Rules.{ahead, also_told, defined_at, defines, head_at, heads, if_new}
+use Rattle.findings_text.specs.Rules.{ahead, also_told, defined_at, defines_rule, head_at, heads, if_new}
 
 -- ---- a test behind another
 
@@ -184,6 +184,6 @@ first_ahead : (r : ℕ) (n : Named) (rule : Option ℕ) (left : List (Named × �
 first_ahead r n None left first rest = rest
 first_ahead r n (Some q) left first rest = first_some r q n left first rest
 
-pub first_heads : (names : List Name) (places : List Named) (r : ℕ) → filter (λ head. nat_eq r head.1) (heads names places) ≡ option_map_or (λ n. (n, r) ∷ []) (find (defines names r) places) []
+pub first_heads : (names : List Name) (places : List Named) (r : ℕ) → filter (λ head. nat_eq r head.1) (heads names places) ≡ option_map_or (λ n. (n, r) ∷ []) (find (defines_rule names r) places) []
 first_heads names [] r = refl
-first_heads names (n ∷ ns) r = first_ahead r n (defined_at names n) (heads names ns) (find (defines names r) ns) (first_heads names ns r)
+first_heads names (n ∷ ns) r = first_ahead r n (defined_at names n) (heads names ns) (find (defines_rule names r) ns) (first_heads names ns r)

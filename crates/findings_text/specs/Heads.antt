@@ -10,8 +10,8 @@ abbrev pub defined_at : List Name → Named → Option ℕ
 defined_at names n = if n.defines then rule_number names (lowercase n.text) else None
 
 -- the place defines rule r
-abbrev pub defines : List Name → ℕ → Named → Bool
-defines names r n = option_map_or (nat_eq r) (defined_at names n) false
+abbrev pub defines_rule : List Name → ℕ → Named → Bool
+defines_rule names r n = option_map_or (nat_eq r) (defined_at names n) false
 
 -- a place that defines this rule, ahead of the heads of other rules
 abbrev pub ahead : Named → Option ℕ → List (Named × ℕ) → List (Named × ℕ)

@@ -37,12 +37,12 @@ pub record AreKnown (text : List ℕ) (known : List (List ℕ)) : Type 0 where
   pub are : known ≡ known_names grammar
 
 -- So many names that stand for nothing are compared with so many known ones: with none of them where that is too much.
-abbrev pub is_compared : ℕ → ℕ → Bool
-is_compared unknown known = nat_le 1 unknown && nat_le (unknown * known) 100000
+abbrev pub are_compared : ℕ → ℕ → Bool
+are_compared unknown known = nat_le 1 unknown && nat_le (unknown * known) 100000
 
 -- the names with which those that stand for nothing are compared
 abbrev pub compared : List Finding → List (List ℕ) → List (List ℕ)
-compared found known = if is_compared (count_by is_undefined found) (length known) then known else []
+compared found known = if are_compared (count_by is_undefined found) (length known) then known else []
 
 abbrev pub hint : Option (List ℕ) → List ℕ
 hint None = []

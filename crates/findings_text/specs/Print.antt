@@ -31,8 +31,8 @@ abbrev pub place_text : Position → List ℕ
 place_text at = counted_text at.line ++ counted_text at.character ++ codes ": "
 
 -- FILE:LINE:COLUMN: severity: message [code], and LF, of a finding that begins at this position, where its name is compared with these
-abbrev pub line_at : List (List ℕ) → List ℕ → Position → Finding → List ℕ
-line_at known file at finding =
+abbrev pub line_of_finding : List (List ℕ) → List ℕ → Position → Finding → List ℕ
+line_of_finding known file at finding =
     file ++ place_text at ++ severity_text (severity_of finding.code) ++ codes ": "
     ++ message known finding ++ codes " [" ++ code_text finding.code ++ (codes "]" ++ 10 ∷ [])
 
@@ -42,7 +42,7 @@ Locator = Position → Position
 
 -- the line of a finding, which is told where it stands in the file
 abbrev pub finding_line : Locator → List (List ℕ) → List ℕ → List ℕ → Finding → List ℕ
-finding_line locate known file text finding = line_at known file (locate (begin_of text finding)) finding
+finding_line locate known file text finding = line_of_finding known file (locate (begin_of text finding)) finding
 
 -- These are the findings of a text, and the names with which theirs are compared.
 pub record AreFoundWith (text : List ℕ) (found : List Finding) (names : List (List ℕ)) : Type 0 where

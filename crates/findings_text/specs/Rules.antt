@@ -13,7 +13,7 @@ use Rattle.abnf_least.specs.declared.shortest.Shortest.{Shortest}
 use Rattle.abnf_least.specs.declared.shortest.Shortest.TheVariants.{Shown, Long, Huge, Nothing, NotKnown}
 use Rattle.findings_text.specs.declared.rules.Head.{Head}
 use Rattle.findings_text.specs.Print.{Locator, place_text}
-pub use Rattle.findings_text.specs.Heads.{ahead, defined_at, defines, heads}
+pub use Rattle.findings_text.specs.Heads.{ahead, defined_at, defines_rule, heads}
 
 -- what is known of the shortest strings of a rule
 abbrev pub known_text : Shortest → List ℕ

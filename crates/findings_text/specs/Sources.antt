@@ -11,13 +11,13 @@ use Rattle.findings_text.specs.declared.source.Source.TheVariants.{Draft, File}
 use Rattle.findings_text.specs.Print.{Locator}
 
 -- the offset in a draft of what has this offset in its grammar; past the grammar's end it is the draft's end
-abbrev pub origin_at : List ℕ → List Sourced → ℕ → ℕ
-origin_at draft grammar o = option_map_or (λ c. c.1) (slice_get grammar o) (length draft)
+abbrev pub draft_origin : List ℕ → List Sourced → ℕ → ℕ
+draft_origin draft grammar o = option_map_or (λ c. c.1) (slice_get grammar o) (length draft)
 
 -- where in the draft stands what has this position in a text that begins with its grammar
 abbrev pub position_in_draft : List ℕ → List Sourced → List ℕ → Position → Position
 position_in_draft draft grammar text at =
-    position_of (units Utf32) draft (origin_at draft grammar (offset_of (units Utf32) text at.line at.character))
+    position_of (units Utf32) draft (draft_origin draft grammar (offset_of (units Utf32) text at.line at.character))
 
 -- where what stands in the text of a source stands in the file
 abbrev pub located : Source → List ℕ → Locator

@@ -85,7 +85,7 @@ fn known_names<'t>(alloc: Global, grammar: &Grammar<'t>) -> Result<List<&'t str>
 
 /// Whether so many names are compared with so many known ones.
 fn is_compared(unknown: usize, known: usize) -> bool
-    ensures { result ≡ spec.is_compared unknown known }
+    ensures { result ≡ spec.are_compared unknown known }
 {
     unknown >= 1 && unknown.saturating_mul(known) <= MOST_PAIRS
 }

@@ -5,7 +5,7 @@ ghost use Rattle.std.specs.Option.{option_map_or};
 ghost use Rattle.abnf_parts.specs.Names.{Name};
 ghost use Rattle.abnf_names.specs.Places.{Named};
 ghost use Rattle.findings_text.specs.Print.{IsPrinted};
-ghost use Rattle.findings_text.specs.Rules.{ArePrintedRules, defines, heads};
+ghost use Rattle.findings_text.specs.Rules.{ArePrintedRules, defines_rule, heads};
 ghost use Rattle.findings_text.specs.declared.print.Printed.{Printed};
 
 /// For each file name there is a print-out of each text of fewer than 2^62 characters, and so of each text of a file, which has at most
@@ -32,5 +32,5 @@ pub fn printed_rules_are_unique()
 /// Of the places of names each rule has one head, the first that defines it, and none where no place does.
 pub fn heads_are_first()
     ensures { (names : List Name) (places : List Named) (r : ℕ)
-        → filter (λ head. nat_eq r head.1) (heads names places) ≡ option_map_or (λ n. (n, r) ∷ []) (find (defines names r) places) [] }
+        → filter (λ head. nat_eq r head.1) (heads names places) ≡ option_map_or (λ n. (n, r) ∷ []) (find (defines_rule names r) places) [] }
 {}

@@ -1,7 +1,7 @@
 //! The line of a finding.
 
 ghost use Rattle.std.specs.Prelude.{◌≡◌, ◌++◌, IfOk, OnOk, map, string_bytes};
-ghost use Rattle.findings_text.specs.Print.{counted_text, line_at, place_text, severity_text};
+ghost use Rattle.findings_text.specs.Print.{counted_text, line_of_finding, place_text, severity_text};
 
 use crate::hints::message;
 use abnf_lint::{Finding, Severity};
@@ -49,7 +49,7 @@ pub(crate) fn push_line(
     known: &[&str],
     finding: &Finding,
 ) -> Result<(), Memory>
-    ensures { OnOk result (string_bytes lines.new ≡ string_bytes lines.old ++ line_at (map (λ name. name.now) known.now) file.now at finding.now) }
+    ensures { OnOk result (string_bytes lines.new ≡ string_bytes lines.old ++ line_of_finding (map (λ name. name.now) known.now) file.now at finding.now) }
 {
     let place = place_text(alloc, at)?;
     let message = message(alloc, known, finding)?;

@@ -17,8 +17,8 @@ use Rattle.abnf_syntax.specs.Items.{AreItems}
 use Rattle.abnf_syntax.proofs.Bare.{bare, bare_head, head_bare, one_list, same_items}
 use Rattle.abnf_syntax.proofs.Exist.{some_blocks}
 use Rattle.abnf_parts.specs.Names.{Name, rule_number, with_name}
-use Rattle.joined_grammars.specs.Passes.{HasJoined, Joins, State}
-use Rattle.joined_grammars.specs.Joined.{AreBlocksOf, Follows, IsJoined, block_text, ended, head_name, is_new, new_text, with_head, with_heads}
+use Rattle.joined_grammars.specs.Passes.{HasJoined, Joins, Joining}
+use Rattle.joined_grammars.specs.Joined.{AreBlocksOf, Follows, IsJoined, block_text, with_break, head_name, is_new, new_text, with_head_name, with_heads}
 
 -- ---- there is one
 
@@ -52,7 +52,7 @@ some_joined told others small all_small =
 -- ---- one more
 
 -- another text was joined
-pub joined_next : (all : List (List ℕ)) (i : ℕ) (old was now : State) (other : List ℕ) → i < length all → other ≡ get_or all i other
+pub joined_next : (all : List (List ℕ)) (i : ℕ) (old was now : Joining) (other : List ℕ) → i < length all → other ≡ get_or all i other
     → HasJoined all (drop i all) old was → Joins other was now → HasJoined all (drop (i + 1) all) old now
 joined_next all i old was now other less at before joins = record {
   behind = before.behind ++ new_text was.names other joins.blocks;
@@ -69,7 +69,7 @@ joined_next all i old was now other less at before joins = record {
     split = rw (add-one, drop-cons all i other) (λ j. sym at j ∷ drop (suc i) all)
 
 -- no text is left
-pub joined_all : (told : List ℕ) (all : List (List ℕ)) (i : ℕ) (blocks : List Block) (old now : State) → length all ≤ i → AreBlocksOf told blocks → old.names ≡ with_heads [] blocks → old.text ≡ told
+pub joined_all : (told : List ℕ) (all : List (List ℕ)) (i : ℕ) (blocks : List Block) (old now : Joining) → length all ≤ i → AreBlocksOf told blocks → old.names ≡ with_heads [] blocks → old.text ≡ told
     → HasJoined all (drop i all) old now → IsJoined told all now.text
 joined_all told all i blocks old now less are names text joined = record {
   blocks = blocks;
@@ -125,14 +125,14 @@ heads_by names (n ∷ ns) = heads_by (option_map_or (with_name names) n.name nam
 
 heads_are : (names : List Name) (blocks : List Block) → heads_by names (map named blocks) ≡ with_heads names blocks
 heads_are names [] = refl
-heads_are names (block ∷ blocks) = heads_are (with_head names block) blocks
+heads_are names (block ∷ blocks) = heads_are (with_head_name names block) blocks
 
 abbrev new_by : List Name → Named → Bool
 new_by names n = option_map_or (λ name. not (is_some (rule_number names name))) n.name false
 
 abbrev text_by : List Name → List ℕ → List Named → List ℕ
 text_by names text [] = []
-text_by names text (n ∷ ns) = cond (new_by names n) (flat_map ended (slice_range (lines text) n.bounds.0 n.bounds.1) ++ text_by names text ns) (text_by names text ns)
+text_by names text (n ∷ ns) = cond (new_by names n) (flat_map with_break (slice_range (lines text) n.bounds.0 n.bounds.1) ++ text_by names text ns) (text_by names text ns)
 
 text_if : (text : List ℕ) (b : Bool) (block : Block) (kept : List Block) (rest : List ℕ) → rest ≡ flat_map (block_text text) kept
     → cond b (block_text text block ++ rest) rest ≡ flat_map (block_text text) (cond b (block ∷ kept) kept)

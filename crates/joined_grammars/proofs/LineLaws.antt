@@ -4,7 +4,7 @@ use Rattle.std.specs.Prelude.{flat_map, slice_get, slice_range}
 use Rattle.std.specs.Option.{option_map_or}
 use Rattle.std.specs.Str.{chars, IsUtf8}
 use Rattle.std.proofs.lemmas.Str.{chars-append}
-use Rattle.joined_grammars.specs.Joined.{ended}
+use Rattle.joined_grammars.specs.Joined.{with_break}
 
 take_next : (f : List ℕ → List ℕ) (ls : List (List ℕ)) (n : ℕ) → flat_map f (take (suc n) ls) ≡ flat_map f (take n ls) ++ option_map_or f (slice_get ls n) []
 take_next f [] zero = refl
@@ -22,13 +22,13 @@ get_dropped (l ∷ ls) (suc k) n = get_dropped ls k n ∙ (λ i. slice_get (l �
 
 -- the lines from the first one up to another, and that one
 pub range_next : (ls : List (List ℕ)) (first at : ℕ) → first ≤ at
-    → flat_map ended (slice_range ls first (at + 1)) ≡ flat_map ended (slice_range ls first at) ++ option_map_or ended (slice_get ls at) []
+    → flat_map with_break (slice_range ls first (at + 1)) ≡ flat_map with_break (slice_range ls first at) ++ option_map_or with_break (slice_get ls at) []
 range_next ls first at less =
     let more : (at + 1) - first ≡ suc (at - first) = omega arith in
     let back : first + (at - first) ≡ at = omega arith in
-    (λ i. flat_map ended (take (more i) (drop first ls)))
-    ∙ (take_next ended (drop first ls) (at - first)
-    ∙ (λ i. flat_map ended (slice_range ls first at) ++ option_map_or ended ((get_dropped ls first (at - first) ∙ ap (slice_get ls) back) i) []))
+    (λ i. flat_map with_break (take (more i) (drop first ls)))
+    ∙ (take_next with_break (drop first ls) (at - first)
+    ∙ (λ i. flat_map with_break (slice_range ls first at) ++ option_map_or with_break ((get_dropped ls first (at - first) ∙ ap (slice_get ls) back) i) []))
 
 -- where a loop over lines ends
 pub range_end : (ls : List (List ℕ)) (first at end : ℕ) → end ≤ at → (first ≤ end → at ≤ end) → (end < first → at ≡ first) → slice_range ls first at ≡ slice_range ls first end
@@ -37,7 +37,7 @@ range_end ls first at end past within none =
     (λ i. take (same i) (drop first ls))
 
 -- a line and a line end behind a text
-pub ended_bytes : (old line : List ℕ) (l : List ℕ) → IsUtf8 old → IsUtf8 line → IsUtf8 (old ++ line) → chars line ≡ l → chars ((old ++ line) ++ 10 ∷ []) ≡ chars old ++ ended l
+pub ended_bytes : (old line : List ℕ) (l : List ℕ) → IsUtf8 old → IsUtf8 line → IsUtf8 (old ++ line) → chars line ≡ l → chars ((old ++ line) ++ 10 ∷ []) ≡ chars old ++ with_break l
 unfolding chars
 ended_bytes old line l old_is line_is both_are is =
     chars-append (old ++ line) (10 ∷ []) both_are

@@ -21,23 +21,23 @@ abbrev pub head_name : Block → Option Name
 head_name block = option_map (λ head. lowercase head.name.text.now) (head_of block.items)
 
 -- names, and behind them that of a block's head
-abbrev pub with_head : List Name → Block → List Name
-with_head names block = option_map_or (with_name names) (head_name block) names
+abbrev pub with_head_name : List Name → Block → List Name
+with_head_name names block = option_map_or (with_name names) (head_name block) names
 
 abbrev pub with_heads : List Name → List Block → List Name
-with_heads names blocks = fold with_head names blocks
+with_heads names blocks = fold with_head_name names blocks
 
 -- The block has a head, whose name isn't among these.
 abbrev pub is_new : List Name → Block → Bool
 is_new names block = option_map_or (λ name. not (is_some (rule_number names name))) (head_name block) false
 
 -- a line, and LF behind it
-abbrev pub ended : List ℕ → List ℕ
-ended line = line ++ 10 ∷ []
+abbrev pub with_break : List ℕ → List ℕ
+with_break line = line ++ 10 ∷ []
 
 -- the lines of a block
 abbrev pub block_text : List ℕ → Block → List ℕ
-block_text text block = flat_map ended (slice_range (lines text) block.first block.end)
+block_text text block = flat_map with_break (slice_range (lines text) block.first block.end)
 
 -- the lines of the blocks that have new names
 abbrev pub new_text : List Name → List ℕ → List Block → List ℕ

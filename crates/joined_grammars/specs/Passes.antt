@@ -5,22 +5,22 @@ use Rattle.abnf_parts.specs.Names.{Name}
 use Rattle.joined_grammars.specs.Joined.{AreBlocksOf, Follows, new_text, with_heads}
 
 -- a text joined so far, and the names of the heads in it and before
-pub record State : Type 0 where
+pub record Joining : Type 0 where
   pub names : List Name
   pub text : List ℕ
 
 -- The new blocks of one other text have come.
-pub record Joins (other : List ℕ) (old new : State) : Type 0 where
+pub record Joins (other : List ℕ) (old new : Joining) : Type 0 where
   pub blocks : List Block
   pub are_blocks : AreBlocksOf other blocks
   pub names : new.names ≡ with_heads old.names blocks
   pub text : new.text ≡ old.text ++ new_text old.names other blocks
 
-abbrev pub state : List Name → List ℕ → State
+abbrev pub state : List Name → List ℕ → Joining
 state names text = record { names = names; text = text }
 
 -- Texts have been joined, and these are left: what follows by them now follows, behind what was joined, by all of them.
-pub record HasJoined (all left : List (List ℕ)) (old new : State) : Type 0 where
+pub record HasJoined (all left : List (List ℕ)) (old new : Joining) : Type 0 where
   pub behind : List ℕ
   pub text : new.text ≡ old.text ++ behind
   pub follows : (rest : List ℕ) → Follows new.names left rest → Follows old.names all (behind ++ rest)

@@ -58,7 +58,7 @@ fn is_new<'t>(names: &Names<'t>, block: &Block<'t>) -> bool
 
 /// Appends a line of a text, with LF at its end. There is none behind the last line.
 fn push_line(joined: &mut String, text: &Snapshot, at: usize) -> Result<(), Memory>
-    ensures { OnOk result (chars (string_bytes joined.new) ≡ chars (string_bytes joined.old) ++ option_map_or spec.ended (slice_get (lines text.now) at) []) }
+    ensures { OnOk result (chars (string_bytes joined.new) ≡ chars (string_bytes joined.old) ++ option_map_or spec.with_break (slice_get (lines text.now) at) []) }
 {
     if let Some(line) = text.line(at) {
         joined.push_str(line)?;
@@ -109,7 +109,7 @@ fn push_new<'t>(
 
 /// Adds the name of a block's head, if it has one.
 fn add_head<'t>(names: &mut Names<'t>, block: &Block<'t>) -> Result<(), Memory>
-    ensures { OnOk result (names.new ≡ spec.with_head names.old block.now) }
+    ensures { OnOk result (names.new ≡ spec.with_head_name names.old block.now) }
 {
     if let Some(name) = head_name(block) {
         names.add(name)?;

@@ -32,7 +32,7 @@ use Rattle.ls_answers.specs.Hovers.{IsHover, IsHoverAt, IsHoverOfRule}
 use Rattle.ls_answers.specs.Insertions.{IsInsertedBefore, IsInsertion, IsInsertionBy, IsInsertionThere, comment_of, first_head, name_at_start}
 use Rattle.ls_answers.specs.Outline.{IsOutline}
 use Rattle.ls_answers.specs.Places.{ArePlaces, is_wanted, name_at, name_range, places_alike, wanted_with}
-use Rattle.ls_answers.specs.Renames.{IsRename, rename_fault, renamed}
+use Rattle.ls_answers.specs.Renames.{IsRename, rename_fault, rename_answer}
 use Rattle.ls_answers.specs.SemanticTokens.{AreSemanticTokens, origin, relative, told}
 use Rattle.ls_answers.specs.declared.answer.Answer.{Answer}
 use Rattle.ls_answers.specs.declared.answer.Answer.TheVariants as answer
@@ -61,7 +61,7 @@ module _ (encoding : Encoding) where
 
   rename : (text : List ℕ) (at : Position) (new : List ℕ) → length text < 2 ^ 62 → (a : Answer) × IsRename encoding text at new a
   rename text at new small =
-      let g = some_grammar text small in (renamed encoding g.0 at new (rename_fault encoding g.0 at new), record { grammar = g.0; of_text = g.1; right = g.2; answer_is = refl })
+      let g = some_grammar text small in (rename_answer encoding g.0 at new (rename_fault encoding g.0 at new), record { grammar = g.0; of_text = g.1; right = g.2; answer_is = refl })
 
   inserted_before : (roots : List Part) (line : ℕ) (cert : List Entry) → IsAccepted roots cert → (shown : Shortest) → (insertion : Option Insertion) × IsInsertedBefore roots line shown insertion
   inserted_before roots line cert accepted (Shown n example) =

@@ -5,11 +5,11 @@ use Rattle.ls_text.specs.declared.position.Encoding.{Encoding}
 use Rattle.ls_text.specs.declared.position.Position.{Position}
 use Rattle.abnf_names.proofs.Exist.{some_grammar}
 use Rattle.abnf_names.specs.Rules.{Grammar}
-use Rattle.ls_answers.specs.Renames.{IsRename, renamed, rename_fault}
+use Rattle.ls_answers.specs.Renames.{IsRename, rename_answer, rename_fault}
 use Rattle.ls_answers.specs.declared.answer.Answer.TheVariants as answer
 use Rattle.ls_answers.specs.declared.answer.RenameFault.TheVariants.{NotAName}
 
-refused : (encoding : Encoding) (g : Grammar) (at : Position) (new : List ℕ) → is_name new ≡ false → answer.Refused NotAName ≡ renamed encoding g at new (rename_fault encoding g at new)
+refused : (encoding : Encoding) (g : Grammar) (at : Position) (new : List ℕ) → is_name new ≡ false → answer.Refused NotAName ≡ rename_answer encoding g at new (rename_fault encoding g at new)
 refused encoding g at new other = rw other refl
 
 -- It is refused as that, in whatever text.

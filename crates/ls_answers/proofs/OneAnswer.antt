@@ -44,7 +44,7 @@ use Rattle.ls_answers.specs.Outline.{symbol_with, symbol_of, IsOutline}
 use Rattle.ls_answers.proofs.Outlines.{outline}
 use Rattle.ls_answers.specs.Insertions.{IsComment, IsInsertedBefore, IsInsertion, IsInsertionBy, IsInsertionThere, first_head, name_at_start}
 use Rattle.ls_answers.specs.Places.{AreDefinitions, ArePlaces, AreReferences, is_wanted, name_at, name_range, places_alike, wanted_with}
-use Rattle.ls_answers.specs.Renames.{IsRename, rename_fault, renamed}
+use Rattle.ls_answers.specs.Renames.{IsRename, rename_fault, rename_answer}
 use Rattle.ls_answers.specs.SemanticTokens.{AreSemanticTokens}
 use Rattle.ls_answers.specs.declared.answer.Insertion.{Insertion}
 use Rattle.ls_answers.specs.declared.places.Wanted.{Wanted}
@@ -148,7 +148,7 @@ module _ (encoding : Encoding) where
   one_rename : (text : List ℕ) (at : Position) (new : List ℕ) (a b : Answer) → IsRename encoding text at new a → IsRename encoding text at new b → a ≡ b
   one_rename text at new a b p q =
       let same = one_grammar p.grammar q.grammar p.right q.right (p.of_text ∙ sym q.of_text) in
-      p.answer_is ∙ (ap (λ (g : Grammar). renamed encoding g at new (rename_fault encoding g at new)) same ∙ sym q.answer_is)
+      p.answer_is ∙ (ap (λ (g : Grammar). rename_answer encoding g at new (rename_fault encoding g at new)) same ∙ sym q.answer_is)
 
   -- ---- insertions
 

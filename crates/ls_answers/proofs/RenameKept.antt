@@ -17,7 +17,7 @@ use Rattle.abnf_rename.proofs.RangesKept.{grammar_kept}
 use Rattle.ls_answers.specs.Answers.{IsAnswer}
 use Rattle.ls_answers.specs.Places.{name_at, name_range, places_alike}
 use Rattle.ls_answers.specs.RenameKeeps.{RenameKeeps, KeepsIfRenamed}
-use Rattle.ls_answers.specs.Renames.{IsRename, fault_there, rename_fault, renamed}
+use Rattle.ls_answers.specs.Renames.{IsRename, fault_there, rename_fault, rename_answer}
 use Rattle.ls_answers.specs.declared.answer.Answer.{Answer}
 use Rattle.ls_answers.specs.declared.answer.Answer.TheVariants as answer
 use Rattle.ls_answers.specs.declared.answer.RenameFault.{RenameFault}
@@ -67,7 +67,7 @@ module _ (encoding : Encoding) where
   are_edits _ = false
 
   edits_keep : (g : Grammar) (at : Position) (new given : List ℕ) (ranges : List Range) (fault : Option RenameFault) → IsGrammar g → All IsScalar g.text → rename_fault encoding g at new ≡ fault →
-      answer.Edits ranges given ≡ renamed encoding g at new fault → RenameKeeps encoding g.text at given ranges × (given ≡ new)
+      answer.Edits ranges given ≡ rename_answer encoding g at new fault → RenameKeeps encoding g.text at given ranges × (given ≡ new)
   edits_keep g at new given ranges (Some fault) right s is e = let no : true ≡ false = ap are_edits e in absurd (cc (no))
   edits_keep g at new given ranges None right s is e =
       let found = granted_at g at new is in

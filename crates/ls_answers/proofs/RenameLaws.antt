@@ -16,7 +16,7 @@ use Rattle.abnf_names.specs.Rules.{Grammar, IsGrammar}
 use Rattle.abnf_names.specs.declared.place.Spot.{Spot}
 use Rattle.abnf_names.proofs.OneGrammar.{one_grammar}
 use Rattle.ls_answers.specs.Places.{ArePlaces, is_wanted, name_at, name_range, places_alike}
-use Rattle.ls_answers.specs.Renames.{IsRename, fault_of_name, fault_there, rename_fault, renamed}
+use Rattle.ls_answers.specs.Renames.{IsRename, fault_of_name, fault_there, rename_fault, rename_answer}
 use Rattle.ls_answers.specs.declared.answer.Answer.TheVariants as answer
 use Rattle.ls_answers.specs.declared.answer.RenameFault.{RenameFault}
 use Rattle.ls_answers.specs.declared.places.Wanted.TheVariants.{Both}
@@ -24,7 +24,7 @@ use Rattle.ls_answers.proofs.Definitions.{found}
 
 module _ (encoding : Encoding) where
   pub refused : (g : Grammar) (at : Position) (new : List ℕ) (fault : RenameFault) → IsGrammar g → Some fault ≡ rename_fault encoding g at new → IsRename encoding g.text at new (answer.Refused fault)
-  refused g at new fault right e = record { grammar = g; of_text = refl; right = right; answer_is = ap (renamed encoding g at new) e }
+  refused g at new fault right e = record { grammar = g; of_text = refl; right = right; answer_is = ap (rename_answer encoding g at new) e }
 
   all_wanted : (ns : List Named) → filter (λ (n : Named). is_wanted Both n.defines) ns ≡ ns
   all_wanted [] = refl
@@ -39,7 +39,7 @@ module _ (encoding : Encoding) where
       let same = one_grammar p.grammar g p.right right p.of_text in
       let places : ranges ≡ all_places g at g.text =
       p.ranges_are ∙ (ap (map (name_range encoding g.text)) (all_wanted (places_alike p.grammar (name_at encoding p.grammar at))) ∙ ap (λ (h : Grammar). all_places h at g.text) same) in
-      record { grammar = g; of_text = refl; right = right; answer_is = (λ i. answer.Edits (places i) (is i)) ∙ ap (renamed encoding g at new) e }
+      record { grammar = g; of_text = refl; right = right; answer_is = (λ i. answer.Edits (places i) (is i)) ∙ ap (rename_answer encoding g at new) e }
 
   -- ---- the name that is found
 

@@ -2,8 +2,9 @@
 use Rattle.std.proofs.Common.{◌≡◌, ℕ, suc, ◌+◌, ◌<◌, ◌≤◌, ◌⊎◌, inl, inr, Bool, true, false, List, [], ◌∷◌, ◌++◌, length, map, drop, Option, Some, None, Result, Ok, Err, IfOk, refl, sym, ap, subst, ◌∙◌, arith, append_assoc, length-append}
 use Rattle.std.specs.Prelude.{◌||◌, ◌&&◌, nat_lt, nat_eq, find, flat_map, slice_index_or, if◌then◌else◌}
 use Rattle.std.specs.List.{filter_map, cons_option}
-use Rattle.std.proofs.lemmas.Bool.{lt-ltb, ltb-true, le-ltb, eq-eqb, eqb-true, false≢true}
+use Rattle.std.proofs.lemmas.Bool.{lt-ltb, ltb-true, le-ltb, eq-eqb, eqb-true, false≢true, and_parts, or_cases}
 use Rattle.std.proofs.lemmas.List.Elements.{All-head, All-tail}
+use Rattle.std.proofs.lemmas.List.{append-nil}
 use Rattle.ls_text.specs.declared.position.Encoding.{Encoding}
 use Rattle.abnf_token.specs.Classes.{Text}
 use Rattle.abnf_token.specs.Marks.{AreMarks, mark_of}
@@ -16,7 +17,8 @@ use Rattle.abnf_names.specs.Places.{AllBehind, Ascend, Named, begins_before}
 use Rattle.abnf_names.specs.Rules.{Grammar, IsGrammar}
 use Rattle.abnf_names.proofs.Ascending.{places_ascend}
 use Rattle.ls_answers.specs.SemanticTokens.{AreSemanticTokens, origin, relative, stands_at, told, told_of}
-use Rattle.ls_answers.specs.Walk.{AreLineMarks, AreTold, HasWalked, as_list, first_at, from_point, left_behind, left_behind_all, told_in_line, told_in_lines}
+use Rattle.ls_answers.specs.Outline.{as_list}
+use Rattle.ls_answers.specs.Walk.{AreLineMarks, AreToldTokens, HasWalked, first_at, from_point, left_behind, left_behind_all, told_in_line, told_in_lines}
 use Rattle.ls_answers.specs.declared.semantic_tokens.SemanticToken.{SemanticToken}
 
 -- ---- points
@@ -29,20 +31,8 @@ reaches_next : (l s m t : ℕ) → Reaches l s m t → Reaches l s (suc m) 0
 reaches_next l s m t (inl less) = inl (omega (arith, less))
 reaches_next l s m t (inr at) = inl (let e : l ≡ m = at.0 in omega (arith, e))
 
-reaches_more : (l s m t n : ℕ) → Reaches l s m t → Reaches l s m (t + n)
-reaches_more l s m t n (inl less) = inl less
-reaches_more l s m t n (inr at) = inr (at.0, (let e : s ≤ t = at.1 in omega (arith, e)))
-
 abbrev Before : ℕ → ℕ → Named → Type 0
 Before l s n = (n.place.line < l) ⊎ ((n.place.line ≡ l) × (n.place.start < s))
-
-or_cases : (a b : Bool) → a || b ≡ true → (a ≡ true) ⊎ (b ≡ true)
-or_cases true b e = inl refl
-or_cases false b e = inr e
-
-and_both : (a b : Bool) → a && b ≡ true → (a ≡ true) × (b ≡ true)
-and_both true b e = (refl, e)
-and_both false b e = absurd (false≢true e)
 
 before : (l s : ℕ) (n : Named) → begins_before l s n ≡ true → Before l s n
 before l s n e = by (or_cases (nat_lt n.place.line l) (nat_eq n.place.line l && nat_lt n.place.start s) e)
@@ -50,7 +40,7 @@ before l s n e = by (or_cases (nat_lt n.place.line l) (nat_eq n.place.line l && 
     by : (nat_lt n.place.line l ≡ true) ⊎ ((nat_eq n.place.line l && nat_lt n.place.start s) ≡ true) → Before l s n
     by (inl less) = inl (ltb-true n.place.line l less)
     by (inr at) =
-        let both = and_both (nat_eq n.place.line l) (nat_lt n.place.start s) at in
+        let both = and_parts (nat_eq n.place.line l) (nat_lt n.place.start s) at in
         inr (eqb-true n.place.line l both.0, ltb-true n.place.start s both.1)
 
 begins : (l s : ℕ) (n : Named) → Before l s n → begins_before l s n ≡ true
@@ -81,7 +71,7 @@ from_later l s m t (n ∷ ns) r = from_by l s m t n ns (begins_before l s n) ref
 
 stands : (m t : ℕ) (n : Named) → stands_at m t n ≡ true → (n.place.line ≡ m) × (n.place.start ≡ t)
 stands m t n e =
-    let both = and_both (nat_eq n.place.line m) (nat_eq n.place.start t) e in
+    let both = and_parts (nat_eq n.place.line m) (nat_eq n.place.start t) e in
     (eqb-true n.place.line m both.0, eqb-true n.place.start t both.1)
 
 -- what begins behind a point doesn't stand there
@@ -195,7 +185,7 @@ module _ (encoding : Encoding) where
       by true = refl
       by false = refl
 
-  told_tokens : (g : Grammar) (tokens : List SemanticToken) (numbers : List ℕ) → IsGrammar g → AreTold encoding g tokens → numbers ≡ relative origin tokens → AreSemanticTokens encoding g.text numbers
+  told_tokens : (g : Grammar) (tokens : List SemanticToken) (numbers : List ℕ) → IsGrammar g → AreToldTokens encoding g tokens → numbers ≡ relative origin tokens → AreSemanticTokens encoding g.text numbers
   told_tokens g tokens numbers right walked are =
       let w = walked.1 in
       let all = lines_told g (places_ascend g right) (line_texts g.text) 0 0 0 w.lines w.marks (inr (refl, omega arith)) in
@@ -209,22 +199,18 @@ module _ (encoding : Encoding) where
         numbers_are = are ∙ ap (relative origin) (w.told ∙ (ap (told_in_lines encoding g 0 w.lines) (sym (from_start g.places)) ∙ all.told_are));
       }
 
-  pub told_numbers : {E : Type 0} (g : Grammar) (tokens given : List SemanticToken) (numbers : Result (List ℕ) E) → IsGrammar g → AreTold encoding g tokens → given ≡ tokens
+  pub told_numbers : {E : Type 0} (g : Grammar) (tokens given : List SemanticToken) (numbers : Result (List ℕ) E) → IsGrammar g → AreToldTokens encoding g tokens → given ≡ tokens
       → IfOk numbers (λ numbers. numbers ≡ relative origin given) → IfOk numbers (λ numbers. AreSemanticTokens encoding g.text numbers)
   told_numbers g tokens given (Ok numbers) right walked same are = told_tokens g tokens numbers right walked (are ∙ ap (relative origin) same)
   told_numbers g tokens given (Err e) right walked same are = are
 
   -- ---- the walk, line by line
 
-  append_nil : (xs : List SemanticToken) → xs ++ [] ≡ xs
-  append_nil [] = refl
-  append_nil (x ∷ xs) = ap (λ l. x ∷ l) (append_nil xs)
-
   told_more : (g : Grammar) (at : ℕ) (lines : List (List TokenMark)) (m : List TokenMark) (ns : List Named) (last : ℕ) → length lines + at ≡ last
       → told_in_lines encoding g at (lines ++ m ∷ []) ns ≡ told_in_lines encoding g at lines ns ++ told_in_line encoding g last m (left_behind_all at lines ns)
   told_more g at [] m ns last e =
       let n : at ≡ last = omega (arith, e) in
-      append_nil (told_in_line encoding g at m ns) ∙ ap (λ n. told_in_line encoding g n m ns) n
+      append-nil (told_in_line encoding g at m ns) ∙ ap (λ n. told_in_line encoding g n m ns) n
   told_more g at (l ∷ lines) m ns last e =
       let first = told_in_line encoding g at l ns in
       let behind = left_behind at l ns in
@@ -256,5 +242,5 @@ module _ (encoding : Encoding) where
         left_is = behind_is ∙ (ap (left_behind at m) w.left_is ∙ sym (left_more 0 w.lines m g.places at last));
       }
 
-  pub all_walked : (g : Grammar) (at : ℕ) (tokens : List SemanticToken) (left : List Named) → at ≡ length (line_texts g.text) → HasWalked encoding g at tokens left → AreTold encoding g tokens
+  pub all_walked : (g : Grammar) (at : ℕ) (tokens : List SemanticToken) (left : List Named) → at ≡ length (line_texts g.text) → HasWalked encoding g at tokens left → AreToldTokens encoding g tokens
   all_walked g at tokens left e w = (left, subst (λ n. HasWalked encoding g n tokens left) e w)

@@ -33,9 +33,9 @@ symbol_of encoding text [] = None
 symbol_of encoding text (first ∷ items) = option_map (symbol_with encoding text first (last_of first items)) (head_of (first ∷ items))
 
 -- the same as a list
-abbrev pub as_list : Option Symbol → List Symbol
+abbrev pub as_list : {A : Type 0} → Option A → List A
 as_list None = []
-as_list (Some symbol) = symbol ∷ []
+as_list (Some x) = x ∷ []
 
 abbrev pub symbols_in : Encoding → List ℕ → Block → List Symbol
 symbols_in encoding text block = as_list (symbol_of encoding text block.items)

@@ -32,13 +32,13 @@ abbrev pub rename_fault : Encoding → Grammar → Position → List ℕ → Opt
 rename_fault encoding g at new = if not (is_name new) then Some NotAName else fault_there g (name_at encoding g at) new
 
 -- the refusal, or else each place of the name with the new text as it was given
-abbrev pub renamed : Encoding → Grammar → Position → List ℕ → Option RenameFault → Answer
-renamed encoding g at new (Some fault) = answer.Refused fault
-renamed encoding g at new None = answer.Edits (map (name_range encoding g.text) (places_alike g (name_at encoding g at))) new
+abbrev pub rename_answer : Encoding → Grammar → Position → List ℕ → Option RenameFault → Answer
+rename_answer encoding g at new (Some fault) = answer.Refused fault
+rename_answer encoding g at new None = answer.Edits (map (name_range encoding g.text) (places_alike g (name_at encoding g at))) new
 
 -- This is answered to a rename of the name at the position.
 pub record IsRename (encoding : Encoding) (text : List ℕ) (at : Position) (new : List ℕ) (answer : Answer) : Type 0 where
   pub grammar : Grammar
   pub of_text : grammar.text ≡ text
   pub right : IsGrammar grammar
-  pub answer_is : answer ≡ renamed encoding grammar at new (rename_fault encoding grammar at new)
+  pub answer_is : answer ≡ rename_answer encoding grammar at new (rename_fault encoding grammar at new)

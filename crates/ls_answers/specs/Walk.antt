@@ -7,6 +7,7 @@ use Rattle.abnf_token.specs.declared.mark.TokenMark.{TokenMark}
 use Rattle.abnf_syntax.specs.Blocks.{line_texts}
 use Rattle.abnf_names.specs.Places.{Named, begins_before}
 use Rattle.abnf_names.specs.Rules.{Grammar}
+use Rattle.ls_answers.specs.Outline.{as_list}
 use Rattle.ls_answers.specs.SemanticTokens.{stands_at, told_of}
 use Rattle.ls_answers.specs.declared.semantic_tokens.SemanticToken.{SemanticToken}
 
@@ -19,10 +20,6 @@ from_point line start (n ∷ ns) = if begins_before line start n then from_point
 abbrev pub first_at : ℕ → ℕ → List Named → Option Named
 first_at line start [] = None
 first_at line start (n ∷ ns) = if stands_at line start n then Some n else None
-
-abbrev pub as_list : Option SemanticToken → List SemanticToken
-as_list None = []
-as_list (Some token) = token ∷ []
 
 -- what is told of the tokens of a line with these marks, where these places are left
 abbrev pub told_in_line : Encoding → Grammar → ℕ → List TokenMark → List Named → List SemanticToken
@@ -59,5 +56,5 @@ pub record HasWalked (encoding : Encoding) (g : Grammar) (count : ℕ) (tokens :
   pub left_is : left ≡ left_behind_all 0 lines g.places
 
 -- This is told of the tokens of all lines.
-abbrev pub AreTold : Encoding → Grammar → List SemanticToken → Type 0
-AreTold encoding g tokens = (left : List Named) × HasWalked encoding g (length (line_texts g.text)) tokens left
+abbrev pub AreToldTokens : Encoding → Grammar → List SemanticToken → Type 0
+AreToldTokens encoding g tokens = (left : List Named) × HasWalked encoding g (length (line_texts g.text)) tokens left

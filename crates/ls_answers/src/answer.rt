@@ -1,3 +1,5 @@
+//! What questions are answered.
+
 use abnf_cert::Cert;
 use abnf_least::Shortest;
 use abnf_lint::Code;

@@ -1,3 +1,5 @@
+//! Questions about a document.
+
 ghost use Rattle.std.specs.Prelude.{◌≡◌, true, IfOk, OnErr};
 ghost use Rattle.ls_answers.specs.Asks.{is_rename};
 

@@ -88,7 +88,7 @@ fn push_numbers(
 
 /// What is told of the tokens of a text.
 fn told(alloc: Global, grammar: &Grammar, encoding: Encoding) -> Result<List<SemanticToken>, Memory>
-    ensures told { IfOk result (λ tokens. walk.AreTold encoding grammar.now tokens) }
+    ensures told { IfOk result (λ tokens. walk.AreToldTokens encoding grammar.now tokens) }
     ensures grammar { IsGrammar grammar.now }
 {
     let snapshot = grammar.source();

@@ -1,3 +1,4 @@
+//! The errors that are answered, and their bodies.
 ghost use Rattle.std.specs.Prelude.{◌≡◌, IfOk};
 ghost use Rattle.std.specs.Option.{option_copied};
 ghost use Rattle.ls_bodies.specs.Refusal.{code_of, text_of, error_body, refusal_of_code, refusal_of_failure, refusal_of_rename};

@@ -1,15 +1,11 @@
 -- What each event leaves.
 use Rattle.std.proofs.Common.{◌≡◌, ℕ, ◌+◌, ◌≤◌, ◌<◌, Bool, true, false, List, [], ◌∷◌, ◌++◌, length, refl, sym, ap, ◌∙◌, subst, arith}
-use Rattle.std.specs.Prelude.{ℤ, Option, Some, None, find, is_some, is_none, IfSome, ◌&&◌, ◌==◌, bytes_eq, cond}
+use Rattle.std.specs.Prelude.{ℤ, Option, Some, None, find, is_some, is_none, IfSome, ◌&&◌, ◌==◌, cond}
 use Rattle.std.specs.Option.{option_map}
 use Rattle.std.proofs.lemmas.Bool.{eqb-true}
-use Rattle.std.proofs.lemmas.Slice.Eq.{bytes_eq-Decides}
-use Rattle.std.specs.Bool.{beq}
-use Rattle.std.specs.Cmp.{booleans_Decides}
 use Rattle.ls_text.specs.Edits.{is_too_large}
 use Rattle.ls_text.specs.Positions.{Measured}
 use Rattle.ls_text.specs.declared.position.Encoding.{Encoding}
-use Rattle.ls_text.specs.declared.position.Encoding.TheVariants.{Utf8, Utf16, Utf32}
 use Rattle.std.proofs.Common.{append-nil}
 use Rattle.ls_text.specs.declared.edit.Edit.{Edit}
 use Rattle.ls_machine.specs.declared.event.Event.TheVariants.{Opened, Changed, Closed, Asked, Cancelled, Said, Took, Returned, Finished}
@@ -19,23 +15,21 @@ use Rattle.ls_machine.specs.declared.state.Waiting.{Waiting}
 use Rattle.ls_machine.specs.declared.state.Entry.{Entry}
 use Rattle.ls_machine.specs.declared.state.Entry.TheVariants.{Body}
 use Rattle.ls_machine.specs.declared.event.Out.TheVariants as out
-use Rattle.ls_desk.specs.declared.outs.Next.{Next}
+use Rattle.ls_desk.specs.declared.texts.Next.{Next}
 use Rattle.ls_rpc.specs.declared.message.Id.{Id}
 use Rattle.ls_answers.specs.declared.ask.Ask.{Ask}
-use Rattle.ls_answers.specs.declared.ask.Ask.TheVariants as ask
 use Rattle.ls_answers.specs.declared.answer.Answer.{Answer}
 use Rattle.ls_answers.specs.Told.{Told}
 use Rattle.ls_answers.specs.Answers.{IsAnswer}
-use Rattle.ls_text.specs.declared.position.Position.{Position}
-use Rattle.ls_text.specs.declared.position.Range.{Range}
 use Rattle.ls_machine.specs.declared.state.State.{State}
 use Rattle.ls_machine.specs.Machine.{step, IsPossible, is_open, document_of, edited_at, measured, others, going_on, ends, version_if, put_text, close_text, asked, ask_at, requests, id_waits, asks_with, request_cancelled, internal_error, told_at, told_end, left_at, left_by, is_held, is_queued, on_first, with_taken, without_first}
+use Rattle.ls_desk.specs.declared.present.Present.{Present}
 use Rattle.ls_desk.specs.Stands.{AreOutsFor, IsOutFor, failures, failed, finished, out_of}
 use Rattle.ls_machine.specs.Same.{is_for}
-use Rattle.ls_machine.specs.Same.{ask_eq, encoding_eq, position_eq, range_eq}
 use Rattle.ls_desk.specs.Puts.{next_of, documents_of, jobs_of, count_of}
 use Rattle.ls_desk.proofs.Grows.{Holds, Stepped, outs-append, outs-length, failures-outs, failed-outs}
 use Rattle.ls_machine.proofs.Places.{found-passes}
+use Rattle.ls_machine.proofs.Same.{run-of}
 
 -- ---- a new text
 
@@ -62,19 +56,19 @@ change-possible : (s : State) (uri : List ℕ) (label : ℤ) (edits : List Edit)
 unfolding IsPossible
 change-possible s uri label edits version there is = (there, is)
 
-pub changed : (s : State) (D : List Document) (W : List Waiting) (v t : ℕ) (O : List Out) (uri : List ℕ) (label : ℤ) (edits : List Edit) (next : Option Next)
-    (D' : List Document) (W' : List Waiting) (v' t' : ℕ) (O' : List Out)
-    → Holds s D W v t O
+pub changed : (s : State) (N : Present) (O : List Out) (uri : List ℕ) (label : ℤ) (edits : List Edit) (next : Option Next)
+    (N' : Present) (O' : List Out)
+    → Holds s N O
     → is_open uri s.documents ≡ true
     → next ≡ next_of s.next_version s.next_ticket uri label (edited_at (document_of uri s.documents) edits)
-    → D' ≡ others uri D ++ documents_of next
-    → W' ≡ going_on uri W ++ jobs_of next
-    → v' ≡ v + count_of next
-    → t' ≡ t + count_of next
+    → N'.documents.items ≡ others uri N.documents.items ++ documents_of next
+    → N'.waiting.items ≡ going_on uri N.waiting.items ++ jobs_of next
+    → N'.next_version ≡ N.next_version + count_of next
+    → N'.next_ticket ≡ N.next_ticket + count_of next
     → O' ≡ O ++ failures uri s.waiting
-    → Stepped s (Changed uri label edits (version_if v next)) v t D' W' v' t' O'
+    → Stepped s (Changed uri label edits (version_if N.next_version next)) N N' O'
 unfolding step
-changed s D W v t O uri label edits next D' W' v' t' O' kept there is_next is_d is_w is_v is_t is_o =
+changed s N O uri label edits next N' O' kept there is_next is_d is_w is_v is_t is_o =
     let x = edited_at (document_of uri s.documents) edits in
     let p = puts (close_text s uri) uri label x in
     let one = count-le next in
@@ -97,24 +91,26 @@ close-possible : (s : State) (uri : List ℕ) → is_open uri s.documents ≡ tr
 unfolding IsPossible
 close-possible s uri there = there
 
-pub closed : (s : State) (D : List Document) (W : List Waiting) (v t : ℕ) (O : List Out) (uri : List ℕ)
-    (D' : List Document) (W' : List Waiting) (O' : List Out)
-    → Holds s D W v t O
+pub closed : (s : State) (N : Present) (O : List Out) (uri : List ℕ)
+    (N' : Present) (O' : List Out)
+    → Holds s N O
     → is_open uri s.documents ≡ true
-    → D' ≡ others uri D
-    → W' ≡ going_on uri W
+    → N'.documents.items ≡ others uri N.documents.items
+    → N'.waiting.items ≡ going_on uri N.waiting.items
+    → N'.next_version ≡ N.next_version
+    → N'.next_ticket ≡ N.next_ticket
     → O' ≡ O ++ failures uri s.waiting
-    → Stepped s (Closed uri) v t D' W' v t O'
+    → Stepped s (Closed uri) N N' O'
 unfolding step
-closed s D W v t O uri D' W' O' kept there is_d is_w is_o =
+closed s N O uri N' O' kept there is_d is_w is_v is_t is_o =
     let P : List Out → Type 0 = λ os. AreOutsFor (s.unsent ++ ends uri s.waiting) os in
     record {
       possible = (close-possible s uri there);
       holds = record {
         documents_are = is_d ∙ (λ i. others uri (kept.documents_are i));
         waiting_are = is_w ∙ (λ i. going_on uri (kept.waiting_are i));
-        version_is = kept.version_is;
-        ticket_is = kept.ticket_is;
+        version_is = is_v ∙ kept.version_is;
+        ticket_is = is_t ∙ kept.ticket_is;
         outs = subst P (sym is_o) (outs-append s.unsent (ends uri s.waiting) O (failures uri s.waiting) kept.outs (failures-outs uri s.waiting));
       };
       versions = omega arith;
@@ -160,27 +156,28 @@ asks s id (Some d) question links job h = record {
   unsent = refl;
 }
 
-pub requested : (s : State) (D : List Document) (W : List Waiting) (v t : ℕ) (O : List Out) (id : Id) (uri : List ℕ) (question : Ask) (links : Bool) (job : Waiting)
-    (D' : List Document) (W' : List Waiting) (t' : ℕ)
-    → Holds s D W v t O
+pub requested : (s : State) (N : Present) (O : List Out) (id : Id) (uri : List ℕ) (question : Ask) (links : Bool) (job : Waiting)
+    (N' : Present)
+    → Holds s N O
     → option_map (asked s.next_ticket id question links) (document_of uri s.documents) ≡ Some job
     → requests s.waiting < 1024
     → id_waits id s.waiting ≡ false
-    → D' ≡ D
-    → W' ≡ W ++ job ∷ []
-    → t' ≡ t + 1
-    → Stepped s (Asked id uri question links t) v t D' W' v t' O
+    → N'.documents.items ≡ N.documents.items
+    → N'.waiting.items ≡ N.waiting.items ++ job ∷ []
+    → N'.next_version ≡ N.next_version
+    → N'.next_ticket ≡ N.next_ticket + 1
+    → Stepped s (Asked id uri question links N.next_ticket) N N' O
 unfolding step
-requested s D W v t O id uri question links job D' W' t' kept is_job few new is_d is_w is_t =
+requested s N O id uri question links job N' kept is_job few new is_d is_w is_v is_t =
     let d = document_of uri s.documents in
     let p = asks s id d question links job is_job in
     let P : List Entry → Type 0 = λ es. AreOutsFor es O in
     record {
-      possible = (ask-possible s id uri question links t p.open_is few new kept.ticket_is);
+      possible = (ask-possible s id uri question links N.next_ticket p.open_is few new kept.ticket_is);
       holds = record {
         documents_are = is_d ∙ (kept.documents_are ∙ p.documents);
         waiting_are = is_w ∙ (ap (λ (ws : List Waiting). ws ++ job ∷ []) kept.waiting_are ∙ p.waiting);
-        version_is = kept.version_is ∙ p.version;
+        version_is = is_v ∙ (kept.version_is ∙ p.version);
         ticket_is = is_t ∙ (ap (λ n. n + 1) kept.ticket_is ∙ p.ticket);
         outs = subst P p.unsent kept.outs;
       };
@@ -194,21 +191,24 @@ took-possible : (s : State) (worker : ℕ) (w : Waiting) → find is_queued s.wa
 unfolding IsPossible
 took-possible s worker w h = ap is_some h
 
-pub taken : (s : State) (D : List Document) (W : List Waiting) (v t : ℕ) (O : List Out) (worker : ℕ) (w : Waiting)
-    (W' : List Waiting)
-    → Holds s D W v t O
+pub taken : (s : State) (N : Present) (O : List Out) (worker : ℕ) (w : Waiting)
+    (N' : Present)
+    → Holds s N O
     → find is_queued s.waiting ≡ Some w
-    → W' ≡ on_first is_queued (with_taken true) W
-    → Stepped s (Took worker) v t D W' v t O
+    → N'.documents.items ≡ N.documents.items
+    → N'.waiting.items ≡ on_first is_queued (with_taken true) N.waiting.items
+    → N'.next_version ≡ N.next_version
+    → N'.next_ticket ≡ N.next_ticket
+    → Stepped s (Took worker) N N' O
 unfolding step
-taken s D W v t O worker w W' kept there is_w =
+taken s N O worker w N' kept there is_d is_w is_v is_t =
     record {
       possible = (took-possible s worker w there);
       holds = record {
-        documents_are = kept.documents_are;
+        documents_are = is_d ∙ kept.documents_are;
         waiting_are = is_w ∙ ap (on_first is_queued (with_taken true)) kept.waiting_are;
-        version_is = kept.version_is;
-        ticket_is = kept.ticket_is;
+        version_is = is_v ∙ kept.version_is;
+        ticket_is = is_t ∙ kept.ticket_is;
         outs = kept.outs;
       };
       versions = omega arith;
@@ -219,21 +219,24 @@ returned-possible : (s : State) (ticket : ℕ) → is_some (find (is_held ticket
 unfolding IsPossible
 returned-possible s ticket h = h
 
-pub returned : (s : State) (D : List Document) (W : List Waiting) (v t : ℕ) (O : List Out) (ticket : ℕ)
-    (W' : List Waiting)
-    → Holds s D W v t O
+pub returned : (s : State) (N : Present) (O : List Out) (ticket : ℕ)
+    (N' : Present)
+    → Holds s N O
     → is_some (find (is_held ticket) s.waiting) ≡ true
-    → W' ≡ on_first (is_held ticket) (with_taken false) W
-    → Stepped s (Returned ticket) v t D W' v t O
+    → N'.documents.items ≡ N.documents.items
+    → N'.waiting.items ≡ on_first (is_held ticket) (with_taken false) N.waiting.items
+    → N'.next_version ≡ N.next_version
+    → N'.next_ticket ≡ N.next_ticket
+    → Stepped s (Returned ticket) N N' O
 unfolding step
-returned s D W v t O ticket W' kept there is_w =
+returned s N O ticket N' kept there is_d is_w is_v is_t =
     record {
       possible = (returned-possible s ticket there);
       holds = record {
-        documents_are = kept.documents_are;
+        documents_are = is_d ∙ kept.documents_are;
         waiting_are = is_w ∙ ap (on_first (is_held ticket) (with_taken false)) kept.waiting_are;
-        version_is = kept.version_is;
-        ticket_is = kept.ticket_is;
+        version_is = is_v ∙ kept.version_is;
+        ticket_is = is_t ∙ kept.ticket_is;
         outs = kept.outs;
       };
       versions = omega arith;
@@ -241,101 +244,6 @@ returned s D W v t O ticket W' kept there is_w =
     }
 
 -- ---- what a job leaves
-
-encoding-true : (a b : Encoding) → encoding_eq a b ≡ true → a ≡ b
-encoding-true Utf8 Utf8 h = refl
-encoding-true Utf8 Utf16 h = absurd (cc)
-encoding-true Utf8 Utf32 h = absurd (cc)
-encoding-true Utf16 Utf8 h = absurd (cc)
-encoding-true Utf16 Utf16 h = refl
-encoding-true Utf16 Utf32 h = absurd (cc)
-encoding-true Utf32 Utf8 h = absurd (cc)
-encoding-true Utf32 Utf16 h = absurd (cc)
-encoding-true Utf32 Utf32 h = refl
-
-position-true : (a b : Position) → position_eq a b ≡ true → a ≡ b
-position-true a b h =
-    let line = eqb-true _ _ (and-first (a.line == b.line) (a.character == b.character) h) in
-    let character = eqb-true _ _ (and-second (a.line == b.line) (a.character == b.character) h) in
-    (λ i. record { line = line i; character = character i })
-
-range-true : (a b : Range) → range_eq a b ≡ true → a ≡ b
-range-true a b h =
-    let start = position-true a.start b.start (and-first (position_eq a.start b.start) (position_eq a.end b.end) h) in
-    let end = position-true a.end b.end (and-second (position_eq a.start b.start) (position_eq a.end b.end) h) in
-    (λ i. record { start = start i; end = end i })
-
-ask-true : (a b : Ask) → ask_eq a b ≡ true → a ≡ b
-ask-true (ask.Hover p) (ask.Hover q) h = ap ask.Hover (position-true p q h)
-ask-true (ask.Hover p) (ask.Definition q) h = absurd (cc)
-ask-true (ask.Hover p) (ask.References q y) h = absurd (cc)
-ask-true (ask.Hover p) ask.Symbols h = absurd (cc)
-ask-true (ask.Hover p) (ask.Rename q m) h = absurd (cc)
-ask-true (ask.Hover p) (ask.Action t) h = absurd (cc)
-ask-true (ask.Hover p) ask.Tokens h = absurd (cc)
-ask-true (ask.Hover p) ask.Diagnose h = absurd (cc)
-ask-true (ask.Definition p) (ask.Hover q) h = absurd (cc)
-ask-true (ask.Definition p) (ask.Definition q) h = ap ask.Definition (position-true p q h)
-ask-true (ask.Definition p) (ask.References q y) h = absurd (cc)
-ask-true (ask.Definition p) ask.Symbols h = absurd (cc)
-ask-true (ask.Definition p) (ask.Rename q m) h = absurd (cc)
-ask-true (ask.Definition p) (ask.Action t) h = absurd (cc)
-ask-true (ask.Definition p) ask.Tokens h = absurd (cc)
-ask-true (ask.Definition p) ask.Diagnose h = absurd (cc)
-ask-true (ask.References p x) (ask.Hover q) h = absurd (cc)
-ask-true (ask.References p x) (ask.Definition q) h = absurd (cc)
-ask-true (ask.References p x) (ask.References q y) h =
-    let at = position-true p q (and-first (position_eq p q) (beq x y) h) in
-    let same = (booleans_Decides x y).0 (and-second (position_eq p q) (beq x y) h) in
-    (λ i. ask.References (at i) (same i))
-ask-true (ask.References p x) ask.Symbols h = absurd (cc)
-ask-true (ask.References p x) (ask.Rename q m) h = absurd (cc)
-ask-true (ask.References p x) (ask.Action t) h = absurd (cc)
-ask-true (ask.References p x) ask.Tokens h = absurd (cc)
-ask-true (ask.References p x) ask.Diagnose h = absurd (cc)
-ask-true ask.Symbols (ask.Hover q) h = absurd (cc)
-ask-true ask.Symbols (ask.Definition q) h = absurd (cc)
-ask-true ask.Symbols (ask.References q y) h = absurd (cc)
-ask-true ask.Symbols ask.Symbols h = refl
-ask-true ask.Symbols (ask.Rename q m) h = absurd (cc)
-ask-true ask.Symbols (ask.Action t) h = absurd (cc)
-ask-true ask.Symbols ask.Tokens h = absurd (cc)
-ask-true ask.Symbols ask.Diagnose h = absurd (cc)
-ask-true (ask.Rename p n) (ask.Hover q) h = absurd (cc)
-ask-true (ask.Rename p n) (ask.Definition q) h = absurd (cc)
-ask-true (ask.Rename p n) (ask.References q y) h = absurd (cc)
-ask-true (ask.Rename p n) ask.Symbols h = absurd (cc)
-ask-true (ask.Rename p n) (ask.Rename q m) h =
-    let at = position-true p q (and-first (position_eq p q) (bytes_eq n m) h) in
-    let name = (bytes_eq-Decides n m).0 (and-second (position_eq p q) (bytes_eq n m) h) in
-    (λ i. ask.Rename (at i) (name i))
-ask-true (ask.Rename p n) (ask.Action t) h = absurd (cc)
-ask-true (ask.Rename p n) ask.Tokens h = absurd (cc)
-ask-true (ask.Rename p n) ask.Diagnose h = absurd (cc)
-ask-true (ask.Action r) (ask.Hover q) h = absurd (cc)
-ask-true (ask.Action r) (ask.Definition q) h = absurd (cc)
-ask-true (ask.Action r) (ask.References q y) h = absurd (cc)
-ask-true (ask.Action r) ask.Symbols h = absurd (cc)
-ask-true (ask.Action r) (ask.Rename q m) h = absurd (cc)
-ask-true (ask.Action r) (ask.Action t) h = ap ask.Action (range-true r t h)
-ask-true (ask.Action r) ask.Tokens h = absurd (cc)
-ask-true (ask.Action r) ask.Diagnose h = absurd (cc)
-ask-true ask.Tokens (ask.Hover q) h = absurd (cc)
-ask-true ask.Tokens (ask.Definition q) h = absurd (cc)
-ask-true ask.Tokens (ask.References q y) h = absurd (cc)
-ask-true ask.Tokens ask.Symbols h = absurd (cc)
-ask-true ask.Tokens (ask.Rename q m) h = absurd (cc)
-ask-true ask.Tokens (ask.Action t) h = absurd (cc)
-ask-true ask.Tokens ask.Tokens h = refl
-ask-true ask.Tokens ask.Diagnose h = absurd (cc)
-ask-true ask.Diagnose (ask.Hover q) h = absurd (cc)
-ask-true ask.Diagnose (ask.Definition q) h = absurd (cc)
-ask-true ask.Diagnose (ask.References q y) h = absurd (cc)
-ask-true ask.Diagnose ask.Symbols h = absurd (cc)
-ask-true ask.Diagnose (ask.Rename q m) h = absurd (cc)
-ask-true ask.Diagnose (ask.Action t) h = absurd (cc)
-ask-true ask.Diagnose ask.Tokens h = absurd (cc)
-ask-true ask.Diagnose ask.Diagnose h = refl
 
 finished-outs : (w : Waiting) (done : Told) (a : Option Answer) → done.answer ≡ a → done.ticket ≡ w.ticket → done.text ≡ w.text → done.encoding ≡ w.encoding → done.ask ≡ w.ask → IfSome a (λ x. IsAnswer done.encoding done.text done.ask x)
     → AreOutsFor (left_by (is_none a) w) (cond (is_none a) (failed internal_error w) (out_of w w.request done ∷ []))
@@ -358,34 +266,34 @@ finished_length false w done = refl
 pub finished-length : (w : Waiting) (done : Told) → length (finished w done) ≡ length (left_by (is_none done.answer) w)
 finished-length w done = finished_length (is_none done.answer) w done
 
-pub finish : (s : State) (D : List Document) (W : List Waiting) (v t : ℕ) (O : List Out) (done : Told) (w : Waiting)
-    (W' : List Waiting) (O' : List Out)
-    → Holds s D W v t O
+pub finish : (s : State) (N : Present) (O : List Out) (done : Told) (w : Waiting)
+    (N' : Present) (O' : List Out)
+    → Holds s N O
     → find (is_held done.ticket) s.waiting ≡ Some w
     → is_for (Some w) done ≡ true
     → IfSome done.answer (λ x. IsAnswer done.encoding done.text done.ask x)
-    → W' ≡ without_first (is_held done.ticket) W
+    → N'.documents.items ≡ N.documents.items
+    → N'.waiting.items ≡ without_first (is_held done.ticket) N.waiting.items
+    → N'.next_version ≡ N.next_version
+    → N'.next_ticket ≡ N.next_ticket
     → O' ≡ O ++ finished w done
-    → Stepped s (Finished done.ticket (is_none done.answer)) v t D W' v t O'
+    → Stepped s (Finished done.ticket (is_none done.answer)) N N' O'
 unfolding step
-finish s D W v t O done w W' O' kept there fits right is_w is_o =
+finish s N O done w N' O' kept there fits right is_d is_w is_v is_t is_o =
     let held = found-passes (is_held done.ticket) s.waiting w there in
     let ticket : w.ticket ≡ done.ticket = eqb-true _ _ (and-first (w.ticket == done.ticket) w.taken held) in
-    let alike = and-second (encoding_eq w.encoding done.encoding) (bytes_eq w.text done.text && ask_eq w.ask done.ask) fits in
-    let encoding : w.encoding ≡ done.encoding = encoding-true w.encoding done.encoding (and-first (encoding_eq w.encoding done.encoding) (bytes_eq w.text done.text && ask_eq w.ask done.ask) fits) in
-    let text : w.text ≡ done.text = (bytes_eq-Decides w.text done.text).0 (and-first (bytes_eq w.text done.text) (ask_eq w.ask done.ask) alike) in
-    let question : w.ask ≡ done.ask = ask-true w.ask done.ask (and-second (bytes_eq w.text done.text) (ask_eq w.ask done.ask) alike) in
+    let run = (run-of w done).0 fits in
     let P : List Out → Type 0 = λ os. AreOutsFor (s.unsent ++ left_by (is_none done.answer) w) os in
     let Q : Option Waiting → Type 0 = λ found. AreOutsFor (s.unsent ++ left_at (is_none done.answer) found) O' in
     record {
       possible = (finish-possible s done.ticket (is_none done.answer) w there);
       holds = record {
-        documents_are = kept.documents_are;
+        documents_are = is_d ∙ kept.documents_are;
         waiting_are = is_w ∙ ap (without_first (is_held done.ticket)) kept.waiting_are;
-        version_is = kept.version_is;
-        ticket_is = kept.ticket_is;
+        version_is = is_v ∙ kept.version_is;
+        ticket_is = is_t ∙ kept.ticket_is;
         outs = subst Q (sym there) (subst P (sym is_o) (outs-append s.unsent (left_by (is_none done.answer) w) O (finished w done) kept.outs
-            (finished-outs w done done.answer refl (sym ticket) (sym text) (sym encoding) (sym question) right)));
+            (finished-outs w done done.answer refl (sym ticket) (sym run.text) (sym run.encoding) (sym run.ask) right)));
       };
       versions = omega arith;
       tickets = omega arith;
@@ -404,12 +312,12 @@ without-same : (p : Waiting → Bool) (ws : List Waiting) → find p ws ≡ None
 without-same p [] h = refl
 without-same p (w ∷ ws) h = without_by (p w) w (find p ws) ws (without_first p ws) (without-same p ws) h
 
-pub uncancelled : (s : State) (D : List Document) (W : List Waiting) (v t : ℕ) (O : List Out) (id : Id)
-    → Holds s D W v t O
+pub uncancelled : (s : State) (N : Present) (O : List Out) (id : Id)
+    → Holds s N O
     → find (asks_with id) s.waiting ≡ None
-    → Stepped s (Cancelled id false) v t D W v t O
+    → Stepped s (Cancelled id false) N N O
 unfolding step
-uncancelled s D W v t O id kept there =
+uncancelled s N O id kept there =
     let Q : Option Waiting → Type 0 = λ found. AreOutsFor (s.unsent ++ told_at request_cancelled found) O in
     let P : List Entry → Type 0 = λ es. AreOutsFor es O in
     record {
@@ -425,24 +333,27 @@ uncancelled s D W v t O id kept there =
       tickets = omega arith;
     }
 
-pub cancelled : (s : State) (D : List Document) (W : List Waiting) (v t : ℕ) (O : List Out) (id : Id) (w : Waiting)
-    (W' : List Waiting) (O' : List Out)
-    → Holds s D W v t O
+pub cancelled : (s : State) (N : Present) (O : List Out) (id : Id) (w : Waiting)
+    (N' : Present) (O' : List Out)
+    → Holds s N O
     → find (asks_with id) s.waiting ≡ Some w
-    → W' ≡ without_first (asks_with id) W
+    → N'.documents.items ≡ N.documents.items
+    → N'.waiting.items ≡ without_first (asks_with id) N.waiting.items
+    → N'.next_version ≡ N.next_version
+    → N'.next_ticket ≡ N.next_ticket
     → O' ≡ O ++ failed request_cancelled w
-    → Stepped s (Cancelled id true) v t D W' v t O'
+    → Stepped s (Cancelled id true) N N' O'
 unfolding step
-cancelled s D W v t O id w W' O' kept there is_w is_o =
+cancelled s N O id w N' O' kept there is_d is_w is_v is_t is_o =
     let P : List Out → Type 0 = λ os. AreOutsFor (s.unsent ++ told_end request_cancelled w) os in
     let Q : Option Waiting → Type 0 = λ found. AreOutsFor (s.unsent ++ told_at request_cancelled found) O' in
     record {
       possible = (cancel-possible s id true (sym (ap is_some there)));
       holds = record {
-        documents_are = kept.documents_are;
+        documents_are = is_d ∙ kept.documents_are;
         waiting_are = is_w ∙ ap (without_first (asks_with id)) kept.waiting_are;
-        version_is = kept.version_is;
-        ticket_is = kept.ticket_is;
+        version_is = is_v ∙ kept.version_is;
+        ticket_is = is_t ∙ kept.ticket_is;
         outs = subst Q (sym there) (subst P (sym is_o) (outs-append s.unsent (told_end request_cancelled w) O (failed request_cancelled w) kept.outs (failed-outs w.ticket request_cancelled w.request)));
       };
       versions = omega arith;
@@ -459,13 +370,13 @@ one-out : (body : List ℕ) → AreOutsFor (Body body ∷ []) (out.Said body ∷
 unfolding AreOutsFor IsOutFor
 one-out body = (refl, tt)
 
-pub said : (s : State) (D : List Document) (W : List Waiting) (v t : ℕ) (O : List Out) (body : List ℕ)
+pub said : (s : State) (N : Present) (O : List Out) (body : List ℕ)
     (O' : List Out)
-    → Holds s D W v t O
+    → Holds s N O
     → O' ≡ O ++ out.Said body ∷ []
-    → Stepped s (Said body) v t D W v t O'
+    → Stepped s (Said body) N N O'
 unfolding step
-said s D W v t O body O' kept is_o =
+said s N O body O' kept is_o =
     let P : List Out → Type 0 = λ os. AreOutsFor (s.unsent ++ Body body ∷ []) os in
     record {
       possible = (said-possible s body);
@@ -484,22 +395,22 @@ open-possible : (s : State) (uri : List ℕ) (label : ℤ) (text : List ℕ) (en
 unfolding IsPossible
 open-possible s uri label text encoding version closed few fits is = (closed, few, fits, is)
 
-pub opened : (s : State) (D : List Document) (W : List Waiting) (v t : ℕ) (O : List Out) (uri : List ℕ) (label : ℤ) (text : List ℕ) (encoding : Encoding) (next : Next)
-    (D' : List Document) (W' : List Waiting) (v' t' : ℕ)
-    → Holds s D W v t O
+pub opened : (s : State) (N : Present) (O : List Out) (uri : List ℕ) (label : ℤ) (text : List ℕ) (encoding : Encoding) (next : Next)
+    (N' : Present)
+    → Holds s N O
     → is_open uri s.documents ≡ false
     → length s.documents < 256
     → is_too_large text ≡ false
     → Some next ≡ next_of s.next_version s.next_ticket uri label (Some (measured encoding text))
-    → D' ≡ D ++ documents_of (Some next)
-    → W' ≡ W ++ jobs_of (Some next)
-    → v' ≡ v + 1
-    → t' ≡ t + 1
-    → Stepped s (Opened uri label text encoding v) v t D' W' v' t' O
+    → N'.documents.items ≡ N.documents.items ++ documents_of (Some next)
+    → N'.waiting.items ≡ N.waiting.items ++ jobs_of (Some next)
+    → N'.next_version ≡ N.next_version + 1
+    → N'.next_ticket ≡ N.next_ticket + 1
+    → Stepped s (Opened uri label text encoding N.next_version) N N' O
 unfolding step
-opened s D W v t O uri label text encoding next D' W' v' t' kept closed few fits is_next is_d is_w is_v is_t =
+opened s N O uri label text encoding next N' kept closed few fits is_next is_d is_w is_v is_t =
     record {
-      possible = (open-possible s uri label text encoding v closed few fits kept.version_is);
+      possible = (open-possible s uri label text encoding N.next_version closed few fits kept.version_is);
       holds = record {
         documents_are = is_d ∙ (λ i. kept.documents_are i ++ documents_of (is_next i));
         waiting_are = is_w ∙ (λ i. kept.waiting_are i ++ jobs_of (is_next i));

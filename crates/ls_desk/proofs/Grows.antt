@@ -7,7 +7,6 @@ use Rattle.ls_machine.specs.declared.base.Base.{Base}
 use Rattle.ls_machine.specs.declared.base.Counts.{Counts}
 use Rattle.ls_machine.specs.declared.event.Event.{Event}
 use Rattle.ls_machine.specs.declared.event.Out.{Out}
-use Rattle.ls_machine.specs.declared.state.Document.{Document}
 use Rattle.ls_machine.specs.declared.state.Waiting.{Waiting}
 use Rattle.ls_machine.specs.declared.state.Request.{Request}
 use Rattle.ls_machine.specs.declared.state.State.{State}
@@ -21,6 +20,7 @@ use Rattle.ls_machine.proofs.Taken.{WereTaken, taken-all}
 use Rattle.ls_machine.specs.Outs.{entry_for}
 use Rattle.ls_desk.specs.Anew.{base_after, journal_after}
 use Rattle.ls_desk.specs.Stands.{Seen, Answers, IsOutFor, AreOutsFor, Enters, failed_to, failed_by, failures, fresh, fresh_for, out_of}
+use Rattle.ls_desk.specs.declared.present.Present.{Present}
 use Rattle.ls_desk.specs.Kept.{IsKept}
 
 pub outs-length : (es : List Entry) (os : List Out) → AreOutsFor es os → length os ≡ length es
@@ -61,23 +61,23 @@ pub failures-length : (uri : List ℕ) (ws : List Waiting) → length (failures 
 failures-length uri ws = outs-length (ends uri ws) (failures uri ws) (failures-outs uri ws)
 
 -- what a desk holds is what a state has
-pub record Holds (s : State) (documents : List Document) (waiting : List Waiting) (version ticket : ℕ) (outbox : List Out) : Type 0 where
-  pub documents_are : documents ≡ s.documents
-  pub waiting_are : waiting ≡ s.waiting
-  pub version_is : version ≡ s.next_version
-  pub ticket_is : ticket ≡ s.next_ticket
+pub record Holds (s : State) (present : Present) (outbox : List Out) : Type 0 where
+  pub documents_are : present.documents.items ≡ s.documents
+  pub waiting_are : present.waiting.items ≡ s.waiting
+  pub version_is : present.next_version ≡ s.next_version
+  pub ticket_is : present.next_ticket ≡ s.next_ticket
   pub outs : AreOutsFor s.unsent outbox
 
 -- an event is possible, and then a desk holds what the state after it has
-pub record Stepped (s : State) (e : Event) (v t : ℕ) (D' : List Document) (W' : List Waiting) (v' t' : ℕ) (O' : List Out) : Type 0 where
+pub record Stepped (s : State) (e : Event) (N N' : Present) (O' : List Out) : Type 0 where
   pub possible : IsPossible s e
-  pub holds : Holds (step s e) D' W' v' t' O'
-  pub versions : v' ≤ v + 1
-  pub tickets : t' ≤ t + 1
+  pub holds : Holds (step s e) N' O'
+  pub versions : N'.next_version ≤ N.next_version + 1
+  pub tickets : N'.next_ticket ≤ N.next_ticket + 1
 
-pub holds : (B : Base) (J : List Event) (C : Counts) (D : List Document) (W : List Waiting) (v t : ℕ) (O : List Out) (longest most room : ℕ)
-    → IsKept B J C D W v t O longest most room → Holds (replay_from B.state J) D W v t O
-holds B J C D W v t O longest most room kept = record {
+pub holds : (B : Base) (J : List Event) (C : Counts) (N : Present) (O : List Out) (longest most room : ℕ)
+    → IsKept B J C N O longest most room → Holds (replay_from B.state J) N O
+holds B J C N O longest most room kept = record {
   documents_are = kept.documents_are;
   waiting_are = kept.waiting_are;
   version_is = kept.version_is;
@@ -89,13 +89,13 @@ abbrev pub seen : Base → List Event → List Out → ℕ → ℕ → Seen
 seen B J O longest most = record { base = B; journal = J; outbox = O; max_journal = longest; max_events = most }
 
 -- an event comes to the journal, which began anew before it or not, and the desk stands for the state after it
-pub record Goes (B : Base) (J : List Event) (C : Counts) (x : Option State) (e : Event) (B' : Base) (J' : List Event) (C' : Counts) (D' : List Document) (W' : List Waiting) (v' t' : ℕ) (O' : List Out) (longest most room' : ℕ) : Type 0 where
+pub record Goes (B : Base) (J : List Event) (C : Counts) (x : Option State) (e : Event) (B' : Base) (J' : List Event) (C' : Counts) (N' : Present) (O' : List Out) (longest most room' : ℕ) : Type 0 where
   pub possible : IsPossible (replay_from B.state J) e
   pub base : B' ≡ base_after x C B
   pub journal : J' ≡ journal_after x J ++ e ∷ []
   pub state : replay_from B'.state J' ≡ step (replay_from B.state J) e
   pub counts : C' ≡ count_one C e
-  pub kept : IsKept B' J' C' D' W' v' t' O' longest most room'
+  pub kept : IsKept B' J' C' N' O' longest most room'
 
 is-le : (a b : ℕ) → nat_le a b ≡ true → a ≤ b
 is-le a b h = grind (arith, nat_tests)
@@ -108,15 +108,15 @@ push-some [] e h = cc
 push-some (x ∷ es) e h = cc
 
 -- the journal goes on
-on : (B : Base) (J : List Event) (C : Counts) (D : List Document) (W : List Waiting) (v t : ℕ) (O : List Out) (longest most room : ℕ) (e : Event)
-    (D' : List Document) (W' : List Waiting) (v' t' : ℕ) (O' : List Out) (room' : ℕ)
-    → IsKept B J C D W v t O longest most room
+on : (B : Base) (J : List Event) (C : Counts) (N : Present) (O : List Out) (longest most room : ℕ) (e : Event)
+    (N' : Present) (O' : List Out) (room' : ℕ)
+    → IsKept B J C N O longest most room
     → (longest ≤ length J → is_client e ≡ false)
-    → Stepped (replay_from B.state J) e v t D' W' v' t' O'
+    → Stepped (replay_from B.state J) e N N' O'
     → total C + 1 + length O' ≤ most
     → length J + 1 + length O' ≤ room'
-    → Goes B J C None e B (J ++ e ∷ []) (count_one C e) D' W' v' t' O' longest most room'
-on B J C D W v t O longest most room e D' W' v' t' O' room' kept late stepped used reserved =
+    → Goes B J C None e B (J ++ e ∷ []) (count_one C e) N' O' longest most room'
+on B J C N O longest most room e N' O' room' kept late stepped used reserved =
     let s = replay_from B.state J in
     let now : replay_from B.state (J ++ e ∷ []) ≡ step s e = replay-push B.state J e in
     let len : length (J ++ e ∷ []) ≡ length J + 1 = omega (arith, length-append J (e ∷ [])) in
@@ -171,15 +171,15 @@ unfolding replay_from
 replay-one s e = refl
 
 -- the journal begins anew
-anew : (B : Base) (J : List Event) (C : Counts) (D : List Document) (W : List Waiting) (v t : ℕ) (O : List Out) (longest most room : ℕ) (e : Event)
-    (D' : List Document) (W' : List Waiting) (v' t' : ℕ) (O' : List Out) (room' : ℕ)
-    → IsKept B J C D W v t O longest most room
+anew : (B : Base) (J : List Event) (C : Counts) (N : Present) (O : List Out) (longest most room : ℕ) (e : Event)
+    (N' : Present) (O' : List Out) (room' : ℕ)
+    → IsKept B J C N O longest most room
     → longest ≤ length J
-    → Stepped (replay_from B.state J) e v t D' W' v' t' O'
+    → Stepped (replay_from B.state J) e N N' O'
     → total C + 1 + length O' ≤ most
     → 1 + length O' ≤ room'
-    → Goes B J C (Some (replay_from B.state J)) e (record { state = replay_from B.state J; counts = C; checkpoints = B.checkpoints + 1 }) (e ∷ []) (count_one C e) D' W' v' t' O' longest most room'
-anew B J C D W v t O longest most room e D' W' v' t' O' room' kept long stepped used reserved =
+    → Goes B J C (Some (replay_from B.state J)) e (record { state = replay_from B.state J; counts = C; checkpoints = B.checkpoints + 1 }) (e ∷ []) (count_one C e) N' O' longest most room'
+anew B J C N O longest most room e N' O' room' kept long stepped used reserved =
     let s = replay_from B.state J in
     let now : replay_from s (e ∷ []) ≡ step s e = replay-one s e in
     let outs : length O' ≡ length (step s e).unsent = outs-length (step s e).unsent O' stepped.holds.outs in
@@ -217,14 +217,14 @@ anew B J C D W v t O longest most room e D' W' v' t' O' room' kept long stepped 
     }
 
 -- the fields as they are written
-written : (B : Base) (J : List Event) (C : Counts) (x : Option State) (e : Event) (B1 : Base) (J1 : List Event) (C1 : Counts) (B' : Base) (J' : List Event) (C' : Counts) (D' : List Document) (W' : List Waiting) (v' t' : ℕ) (O' : List Out) (longest most room' : ℕ)
+written : (B : Base) (J : List Event) (C : Counts) (x : Option State) (e : Event) (B1 : Base) (J1 : List Event) (C1 : Counts) (B' : Base) (J' : List Event) (C' : Counts) (N' : Present) (O' : List Out) (longest most room' : ℕ)
     → B' ≡ B1 → J' ≡ J1 → C' ≡ C1
-    → Goes B J C x e B1 J1 C1 D' W' v' t' O' longest most room'
-    → Goes B J C x e B' J' C' D' W' v' t' O' longest most room'
-written B J C x e B1 J1 C1 B' J' C' D' W' v' t' O' longest most room' is_b is_j is_c goes =
-    let P : Base → Type 0 = λ b. Goes B J C x e b J' C' D' W' v' t' O' longest most room' in
-    let Q : List Event → Type 0 = λ js. Goes B J C x e B1 js C' D' W' v' t' O' longest most room' in
-    let R : Counts → Type 0 = λ c. Goes B J C x e B1 J1 c D' W' v' t' O' longest most room' in
+    → Goes B J C x e B1 J1 C1 N' O' longest most room'
+    → Goes B J C x e B' J' C' N' O' longest most room'
+written B J C x e B1 J1 C1 B' J' C' N' O' longest most room' is_b is_j is_c goes =
+    let P : Base → Type 0 = λ b. Goes B J C x e b J' C' N' O' longest most room' in
+    let Q : List Event → Type 0 = λ js. Goes B J C x e B1 js C' N' O' longest most room' in
+    let R : Counts → Type 0 = λ c. Goes B J C x e B1 J1 c N' O' longest most room' in
     subst P (sym is_b) (subst Q (sym is_j) (subst R (sym is_c) goes))
 
 late-none : (b c : Bool) (n m : ℕ) (s : State) (q : Bool) → q ≡ b → nat_le n m ≡ c → None ≡ cond b (cond c (Some s) None) None → n ≤ m → q ≡ false
@@ -240,37 +240,37 @@ long-some false c n m s z long is = absurd (cc)
 long-some true false n m s z long is = absurd (cc)
 long-some true true n m s z long is = (is-le n m long, same-state s z is)
 
-pub goes : (B : Base) (J : List Event) (C : Counts) (D : List Document) (W : List Waiting) (v t : ℕ) (O : List Out) (longest most room : ℕ) (x : Option State) (e : Event)
-    (B' : Base) (J' : List Event) (C' : Counts) (D' : List Document) (W' : List Waiting) (v' t' : ℕ) (O' : List Out) (room' : ℕ)
-    → IsKept B J C D W v t O longest most room
+pub goes : (B : Base) (J : List Event) (C : Counts) (N : Present) (O : List Out) (longest most room : ℕ) (x : Option State) (e : Event)
+    (B' : Base) (J' : List Event) (C' : Counts) (N' : Present) (O' : List Out) (room' : ℕ)
+    → IsKept B J C N O longest most room
     → x ≡ fresh_for (seen B J O longest most) e
-    → Stepped (replay_from B.state J) e v t D' W' v' t' O'
+    → Stepped (replay_from B.state J) e N N' O'
     → B' ≡ base_after x C B
     → J' ≡ journal_after x J ++ e ∷ []
     → C' ≡ count_one C e
     → total C + 1 + length O' ≤ most
     → length (journal_after x J) + 1 + length O' ≤ room'
-    → Goes B J C x e B' J' C' D' W' v' t' O' longest most room'
-goes B J C D W v t O longest most room None e B' J' C' D' W' v' t' O' room' kept is_x stepped is_b is_j is_c used reserved =
-    written B J C None e B (J ++ e ∷ []) (count_one C e) B' J' C' D' W' v' t' O' longest most room' is_b is_j is_c
-    (on B J C D W v t O longest most room e D' W' v' t' O' room' kept
+    → Goes B J C x e B' J' C' N' O' longest most room'
+goes B J C N O longest most room None e B' J' C' N' O' room' kept is_x stepped is_b is_j is_c used reserved =
+    written B J C None e B (J ++ e ∷ []) (count_one C e) B' J' C' N' O' longest most room' is_b is_j is_c
+    (on B J C N O longest most room e N' O' room' kept
     (late-none (is_client e) (nat_le longest (length J)) longest (length J) (replay_from B.state J) (is_client e) refl refl is_x) stepped used reserved)
-goes B J C D W v t O longest most room (Some z) e B' J' C' D' W' v' t' O' room' kept is_x stepped is_b is_j is_c used reserved =
+goes B J C N O longest most room (Some z) e B' J' C' N' O' room' kept is_x stepped is_b is_j is_c used reserved =
     let s = replay_from B.state J in
     let f = long-some (is_client e) (nat_le longest (length J)) longest (length J) s z refl is_x in
-    let P : State → Type 0 = λ y. Goes B J C (Some y) e B' J' C' D' W' v' t' O' longest most room' in
+    let P : State → Type 0 = λ y. Goes B J C (Some y) e B' J' C' N' O' longest most room' in
     let base : State → Base = λ y. record { state = y; counts = C; checkpoints = B.checkpoints + 1 } in
     subst P (sym f.1)
-    (written B J C (Some s) e (base s) (e ∷ []) (count_one C e) B' J' C' D' W' v' t' O' longest most room' (is_b ∙ ap base f.1) is_j is_c
-    (anew B J C D W v t O longest most room e D' W' v' t' O' room' kept f.0 stepped used reserved))
+    (written B J C (Some s) e (base s) (e ∷ []) (count_one C e) B' J' C' N' O' longest most room' (is_b ∙ ap base f.1) is_j is_c
+    (anew B J C N O longest most room e N' O' room' kept f.0 stepped used reserved))
 
-pub enters : (B : Base) (J : List Event) (C : Counts) (D : List Document) (W : List Waiting) (v t : ℕ) (O : List Out) (longest most room : ℕ) (x : Option State) (e : Event)
-    (B' : Base) (J' : List Event) (C' : Counts) (D' : List Document) (W' : List Waiting) (v' t' : ℕ) (O' : List Out) (room' : ℕ)
-    → IsKept B J C D W v t O longest most room
+pub enters : (B : Base) (J : List Event) (C : Counts) (N : Present) (O : List Out) (longest most room : ℕ) (x : Option State) (e : Event)
+    (B' : Base) (J' : List Event) (C' : Counts) (N' : Present) (O' : List Out) (room' : ℕ)
+    → IsKept B J C N O longest most room
     → x ≡ fresh_for (seen B J O longest most) e
-    → Goes B J C x e B' J' C' D' W' v' t' O' longest most room'
+    → Goes B J C x e B' J' C' N' O' longest most room'
     → Enters (seen B J O longest most) (seen B' J' O' longest most) e
-enters B J C D W v t O longest most room x e B' J' C' D' W' v' t' O' room' kept is_x g = record {
+enters B J C N O longest most room x e B' J' C' N' O' room' kept is_x g = record {
   possible = g.possible;
   base = g.base ∙ (λ i. base_after (is_x i) (kept.counts_are i) B);
   journal = g.journal ∙ ap (λ (y : Option State). journal_after y J ++ e ∷ []) is_x;
@@ -282,24 +282,26 @@ enters B J C D W v t O longest most room x e B' J' C' D' W' v' t' O' room' kept 
 }
 
 -- nothing has changed, but there is room
-pub kept-room : (B : Base) (J : List Event) (C : Counts) (D : List Document) (W : List Waiting) (v t : ℕ) (O : List Out) (longest most room : ℕ)
-    (J' : List Event) (D' : List Document) (W' : List Waiting) (O' : List Out) (room' : ℕ)
-    → IsKept B J C D W v t O longest most room → D' ≡ D → W' ≡ W → O' ≡ O → J' ≡ J → room ≤ room' → IsKept B J' C D' W' v t O' longest most room'
-kept-room B J C D W v t O longest most room J' D' W' O' room' kept same_d same_w same_o same_j more =
-    let P : List Event → Type 0 = λ js. IsKept B js C D' W' v t O' longest most room' in
-    let Q : List Out → Type 0 = λ os. IsKept B J C D' W' v t os longest most room' in
+pub kept-room : (B : Base) (J : List Event) (C : Counts) (N : Present) (O : List Out) (longest most room : ℕ)
+    (J' : List Event) (N' : Present) (O' : List Out) (room' : ℕ)
+    → IsKept B J C N O longest most room
+    → N'.documents.items ≡ N.documents.items → N'.waiting.items ≡ N.waiting.items → N'.next_version ≡ N.next_version → N'.next_ticket ≡ N.next_ticket
+    → O' ≡ O → J' ≡ J → room ≤ room' → IsKept B J' C N' O' longest most room'
+kept-room B J C N O longest most room J' N' O' room' kept same_d same_w same_v same_t same_o same_j more =
+    let P : List Event → Type 0 = λ js. IsKept B js C N' O' longest most room' in
+    let Q : List Out → Type 0 = λ os. IsKept B J C N' os longest most room' in
     subst P (sym same_j) (subst Q (sym same_o) (record {
       documents_are = same_d ∙ kept.documents_are;
       waiting_are = same_w ∙ kept.waiting_are;
-      version_is = kept.version_is;
-      ticket_is = kept.ticket_is;
+      version_is = same_v ∙ kept.version_is;
+      ticket_is = same_t ∙ kept.ticket_is;
       outs = kept.outs;
       past = kept.past;
       legal = kept.legal;
       cut = kept.cut;
       counts_are = kept.counts_are;
-      versions = kept.versions;
-      tickets = kept.tickets;
+      versions = let r = kept.versions in omega arith;
+      tickets = let r = kept.tickets in omega arith;
       checkpoints = kept.checkpoints;
       earlier = kept.earlier;
       first_is = kept.first_is;
@@ -344,10 +346,10 @@ entries-are (e ∷ es) (o ∷ os) h taken = λ i. entry-is e o h.0 (first-taken 
 state-taken : (B : Base) (J : List Event) (past : List Event) (most : ℕ) → IsPast most B past → WereTaken (replay_from B.state J).unsent
 state-taken B J past most is = let P : State → Type 0 = λ s. WereTaken s.unsent in subst P (past-state most B past J is) (taken-all (past ++ J))
 
-pub state-is : (B : Base) (J : List Event) (C : Counts) (D : List Document) (W : List Waiting) (v t : ℕ) (O : List Out) (longest most room : ℕ)
-    → IsKept B J C D W v t O longest most room
-    → record { documents = D; waiting = W; unsent = map entry_for O; next_version = v; next_ticket = t } ≡ replay_from B.state J
-state-is B J C D W v t O longest most room kept =
+pub state-is : (B : Base) (J : List Event) (C : Counts) (N : Present) (O : List Out) (longest most room : ℕ)
+    → IsKept B J C N O longest most room
+    → record { documents = N.documents.items; waiting = N.waiting.items; unsent = map entry_for O; next_version = N.next_version; next_ticket = N.next_ticket } ≡ replay_from B.state J
+state-is B J C N O longest most room kept =
     let es = entries-are (replay_from B.state J).unsent O kept.outs (state-taken B J kept.past.0 most kept.past.1) in
     λ i. record { documents = kept.documents_are i; waiting = kept.waiting_are i; unsent = es i; next_version = kept.version_is i; next_ticket = kept.ticket_is i }
 

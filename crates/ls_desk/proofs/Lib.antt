@@ -1,3 +1,4 @@
+pub mod Entries
 pub mod Grows
 pub mod Events
 pub mod Jobs

@@ -7,7 +7,6 @@ use Rattle.ls_answers.specs.Told.{Told}
 use Rattle.ls_machine.specs.declared.event.Event.{Event}
 use Rattle.ls_machine.specs.declared.event.Event.TheVariants.{Sent}
 use Rattle.ls_machine.specs.declared.event.Out.{Out}
-use Rattle.ls_machine.specs.declared.state.Document.{Document}
 use Rattle.ls_machine.specs.declared.state.Waiting.{Waiting}
 use Rattle.ls_machine.specs.declared.state.Request.{Request}
 use Rattle.ls_machine.specs.declared.state.Entry.{Entry}
@@ -19,6 +18,7 @@ use Rattle.ls_machine.specs.declared.state.State.{State}
 use Rattle.ls_machine.specs.Counts.{first, no_events, total}
 use Rattle.ls_machine.specs.Journal.{replay_from, IsLegalFrom, IsPast}
 use Rattle.ls_desk.specs.Stands.{Enters, IsOutFor, AreOutsFor, Seen, Sends, StandsAt, Answers, out_of, ticket_of_out}
+use Rattle.ls_desk.specs.declared.present.Present.{Present}
 use Rattle.ls_desk.specs.Kept.{IsKept}
 use Rattle.ls_machine.specs.Laws.{WasEntryCurrent, WereEntriesCurrent}
 use Rattle.ls_desk.proofs.Grows.{Stepped, Holds, seen}
@@ -52,12 +52,12 @@ send-possible : (s : State) (o : Out) (os : List Out) → Front s.unsent o os �
 unfolding IsPossible
 send-possible s o os f = ap first_ticket f.is ∙ ap Some (ticket-same f.entry o f.for)
 
-pub sent : (s : State) (D : List Document) (W : List Waiting) (v t : ℕ) (O : List Out) (o : Out) (os : List Out)
-    → Holds s D W v t O
+pub sent : (s : State) (N : Present) (O : List Out) (o : Out) (os : List Out)
+    → Holds s N O
     → Front s.unsent o os
-    → Stepped s (Sent (ticket_of_out o)) v t D W v t os
+    → Stepped s (Sent (ticket_of_out o)) N N os
 unfolding step
-sent s D W v t O o os kept f =
+sent s N O o os kept f =
     let P : List Entry → Type 0 = λ es. AreOutsFor (rest es) os in
     record {
       possible = send-possible s o os f;
@@ -72,9 +72,9 @@ sent s D W v t O o os kept f =
       tickets = omega arith;
     }
 
-pub kept-same : (B : Base) (J : List Event) (C : Counts) (D : List Document) (W : List Waiting) (v t : ℕ) (O os : List Out) (longest most room : ℕ)
-    → IsKept B J C D W v t O longest most room → O ≡ os → IsKept B J C D W v t os longest most room
-kept-same B J C D W v t O os longest most room kept same = let P : List Out → Type 0 = λ x. IsKept B J C D W v t x longest most room in subst P same kept
+pub kept-same : (B : Base) (J : List Event) (C : Counts) (N : Present) (O os : List Out) (longest most room : ℕ)
+    → IsKept B J C N O longest most room → O ≡ os → IsKept B J C N os longest most room
+kept-same B J C N O os longest most room kept same = let P : List Out → Type 0 = λ x. IsKept B J C N x longest most room in subst P same kept
 
 pub front-of : (es : List Entry) (O : List Out) (o : Out) (os : List Out) → AreOutsFor es O → O ≡ o ∷ os → Front es o os
 front-of es O o os outs is = let P : List Out → Type 0 = λ x. AreOutsFor es x in front es o os (subst P is outs)
@@ -89,14 +89,14 @@ current-in B J most past is legal =
     let P : State → Type 0 = λ s. WereEntriesCurrent (past ++ J) s.unsent in
     subst P (past-state most B past J is) (ordered most (past ++ J) (past-legal most B past J is legal)).unsent
 
-pub sends : (B : Base) (J : List Event) (C : Counts) (D : List Document) (W : List Waiting) (v t : ℕ) (O : List Out) (longest most room : ℕ) (new : Seen) (o : Out) (os : List Out)
-    → IsKept B J C D W v t O longest most room
+pub sends : (B : Base) (J : List Event) (C : Counts) (N : Present) (O : List Out) (longest most room : ℕ) (new : Seen) (o : Out) (os : List Out)
+    → IsKept B J C N O longest most room
     → Front (replay_from B.state J).unsent o os
     → O ≡ o ∷ os
     → new.outbox ≡ os
     → Enters (seen B J O longest most) new (Sent (ticket_of_out o))
     → Sends (seen B J O longest most) new o
-sends B J C D W v t O longest most room new o os kept f is same went = record {
+sends B J C N O longest most room new o os kept f is same went = record {
   enters = went;
   first = is ∙ ap (λ (xs : List Out). o ∷ xs) (sym same);
   is_for = (f.entry, f.others, f.is, f.for);
@@ -119,29 +119,29 @@ entry-at js [] i e h is = absurd (cc)
 entry-at js (x ∷ es) zero e h is = let P : Entry → Type 0 = λ y. WasEntryCurrent js y in subst P (same_Some x e is) h.0
 entry-at js (x ∷ es) (suc i) e h is = entry-at js es i e h.1 is
 
-pub stands-at : {A : Type 0} (f : A → Out) (r : Option A) (B : Base) (J : List Event) (C : Counts) (D : List Document) (W : List Waiting) (v t : ℕ) (O : List Out) (longest most room : ℕ) (i : ℕ)
-    → IsKept B J C D W v t O longest most room
+pub stands-at : {A : Type 0} (f : A → Out) (r : Option A) (B : Base) (J : List Event) (C : Counts) (N : Present) (O : List Out) (longest most room : ℕ) (i : ℕ)
+    → IsKept B J C N O longest most room
     → is_some r ≡ ltb i (length O) → IfSome r (λ x. f x ≡ get_or O i (f x)) → IfSome r (λ x. StandsAt (seen B J O longest most) i (f x))
-stands-at f None B J C D W v t O longest most room i kept some is = tt
-stands-at f (Some x) B J C D W v t O longest most room i kept some is =
+stands-at f None B J C N O longest most room i kept some is = tt
+stands-at f (Some x) B J C N O longest most room i kept some is =
     let found = slice_get_read O (length O) i (f x) refl (ltb-true i (length O) (sym some)) is in
     let e = at-entry (replay_from B.state J).unsent O i (f x) kept.outs found in
     (e.0, e.1, e.2, (kept.past.0, kept.past.1, entry-at (kept.past.0 ++ J) (replay_from B.state J).unsent i e.0 (current-in B J most kept.past.0 kept.past.1 kept.legal) e.1))
 
 -- a new desk
-pub kept-start : (B : Base) (J : List Event) (C : Counts) (D : List Document) (W : List Waiting) (O : List Out) (longest most room : ℕ)
-    → B ≡ first → J ≡ [] → C ≡ no_events → D ≡ [] → W ≡ [] → O ≡ [] → 0 < longest → 0 < most → most < 18446744073709551615 → IsKept B J C D W 1 1 O longest most room
+pub kept-start : (B : Base) (J : List Event) (C : Counts) (N : Present) (O : List Out) (longest most room : ℕ)
+    → B ≡ first → J ≡ [] → C ≡ no_events → N.documents.items ≡ [] → N.waiting.items ≡ [] → N.next_version ≡ 1 → N.next_ticket ≡ 1 → O ≡ [] → 0 < longest → 0 < most → most < 18446744073709551615 → IsKept B J C N O longest most room
 unfolding AreOutsFor replay_from
-kept-start B J C D W O longest most room b j c d w o least some few =
-    let P : Base → Type 0 = λ x. IsKept x J C D W 1 1 O longest most room in
-    let Q : List Event → Type 0 = λ x. IsKept first x C D W 1 1 O longest most room in
-    let R : Counts → Type 0 = λ x. IsKept first [] x D W 1 1 O longest most room in
-    let S : List Out → Type 0 = λ x. IsKept first [] no_events D W 1 1 x longest most room in
+kept-start B J C N O longest most room b j c d w v t o least some few =
+    let P : Base → Type 0 = λ x. IsKept x J C N O longest most room in
+    let Q : List Event → Type 0 = λ x. IsKept first x C N O longest most room in
+    let R : Counts → Type 0 = λ x. IsKept first [] x N O longest most room in
+    let S : List Out → Type 0 = λ x. IsKept first [] no_events N x longest most room in
     subst P (sym b) (subst Q (sym j) (subst R (sym c) (subst S (sym o) (record {
       documents_are = d;
       waiting_are = w;
-      version_is = refl;
-      ticket_is = refl;
+      version_is = v;
+      ticket_is = t;
       outs = tt;
       past = ([], past-first most);
       legal = legal-none most _ _;

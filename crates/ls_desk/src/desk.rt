@@ -14,18 +14,19 @@ ghost use Rattle.ls_desk.specs.Faults.{Accepts, open_fault, open_shared_fault, R
 ghost use Rattle.ls_desk.specs.Puts.{next_of};
 
 use crate::history::History;
+use crate::job::{asked, has_failed, job_of, kept_for};
 use crate::outs::{
-    Next, Opening, ask, asked, cancel, cancel_none, change, changed_text, close, failures, finish,
-    give_back, has_failed, job_of, next_text, open, remove_at, replies_at_end, say, shared_text,
-    take, ticket_of,
+    REQUEST_CANCELLED, failures, put_failure, put_finished, replies_at_end, ticket_of,
 };
+use crate::present::Present;
 use crate::room::{
     put_change, put_replies, room_for_event, room_for_job, room_for_replies, room_for_text,
 };
+use crate::texts::{Next, Opening, shared_text};
 use ls_answers::{Ask, Done, Job};
 use ls_lists::{List, Text};
 use ls_machine::{
-    Counts, DeskFault, Document, Event, Kept, Out, SharedSnapshot, State, Waiting, find, state_of,
+    Counts, DeskFault, Event, Kept, Out, SharedSnapshot, State, Waiting, find, state_of,
 };
 use ls_rpc::Id;
 use ls_text::{Edit, Encoding, MAX_BYTES};
@@ -45,10 +46,7 @@ const MOST_REQUESTS: usize = 1_024;
 #[derive(Drop)]
 pub struct Desk {
     alloc: Global,
-    documents: Vec<Document>,
-    waiting: Vec<Waiting>,
-    next_version: u64,
-    next_ticket: u64,
+    present: Present,
     outbox: VecDeque<Out>,
     history: History,
     max_journal: usize,
@@ -64,7 +62,7 @@ impl Model for Desk {
 
     ghost view = { λ d. record { base = d.history.base; journal = d.history.events.items; outbox = d.outbox.items; max_journal = d.max_journal; max_events = d.max_events } };
 
-    ghost invariant = { λ d. IsKept d.history.base d.history.events.items d.history.counts d.documents.items d.waiting.items d.next_version d.next_ticket d.outbox.items d.max_journal d.max_events (vec_capacity d.history.events) };
+    ghost invariant = { λ d. IsKept d.history.base d.history.events.items d.history.counts d.present d.outbox.items d.max_journal d.max_events (vec_capacity d.history.events) };
 }
 
 impl Desk {
@@ -77,10 +75,7 @@ impl Desk {
     {
         Desk {
             alloc,
-            documents: Vec::new(alloc),
-            waiting: Vec::new(alloc),
-            next_version: 1,
-            next_ticket: 1,
+            present: Present::new(alloc),
             outbox: VecDeque::new(alloc),
             history: History::new(alloc),
             max_journal,
@@ -150,11 +145,11 @@ impl Desk {
         }
         let state = state_of(
             self.alloc,
-            self.documents.as_slice(),
-            self.waiting.as_slice(),
+            self.present.documents.as_slice(),
+            self.present.waiting.as_slice(),
             &self.outbox,
-            self.next_version,
-            self.next_ticket,
+            self.present.next_version,
+            self.present.next_ticket,
         )?;
         Ok(Some(state))
     }
@@ -168,13 +163,13 @@ impl Desk {
         ensures room { IfOk result (λ replies. used self.now + (1 + length replies.items) ≤ self.now.max_events) }
         ensures err { IfErr result (λ fault. IsFirst (end_fault self.now uri.now) fault) }
     {
-        if find::document_of(self.documents.as_slice(), uri).is_none() {
+        if find::document_of(self.present.documents.as_slice(), uri).is_none() {
             return Err(DeskFault::NotOpen);
         }
-        if self.is_full(replies_at_end(uri, self.waiting.as_slice())) {
+        if self.is_full(replies_at_end(uri, self.present.waiting.as_slice())) {
             return Err(DeskFault::SessionFull);
         }
-        Ok(failures(self.alloc, uri, self.waiting.as_slice())?)
+        Ok(failures(self.alloc, uri, self.present.waiting.as_slice())?)
     }
 
     // The text of a document after edits.
@@ -182,16 +177,7 @@ impl Desk {
         ensures next { IfOk result (λ next. next ≡ next_of (state_of self.now).next_version (state_of self.now).next_ticket uri.now label (edited_at (document_of uri.now (state_of self.now).documents) edits.now)) }
         ensures err { IfErr result (λ fault. fault ≡ DeskFault.Memory) }
     {
-        let next = changed_text(
-            self.alloc,
-            self.documents.as_slice(),
-            uri,
-            label,
-            edits,
-            self.next_version,
-            self.next_ticket,
-        )?;
-        Ok(next)
+        Ok(self.present.changed_text(self.alloc, uri, label, edits)?)
     }
 
     /// Changes a document by edits, each on the text that the ones before it left. `None`: one of these texts would be too
@@ -209,24 +195,22 @@ impl Desk {
         let next = self.changed(&uri, label, edits.as_slice())?;
         let state = self.fresh()?;
         put_change(
-            &mut self.waiting,
+            &mut self.present.waiting,
             &mut self.history.events,
             &state,
             &mut self.outbox,
             replies,
             &next,
         )?;
-        let version = change(
-            &mut self.documents,
-            &mut self.waiting,
-            &mut self.next_version,
-            &mut self.next_ticket,
-            &mut self.history,
+        let version = self.present.change(&uri, next);
+        self.history.enter(
             state,
-            uri,
-            label,
-            edits,
-            next,
+            Event::Changed {
+                uri,
+                label,
+                edits,
+                version,
+            },
         );
         Ok(version)
     }
@@ -239,13 +223,8 @@ impl Desk {
         let replies = self.ends(&uri)?;
         let state = self.fresh()?;
         put_replies(&mut self.history.events, &state, &mut self.outbox, replies)?;
-        close(
-            &mut self.documents,
-            &mut self.waiting,
-            &mut self.history,
-            state,
-            uri,
-        );
+        self.present.close(&uri);
+        self.history.enter(state, Event::Closed { uri });
         Ok(())
     }
 
@@ -260,7 +239,7 @@ impl Desk {
         ensures room { OnOk result (used self.now + (1 + length (left_at (is_none done.now.answer) (find (is_held done.now.ticket) (state_of self.now).waiting))) ≤ self.now.max_events) }
         ensures err { IfErr result (λ fault. finish_fault self.now done.now ≡ Some fault) }
     {
-        let Some((at, job)) = find::held(self.waiting.as_slice(), done.ticket()) else {
+        let Some((at, job)) = find::held(self.present.waiting.as_slice(), done.ticket()) else {
             return Err(DeskFault::UnknownTicket);
         };
         if !find::is_for(job, done) {
@@ -288,8 +267,11 @@ impl Desk {
             Ok(()) => {}
             Err(_) => return Err((DeskFault::Memory, done)),
         }
-        let job = remove_at(&mut self.waiting, at);
-        let kept = finish(&mut self.outbox, &mut self.history, job, done, failed);
+        let job = self.present.remove_at(at);
+        let kept = kept_for(failed, &job);
+        let ticket = done.ticket();
+        put_finished(&mut self.outbox, job, done, failed);
+        self.history.enter(None, Event::Finished { ticket, failed });
         Ok(kept)
     }
 
@@ -301,19 +283,19 @@ impl Desk {
         ensures room { OnOk result (used self.now + 1 ≤ self.now.max_events) }
         ensures err { IfErr result (λ fault. IsFirst (request_fault self.now id.now uri.now) fault) }
     {
-        let Some(document) = find::document_of(self.documents.as_slice(), uri) else {
+        let Some(document) = find::document_of(self.present.documents.as_slice(), uri) else {
             return Err(DeskFault::NotOpen);
         };
-        if find::requests(self.waiting.as_slice()) >= MOST_REQUESTS {
+        if find::requests(self.present.waiting.as_slice()) >= MOST_REQUESTS {
             return Err(DeskFault::TooManyWaiting);
         }
-        if find::asked(self.waiting.as_slice(), id).is_some() {
+        if find::asked(self.present.waiting.as_slice(), id).is_some() {
             return Err(DeskFault::IdInUse);
         }
         if self.is_full(0) {
             return Err(DeskFault::SessionFull);
         }
-        Ok(asked(document, self.next_ticket, id, question, links)?)
+        Ok(asked(document, self.present.next_ticket, id, question, links)?)
     }
 
     /// A request about a document waits from now on.
@@ -331,21 +313,21 @@ impl Desk {
         let job = self.asked(&id, &uri, &question, links)?;
         let state = self.fresh()?;
         room_for_job(
-            &mut self.waiting,
+            &mut self.present.waiting,
             &mut self.history.events,
             &state,
             self.outbox.len(),
         )?;
-        let ticket = ask(
-            &mut self.waiting,
-            &mut self.next_ticket,
-            &mut self.history,
+        let ticket = self.present.ask(job);
+        self.history.enter(
             state,
-            id,
-            uri,
-            question,
-            links,
-            job,
+            Event::Asked {
+                id,
+                uri,
+                ask: question,
+                links,
+                ticket,
+            },
         );
         Ok(ticket)
     }
@@ -361,7 +343,7 @@ impl Desk {
         ensures err { IfErr result (λ fault. IsFirst (take_fault self.now) fault) }
         ensures queued { OnErr result (is_some (find is_queued (state_of self.now).waiting) ≡ true) }
     {
-        let Some((at, job)) = find::queued(self.waiting.as_slice()) else {
+        let Some((at, job)) = find::queued(self.present.waiting.as_slice()) else {
             return Ok(None);
         };
         if self.is_full(0) {
@@ -380,7 +362,8 @@ impl Desk {
             return Ok(None);
         };
         room_for_event(&mut self.history.events, &None, self.outbox.len())?;
-        take(&mut self.waiting, &mut self.history, at, worker);
+        self.present.take(at);
+        self.history.enter(None, Event::Took { worker });
         Ok(Some(job))
     }
 
@@ -393,7 +376,7 @@ impl Desk {
         ensures room { OnOk result (used self.now + 1 ≤ self.now.max_events) }
         ensures err { IfErr result (λ fault. give_back_fault self.now ticket ≡ Some fault) }
     {
-        let Some((at, _)) = find::held(self.waiting.as_slice(), ticket) else {
+        let Some((at, _)) = find::held(self.present.waiting.as_slice(), ticket) else {
             return Err(DeskFault::UnknownTicket);
         };
         if self.is_full(0) {
@@ -409,7 +392,8 @@ impl Desk {
     {
         let at = self.held(ticket)?;
         room_for_event(&mut self.history.events, &None, self.outbox.len())?;
-        give_back(&mut self.waiting, &mut self.history, at, ticket);
+        self.present.give_back(at);
+        self.history.enter(None, Event::Returned { ticket });
         Ok(())
     }
 
@@ -422,7 +406,7 @@ impl Desk {
         ensures room { OnOk result (used self.now + (1 + length (told_at request_cancelled (find (asks_with id.now) (state_of self.now).waiting))) ≤ self.now.max_events) }
         ensures err { IfErr result (λ fault. cancel_fault self.now id.now ≡ Some fault) }
     {
-        match find::asked(self.waiting.as_slice(), id) {
+        match find::asked(self.present.waiting.as_slice(), id) {
             Some((at, job)) => {
                 if self.is_full(find::replies_of(true, job)) {
                     return Err(DeskFault::SessionFull);
@@ -449,13 +433,16 @@ impl Desk {
         match at {
             Some(at) => {
                 room_for_replies(&mut self.history.events, &state, &mut self.outbox, 1)?;
-                let job = remove_at(&mut self.waiting, at);
-                cancel(&mut self.outbox, &mut self.history, state, id, job);
+                let job = self.present.remove_at(at);
+                put_failure(&mut self.outbox, job, REQUEST_CANCELLED);
+                self.history
+                    .enter(state, Event::Cancelled { id, found: true });
                 Ok(true)
             }
             None => {
                 room_for_event(&mut self.history.events, &state, self.outbox.len())?;
-                cancel_none(&mut self.history, state, id);
+                self.history
+                    .enter(state, Event::Cancelled { id, found: false });
                 Ok(false)
             }
         }
@@ -482,7 +469,8 @@ impl Desk {
         let copy = self.copied(&body)?;
         let state = self.fresh()?;
         room_for_replies(&mut self.history.events, &state, &mut self.outbox, 1)?;
-        say(&mut self.outbox, &mut self.history, state, body, copy);
+        self.outbox.push_back_reserved(Out::Said(copy));
+        self.history.enter(state, Event::Said { body });
         Ok(())
     }
 
@@ -490,21 +478,21 @@ impl Desk {
     pub fn wanted(&self, ticket: u64) -> bool
         ensures { result ≡ waits ticket (state_of self.now).waiting }
     {
-        find::waits(self.waiting.as_slice(), ticket)
+        find::waits(self.present.waiting.as_slice(), ticket)
     }
 
     /// Whether a job is queued, so that a take would find one.
     pub fn has_queued(&self) -> bool
         ensures { result ≡ is_some (find is_queued (state_of self.now).waiting) }
     {
-        find::queued(self.waiting.as_slice()).is_some()
+        find::queued(self.present.waiting.as_slice()).is_some()
     }
 
     /// Whether no job waits, queued or taken.
     pub fn is_idle(&self) -> bool
         ensures { result ≡ (length (state_of self.now).waiting == 0) }
     {
-        self.waiting.is_empty()
+        self.present.waiting.is_empty()
     }
 
     /// The reply with this number, from 0 for the oldest, of those that wait to be sent. It is what the unsent entry with that number stands
@@ -524,10 +512,10 @@ impl Desk {
         ensures fits { IfOk result (λ made. is_too_large made ≡ false) }
         ensures err { IfErr result (λ fault. IsFirst (open_fault self.now uri.now text) fault) }
     {
-        if find::document_of(self.documents.as_slice(), uri).is_some() {
+        if find::document_of(self.present.documents.as_slice(), uri).is_some() {
             return Err(DeskFault::AlreadyOpen);
         }
-        if self.documents.len() >= MOST_DOCUMENTS {
+        if self.present.documents.len() >= MOST_DOCUMENTS {
             return Err(DeskFault::TooManyDocuments);
         }
         if text.len() > MAX_BYTES {
@@ -557,23 +545,16 @@ impl Desk {
         ensures room { OnOk result (used self.now + 1 ≤ self.now.max_events) }
         ensures err { IfErr result (λ fault. IsFirst (open_shared_fault self.now uri.now) fault) }
     {
-        if find::document_of(self.documents.as_slice(), uri).is_some() {
+        if find::document_of(self.present.documents.as_slice(), uri).is_some() {
             return Err(DeskFault::AlreadyOpen);
         }
-        if self.documents.len() >= MOST_DOCUMENTS {
+        if self.present.documents.len() >= MOST_DOCUMENTS {
             return Err(DeskFault::TooManyDocuments);
         }
         if self.is_full(0) {
             return Err(DeskFault::SessionFull);
         }
-        let next = next_text(
-            uri,
-            label,
-            &text,
-            encoding,
-            self.next_version,
-            self.next_ticket,
-        )?;
+        let next = self.present.next_text(uri, label, &text, encoding)?;
         Ok(Opening {
             text,
             encoding,
@@ -597,22 +578,26 @@ impl Desk {
         let opening = self.opening(&uri, label, text, encoding)?;
         let state = self.fresh()?;
         room_for_text(
-            &mut self.documents,
-            &mut self.waiting,
+            &mut self.present,
             &mut self.history.events,
             &state,
             self.outbox.len(),
         )?;
-        let version = open(
-            &mut self.documents,
-            &mut self.waiting,
-            &mut self.next_version,
-            &mut self.next_ticket,
-            &mut self.history,
+        let Opening {
+            text,
+            encoding,
+            next,
+        } = opening;
+        let version = self.present.open(next);
+        self.history.enter(
             state,
-            uri,
-            label,
-            opening,
+            Event::Opened {
+                uri,
+                label,
+                text,
+                encoding,
+                version,
+            },
         );
         Ok(version)
     }

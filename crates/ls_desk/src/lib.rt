@@ -18,13 +18,18 @@
 #![tactic(auto)]
 
 mod desk;
+mod door;
 mod history;
+mod job;
 mod outs;
+mod present;
 mod room;
+mod texts;
 
 pub use desk::Desk;
 pub use ls_machine::{
     Base, Counts, DeskFault, Document, Entry, Event, Kept, Out, Request, SharedSnapshot, State,
     Waiting, legal_journals_are_ordered,
 };
-pub use outs::{shared_text, ticket_of};
+pub use outs::ticket_of;
+pub use texts::shared_text;

@@ -2,8 +2,8 @@
 use Rattle.std.specs.Prelude.{ℕ, List, [], ◌∷◌, Option, None, Some}
 use Rattle.ls_frame.specs.declared.fault.FrameFault.{FrameFault}
 use Rattle.ls_frame.specs.declared.fault.FrameFault.TheVariants.{Truncated}
-use Rattle.ls_session.specs.declared.event.Status.{Status}
-use Rattle.ls_session.specs.declared.event.Status.TheVariants.{BadFrame, Unclean}
+use Rattle.ls_session.specs.declared.turn.Status.{Status}
+use Rattle.ls_session.specs.declared.turn.Status.TheVariants.{BadFrame, Unclean}
 
 -- the status where no exit comes before the end of the stream
 abbrev pub end_status : Option FrameFault → List ℕ → Status
@@ -12,7 +12,7 @@ end_status None [] = Unclean
 end_status None (b ∷ rest) = BadFrame Truncated
 
 -- the status that the session met, else that of the fault
-abbrev pub or_else : Option Status → Option FrameFault → Option Status
-or_else (Some status) fault = Some status
-or_else None None = None
-or_else None (Some fault) = Some (BadFrame fault)
+abbrev pub status_or : Option Status → Option FrameFault → Option Status
+status_or (Some status) fault = Some status
+status_or None None = None
+status_or None (Some fault) = Some (BadFrame fault)

@@ -1,7 +1,7 @@
 -- Each list of bytes is a stream: a whole frame begins it, or none does.
 use Rattle.std.proofs.Common.{◌≡◌, ℕ, zero, suc, ◌<◌, ◌≤◌, Bool, true, false, ◌==◌, List, [], ◌∷◌, ◌++◌, length, take, drop, filter, ◌⊎◌, inl, inr, ⊎_elim, refl, sym, ◌∙◌, ap, subst, arith, append_assoc, length-append, length-take-le, take-append-drop}
-use Rattle.std.proofs.lemmas.Bool.{eqb-true, cases_lt, false≢true}
-use Rattle.ls_frame.specs.Frames.{crlf, field_lines, header_part, is_field, is_length, is_number, number_of, AreFields, IsHeader, IsFrame, HasNoFrame, Stream}
+use Rattle.std.proofs.lemmas.Bool.{eqb-true, cases_lt, both_ways}
+use Rattle.ls_frame.specs.Frames.{crlf, field_lines, header_part, is_field, is_length, has_number, number_told, AreFields, IsHeader, IsFrame, HasNoFrame, Stream}
 use Rattle.ls_frame.proofs.Unique.{HasNoCr, field-no_cr, first-cr, regroup, tail-same, head-same, headers-same}
 use Rattle.ls_frame.proofs.Wholes.{behind, short-no_frame}
 
@@ -49,11 +49,8 @@ no_by line later bytes h is ends goes (b ∷ those) rest q e =
     let p = first-cr line b later (10 ∷ (header_part those ++ rest)) h (field-no_cr b q.0) (sym is ∙ (e ∙ regroup b (field_lines those) rest)) in
     goes those rest (ap is_field p.0 ∙ q.0) q.1 p.1
 
-clash : (b : Bool) → b ≡ false → b ≡ true → ⊥
-clash b f t = false≢true (sym f ∙ t)
-
 not_lf : (c : ℕ) → (c == 10) ≡ false → c ≡ 10 → ⊥
-not_lf c e n = clash (c == 10) e (ap (λ x. x == 10) n)
+not_lf c e n = both_ways (c == 10) e (ap (λ x. x == 10) n)
 
 not_nil : (x : ℕ) (xs : List ℕ) → x ∷ xs ≡ [] → ⊥
 not_nil x xs e = cc
@@ -63,7 +60,7 @@ nil_not x xs e = cc
 
 by_field : (bytes : List ℕ) (x : ℕ) (xs v : List ℕ) → HasNoCr (x ∷ xs) → bytes ≡ (x ∷ xs) ++ 13 ∷ 10 ∷ v → (b : Bool) → is_field (x ∷ xs) ≡ b → Decided v → Decided bytes
 by_field bytes x xs v h is false e d =
-    inr (no_by (x ∷ xs) (10 ∷ v) bytes h is (λ rest p f. not_nil x xs p) (λ those rest g q f. clash (is_field (x ∷ xs)) e g))
+    inr (no_by (x ∷ xs) (10 ∷ v) bytes h is (λ rest p f. not_nil x xs p) (λ those rest g q f. both_ways (is_field (x ∷ xs)) e g))
 by_field bytes x xs v h is true e (inl d) = inl (record {
   fields = (x ∷ xs) ∷ d.fields;
   rest = d.rest;
@@ -102,21 +99,21 @@ Given fields = ((n : ℕ) × IsHeader fields n) ⊎ ((n : ℕ) → IsHeader fiel
 first_same : (x y : List ℕ) → x ∷ [] ≡ y ∷ [] → x ≡ y
 first_same x y e = cc
 
-given_number : (fields : List (List ℕ)) (x : List ℕ) → AreFields fields → filter is_length fields ≡ x ∷ [] → (b : Bool) → is_number x ≡ b → Given fields
+given_number : (fields : List (List ℕ)) (x : List ℕ) → AreFields fields → filter is_length fields ≡ x ∷ [] → (b : Bool) → has_number x ≡ b → Given fields
 given_number fields x each e false d =
-    inr (λ n h. clash (is_number x) d (ap is_number (first_same x h.field (sym e ∙ h.one)) ∙ h.digits))
+    inr (λ n h. both_ways (has_number x) d (ap has_number (first_same x h.field (sym e ∙ h.one)) ∙ h.digits))
 given_number fields x each e true d =
     ⊎_elim
-    (λ large. inr (λ n h. let same : number_of x ≡ n = ap number_of (first_same x h.field (sym e ∙ h.one)) ∙ h.number in omega (arith, large, same, h.small)))
+    (λ large. inr (λ n h. let same : number_told x ≡ n = ap number_told (first_same x h.field (sym e ∙ h.one)) ∙ h.number in omega (arith, large, same, h.small)))
     (λ small. ⊎_elim
     (λ long. inr (λ n h. omega (arith, long, h.short)))
-    (λ short. inl (number_of x, record { each = each; field = x; one = e; digits = d; number = refl; short = short; small = small }))
+    (λ short. inl (number_told x, record { each = each; field = x; one = e; digits = d; number = refl; short = short; small = small }))
     (cases_lt 4096 (length (header_part fields))))
-    (cases_lt 16777216 (number_of x))
+    (cases_lt 16777216 (number_told x))
 
 given_by : (fields : List (List ℕ)) → AreFields fields → (named : List (List ℕ)) → filter is_length fields ≡ named → Given fields
 given_by fields each [] e = inr (λ n h. let bad : [] ≡ h.field ∷ [] = sym e ∙ h.one in cc)
-given_by fields each (x ∷ []) e = given_number fields x each e (is_number x) refl
+given_by fields each (x ∷ []) e = given_number fields x each e (has_number x) refl
 given_by fields each (x ∷ y ∷ named) e = inr (λ n h. let bad : x ∷ y ∷ named ≡ h.field ∷ [] = sym e ∙ h.one in cc)
 
 -- ---- whether a whole frame begins the bytes

@@ -1,8 +1,9 @@
 -- A list of bytes is a stream in one way.
 use Rattle.std.proofs.Common.{◌≡◌, ℕ, true, false, ◌==◌, List, [], ◌∷◌, ◌++◌, length, filter, refl, sym, ◌∙◌, ap, subst, arith, append_assoc, not}
 use Rattle.std.specs.List.{list_any}
-use Rattle.ls_frame.specs.Frames.{crlf, field_lines, header_part, is_field, is_line_end, is_length, number_of, AreFields, IsHeader, IsFrame, Frames, HasNoFrame, Stream}
-use Rattle.ls_frame.proofs.Fronts.{and_left, not_true, or_left, or_right}
+use Rattle.std.proofs.lemmas.Bool.{not-true}
+use Rattle.ls_frame.specs.Frames.{crlf, field_lines, header_part, is_field, is_line_end, is_length, number_told, AreFields, IsHeader, IsFrame, Frames, HasNoFrame, Stream}
+use Rattle.ls_frame.proofs.Fronts.{and_left, or_left, or_right}
 
 -- no CR
 abbrev pub HasNoCr : List ℕ → Type 0
@@ -15,7 +16,7 @@ no_cr (b ∷ line) e = (or_left (b == 13) (b == 10) (or_left (is_line_end b) (li
 
 pub field-no_cr : (line : List ℕ) → is_field line ≡ true → HasNoCr line
 unfolding is_field
-field-no_cr line e = no_cr line (not_true (list_any is_line_end line) (and_left (not (list_any is_line_end line)) _ e))
+field-no_cr line e = no_cr line (not-true (list_any is_line_end line) (and_left (not (list_any is_line_end line)) _ e))
 
 field-not_empty : (line : List ℕ) → is_field line ≡ true → [] ≡ line → ⊥
 unfolding is_field
@@ -74,7 +75,7 @@ pub lengths-same : (these those : List (List ℕ)) (n m : ℕ) → IsHeader thes
 lengths-same these those n m h k e =
     let one : h.field ∷ [] ≡ k.field ∷ [] = sym h.one ∙ (ap (filter is_length) e ∙ k.one) in
     let same : h.field ≡ k.field = cc in
-    sym h.number ∙ (ap number_of same ∙ k.number)
+    sym h.number ∙ (ap number_told same ∙ k.number)
 
 -- the first frame, and what comes behind it
 pub frame-unique : (frame other x y u v : List ℕ) → IsFrame frame x → IsFrame other y → frame ++ u ≡ other ++ v → (x ≡ y) × (u ≡ v)

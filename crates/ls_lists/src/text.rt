@@ -1,3 +1,5 @@
+//! Texts in UTF-8.
+
 ghost use Rattle.std.specs.Prelude.{◌≡◌, IfOk, IsTrue, ◌↔◌, [], length, string_bytes};
 
 use std::alloc::{AllocError, Global};

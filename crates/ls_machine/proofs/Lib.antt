@@ -3,3 +3,4 @@ pub mod Replays
 pub mod Taken
 pub mod Ordered
 pub mod Once
+pub mod Same

@@ -1,5 +1,5 @@
 -- What holds of the state that a legal journal leads to.
-use Rattle.std.specs.Prelude.{◌≡◌, ◌≤◌, ◌<◌, ◌+◌, ◌⊎◌, ◌==◌, ℕ, List, [], ◌∷◌, ◌++◌, Bool, true, Option, Some, None, find, count_by}
+use Rattle.std.specs.Prelude.{◌≡◌, ◌↔◌, ◌≤◌, ◌<◌, ◌+◌, ◌⊎◌, ◌==◌, ℕ, List, [], ◌∷◌, ◌++◌, Bool, true, Option, Some, None, find, count_by}
 use Rattle.ls_rpc.specs.declared.message.Id.{Id}
 use Rattle.ls_answers.specs.declared.ask.Ask.{Ask}
 use Rattle.ls_answers.specs.declared.ask.Ask.TheVariants.{Diagnose}
@@ -12,6 +12,8 @@ use Rattle.ls_machine.specs.declared.state.Waiting.{Waiting}
 use Rattle.ls_machine.specs.Machine.{step, document, document_of, measured, asks_with, ticket_of}
 use Rattle.ls_machine.specs.Client.{sent_tickets}
 use Rattle.ls_machine.specs.Journal.{replay, IsLegal}
+use Rattle.ls_machine.specs.Same.{is_for}
+use Rattle.ls_answers.specs.Told.{Told}
 
 -- nobody asked for it, and its question is what is found in a text
 abbrev pub IsForFindings : Waiting → Type 0
@@ -121,3 +123,15 @@ abbrev pub RequestsAreKeptOnce : Type 0
 RequestsAreKeptOnce = (most : ℕ) (before later : List Event) (id : Id) (uri : List ℕ) (question : Ask) (links : Bool) (ticket : ℕ)
     → IsLegal most (before ++ Asked id uri question links ticket ∷ later)
     → places (before ++ Asked id uri question links ticket ∷ later) ticket ≡ 1
+
+-- ---- runs
+
+-- a run of the job's text, with its encoding and its question
+pub record IsRunOf (w : Waiting) (done : Told) : Type 0 where
+  pub encoding : w.encoding ≡ done.encoding
+  pub text : w.text ≡ done.text
+  pub ask : w.ask ≡ done.ask
+
+-- a run is a job's exactly where it is told to be
+abbrev pub RunsAreKnown : Type 0
+RunsAreKnown = (w : Waiting) (done : Told) → (is_for (Some w) done ≡ true) ↔ IsRunOf w done

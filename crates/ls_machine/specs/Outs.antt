@@ -9,8 +9,8 @@ use Rattle.ls_machine.specs.declared.state.Request.{Request}
 use Rattle.ls_machine.specs.declared.state.Waiting.{Waiting}
 
 -- the job that has run
-abbrev pub ran : List ℕ → ℕ → ℤ → Option Request → Told → Waiting
-ran uri version label request done = record {
+abbrev pub job_of_run : List ℕ → ℕ → ℤ → Option Request → Told → Waiting
+job_of_run uri version label request done = record {
   ticket = done.ticket;
   ask = done.ask;
   uri = uri;
@@ -26,5 +26,5 @@ ran uri version label request done = record {
 abbrev pub entry_for : Out → Entry
 entry_for (Said body) = Body body
 entry_for (Failed ticket id code) = Failure ticket id code
-entry_for (Replied id uri version label links done) = Outcome (ran uri version label (Some (record { id = id; links = links })) done)
-entry_for (Findings uri version label done) = Outcome (ran uri version label None done)
+entry_for (Replied id uri version label links done) = Outcome (job_of_run uri version label (Some (record { id = id; links = links })) done)
+entry_for (Findings uri version label done) = Outcome (job_of_run uri version label None done)

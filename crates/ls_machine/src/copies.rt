@@ -1,6 +1,6 @@
 //! A state as a value of its own, from what a desk holds.
 ghost use Rattle.std.specs.Prelude.{◌≡◌, ◌++◌, IfOk, OnOk, map};
-ghost use Rattle.ls_machine.specs.Outs.{entry_for, ran};
+ghost use Rattle.ls_machine.specs.Outs.{entry_for, job_of_run};
 
 use crate::event::Out;
 use crate::shared::SharedSnapshot;
@@ -10,7 +10,7 @@ use ls_lists::{List, Text};
 use std::alloc::{AllocError, Global};
 use std::collections::VecDeque;
 
-// Documents of their own that are the same.
+/// Documents of their own that are the same.
 fn documents_copy(alloc: Global, documents: &[Document]) -> Result<List<Document>, AllocError>
     ensures { IfOk result (λ copy. copy ≡ documents.now) }
 {
@@ -21,7 +21,7 @@ fn documents_copy(alloc: Global, documents: &[Document]) -> Result<List<Document
     Ok(copy)
 }
 
-// Jobs of their own that are the same.
+/// Jobs of their own that are the same.
 fn waiting_copy(alloc: Global, waiting: &[Waiting]) -> Result<List<Waiting>, AllocError>
     ensures { IfOk result (λ copy. copy ≡ waiting.now) }
 {
@@ -32,7 +32,7 @@ fn waiting_copy(alloc: Global, waiting: &[Waiting]) -> Result<List<Waiting>, All
     Ok(copy)
 }
 
-// The job that has run.
+/// The job that has run.
 fn job_of(
     uri: &Text,
     version: u64,
@@ -40,7 +40,7 @@ fn job_of(
     request: Option<Request>,
     done: &Done,
 ) -> Result<Waiting, AllocError>
-    ensures { IfOk result (λ job. job ≡ ran uri.now version label request done.now) }
+    ensures { IfOk result (λ job. job ≡ job_of_run uri.now version label request done.now) }
 {
     Ok(Waiting {
         ticket: done.ticket(),
@@ -55,7 +55,7 @@ fn job_of(
     })
 }
 
-// The entry for which a reply stands.
+/// The entry for which a reply stands.
 fn entry_for(out: &Out) -> Result<Entry, AllocError>
     ensures { IfOk result (λ entry. entry ≡ entry_for out.now) }
 {
@@ -92,7 +92,7 @@ fn entry_for(out: &Out) -> Result<Entry, AllocError>
     }
 }
 
-// The entries for which replies stand, behind those that are there.
+/// The entries for which replies stand, behind those that are there.
 fn push_entries(entries: &mut List<Entry>, outs: &[Out]) -> Result<(), AllocError>
     ensures { OnOk result (entries.new ≡ entries.old ++ map entry_for outs.now) }
 {
@@ -102,7 +102,7 @@ fn push_entries(entries: &mut List<Entry>, outs: &[Out]) -> Result<(), AllocErro
     Ok(())
 }
 
-// The entries for which replies stand.
+/// The entries for which replies stand.
 fn entries_for(alloc: Global, outbox: &VecDeque<Out>) -> Result<List<Entry>, AllocError>
     ensures { IfOk result (λ entries. entries ≡ map entry_for outbox.now.items) }
 {

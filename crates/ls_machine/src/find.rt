@@ -1,5 +1,5 @@
 //! Look-ups in the parts of a state.
-ghost use Rattle.std.specs.Prelude.{◌≡◌, ◌<◌, position, is_some, IfOk, IfSome, find, length, bytes_eq, Some};
+ghost use Rattle.std.specs.Prelude.{◌≡◌, ◌↔◌, ◌<◌, IsTrue, position, is_some, IfOk, IfSome, find, length, bytes_eq, Some};
 ghost use Rattle.std.specs.Option.{option_map};
 ghost use Rattle.ls_machine.specs.Same.{id_eq, encoding_eq, ask_eq, position_eq, range_eq};
 ghost use Rattle.ls_machine.specs.Machine.{is_open, document_of, asks_with, requests, is_held, is_queued, is_ended, ends_by_change, left_by, waits};
@@ -13,7 +13,8 @@ use ls_text::{Encoding, Position, Range, Snapshot};
 
 /// Whether two ids are the same. A number and a text never are.
 pub fn same_id(a: &Id, b: &Id) -> bool
-    ensures { result ≡ id_eq a.now b.now }
+    ensures value { result ≡ id_eq a.now b.now }
+    ensures same { IsTrue result ↔ (a.now ≡ b.now) }
 {
     match (a, b) {
         (Id::Number(a), Id::Number(b)) => *a == *b,
@@ -22,9 +23,10 @@ pub fn same_id(a: &Id, b: &Id) -> bool
     }
 }
 
-// Whether two encodings are the same.
-fn same_encoding(a: Encoding, b: Encoding) -> bool
-    ensures { result ≡ encoding_eq a b }
+/// Whether two encodings are the same.
+pub fn same_encoding(a: Encoding, b: Encoding) -> bool
+    ensures value { result ≡ encoding_eq a b }
+    ensures same { IsTrue result ↔ (a ≡ b) }
 {
     match (a, b) {
         (Encoding::Utf8, Encoding::Utf8) => true,
@@ -34,21 +36,26 @@ fn same_encoding(a: Encoding, b: Encoding) -> bool
     }
 }
 
+/// Whether two positions are the same.
 fn same_position(a: &Position, b: &Position) -> bool
-    ensures { result ≡ position_eq a.now b.now }
+    ensures value { result ≡ position_eq a.now b.now }
+    ensures same { IsTrue result ↔ (a.now ≡ b.now) }
 {
     a.line == b.line && a.character == b.character
 }
 
-fn same_range(a: &Range, b: &Range) -> bool
-    ensures { result ≡ range_eq a.now b.now }
+/// Whether two ranges are the same.
+pub fn same_range(a: &Range, b: &Range) -> bool
+    ensures value { result ≡ range_eq a.now b.now }
+    ensures same { IsTrue result ↔ (a.now ≡ b.now) }
 {
     same_position(&a.start, &b.start) && same_position(&a.end, &b.end)
 }
 
 /// Whether two questions are the same, with all that they carry.
 pub fn same_ask(a: &Ask, b: &Ask) -> bool
-    ensures { result ≡ ask_eq a.now b.now }
+    ensures value { result ≡ ask_eq a.now b.now }
+    ensures same { IsTrue result ↔ (a.now ≡ b.now) }
 {
     match (a, b) {
         (Ask::Hover(a), Ask::Hover(b)) => same_position(a, b),
@@ -70,7 +77,7 @@ pub fn document_of<'d>(documents: &'d [Document], uri: &Text) -> Option<&'d Docu
     documents.iter().find(|d| d.uri.as_str() == uri.as_str())
 }
 
-// Whether a job is that of a request with this id.
+/// Whether a job is that of a request with this id.
 fn asks_with(id: &Id, waiting: &Waiting) -> bool
     ensures { result ≡ asks_with id.now waiting.now }
 {
@@ -87,7 +94,7 @@ pub fn is_ended(uri: &Text, waiting: &Waiting) -> bool
     waiting.uri.as_str() == uri.as_str() && ends_by_change(&waiting.ask)
 }
 
-// Whether a change of its document ends a question.
+/// Whether a change of its document ends a question.
 fn ends_by_change(ask: &Ask) -> bool
     ensures { result ≡ ends_by_change ask.now }
 {
@@ -131,7 +138,7 @@ pub fn held_at(waiting: &[Waiting], ticket: u64) -> Option<usize>
     waiting.iter().position(|w| w.ticket == ticket && w.taken)
 }
 
-// Whether two texts are the same.
+/// Whether two texts are the same.
 fn same_text(a: &Snapshot, b: &Snapshot) -> bool
     ensures { result ≡ bytes_eq a.now b.now }
 {

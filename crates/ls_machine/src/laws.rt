@@ -1,5 +1,5 @@
-//! Laws of legal journals.
-ghost use Rattle.ls_machine.specs.Laws.{LegalJournalsAreOrdered, RequestsAreKeptOnce, TicketsAreKeptOnce};
+//! Laws of legal journals, and of runs.
+ghost use Rattle.ls_machine.specs.Laws.{LegalJournalsAreOrdered, RequestsAreKeptOnce, RunsAreKnown, TicketsAreKeptOnce};
 
 /// In the state that a legal journal leads to, tickets rise along the waiting jobs, so that a ticket stands once; no two of them wait for
 /// requests with the same id; and the text of each, as of each outcome that isn't sent yet, is that of the version of its document that was
@@ -15,4 +15,10 @@ pub fn legal_journals_are_ordered()
 pub fn tickets_are_kept_once()
     ensures tickets { TicketsAreKeptOnce }
     ensures requests { RequestsAreKeptOnce }
+{}
+
+/// A run is taken for that of a job exactly where it was made of the job's text, with its encoding and its question. So each question is told
+/// from all others, and no run of a job is refused as another's.
+pub fn runs_are_known()
+    ensures { RunsAreKnown }
 {}

@@ -25,6 +25,6 @@ pub use base::{Base, Counts};
 pub use client::{ClientAnswer, ClientEvent, copy_of};
 pub use copies::state_of;
 pub use event::{DeskFault, Event, Kept, Out};
-pub use laws::{legal_journals_are_ordered, tickets_are_kept_once};
+pub use laws::{legal_journals_are_ordered, runs_are_known, tickets_are_kept_once};
 pub use shared::SharedSnapshot;
 pub use state::{Document, Entry, Request, State, Waiting};

@@ -1,3 +1,4 @@
+//! A snapshot that several owners read.
 ghost use Rattle.std.specs.Prelude.{◌≡◌, IfOk};
 ghost use Rattle.std.specs.Arc.{arc_value};
 

@@ -59,7 +59,7 @@ impl Request {
     }
 }
 
-// Whose request a job is, if it is one.
+/// Whose request a job is, if it is one.
 fn copied(request: &Option<Request>) -> Result<Option<Request>, AllocError>
     ensures { IfOk result (λ copy. copy ≡ request.now) }
 {

@@ -1,5 +1,5 @@
 -- Which message a body is (JSON-RPC 2.0).
-use Rattle.std.specs.Prelude.{ℕ, ℤ, negsuc, List, Bool, ◌||◌, Option, Some, None, codes, is_some, option_map, option_and_then, unwrap_or, if◌then◌else◌}
+use Rattle.std.specs.Prelude.{ℕ, ℤ, pos, neg_ℤ, List, Bool, ◌||◌, Option, Some, None, codes, is_some, option_map, option_and_then, unwrap_or, if◌then◌else◌}
 use Rattle.serde_json.specs.Data.{Data, null, boolean, number, string, array, object}
 use Rattle.serde_json.specs.Find.{get, as_str, as_i64}
 use Rattle.serde_json.specs.View.{view}
@@ -25,11 +25,11 @@ message_view (variant.Bad id code) = bad id code
 
 -- -32700: the body is no JSON
 abbrev pub parse_error : ℤ
-parse_error = negsuc 32699
+parse_error = neg_ℤ (pos 32700)
 
 -- -32600: the body is JSON, but no message
 abbrev pub invalid_request : ℤ
-invalid_request = negsuc 32599
+invalid_request = neg_ℤ (pos 32600)
 
 -- an id is an integer of i64 or a text
 abbrev pub id_of : Data → Option Id
@@ -47,8 +47,8 @@ IsText (Some (Number n)) = ⊥
 IsText (Some (Text s)) = Unit {0}
 
 -- whether a member stands in an object
-abbrev pub has : List ℕ → Data → Bool
-has key d = is_some (get key d)
+abbrev pub has_key : List ℕ → Data → Bool
+has_key key d = is_some (get key d)
 
 -- absent params are null
 abbrev pub params_of : Data → Data
@@ -71,8 +71,8 @@ bad_object d = bad (option_and_then id_of (get (codes "id") d)) invalid_request
 -- an object with no `method` that is a text: a reply has no `method` at all, and a result or an error
 abbrev pub without_method : Data → Message
 without_method d =
-    if has (codes "method") d then bad_object d
-    else (if has (codes "result") d || has (codes "error") d then response else bad_object d)
+    if has_key (codes "method") d then bad_object d
+    else (if has_key (codes "result") d || has_key (codes "error") d then response else bad_object d)
 
 -- an object with the text of its `method`, where that is one
 abbrev pub by_method : Option (List ℕ) → Data → Message

@@ -1,5 +1,5 @@
 //! Worked bytes of the definitions, computed by the check. The functions do nothing.
-ghost use Rattle.std.specs.Prelude.{◌≡◌, None, Some, codes, negsuc, pos, []};
+ghost use Rattle.std.specs.Prelude.{◌≡◌, None, Some, codes, neg_ℤ, pos, []};
 ghost use Rattle.serde_json.specs.Data.{null, array, no_items, number, unsigned, string, object, member, no_members};
 ghost use Rattle.serde_json.specs.Written.{compact_text};
 ghost use Rattle.ls_rpc.specs.Reply.{error_json, notice_json};
@@ -24,7 +24,7 @@ pub fn findings_bytes()
 /// Which ids are ids.
 pub fn ids()
     ensures whole { message_of (codes "{\"id\":1,\"method\":\"m\"}") ≡ request (Number (pos 1)) (codes "m") null }
-    ensures negative { message_of (codes "{\"id\":-5,\"method\":\"m\"}") ≡ request (Number (negsuc 4)) (codes "m") null }
+    ensures negative { message_of (codes "{\"id\":-5,\"method\":\"m\"}") ≡ request (Number (neg_ℤ (pos 5))) (codes "m") null }
     ensures point { message_of (codes "{\"id\":1.0,\"method\":\"m\"}") ≡ bad None invalid_request }
     ensures exponent { message_of (codes "{\"id\":1e3,\"method\":\"m\"}") ≡ bad None invalid_request }
     ensures minus_zero { message_of (codes "{\"id\":-0,\"method\":\"m\"}") ≡ bad None invalid_request }

@@ -1,3 +1,5 @@
+//! Messages and ids, as they are read from JSON.
+
 ghost use Rattle.std.specs.Prelude.{◌≡◌, ◌<◌, ℕ, List, Some, IfOk, OnErr, length, option_map, option_and_then, is_some, false, bytes_eq};
 ghost use Rattle.serde_json.specs.Data.{object};
 ghost use Rattle.serde_json.specs.Find.{get_member};

@@ -18,9 +18,9 @@ use Rattle.ls_machine.specs.declared.event.Event.TheVariants.{Opened, Changed, C
 use Rattle.ls_machine.specs.declared.event.Out.{Out}
 use Rattle.ls_machine.specs.declared.state.Entry.{Entry}
 use Rattle.ls_machine.specs.declared.state.State.{State}
-use Rattle.ls_session.specs.declared.event.Status.{Status}
-use Rattle.ls_session.specs.declared.event.Turn.{Turn}
-use Rattle.ls_session.specs.declared.event.Turn.TheVariants as turn
+use Rattle.ls_session.specs.declared.turn.Status.{Status}
+use Rattle.ls_session.specs.declared.turn.Turn.{Turn}
+use Rattle.ls_session.specs.declared.turn.Turn.TheVariants as turn
 use Rattle.ls_session.specs.declared.session.Stage.{Stage}
 use Rattle.ls_session.specs.declared.session.Stage.TheVariants.{BeforeInitialize}
 use Rattle.ls_desk.specs.Anew.{base_after}
@@ -29,7 +29,7 @@ use Rattle.ls_devices.specs.Ends.{end_status}
 use Rattle.ls_workers.specs.Seats.{ToldClient, told_nothing}
 use Rattle.ls_workers.specs.Sent.{first_noted, noted_of, sent_by, sent_from}
 use Rattle.ls_threads.specs.Input.{HearsInput, HearsLast, HearsMore, HearsSome}
-use Rattle.ls_threads.specs.Reading.{Hears, HearsAll, HearsFront, HearsOn, IsEntered, IsMet, IsTaken, IsTold}
+use Rattle.ls_threads.specs.Reading.{Hears, HearsAll, HearsFront, HearsOn, IsEntered, IsMet, LeavesAtSeat, IsTold}
 use Rattle.ls_threads.specs.Served.{told_of}
 use Rattle.ls_threads.specs.Writing.{LastAre}
 use Rattle.ls_threads.specs.declared.ending.Heard.{Heard}
@@ -88,7 +88,7 @@ met : (e : ClientEvent) (old new : ToldClient) → IsMet e old new → new.check
 met e old new (inl h) none = also (LeavesEvent e) (LeavesMet e) old new (λ events p. inl p) (entered e old new h none)
 met e old new (inr h) none = also (LeavesRefusal _) (LeavesMet e) old new (λ events p. inr (h.0, (h.1.0, h.1.1, p))) (told _ old new h.1.2 none)
 
-taken : (t : Turn) (old new : ToldClient) (status : Option Status) → IsTaken t old status new → new.checkpoints ≡ 0 → Adds (LeavesTurn t status) old new
+taken : (t : Turn) (old new : ToldClient) (status : Option Status) → LeavesAtSeat t old status new → new.checkpoints ≡ 0 → Adds (LeavesTurn t status) old new
 taken turn.Nothing old new status h none = nothing (LeavesTurn turn.Nothing status) old new (h.0, refl) h.1 none
 taken (turn.Event e) old new status h none = also (LeavesMet e) (LeavesTurn (turn.Event e) status) old new (λ events p. (h.0, p)) (met e old new h.1 none)
 taken (turn.Exit s) old new status h none = nothing (LeavesTurn (turn.Exit s) status) old new (h.0, refl) h.1 none
@@ -109,7 +109,7 @@ on (body ∷ bodies) stage after old new h none =
     }
 
 -- an exit leaves nothing
-exit-none : (t : Turn) (old new : ToldClient) (status : Status) → IsTaken t old (Some status) new → (new ≡ old) × LeavesTurn t (Some status) []
+exit-none : (t : Turn) (old new : ToldClient) (status : Status) → LeavesAtSeat t old (Some status) new → (new ≡ old) × LeavesTurn t (Some status) []
 exit-none turn.Nothing old new status h = absurd (let e : Some status ≡ None = h.0 in cc)
 exit-none (turn.Event e) old new status h = absurd (let e : Some status ≡ None = h.0 in cc)
 exit-none (turn.Exit s) old new status h = (h.1, (h.0, refl))

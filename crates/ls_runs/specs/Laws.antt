@@ -8,7 +8,7 @@ use Rattle.ls_machine.specs.declared.event.Event.{Event}
 use Rattle.ls_machine.specs.declared.event.Event.TheVariants.{Asked}
 use Rattle.ls_machine.specs.declared.event.Out.{Out}
 use Rattle.ls_machine.specs.declared.event.Out.TheVariants.{Said, Replied, Failed, Findings}
-use Rattle.ls_session.specs.declared.event.Status.{Status}
+use Rattle.ls_session.specs.declared.turn.Status.{Status}
 use Rattle.ls_desk.specs.Stands.{state_of, ticket_of_out}
 use Rattle.ls_threads.specs.Served.{IsServed}
 

@@ -13,16 +13,16 @@ use Rattle.ls_machine.specs.declared.event.DeskFault.{DeskFault}
 use Rattle.ls_machine.specs.declared.event.Event.{Event}
 use Rattle.ls_machine.specs.declared.event.Out.{Out}
 use Rattle.ls_session.specs.Session.{turn_of}
-use Rattle.ls_session.specs.declared.event.Status.{Status}
-use Rattle.ls_session.specs.declared.event.Turn.{Turn}
-use Rattle.ls_session.specs.declared.event.Turn.TheVariants as turn
+use Rattle.ls_session.specs.declared.turn.Status.{Status}
+use Rattle.ls_session.specs.declared.turn.Turn.{Turn}
+use Rattle.ls_session.specs.declared.turn.Turn.TheVariants as turn
 use Rattle.ls_session.specs.declared.session.Stage.{Stage}
 use Rattle.ls_session.specs.declared.session.Stage.TheVariants.{BeforeInitialize}
 use Rattle.ls_desk.specs.Stands.{Seen, state_of, ticket_of_out}
-use Rattle.ls_devices.specs.Ends.{end_status, or_else}
+use Rattle.ls_devices.specs.Ends.{end_status, status_or}
 use Rattle.ls_workers.specs.Refusals.{is_shortage, may_refuse}
 use Rattle.ls_workers.specs.Sent.{noted_of, sent_by}
-use Rattle.ls_threads.specs.Reading.{refusal_to}
+use Rattle.ls_session.specs.Bodies.{refusal_to}
 use Rattle.ls_threads.specs.Served.{IsServed}
 use Rattle.ls_threads.specs.declared.ending.Heard.{Heard}
 use Rattle.ls_threads.specs.declared.ending.Heard.TheVariants as heard
@@ -83,7 +83,7 @@ pub record LeavesLast (bytes : List ℕ) (status : Status) (events : List Event)
   pub after : Stage
   pub stream : Stream bytes contents last
   pub leaves : LeavesAll contents BeforeInitialize exit after events
-  pub status_is : or_else exit (fault_of last) ≡ Some status
+  pub status_is : status_or exit (fault_of last) ≡ Some status
 
 -- A front of the messages of a front of these bytes is heard.
 pub record LeavesSome (bytes : List ℕ) (events : List Event) : Type 0 where

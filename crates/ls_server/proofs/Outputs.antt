@@ -4,7 +4,7 @@ use Rattle.std.specs.Prelude.{Result, Ok, Err}
 use Rattle.ls_frame.specs.Frames.{Stream}
 use Rattle.ls_frame.proofs.Exist.{some_stream}
 use Rattle.ls_frame.proofs.Unique.{stream-front, rest-alone}
-use Rattle.ls_session.specs.declared.event.Status.{Status}
+use Rattle.ls_session.specs.declared.turn.Status.{Status}
 use Rattle.ls_steps.specs.Runs.{Going, begun}
 use Rattle.ls_steps.specs.Plain.{Says}
 use Rattle.ls_steps.proofs.OneSession.{one_session}

@@ -10,8 +10,8 @@ use Rattle.ls_steps.specs.Plain.{Says}
 use Rattle.ls_server.specs.Runs.{AnswersIs, WrittenFront, Ends, Stops, PieceIs, outcome}
 use Rattle.ls_devices.specs.declared.fault.ServeFault.{ServeFault}
 use Rattle.ls_devices.specs.declared.fault.ServeFault.TheVariants.{Read, Write, Strayed, Memory}
-use Rattle.ls_session.specs.declared.event.Status.{Status}
-use Rattle.ls_session.specs.declared.event.Status.TheVariants.{BadFrame}
+use Rattle.ls_session.specs.declared.turn.Status.{Status}
+use Rattle.ls_session.specs.declared.turn.Status.TheVariants.{BadFrame}
 use Rattle.std.proofs.lemmas.List.{append-nil}
 use Rattle.ls_devices.proofs.Input.{no-stream}
 use Rattle.ls_server.proofs.Writing.{front-whole, IsStop}

@@ -12,11 +12,11 @@ use Rattle.ls_devices.specs.Ends.{end_status}
 use Rattle.ls_server.specs.Runs.{AnswersIs, GoesOn, Stops, PieceIs, ServedIs, WasServed, Written, is_write}
 use Rattle.ls_devices.specs.declared.fault.ServeFault.{ServeFault}
 use Rattle.ls_devices.specs.declared.fault.ServeFault.TheVariants.{Read, Write, Strayed, Memory}
-use Rattle.ls_session.specs.declared.event.Status.{Status}
-use Rattle.ls_session.specs.declared.event.Status.TheVariants.{Unclean, BadFrame}
+use Rattle.ls_session.specs.declared.turn.Status.{Status}
+use Rattle.ls_session.specs.declared.turn.Status.TheVariants.{Unclean, BadFrame}
 use Rattle.std.proofs.lemmas.List.{append-nil}
 use Rattle.ls_devices.proofs.Known.{or-true}
-use Rattle.ls_steps.specs.Plain.{IsSettled}
+use Rattle.ls_steps.specs.Plain.{IsAtRest}
 use Rattle.ls_steps.proofs.Settled.{says-more, settled-begun, settled-said}
 use Rattle.ls_server.proofs.Writing.{answers-more, front-append, front-none, written-append, written-none}
 use Rattle.ls_devices.proofs.Input.{consumes-consumes, no-stream, stream-behind}
@@ -152,7 +152,7 @@ not-write Strayed e = refl
 not-write Memory e = refl
 
 -- a session that has come by messages has nothing left to run or to send
-pub settled-by : (state : Going) → WasServed state → IsSettled state
+pub settled-by : (state : Going) → WasServed state → IsAtRest state
 settled-by state w = settled-said true begun state w.0 w.1 settled-begun w.2
 
 -- and after more messages it has come by messages too

@@ -9,12 +9,12 @@ use Rattle.ls_frame.proofs.Wholes.{fault-no_frame}
 use Rattle.ls_frame.specs.declared.fault.FrameFault.{FrameFault}
 use Rattle.ls_steps.specs.Runs.{Going, begun}
 use Rattle.ls_steps.proofs.Settled.{settled-begun}
-use Rattle.ls_devices.specs.Ends.{end_status, or_else}
-use Rattle.ls_server.specs.Runs.{Written, WrittenFront, GoesOn, Ends, Stops, Finishes, ServedIs, last_status}
+use Rattle.ls_devices.specs.Ends.{end_status, status_or}
+use Rattle.ls_server.specs.Runs.{Written, WrittenFront, GoesOn, Ends, Stops, ReadsToEnd, ServedIs, last_status}
 use Rattle.ls_devices.specs.declared.fault.ServeFault.{ServeFault}
 use Rattle.ls_devices.specs.declared.fault.ServeFault.TheVariants.{Read, Write, Strayed, Memory}
-use Rattle.ls_session.specs.declared.event.Status.{Status}
-use Rattle.ls_session.specs.declared.event.Status.TheVariants.{BadFrame}
+use Rattle.ls_session.specs.declared.turn.Status.{Status}
+use Rattle.ls_session.specs.declared.turn.Status.TheVariants.{BadFrame}
 use Rattle.std.proofs.lemmas.List.{append-nil}
 use Rattle.ls_server.proofs.Writing.{written-stays, front-longer}
 
@@ -50,7 +50,7 @@ at-last contents known zs rest last after status old new e none x s w =
     subst P (sym same) (after, (rw x s, w))
 
 by-fault : (contents known zs : List (List ℕ)) (rest last more : List ℕ) (after : Going) (o : Option FrameFault) (status : Status) (old new : Option (List ℕ)) → contents ≡ known ++ zs
-    → Stream (last ++ more) zs rest → after.status ≡ None → fault_of last ≡ o → or_else None o ≡ Some status → Written begun known after old new → EndsIs contents rest old status new
+    → Stream (last ++ more) zs rest → after.status ≡ None → fault_of last ≡ o → status_or None o ≡ Some status → Written begun known after old new → EndsIs contents rest old status new
 by-fault contents known zs rest last more after None status old new e s x f h w = absurd (none-some status h)
 by-fault contents known zs rest last more after (Some fault) status old new e s x f h w =
     let sticks : fault_of (last ++ more) ≡ Some fault = fault-sticks last more fault f in
@@ -59,7 +59,7 @@ by-fault contents known zs rest last more after (Some fault) status old new e s 
     at-last contents known zs rest last after status old new e alone.0 x (sym (some-same (BadFrame fault) status h) ∙ sym (ap (λ o. end_status o rest) here)) w
 
 by-exit : (contents known zs : List (List ℕ)) (rest last more : List ℕ) (after : Going) (o : Option Status) (status : Status) (old new : Option (List ℕ)) → contents ≡ known ++ zs
-    → Stream (last ++ more) zs rest → after.status ≡ o → or_else o (fault_of last) ≡ Some status → Written begun known after old new → EndsIs contents rest old status new
+    → Stream (last ++ more) zs rest → after.status ≡ o → status_or o (fault_of last) ≡ Some status → Written begun known after old new → EndsIs contents rest old status new
 by-exit contents known zs rest last more after None status old new e s x h w = by-fault contents known zs rest last more after (fault_of last) status old new e s x refl h w
 by-exit contents known zs rest last more after (Some other) status old new e s x h w =
     let P : List (List ℕ) → Type 0 = λ l. EndsIs l rest old status new in
@@ -70,13 +70,13 @@ behind : (input read more rest last : List ℕ) (contents known : List (List ℕ
 behind input read more rest last contents known s e k =
     let P : List ℕ → Type 0 = λ l. Stream l contents rest in stream-front read more last rest known contents k (subst P e s)
 
-or-none : (o : Option Status) (f : Option FrameFault) → or_else o f ≡ None → (o ≡ None) × (f ≡ None)
+or-none : (o : Option Status) (f : Option FrameFault) → status_or o f ≡ None → (o ≡ None) × (f ≡ None)
 or-none None None e = (refl, refl)
 or-none None (Some fault) e = absurd (cc)
 or-none (Some status) f e = absurd (cc)
 
 by-end : (input : List ℕ) (contents : List (List ℕ)) (rest read more : List ℕ) (status : Status) (old new : Option (List ℕ)) → Stream input contents rest → input ≡ read ++ more → more ≡ []
-    → Finishes read old status new → EndsIs contents rest old status new
+    → ReadsToEnd read old status new → EndsIs contents rest old status new
 by-end input contents rest read more status old new s e none f =
     let parts : (zs : List (List ℕ)) × (contents ≡ f.contents ++ zs) × Stream (f.last ++ more) zs rest = behind input read more rest f.last contents f.contents s e f.stream in
     let last : f.last ++ more ≡ f.last = ap (λ l. f.last ++ l) none ∙ append-nil f.last in
@@ -97,7 +97,7 @@ by-stop input rest read more contents old new s e t =
     subst P (sym parts.1) (front-longer begun t.contents parts.0 old new t.written)
 
 by-status : (input rest : List ℕ) (contents : List (List ℕ)) (read unread : List ℕ) (left : Option (List ℕ)) (status : Status) (old new : Option (List ℕ)) → Stream input contents rest
-    → left ≡ Some unread → input ≡ read ++ unread → Ends [] read begun old status new ⊎ (IsAtEnd left × Finishes read old status new) → EndsIs contents rest old status new
+    → left ≡ Some unread → input ≡ read ++ unread → Ends [] read begun old status new ⊎ (IsAtEnd left × ReadsToEnd read old status new) → EndsIs contents rest old status new
 by-status input rest contents read unread left status old new s l e (inl h) =
     let parts : (zs : List (List ℕ)) × (contents ≡ h.contents ++ zs) × Stream (h.last ++ unread) zs rest = behind input read unread rest h.last contents h.contents s e h.stream in
     by-exit contents h.contents parts.0 rest h.last unread h.after h.after.status status old new parts.1 parts.2 refl h.status h.written

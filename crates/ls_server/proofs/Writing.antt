@@ -5,13 +5,13 @@ use Rattle.std.specs.declared.alloc.Global.{Global}
 use Rattle.std.proofs.lemmas.List.{append-nil, take_more, take-append-drop, map-append}
 use Rattle.ls_frame.specs.Feeds.{contents_of}
 use Rattle.ls_steps.specs.Runs.{Going}
-use Rattle.ls_steps.specs.Plain.{CanSendAll, Hears, IsSettled, Says, Serves}
+use Rattle.ls_steps.specs.Plain.{CanSendAll, HearsAndRuns, IsAtRest, Says, Serves}
 use Rattle.ls_steps.proofs.Settled.{says-more, says-one, says-stays}
 use Rattle.ls_server.specs.Runs.{AnswersIs, SendsIs, Written, WrittenFront}
 use Rattle.ls_devices.specs.Devices.{AppendsFront}
 use Rattle.ls_devices.specs.declared.fault.ServeFault.{ServeFault}
 use Rattle.ls_devices.specs.declared.fault.ServeFault.TheVariants.{Read, Write, Strayed, Memory}
-use Rattle.ls_session.specs.declared.event.Status.{Status}
+use Rattle.ls_session.specs.declared.turn.Status.{Status}
 use Rattle.ls_devices.proofs.Known.{appends-appends, appends-none, as-front}
 use Rattle.ls_server.proofs.Sending.{FrontOfAll, front-of-all, some-of-all}
 
@@ -32,7 +32,7 @@ written-append state now after xs ys a b c w v = record {
 ended : (after : Going) (status : Status) → after.status ≡ Some status → is_some after.status ≡ true
 ended after status e = ap is_some e
 
-pub written-stays : (state after : Going) (xs ys : List (List ℕ)) (status : Status) (a b : Option (List ℕ)) → IsSettled state → after.status ≡ Some status → Written state xs after a b → Written state (xs ++ ys) after a b
+pub written-stays : (state after : Going) (xs ys : List (List ℕ)) (status : Status) (a b : Option (List ℕ)) → IsAtRest state → after.status ≡ Some status → Written state xs after a b → Written state (xs ++ ys) after a b
 written-stays state after xs ys status a b settled e w =
     record { bytes = w.bytes; said = says-stays true state after xs ys w.bytes settled (ended after status e) w.said; written = w.written }
 
@@ -72,16 +72,16 @@ one-front state now body bytes a b s w =
     record { answered = body ∷ []; left = []; contents_are = refl; after = now; bytes = bytes; said = says-one true state now body bytes s; written = w }
 
 -- one body is answered
-pub one-answer : (state worked now : Going) (body : List ℕ) (status : Option Status) (a b : Option (List ℕ)) → Hears true state body worked → SendsIs worked a (Ok tt) now b → status ≡ now.status
+pub one-answer : (state worked now : Going) (body : List ℕ) (status : Option Status) (a b : Option (List ℕ)) → HearsAndRuns true state body worked → SendsIs worked a (Ok tt) now b → status ≡ now.status
     → AnswersIs state (body ∷ []) a (Ok status) now b
 one-answer state worked now body status a b h s e =
     (sym e, record { bytes = s.1; said = says-one true state now body s.1 (record { worked = worked; hears = h; replies = s.0; sends = s.2 }); written = s.3 })
 
-front-sent : (state worked : Going) (body : List ℕ) (a b : Option (List ℕ)) → Hears true state body worked → FrontOfAll worked a b → WrittenFront state (body ∷ []) a b
+front-sent : (state worked : Going) (body : List ℕ) (a b : Option (List ℕ)) → HearsAndRuns true state body worked → FrontOfAll worked a b → WrittenFront state (body ∷ []) a b
 front-sent state worked body a b h s = one-front state s.1 body s.2 a b (record { worked = worked; hears = h; replies = s.0; sends = s.3 }) s.4
 
 -- the answer to one body was broken off
-one-fault : (state worked now : Going) (body : List ℕ) (fault : ServeFault) (a b : Option (List ℕ)) → Hears true state body worked → CanSendAll worked → SendsIs worked a (Err fault) now b
+one-fault : (state worked now : Going) (body : List ℕ) (fault : ServeFault) (a b : Option (List ℕ)) → HearsAndRuns true state body worked → CanSendAll worked → SendsIs worked a (Err fault) now b
     → AnswersIs state (body ∷ []) a (Err fault) now b
 one-fault state worked now body Read a b h can s = absurd s
 one-fault state worked now body Write a b h can s = front-sent state worked body a b h (front-of-all worked now a b can s)
@@ -89,7 +89,7 @@ one-fault state worked now body Strayed a b h can s = absurd s
 one-fault state worked now body Memory a b h can s = front-sent state worked body a b h (some-of-all worked s.0 a b can s.1)
 
 pub fault-answered : (state worked now : Going) (body : List ℕ) (r : Result (Option Status) ServeFault) (e fault : ServeFault) (a b : Option (List ℕ)) → r ≡ Err e → e ≡ fault
-    → Hears true state body worked → CanSendAll worked → SendsIs worked a (Err fault) now b → AnswersIs state (body ∷ []) a r now b
+    → HearsAndRuns true state body worked → CanSendAll worked → SendsIs worked a (Err fault) now b → AnswersIs state (body ∷ []) a r now b
 fault-answered state worked now body r e fault a b is same h can s =
     subst (λ x. AnswersIs state (body ∷ []) a x now b) (sym (is ∙ ap Err same)) (one-fault state worked now body fault a b h can s)
 
@@ -114,7 +114,7 @@ IsStop (Ok (Some status)) = Unit {0}
 IsStop (Err fault) = Unit {0}
 
 -- what stopped stands for more bodies too
-pub answers-stay : (state now : Going) (xs ys : List (List ℕ)) (r : Result (Option Status) ServeFault) (old new : Option (List ℕ)) → IsSettled state → IsStop r
+pub answers-stay : (state now : Going) (xs ys : List (List ℕ)) (r : Result (Option Status) ServeFault) (old new : Option (List ℕ)) → IsAtRest state → IsStop r
     → AnswersIs state xs old r now new → AnswersIs state (xs ++ ys) old r now new
 answers-stay state now xs ys (Ok None) old new settled s a = absurd s
 answers-stay state now xs ys (Ok (Some status)) old new settled s a = (a.0, written-stays state now xs ys status old new settled a.0 a.1)
@@ -140,7 +140,7 @@ answers-next state now later bodies i body text r first old new h at e a b =
 
 -- the next body stops the answers
 pub answers-stop : (state now later : Going) (bodies : List (Vec ℕ Global)) (i : ℕ) (body : Vec ℕ Global) (text : List ℕ) (r : Result (Option Status) ServeFault) (first old new : Option (List ℕ))
-    → IsSettled state → i < length bodies → body ≡ get_or bodies i body → text ≡ body.items → IsStop r
+    → IsAtRest state → i < length bodies → body ≡ get_or bodies i body → text ≡ body.items → IsStop r
     → AnswersIs state (contents_of (take i bodies)) first (Ok None) now old → AnswersIs now (text ∷ []) old r later new
     → AnswersIs state (contents_of bodies) first r later new
 answers-stop state now later bodies i body text r first old new settled h at e s a b =

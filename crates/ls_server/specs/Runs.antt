@@ -7,10 +7,10 @@ use Rattle.ls_frame.specs.declared.fault.FrameFault.{FrameFault}
 use Rattle.ls_frame.specs.declared.fault.FrameFault.TheVariants.{Truncated, Memory as NoMemory}
 use Rattle.ls_steps.specs.Runs.{Going, Runs, Steps, begun, send}
 use Rattle.ls_steps.specs.Plain.{Replies, Says, times}
-use Rattle.ls_session.specs.declared.event.Status.{Status}
-use Rattle.ls_session.specs.declared.event.Status.TheVariants.{BadFrame, Unclean}
+use Rattle.ls_session.specs.declared.turn.Status.{Status}
+use Rattle.ls_session.specs.declared.turn.Status.TheVariants.{BadFrame, Unclean}
 use Rattle.ls_devices.specs.Devices.{AppendsFront}
-use Rattle.ls_devices.specs.Ends.{end_status, or_else}
+use Rattle.ls_devices.specs.Ends.{end_status, status_or}
 use Rattle.ls_devices.specs.declared.fault.ServeFault.{ServeFault}
 use Rattle.ls_devices.specs.declared.fault.ServeFault.TheVariants.{Read, Write, Strayed, Memory}
 
@@ -86,7 +86,7 @@ pub record Ends (rest bytes : List ℕ) (state : Going) (old : Option (List ℕ)
   pub last : List ℕ
   pub after : Going
   pub stream : Stream (rest ++ bytes) contents last
-  pub status : or_else after.status (fault_of last) ≡ Some answer
+  pub status : status_or after.status (fault_of last) ≡ Some answer
   pub written : Written state contents after old new
 
 -- Bytes come after a rest, and a front of what a front of them asks for is written.
@@ -115,19 +115,19 @@ outcome (Err NoMemory) = Err Memory
 outcome (Err fault) = Ok (Some (BadFrame fault))
 
 -- All these bytes have been read, there are no more, and no exit came in them.
-pub record Finishes (bytes : List ℕ) (old : Option (List ℕ)) (answer : Status) (new : Option (List ℕ)) : Type 0 where
+pub record ReadsToEnd (bytes : List ℕ) (old : Option (List ℕ)) (answer : Status) (new : Option (List ℕ)) : Type 0 where
   pub contents : List (List ℕ)
   pub last : List ℕ
   pub after : Going
   pub stream : Stream bytes contents last
-  pub runs : or_else after.status (fault_of last) ≡ None
+  pub runs : status_or after.status (fault_of last) ≡ None
   pub status : answer ≡ end_status None last
   pub written : Written begun contents after old new
 
 -- What a run has read of the input and written: spent and failed say where Read and Write may stand.
 abbrev pub ServedIs : Option (List ℕ) → Option (List ℕ) → Type 0 → Type 0 → Option (List ℕ) → Result Status ServeFault → Option (List ℕ) → Type 0
 ServedIs input left spent failed old (Ok status) new = (read : List ℕ) × Consumes input left read
-    × (Ends [] read begun old status new ⊎ (IsAtEnd left × Finishes read old status new))
+    × (Ends [] read begun old status new ⊎ (IsAtEnd left × ReadsToEnd read old status new))
 ServedIs input left spent failed old (Err Read) new = spent × ((read : List ℕ) × (rest : List ℕ) × (state : Going) × Consumes input left read × GoesOn [] read begun old rest state new)
 ServedIs input left spent failed old (Err Write) new = failed × ((read : List ℕ) × Consumes input left read × Stops [] read begun old new)
 ServedIs input left spent failed old (Err Strayed) new = ⊥

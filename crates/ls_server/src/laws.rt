@@ -2,7 +2,7 @@
 ghost use Rattle.std.specs.Prelude.{◌≡◌, false, List, ℕ};
 ghost use Rattle.ls_server.specs.Commands.{ExampleTextsAreAccepted, ExampleTextsExist};
 ghost use Rattle.ls_server.specs.Runs.{IsOutput};
-ghost use Rattle.ls_session.specs.declared.event.Status.{Status};
+ghost use Rattle.ls_session.specs.declared.turn.Status.{Status};
 
 /// Each input has one output: where no device fails and no memory is refused, it settles the status and the bytes.
 pub fn inputs_have_one_output()

@@ -8,7 +8,7 @@ ghost use Rattle.ls_devices.specs.Devices.{AppendsFront};
 ghost use Rattle.ls_server.specs.Runs.{AnswersIs, IsOutput, PieceIs, RunIs, SendsIs, ServedIs, WasServed, is_write, outcome};
 ghost use Rattle.ls_steps.specs.Plain.{CanSendAll};
 ghost use Rattle.ls_steps.specs.Runs.{begun};
-ghost use Rattle.ls_session.specs.declared.event.Status.{Status};
+ghost use Rattle.ls_session.specs.declared.turn.Status.{Status};
 
 use ls_devices::{DeviceFault, READ_MOST, READS_END, ServeFault, Sink, Source, write_all};
 use ls_frame::{FrameFault, Framer};

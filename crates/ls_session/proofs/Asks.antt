@@ -14,8 +14,8 @@ use Rattle.ls_session.specs.Params.{◌>>=◌, ask_of, changes_of, declarations_
 use Rattle.ls_session.specs.Session.{asked, bad_turn, event_or_nothing, exit_turn, first_turn, late_event, notice_turn, request_turn, running_turn, stage_event, turn_of, IsAllowedOn}
 use Rattle.ls_machine.specs.declared.client.ClientEvent.{ClientEvent}
 use Rattle.ls_machine.specs.declared.client.ClientEvent.TheVariants as event
-use Rattle.ls_session.specs.declared.event.Turn.{Turn}
-use Rattle.ls_session.specs.declared.event.Turn.TheVariants.{Event}
+use Rattle.ls_session.specs.declared.turn.Turn.{Turn}
+use Rattle.ls_session.specs.declared.turn.Turn.TheVariants.{Event}
 use Rattle.ls_session.specs.declared.kind.RequestKind.{RequestKind}
 use Rattle.ls_session.specs.declared.kind.RequestKind.TheVariants as kind
 use Rattle.ls_session.specs.declared.kind.NoticeKind.{NoticeKind}

@@ -4,7 +4,7 @@ use Rattle.serde_json.specs.Data.{Data}
 use Rattle.ls_rpc.specs.Message.{Message, request, notice, response, bad}
 use Rattle.ls_session.specs.Kind.{notice_named}
 use Rattle.ls_session.specs.Session.{notice_turn, turn_of}
-use Rattle.ls_session.specs.declared.event.Turn.TheVariants.{Nothing}
+use Rattle.ls_session.specs.declared.turn.Turn.TheVariants.{Nothing}
 use Rattle.ls_session.specs.declared.kind.NoticeKind.{NoticeKind}
 use Rattle.ls_session.specs.declared.kind.NoticeKind.TheVariants as note
 use Rattle.ls_session.specs.declared.session.Stage.TheVariants.{Ended}

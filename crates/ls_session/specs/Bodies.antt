@@ -33,3 +33,8 @@ refusal_of_fault fault.Memory = None
 -- the body that answers a refused request, where there is one
 unfoldable pub refusal_of : Id → DeskFault → Option (List ℕ)
 refusal_of id fault = option_map (error_body (Some id)) (refusal_of_fault fault)
+
+-- the body that tells whoever asked that the desk refused it; none where nobody asked
+abbrev pub refusal_to : Option Id → DeskFault → Option (List ℕ)
+refusal_to None fault = None
+refusal_to (Some id) fault = refusal_of id fault

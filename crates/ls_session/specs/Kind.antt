@@ -6,9 +6,9 @@ use Rattle.ls_session.specs.declared.kind.NoticeKind.{NoticeKind}
 use Rattle.ls_session.specs.declared.kind.NoticeKind.TheVariants as notice
 
 -- the entry of a name in a table, or the default
-abbrev pub entry_of : {A : Type 0} → List (List ℕ × A) → A → List ℕ → A
-entry_of [] other name = other
-entry_of (row ∷ rows) other name = if bytes_eq name row.0 then row.1 else entry_of rows other name
+abbrev pub row_of : {A : Type 0} → List (List ℕ × A) → A → List ℕ → A
+row_of [] other name = other
+row_of (row ∷ rows) other name = if bytes_eq name row.0 then row.1 else row_of rows other name
 
 abbrev pub requests : List (List ℕ × RequestKind)
 requests =
@@ -31,7 +31,7 @@ notices =
     (codes "$/cancelRequest", notice.CancelRequest) ∷ []
 
 abbrev pub request_named : List ℕ → RequestKind
-request_named name = entry_of requests request.Unknown name
+request_named name = row_of requests request.Unknown name
 
 abbrev pub notice_named : List ℕ → NoticeKind
-notice_named name = entry_of notices notice.Unknown name
+notice_named name = row_of notices notice.Unknown name

@@ -35,13 +35,13 @@ abbrev pub label_of : Data → ℤ
 label_of params = unwrap_or (document_member (codes "version") params >>= as_number >>= as_i64) (pos 0)
 
 -- an integer from 0; one above the greatest u32 counts as that
-abbrev pub count_of : Data → Option ℕ
-count_of value = option_map (min 4294967295) (as_number value >>= as_u64)
+abbrev pub count_in : Data → Option ℕ
+count_in value = option_map (min 4294967295) (as_number value >>= as_u64)
 
 abbrev pub position_of : Data → Option Position
 position_of value = do
-  line ← get (codes "line") value >>= count_of
-  character ← get (codes "character") value >>= count_of
+  line ← get (codes "line") value >>= count_in
+  character ← get (codes "character") value >>= count_in
   Some (record { line = line; character = character })
 
 abbrev pub range_of : Data → Option Range
@@ -176,14 +176,14 @@ encoding_named name =
 abbrev pub offer_of : Data → Option Encoding
 offer_of value = as_str value >>= encoding_named
 
-abbrev pub or_else : Option Encoding → Option Encoding → Option Encoding
-or_else None later = later
-or_else (Some encoding) later = Some encoding
+abbrev pub offer_or : Option Encoding → Option Encoding → Option Encoding
+offer_or None later = later
+offer_or (Some encoding) later = Some encoding
 
 -- the first offer that names one
 abbrev pub first_offer : Items → Option Encoding
 first_offer no_items = None
-first_offer (item value values) = or_else (offer_of value) (first_offer values)
+first_offer (item value values) = offer_or (offer_of value) (first_offer values)
 
 abbrev pub named_encoding : Data → Option Encoding
 named_encoding params = get (codes "capabilities") params >>= get (codes "general") >>= get (codes "positionEncodings") >>= as_array >>= first_offer

@@ -15,9 +15,9 @@ use Rattle.ls_answers.specs.declared.ask.Ask.{Ask}
 use Rattle.ls_machine.specs.Client.{IsAllowed}
 use Rattle.ls_machine.specs.declared.client.ClientEvent.{ClientEvent}
 use Rattle.ls_machine.specs.declared.client.ClientEvent.TheVariants as event
-use Rattle.ls_session.specs.declared.event.Turn.{Turn}
-use Rattle.ls_session.specs.declared.event.Turn.TheVariants.{Nothing, Event, Exit}
-use Rattle.ls_session.specs.declared.event.Status.TheVariants.{Clean, Unclean}
+use Rattle.ls_session.specs.declared.turn.Turn.{Turn}
+use Rattle.ls_session.specs.declared.turn.Turn.TheVariants.{Nothing, Event, Exit}
+use Rattle.ls_session.specs.declared.turn.Status.TheVariants.{Clean, Unclean}
 use Rattle.ls_session.specs.declared.kind.RequestKind.{RequestKind}
 use Rattle.ls_session.specs.declared.kind.RequestKind.TheVariants as kind
 use Rattle.ls_session.specs.declared.kind.NoticeKind.{NoticeKind}

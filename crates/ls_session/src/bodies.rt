@@ -1,6 +1,6 @@
 //! The bodies of what the desk says: of what waits to be said, and of its refusals.
 ghost use Rattle.std.specs.Prelude.{◌≡◌, IfOk, Some, None, Ok, option_map};
-ghost use Rattle.ls_session.specs.Bodies.{body_of, refusal_of, refusal_of_fault};
+ghost use Rattle.ls_session.specs.Bodies.{body_of, refusal_of, refusal_of_fault, refusal_to};
 
 use ls_bodies::{Refusal, failure_body, findings_body, reply_body};
 use ls_machine::{DeskFault, Out};
@@ -47,6 +47,24 @@ pub fn refusal_body(alloc: Global, id: &Id, fault: DeskFault) -> Result<Option<V
         Some(refusal) => Ok(Some(refusal.body(alloc, Some(id))?)),
         None => Ok(None),
     }
+}
+
+/// The body that tells whoever asked that the desk refused it. None where nobody asked, or where
+/// there is nothing to answer.
+///
+/// `Memory` says that an allocation was refused. Where nothing is told none is needed.
+pub fn refusal_to(
+    alloc: Global,
+    asker: &Option<Id>,
+    fault: DeskFault,
+) -> Result<Option<Vec<u8>>, Memory>
+    ensures body { IfOk result (λ body. option_map (λ b. b.items) body ≡ refusal_to asker.now fault) }
+    ensures none { refusal_to asker.now fault ≡ None → result ≡ Ok None }
+{
+    let Some(id) = asker else {
+        return Ok(None);
+    };
+    refusal_body(alloc, id, fault)
 }
 
 /// The refusal of a request that the desk doesn't take. None where there is nothing to answer: the

@@ -1,3 +1,4 @@
+//! The result of `initialize`: what the server can do.
 ghost use Rattle.std.specs.Prelude.{◌≡◌, IfOk};
 ghost use Rattle.serde_json.specs.View.{view, members_view};
 ghost use Rattle.ls_session.specs.Initialize.{encoding_name, initialize_json, capabilities_json, semantic_tokens_json, served_json, sync_json};

@@ -1,3 +1,4 @@
+//! The methods that are known, by their names.
 ghost use Rattle.std.specs.Prelude.{◌≡◌};
 ghost use Rattle.ls_session.specs.Kind.{request_named, notice_named};
 

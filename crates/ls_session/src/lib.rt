@@ -6,7 +6,6 @@
 #![tactic(auto)]
 
 mod bodies;
-mod event;
 mod frame;
 mod initialize;
 mod kind;
@@ -14,10 +13,11 @@ mod laws;
 mod legend;
 mod params;
 mod session;
+mod turn;
 
-pub use bodies::{body_of, refusal_body};
-pub use event::{Status, Turn};
+pub use bodies::{body_of, refusal_body, refusal_to};
 pub use frame::framed;
 pub use laws::failures_have_their_code;
 pub use ls_machine::ClientEvent;
 pub use session::{Agreed, Session, Stage};
+pub use turn::{Status, Turn};

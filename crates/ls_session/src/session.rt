@@ -1,3 +1,4 @@
+//! The session of a client: what a message means at its stage.
 ghost use Rattle.std.specs.Prelude.{◌≡◌, IfOk, OnErr, Ok, false};
 ghost use Rattle.std.specs.Option.{option_copied};
 ghost use Rattle.serde_json.specs.View.{view};
@@ -7,10 +8,10 @@ ghost use Rattle.ls_rpc.specs.Reply.{result_json};
 ghost use Rattle.ls_session.specs.Session.{turn_of, request_turn, running_turn, first_turn, notice_turn, exit_turn, stage_event, late_event, bad_turn, asked, refused, said};
 ghost use Rattle.ls_session.specs.declared.session.Stage.TheVariants.{BeforeInitialize, Ended};
 
-use crate::event::{Status, Turn};
 use crate::initialize::initialize_value;
 use crate::kind::{NoticeKind, RequestKind, notice_kind, request_kind};
 use crate::params;
+use crate::turn::{Status, Turn};
 use ls_answers::Ask;
 use ls_bodies::Refusal;
 use ls_lists::{List, Text};

@@ -22,11 +22,13 @@ use Rattle.ls_desk.specs.Stands.{Seen, counts_of, is_long, state_of}
 use Rattle.ls_rpc.specs.Message.{message_of}
 use Rattle.ls_rpc.specs.declared.message.Id.{Id}
 use Rattle.ls_session.specs.Session.{turn_of}
-use Rattle.ls_session.specs.declared.event.Turn.{Turn}
-use Rattle.ls_session.specs.declared.event.Turn.TheVariants.{Nothing, Event as Happens, Exit}
+use Rattle.ls_session.specs.declared.turn.Turn.{Turn}
+use Rattle.ls_session.specs.declared.turn.Turn.TheVariants.{Nothing, Event as Happens, Exit}
 use Rattle.ls_machine.specs.declared.client.ClientEvent.{ClientEvent}
 use Rattle.ls_machine.specs.Client.{asker_of}
-use Rattle.ls_steps.specs.Runs.{Act, Going, Held, IsSent, Left, Runs, Steps, begun, break_off, desk_of, entry_at, fault_at, finish_job, finished_by, hear, heard, is_filled, met, on_turn, ran, refused, runs, said_by, send, state_at, take_job, takes, tells, told_of, took}
+use Rattle.ls_desk.specs.Door.{client_fault, entry_at}
+use Rattle.ls_session.specs.Bodies.{refusal_to}
+use Rattle.ls_steps.specs.Runs.{Act, Going, Held, IsSent, Left, Runs, Steps, begun, break_off, desk_of, finish_job, finished_by, hear, heard, is_filled, met, on_turn, ran, refused, runs, said_by, send, state_at, take_job, takes, tells, took}
 use Rattle.ls_steps.specs.Comes.{ComesTo, EndWith, after, come}
 
 -- a desk with what is left of its base and journal
@@ -57,15 +59,15 @@ told-comes d (Some body) = said-comes d body (full_fault d 2)
 
 refused-comes : (d : Seen) (id : Option Id) (f : DeskFault) → Follows d (with_left d (refused d id f))
 refused-comes d id fault.SessionFull = none-comes d
-refused-comes d id fault.NotOpen = told-comes d (told_of id fault.NotOpen)
-refused-comes d id fault.AlreadyOpen = told-comes d (told_of id fault.AlreadyOpen)
-refused-comes d id fault.TooManyDocuments = told-comes d (told_of id fault.TooManyDocuments)
-refused-comes d id fault.TooManyWaiting = told-comes d (told_of id fault.TooManyWaiting)
-refused-comes d id fault.IdInUse = told-comes d (told_of id fault.IdInUse)
-refused-comes d id fault.TooLarge = told-comes d (told_of id fault.TooLarge)
-refused-comes d id fault.UnknownTicket = told-comes d (told_of id fault.UnknownTicket)
-refused-comes d id fault.OtherText = told-comes d (told_of id fault.OtherText)
-refused-comes d id fault.Memory = told-comes d (told_of id fault.Memory)
+refused-comes d id fault.NotOpen = told-comes d (refusal_to id fault.NotOpen)
+refused-comes d id fault.AlreadyOpen = told-comes d (refusal_to id fault.AlreadyOpen)
+refused-comes d id fault.TooManyDocuments = told-comes d (refusal_to id fault.TooManyDocuments)
+refused-comes d id fault.TooManyWaiting = told-comes d (refusal_to id fault.TooManyWaiting)
+refused-comes d id fault.IdInUse = told-comes d (refusal_to id fault.IdInUse)
+refused-comes d id fault.TooLarge = told-comes d (refusal_to id fault.TooLarge)
+refused-comes d id fault.UnknownTicket = told-comes d (refusal_to id fault.UnknownTicket)
+refused-comes d id fault.OtherText = told-comes d (refusal_to id fault.OtherText)
+refused-comes d id fault.Memory = told-comes d (refusal_to id fault.Memory)
 
 met-comes : (d : Seen) (event : ClientEvent) (o : Option DeskFault) → Follows d (with_left d (met d event o))
 met-comes d event None = one-comes d (entry_at (state_of d) event)
@@ -73,7 +75,7 @@ met-comes d event (Some f) = refused-comes d (asker_of event) f
 
 turn-comes : (g : Going) (turn : Turn) → Follows (desk_of g) (desk_of (on_turn g turn))
 turn-comes g Nothing = none-comes (desk_of g)
-turn-comes g (Happens event) = met-comes (desk_of g) event (fault_at (desk_of g) event)
+turn-comes g (Happens event) = met-comes (desk_of g) event (client_fault (desk_of g) event)
 turn-comes g (Exit status) = none-comes (desk_of g)
 
 -- ---- jobs

@@ -17,9 +17,9 @@ use Rattle.ls_machine.specs.declared.state.Waiting.{Waiting}
 use Rattle.ls_desk.specs.Faults.{take_fault}
 use Rattle.ls_machine.specs.Machine.{is_queued}
 use Rattle.ls_session.specs.Session.{turn_of}
-use Rattle.ls_session.specs.declared.event.Status.TheVariants.{BadFrame}
-use Rattle.ls_session.specs.declared.event.Turn.{Turn}
-use Rattle.ls_session.specs.declared.event.Turn.TheVariants.{Nothing, Event, Exit}
+use Rattle.ls_session.specs.declared.turn.Status.TheVariants.{BadFrame}
+use Rattle.ls_session.specs.declared.turn.Turn.{Turn}
+use Rattle.ls_session.specs.declared.turn.Turn.TheVariants.{Nothing, Event, Exit}
 use Rattle.ls_steps.specs.Runs.{Act, Going, Held, IsSent, Runs, Steps, acts_of, begun, break_off, bytes_in, desk_of, finish_job, hear, heard, is_filled, on_turn, runs, send, state_at, take_job, takes, took}
 
 -- what is left of the acts ends a run of all of them, with these bytes before it

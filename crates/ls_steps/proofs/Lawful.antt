@@ -33,9 +33,11 @@ use Rattle.ls_desk.specs.Anew.{base_after, journal_after}
 use Rattle.ls_desk.specs.Faults.{finish_fault, full_fault, is_full, or_else, take_fault}
 use Rattle.ls_desk.specs.Stands.{Seen, WasCurrentAt, counts_of, is_long, state_of}
 use Rattle.ls_session.specs.Session.{turn_of}
-use Rattle.ls_session.specs.declared.event.Turn.{Turn}
-use Rattle.ls_session.specs.declared.event.Turn.TheVariants.{Nothing, Event as Happens, Exit}
-use Rattle.ls_steps.specs.Runs.{Act, Going, Held, IsSent, Left, Runs, Steps, begun, break_off, desk_of, entered, entry_at, fault_at, finish_job, finished_by, hear, heard, is_filled, met, on_turn, ran, refused, runs, said_by, send, state_at, take_job, takes, tells, told_of, took}
+use Rattle.ls_session.specs.declared.turn.Turn.{Turn}
+use Rattle.ls_session.specs.declared.turn.Turn.TheVariants.{Nothing, Event as Happens, Exit}
+use Rattle.ls_desk.specs.Door.{client_fault, entry_at}
+use Rattle.ls_session.specs.Bodies.{refusal_to}
+use Rattle.ls_steps.specs.Runs.{Act, Going, Held, IsSent, Left, Runs, Steps, begun, break_off, desk_of, entered, finish_job, finished_by, hear, heard, is_filled, met, on_turn, ran, refused, runs, said_by, send, state_at, take_job, takes, tells, took}
 use Rattle.ls_steps.proofs.Entered.{entered-state}
 use Rattle.ls_steps.proofs.ShortTexts.{AreShort, IsFine, IsShortEvent, short_chars_of, short_step}
 
@@ -122,7 +124,7 @@ unsent-asked : (s : State) (id : Id) (o : Option Document) (ask : Ask) (links : 
 unsent-asked s id None ask links = refl
 unsent-asked s id (Some document) ask links = refl
 
-fits-entry : (d : Seen) (event : ClientEvent) → fault_at d event ≡ None → Fits d (entry_at (state_of d) event)
+fits-entry : (d : Seen) (event : ClientEvent) → client_fault d event ≡ None → Fits d (entry_at (state_of d) event)
 unfolding IsPossible step
 fits-entry d (DidOpen uri label text encoding) e =
     let s = state_of d in
@@ -180,24 +182,24 @@ good-told d (Some body) good = good-said d body (full_fault d 2) refl good
 
 good-refused : (d : Seen) (id : Option Id) (f : DeskFault) → GoodAt d → GoodLeft d.max_events (refused d id f)
 good-refused d id fault.SessionFull good = good
-good-refused d id fault.NotOpen good = good-told d (told_of id fault.NotOpen) good
-good-refused d id fault.AlreadyOpen good = good-told d (told_of id fault.AlreadyOpen) good
-good-refused d id fault.TooManyDocuments good = good-told d (told_of id fault.TooManyDocuments) good
-good-refused d id fault.TooManyWaiting good = good-told d (told_of id fault.TooManyWaiting) good
-good-refused d id fault.IdInUse good = good-told d (told_of id fault.IdInUse) good
-good-refused d id fault.TooLarge good = good-told d (told_of id fault.TooLarge) good
-good-refused d id fault.UnknownTicket good = good-told d (told_of id fault.UnknownTicket) good
-good-refused d id fault.OtherText good = good-told d (told_of id fault.OtherText) good
-good-refused d id fault.Memory good = good-told d (told_of id fault.Memory) good
+good-refused d id fault.NotOpen good = good-told d (refusal_to id fault.NotOpen) good
+good-refused d id fault.AlreadyOpen good = good-told d (refusal_to id fault.AlreadyOpen) good
+good-refused d id fault.TooManyDocuments good = good-told d (refusal_to id fault.TooManyDocuments) good
+good-refused d id fault.TooManyWaiting good = good-told d (refusal_to id fault.TooManyWaiting) good
+good-refused d id fault.IdInUse good = good-told d (refusal_to id fault.IdInUse) good
+good-refused d id fault.TooLarge good = good-told d (refusal_to id fault.TooLarge) good
+good-refused d id fault.UnknownTicket good = good-told d (refusal_to id fault.UnknownTicket) good
+good-refused d id fault.OtherText good = good-told d (refusal_to id fault.OtherText) good
+good-refused d id fault.Memory good = good-told d (refusal_to id fault.Memory) good
 
-good-met : (d : Seen) (event : ClientEvent) (o : Option DeskFault) → fault_at d event ≡ o → GoodAt d → GoodLeft d.max_events (met d event o)
+good-met : (d : Seen) (event : ClientEvent) (o : Option DeskFault) → client_fault d event ≡ o → GoodAt d → GoodLeft d.max_events (met d event o)
 good-met d event None e good =
     let fits = fits-entry d event e in good-entered d (entry_at (state_of d) event) good fits.possible fits.room fits.short
 good-met d event (Some f) e good = good-refused d (asker_of event) f good
 
 good-turn : (g : Going) (turn : Turn) → Good g → Good (on_turn g turn)
 good-turn g Nothing good = good
-good-turn g (Happens event) good = good-met (desk_of g) event (fault_at (desk_of g) event) refl good
+good-turn g (Happens event) good = good-met (desk_of g) event (client_fault (desk_of g) event) refl good
 good-turn g (Exit status) good = good
 
 -- ---- jobs

@@ -2,7 +2,6 @@ pub mod Bounds
 pub mod ByActs
 pub mod Coming
 pub mod Entered
-pub mod Entries
 pub mod Going
 pub mod Inputs
 pub mod Lawful

@@ -10,11 +10,11 @@ use Rattle.ls_machine.specs.Machine.{first_ticket, step, is_queued, ticket_of}
 use Rattle.ls_machine.specs.Journal.{replay_from}
 use Rattle.ls_machine.proofs.Replays.{replay-push}
 use Rattle.ls_steps.specs.Runs.{Act, Going, Held, IsSent, NeedsNoMemory, Runs, Steps, begun, break_off, finish_job, hear, heard, is_filled, send, state_at, take_job}
-use Rattle.ls_steps.specs.Plain.{CanSendAll, Hears, IsSettled, Replies, RunsUntil, Says, Serves, has_run_all, has_sent_all, job_acts}
+use Rattle.ls_steps.specs.Plain.{CanSendAll, HearsAndRuns, IsAtRest, Replies, RunsUntil, Says, Serves, has_run_all, has_sent_all, job_acts}
 use Rattle.ls_steps.proofs.Lawful.{Good, good-begun, good-run, good-step}
 use Rattle.ls_steps.proofs.SomeSession.{said, some_replies}
 
-pub settled-begun : IsSettled begun
+pub settled-begun : IsAtRest begun
 unfolding replay_from
 settled-begun = record { idle = refl; sent = refl }
 
@@ -51,15 +51,15 @@ unfolding RunsUntil
 replies_idle f zero g h bytes w = ap has_run_all w.1
 replies_idle f (suc n) g h bytes w = let x = w.1 in replies_idle f n x.0 h x.2 x.3.1 ∙ sends_idle f g x.0 x.1 x.3.0
 
-pub settled-served : (f : Bool) (g h : Going) (body bytes : List ℕ) → Serves f g body h bytes → IsSettled h
+pub settled-served : (f : Bool) (g h : Going) (body bytes : List ℕ) → Serves f g body h bytes → IsAtRest h
 settled-served f g h body bytes s = record {
   idle = replies_idle f s.replies s.worked h bytes s.sends ∙ until-done f has_run_all job_acts s.hears.jobs s.hears.heard s.worked [] s.hears.works;
   sent = none_unsent (state_at h).unsent (until-done f has_sent_all (send ∷ []) s.replies s.worked h bytes s.sends);
 }
 
-pub settled-said : (f : Bool) (g h : Going) (bodies : List (List ℕ)) (bytes : List ℕ) → IsSettled g → Says f g bodies h bytes → IsSettled h
+pub settled-said : (f : Bool) (g h : Going) (bodies : List (List ℕ)) (bytes : List ℕ) → IsAtRest g → Says f g bodies h bytes → IsAtRest h
 unfolding Says
-settled-said f g h [] bytes settled s = subst IsSettled (sym s.0) settled
+settled-said f g h [] bytes settled s = subst IsAtRest (sym s.0) settled
 settled-said f g h (body ∷ bodies) bytes settled s = settled-said f s.0 h bodies s.2 (settled-served f g s.0 body s.1 s.3.0) s.3.1
 
 -- ---- more messages
@@ -76,7 +76,7 @@ unfolding Says
 says-one f g h body bytes s = (h, bytes, [], (s, (refl, refl), sym (append-nil bytes)))
 
 -- where the session has ended nothing is said
-served-ended : (f : Bool) (g : Going) (body : List ℕ) → IsSettled g → is_some g.status ≡ true → Serves f g body g []
+served-ended : (f : Bool) (g : Going) (body : List ℕ) → IsAtRest g → is_some g.status ≡ true → Serves f g body g []
 unfolding Steps RunsUntil
 served-ended f g body settled ended = record {
   worked = g;
@@ -90,12 +90,12 @@ served-ended f g body settled ended = record {
   sends = (ap (λ es. is_none (first_ticket es)) settled.sent, refl, refl);
 }
 
-pub says-nothing : (f : Bool) (g : Going) (bodies : List (List ℕ)) → IsSettled g → is_some g.status ≡ true → Says f g bodies g []
+pub says-nothing : (f : Bool) (g : Going) (bodies : List (List ℕ)) → IsAtRest g → is_some g.status ≡ true → Says f g bodies g []
 unfolding Says
 says-nothing f g [] settled ended = (refl, refl)
 says-nothing f g (body ∷ bodies) settled ended = (g, [], [], (served-ended f g body settled ended, says-nothing f g bodies settled ended, refl))
 
-pub says-stays : (f : Bool) (g h : Going) (xs ys : List (List ℕ)) (a : List ℕ) → IsSettled g → is_some h.status ≡ true → Says f g xs h a → Says f g (xs ++ ys) h a
+pub says-stays : (f : Bool) (g h : Going) (xs ys : List (List ℕ)) (a : List ℕ) → IsAtRest g → is_some h.status ≡ true → Says f g xs h a → Says f g (xs ++ ys) h a
 says-stays f g h xs ys a settled ended s =
     subst (Says f g (xs ++ ys) h) (append-nil a) (says-more f g h h xs ys a [] s (says-nothing f h ys (settled-said f g h xs a settled s) ended))
 
@@ -163,7 +163,7 @@ pub goes-on : (f : Bool) (h : Going) (xs ys : List (List ℕ)) (a : List ℕ) �
 goes-on f h xs ys a s = said h ys (good_said f begun h xs a s good-begun)
 
 -- whatever has been said, all that a message leads to can be sent
-pub can-send : (f : Bool) (g worked : Going) (xs : List (List ℕ)) (a body : List ℕ) → Says f begun xs g a → Hears f g body worked → CanSendAll worked
+pub can-send : (f : Bool) (g worked : Going) (xs : List (List ℕ)) (a body : List ℕ) → Says f begun xs g a → HearsAndRuns f g body worked → CanSendAll worked
 can-send f g worked xs a body s x =
     let good = good_until f has_run_all job_acts x.jobs x.heard worked [] x.works (good-step f g x.heard (hear body) [] x.hears (good_said f begun g xs a s good-begun)) in
     let all = some_replies (state_at worked).unsent worked refl good in

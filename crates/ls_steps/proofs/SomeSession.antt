@@ -23,7 +23,7 @@ use Rattle.ls_machine.proofs.Replays.{replay-push}
 use Rattle.ls_frame.specs.Frames.{frame_of}
 use Rattle.ls_bodies.specs.Bodies.{failure_body}
 use Rattle.ls_session.specs.Bodies.{body_of}
-use Rattle.ls_session.specs.declared.event.Status.TheVariants.{BadFrame}
+use Rattle.ls_session.specs.declared.turn.Status.TheVariants.{BadFrame}
 use Rattle.ls_steps.specs.Runs.{Act, Going, Held, IsSent, Left, Runs, Steps, begun, break_off, desk_of, finish_job, finished_by, finishes, hear, heard, is_filled, leaving, ran, runs, send, state_at, status_by, take_job, takes, took, unless_full, while_open}
 use Rattle.ls_steps.specs.Plain.{Replies, RunsUntil, Says, Serves, Works, has_run_all, job_acts}
 use Rattle.ls_steps.proofs.OneSession.{body_for, body_told}

@@ -22,19 +22,18 @@ use Rattle.ls_machine.specs.Journal.{IsCutAt, IsLegalFrom, replay_from}
 use Rattle.ls_machine.proofs.Replays.{past-first}
 use Rattle.ls_machine.specs.Machine.{IsPossible, first_ticket, is_queued, ticket_of}
 use Rattle.ls_desk.specs.Stands.{AreOutsFor, IsSound, Seen, Sends, state_of, ticket_of_out}
-use Rattle.ls_desk.specs.Faults.{IsJobOf, Refuses, Takes, is_full, or_else, take_fault}
+use Rattle.ls_desk.specs.Faults.{IsFirst, IsJobOf, Refuses, Takes, is_full, or_else, take_fault}
 use Rattle.ls_session.specs.Bodies.{body_of}
 use Rattle.ls_session.specs.Session.{turn_of}
 use Rattle.ls_machine.specs.declared.client.ClientEvent.{ClientEvent}
 use Rattle.ls_machine.specs.declared.client.ClientEvent.TheVariants as event
-use Rattle.ls_session.specs.declared.event.Status.{Status}
-use Rattle.ls_session.specs.declared.event.Status.TheVariants.{Full}
-use Rattle.ls_session.specs.declared.event.Turn.{Turn}
-use Rattle.ls_session.specs.declared.event.Turn.TheVariants.{Event as Happens}
+use Rattle.ls_session.specs.declared.turn.Status.{Status}
+use Rattle.ls_session.specs.declared.turn.Status.TheVariants.{Full}
+use Rattle.ls_session.specs.declared.turn.Turn.{Turn}
+use Rattle.ls_session.specs.declared.turn.Turn.TheVariants.{Event as Happens}
 use Rattle.ls_session.specs.declared.session.Stage.{Stage}
 use Rattle.ls_steps.specs.Runs.{Going, Held, IsSent, NeedsNoMemory, Steps, desk_of, finish_job, finishes, hear, held_as, held_of, is_filled, leaving, meets, ran, runs, send, state_at, status_by, take_job, takes, took, turned}
 use Rattle.ls_steps.specs.Leaves.{Leaves}
-use Rattle.ls_steps.proofs.Entries.{first-cause}
 
 -- ---- desks
 
@@ -123,6 +122,11 @@ takes-one stage d new held status job e t =
     takes-then g (over stage new (held ++ held_as job ∷ []) status) e
     (one ∙ (sym (ap (took g t.0) a.none) ∙ sym (ap (takes g) t.1)))
 
+-- memory aside, a refusal is the first whose cause holds
+first-of : (cause : Option DeskFault) (x : DeskFault) → x ≢ fault.Memory → IsFirst cause x → cause ≡ Some x
+first-of cause x n (inl e) = e
+first-of cause x n (inr e) = absurd (n e.1)
+
 takes-full-at : (g : Going) (o : Option Waiting) (b : Bool) (x : DeskFault) → or_else (is_some o && b) fault.SessionFull None ≡ Some x → take_fault (desk_of g) ≡ Some x
     → takes g o ≡ record g { status = Some Full }
 takes-full-at g None b x e f = absurd (cc)
@@ -132,7 +136,7 @@ pub takes-full : (stage : Stage) (d new : Seen) (held : List Held) (status : Opt
     → Refuses (take_fault d) d new x → Steps true (over stage d held status) take_job (over stage new held (Some Full)) []
 takes-full stage d new held status x e n r =
     let g = over stage d held status in
-    let f = first-cause (take_fault d) d new x n r in
+    let f = first-of (take_fault d) x n r.cause in
     takes-then g (over stage new held (Some Full)) e
     (ap (λ (s : Seen). over stage s held (Some Full)) r.same ∙ sym (takes-full-at g (find is_queued (state_of d).waiting) (is_full d 1) x f f))
 

@@ -35,7 +35,7 @@ abbrev pub CanSendAll : Going → Type 0
 CanSendAll g = (replies : ℕ) × (left : Going) × (bytes : List ℕ) × Replies true replies g left bytes
 
 -- A message is heard, and the jobs that wait are run.
-pub record Hears (may_fail : Bool) (g : Going) (body : List ℕ) (h : Going) : Type 0 where
+pub record HearsAndRuns (may_fail : Bool) (g : Going) (body : List ℕ) (h : Going) : Type 0 where
   pub heard : Going
   pub hears : Steps may_fail g (hear body) heard []
   pub jobs : ℕ
@@ -44,7 +44,7 @@ pub record Hears (may_fail : Bool) (g : Going) (body : List ℕ) (h : Going) : T
 -- What one message comes to.
 pub record Serves (may_fail : Bool) (g : Going) (body : List ℕ) (h : Going) (bytes : List ℕ) : Type 0 where
   pub worked : Going
-  pub hears : Hears may_fail g body worked
+  pub hears : HearsAndRuns may_fail g body worked
   pub replies : ℕ
   pub sends : Replies may_fail replies worked h bytes
 
@@ -66,6 +66,6 @@ AreServing (body ∷ bodies) acts = (jobs : ℕ) × (replies : ℕ) × (later : 
     × (AreServing bodies later × (acts ≡ hear body ∷ times jobs job_acts ++ (times replies (send ∷ []) ++ later)))
 
 -- Nothing is left to run or to send, as between two messages.
-pub record IsSettled (g : Going) : Type 0 where
+pub record IsAtRest (g : Going) : Type 0 where
   pub idle : has_run_all g ≡ true
   pub sent : (state_at g).unsent ≡ []

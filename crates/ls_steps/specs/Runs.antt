@@ -2,7 +2,6 @@
 use Rattle.std.specs.Prelude.{◌≡◌, ◌⊎◌, ℕ, List, [], ◌∷◌, ◌++◌, drop, remove, slice_get, find, is_none, is_some, Bool, true, false, Option, Some, None, Vec, if◌then◌else◌}
 use Rattle.std.specs.declared.alloc.Global.{Global}
 use Rattle.std.specs.Arc.{arc_value}
-use Rattle.std.specs.Str.{chars, encode_utf8_all}
 use Rattle.ls_frame.specs.Frames.{Stream, frame_of}
 use Rattle.ls_frame.specs.Faults.{fault_of}
 use Rattle.ls_frame.specs.declared.fault.FrameFault.{FrameFault}
@@ -16,30 +15,30 @@ use Rattle.ls_answers.specs.declared.ask.Ask.{Ask}
 use Rattle.ls_answers.specs.declared.answer.Answer.{Answer}
 use Rattle.ls_answers.specs.declared.job.Job.{Job}
 use Rattle.ls_machine.specs.declared.event.Event.{Event}
-use Rattle.ls_machine.specs.declared.event.Event.TheVariants.{Opened, Changed, Closed, Asked, Cancelled, Said, Took, Finished, Sent}
+use Rattle.ls_machine.specs.declared.event.Event.TheVariants.{Said, Took, Finished, Sent}
 use Rattle.ls_machine.specs.declared.event.Out.{Out}
 use Rattle.ls_machine.specs.declared.event.DeskFault.{DeskFault}
 use Rattle.ls_machine.specs.declared.event.DeskFault.TheVariants.{SessionFull}
 use Rattle.ls_machine.specs.declared.state.Waiting.{Waiting}
 use Rattle.ls_machine.specs.declared.state.Entry.{Entry}
 use Rattle.ls_machine.specs.declared.state.State.{State}
-use Rattle.ls_machine.specs.Machine.{document_of, edited_at, version_if, id_waits, is_queued, ticket_of}
+use Rattle.ls_machine.specs.Machine.{is_queued, ticket_of}
 use Rattle.ls_machine.specs.declared.base.Base.{Base}
 use Rattle.ls_machine.specs.declared.base.Counts.{Counts}
 use Rattle.ls_machine.specs.Counts.{counted, first}
 use Rattle.ls_machine.specs.Journal.{replay_from}
 use Rattle.ls_desk.specs.Anew.{base_after, journal_after}
 use Rattle.ls_desk.specs.Stands.{Seen, IsOutFor, WasCurrentAt, counts_of, fresh_for, state_of}
-use Rattle.ls_desk.specs.Faults.{open_fault, end_fault, request_fault, cancel_fault, full_fault, take_fault, finish_fault}
-use Rattle.ls_session.specs.Bodies.{body_of, refusal_of}
+use Rattle.ls_desk.specs.Door.{client_fault, entry_at}
+use Rattle.ls_desk.specs.Faults.{full_fault, take_fault, finish_fault}
+use Rattle.ls_session.specs.Bodies.{body_of, refusal_to}
 use Rattle.ls_session.specs.Session.{turn_of}
 use Rattle.ls_machine.specs.declared.client.ClientEvent.{ClientEvent}
-use Rattle.ls_machine.specs.declared.client.ClientEvent.TheVariants.{DidOpen, DidChange, DidClose, Request, Cancel, Say}
 use Rattle.ls_machine.specs.Client.{asker_of}
-use Rattle.ls_session.specs.declared.event.Turn.{Turn}
-use Rattle.ls_session.specs.declared.event.Turn.TheVariants.{Nothing, Event as Happens, Exit}
-use Rattle.ls_session.specs.declared.event.Status.{Status}
-use Rattle.ls_session.specs.declared.event.Status.TheVariants.{Clean, Unclean, BadFrame, Full}
+use Rattle.ls_session.specs.declared.turn.Turn.{Turn}
+use Rattle.ls_session.specs.declared.turn.Turn.TheVariants.{Nothing, Event as Happens, Exit}
+use Rattle.ls_session.specs.declared.turn.Status.{Status}
+use Rattle.ls_session.specs.declared.turn.Status.TheVariants.{Clean, Unclean, BadFrame, Full}
 use Rattle.ls_session.specs.declared.session.Stage.{Stage}
 use Rattle.ls_session.specs.declared.session.Stage.TheVariants.{BeforeInitialize}
 use Rattle.ls_steps.specs.declared.steps.Step.{Step}
@@ -100,36 +99,14 @@ entered d e = record { base = base_after (fresh_for d e) (counts_of d) d.base; j
 abbrev pub unchanged : Seen → Left
 unchanged d = record { base = d.base; journal = d.journal; full = false }
 
-abbrev pub filled : Seen → Left
-filled d = record { base = d.base; journal = d.journal; full = true }
+abbrev pub left_full : Seen → Left
+left_full d = record { base = d.base; journal = d.journal; full = true }
 
 -- ---- a client's event
 
--- why the desk refuses it, if it does: a text that is opened is as long as its characters
-abbrev pub fault_at : Seen → ClientEvent → Option DeskFault
-fault_at d (DidOpen uri label text encoding) = open_fault d uri (encode_utf8_all (chars text))
-fault_at d (DidChange uri label edits) = end_fault d uri
-fault_at d (DidClose uri) = end_fault d uri
-fault_at d (Request id uri ask links) = request_fault d id uri
-fault_at d (Cancel id) = cancel_fault d id
-fault_at d (Say body) = full_fault d 2
-
--- what is entered, where the desk doesn't refuse it
-abbrev pub entry_at : State → ClientEvent → Event
-entry_at s (DidOpen uri label text encoding) = Opened uri label (chars text) encoding s.next_version
-entry_at s (DidChange uri label edits) = Changed uri label edits (version_if s.next_version (edited_at (document_of uri s.documents) edits))
-entry_at s (DidClose uri) = Closed uri
-entry_at s (Request id uri ask links) = Asked id uri ask links s.next_ticket
-entry_at s (Cancel id) = Cancelled id (id_waits id s.waiting)
-entry_at s (Say body) = Said body
-
-abbrev pub told_of : Option Id → DeskFault → Option (List ℕ)
-told_of None fault = None
-told_of (Some id) fault = refusal_of id fault
-
 abbrev pub said_by : Seen → List ℕ → Option DeskFault → Left
 said_by d body None = entered d (Said body)
-said_by d body (Some fault) = filled d
+said_by d body (Some fault) = left_full d
 
 -- a refused request is told so, where there is room for that
 abbrev pub tells : Seen → Option (List ℕ) → Left
@@ -137,15 +114,15 @@ tells d None = unchanged d
 tells d (Some body) = said_by d body (full_fault d 2)
 
 abbrev pub refused : Seen → Option Id → DeskFault → Left
-refused d id SessionFull = filled d
-refused d id fault = tells d (told_of id fault)
+refused d id SessionFull = left_full d
+refused d id fault = tells d (refusal_to id fault)
 
 abbrev pub met : Seen → ClientEvent → Option DeskFault → Left
 met d event None = entered d (entry_at (state_of d) event)
 met d event (Some fault) = refused d (asker_of event) fault
 
 abbrev pub meets : Seen → ClientEvent → Left
-meets d event = met d event (fault_at d event)
+meets d event = met d event (client_fault d event)
 
 -- ---- a job that has run
 
@@ -156,7 +133,7 @@ ran job answer = record { ticket = job.ticket; text = job.text; encoding = job.e
 -- one whose ticket waits no longer is dropped
 abbrev pub finished_by : Seen → Told → Option DeskFault → Left
 finished_by d done None = entered d (Finished done.ticket (is_none done.answer))
-finished_by d done (Some SessionFull) = filled d
+finished_by d done (Some SessionFull) = left_full d
 finished_by d done (Some fault) = unchanged d
 
 abbrev pub finishes : Seen → Told → Left

@@ -1,6 +1,6 @@
 //! One message after the other, each answered before the next.
 ghost use Rattle.std.specs.Prelude.{◌≡◌, ◌++◌, ℕ, true, IfOk, OnOk};
-ghost use Rattle.ls_steps.specs.Plain.{Hears, Replies, Serves, Works};
+ghost use Rattle.ls_steps.specs.Plain.{HearsAndRuns, Replies, Serves, Works};
 
 use crate::conversation::Conversation;
 use std::alloc::{AllocError as Memory, Global};
@@ -20,7 +20,7 @@ impl Conversation {
     /// Hears a message of the client, and runs the jobs that wait, one after the other. What is to be said then is given by
     /// [`Conversation::send`].
     pub fn meet(&mut self, body: &[u8]) -> Result<(), Memory>
-        ensures { OnOk result (Hears true self.old body.now self.new) }
+        ensures { OnOk result (HearsAndRuns true self.old body.now self.new) }
     {
         self.hear(body)?;
         self.work()

@@ -9,7 +9,7 @@ use Rattle.std.specs.Char.{encode_utf8 as encode}
 use Rattle.std.specs.Str.{encode_utf8_all as encodes}
 use Rattle.std.proofs.lemmas.List.{append-nil, length-map}
 use Rattle.std.proofs.lemmas.List.Folds.{list_any-append}
-use Rattle.std.proofs.lemmas.Bool.{cases_lt}
+use Rattle.std.proofs.lemmas.Bool.{cases_lt, not-true}
 use Rattle.std.proofs.lemmas.Bool.Decides.{nat_tests}
 use Rattle.std.proofs.lemmas.Str.{encodes-append, encodes-chars, chars-append, chars_from_encodes, encode_ascii, byte_from_char, char_from_byte, IsUtf8-drop, IsUtf8-take, IsCharBoundary-after_ascii, IsCharBoundary-before_ascii, IsCharBoundary-end, IsCharBoundary-start, length-encode, len_utf8_bounds}
 use Rattle.ls_text.specs.Lines.{is_break, starts_with_lf, line_ends, lines}
@@ -20,15 +20,11 @@ use Rattle.ls_text.specs.Cut.{Row}
 use Rattle.ls_text.proofs.LineLaws.{lines-plain, lines-plain_append, length-lines}
 
 -- the lines of a plain line, its line end and a rest
-cr_true : (s : Bool) → not s ≡ true → s ≡ false
-cr_true false e = refl
-cr_true true e = cc
-
 pub lines-end : (e : LineEnd) (t : List ℕ) → is_end_before e t ≡ true → lines (end_text e ++ t) ≡ [] ∷ lines t
 unfolding lines
 lines-end Eof t h = cc
 lines-end Lf t h = refl
-lines-end Cr t h = rw (cr_true (starts_with_lf t) h) refl
+lines-end Cr t h = rw (not-true (starts_with_lf t) h) refl
 lines-end CrLf t h = refl
 
 pub lines-cut : (p : List ℕ) (e : LineEnd) (t : List ℕ) → IsPlain p → is_end_before e t ≡ true → lines (p ++ (end_text e ++ t)) ≡ p ∷ lines t

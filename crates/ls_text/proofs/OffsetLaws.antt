@@ -1,11 +1,11 @@
 -- Laws of offsets and positions, over the lines that a snapshot holds.
-use Rattle.std.proofs.Common.{◌≡◌, ℕ, zero, suc, ◌+◌, ◌-◌, ◌<◌, ◌≤◌, Bool, true, false, not, cond, ◌&&◌, ◌||◌, eqb, leb, List, [], ◌∷◌, ◌++◌, length, take, drop, get_or, refl, sym, ap, subst, ◌∙◌, ◌⊎◌, inl, inr, ⊎_elim, arith, length-append, zero-add}
+use Rattle.std.proofs.Common.{◌≡◌, ℕ, zero, suc, ◌+◌, ◌-◌, ◌<◌, ◌≤◌, Bool, true, false, not, cond, ◌&&◌, eqb, leb, List, [], ◌∷◌, ◌++◌, length, take, drop, get_or, refl, sym, ap, subst, ◌∙◌, ◌⊎◌, inl, inr, ⊎_elim, arith, length-append, zero-add}
 use Rattle.std.specs.Prelude.{Option, Some, None, sum_by, unwrap_or}
 use Rattle.std.specs.List.{list_any}
 use Rattle.std.proofs.lemmas.List.Sums.{sum_by-cons}
 use Rattle.std.proofs.Math.Seq.{take-append-add, drop-append-add}
 use Rattle.std.proofs.lemmas.List.{append-nil, take-append-le, get_or_append_left, get_or_push}
-use Rattle.std.proofs.lemmas.Bool.{cases_lt}
+use Rattle.std.proofs.lemmas.Bool.{cases_lt, and_parts, not-true, and_from, false_from_ne_true, or_parts, or_from}
 use Rattle.std.proofs.lemmas.Bool.Decides.{nat_tests}
 use Rattle.ls_text.specs.Lines.{is_break, starts_with_lf, ends_with_cr, line_ends, last_line, splits_crlf, is_offset, line_at, units_at, greatest, is_within, offset_of, fitting}
 use Rattle.ls_text.specs.Cut.{end_text, line_text, text_of, IsPlain, is_end_before, AreLines, start_of, text_at, IsIndex}
@@ -41,8 +41,6 @@ greatest-none p zero fails = cond_none (p 0) 0 None (fails 0 (omega arith))
 greatest-none p (suc n) fails = cond_none (p (suc n)) (suc n) (greatest p n) (fails (suc n) (omega arith)) ∙ greatest-none p n (λ j le. fails j (omega (arith, le)))
 
 -- ---- a text after a whole line
-one_more : (a b : Bool) (n : ℕ) → a ≡ b → cond a 1 0 + n ≡ cond b 1 0 + n
-one_more a b n e = ap (λ x. cond x 1 0 + n) e
 
 pub line_ends-end : (e : LineEnd) (t : List ℕ) → is_end_before e t ≡ true → line_ends (end_text e ++ t) ≡ 1 + line_ends t
 unfolding line_ends
@@ -110,11 +108,7 @@ plain_take : (t : List ℕ) (k : ℕ) → IsPlain t → IsPlain (take k t)
 plain_take [] zero h = refl
 plain_take [] (suc k) h = refl
 plain_take (c ∷ t) zero h = refl
-plain_take (c ∷ t) (suc k) h = or_parts (is_break c) (list_any is_break t) (list_any is_break (take k t)) h (λ r. plain_take t k r)
-  where
-    or_parts : (a b d : Bool) → (a || b) ≡ false → (b ≡ false → d ≡ false) → (a || d) ≡ false
-    or_parts false b d e f = f e
-    or_parts true b d e f = cc
+plain_take (c ∷ t) (suc k) h = let p = or_parts (is_break c) (list_any is_break t) h in or_from (is_break c) (list_any is_break (take k t)) p.0 (plain_take t k p.1)
 
 -- line m at k characters, as the text has it
 pub record IsAt (t : List ℕ) (o m : ℕ) (before : List ℕ) : Type 0 where
@@ -267,11 +261,7 @@ plain_no_cr (c ∷ d ∷ t) h = plain_no_cr (d ∷ t) (plain_parts c (d ∷ t) (
 end_seam : (p : List ℕ) (e : LineEnd) (t : List ℕ) → IsPlain p → is_end_before e t ≡ true → (ends_with_cr (p ++ end_text e) && starts_with_lf t) ≡ false
 end_seam p Eof t h k = cc
 end_seam p Lf t h k = rw (ends_with_cr-append p (10 ∷ []) (omega arith)) refl
-end_seam p Cr t h k = rw (ends_with_cr-append p (13 ∷ []) (omega arith)) (not_false (starts_with_lf t) k)
-  where
-    not_false : (b : Bool) → not b ≡ true → b ≡ false
-    not_false false e = refl
-    not_false true e = cc
+end_seam p Cr t h k = rw (ends_with_cr-append p (13 ∷ []) (omega arith)) (not-true (starts_with_lf t) k)
 end_seam p CrLf t h k = rw (ends_with_cr-append p (13 ∷ 10 ∷ []) (omega arith)) refl
 
 after_whole : (p : List ℕ) (e : LineEnd) (t : List ℕ) (x : ℕ) → IsPlain p → is_end_before e t ≡ true → splits_crlf t x ≡ false → splits_crlf (p ++ (end_text e ++ t)) (length p + (length (end_text e) + x)) ≡ false
@@ -311,23 +301,13 @@ start_le (l ∷ ls) zero lt = omega (arith, length-append (line_text l) (end_tex
 start_le (l ∷ ls) (suc m) lt = omega (arith, start_le ls m (omega (arith, lt)), length-append (line_text l) (end_text l.end ++ text_of ls), length-append (end_text l.end) (text_of ls))
 
 -- ---- the offset of a position
-both : (a b : Bool) → a ≡ true → b ≡ true → (a && b) ≡ true
-both a b p q = (λ i. p i && q i) ∙ refl
-
-parts : (a b : Bool) → (a && b) ≡ true → (a ≡ true) × (b ≡ true)
-parts true b e = (refl, e)
-parts false b e = cc
-
-refuted : (b : Bool) → (b ≡ true → ⊥) → b ≡ false
-refuted false f = refl
-refuted true f = absurd (f refl)
 
 module _ (w : ℕ → ℕ) (ls : List Row) (h : AreLines ls) (m c : ℕ) where
   -- an offset of the line m with at most c units, by its place in the line
   within_place : (j : ℕ) → is_within w (text_of ls) m c j ≡ true → (k : ℕ) × (m < length ls) × (k ≤ length (text_at ls m)) × (j ≡ start_of ls m + k) × (sum_by w (take k (text_at ls m)) ≤ c)
   within_place j e =
-      let p = parts (is_offset (text_of ls) j) (eqb (line_at (text_of ls) j) m && leb (units_at w (text_of ls) j) c) e in
-      let q = parts (eqb (line_at (text_of ls) j) m) (leb (units_at w (text_of ls) j) c) p.1 in
+      let p = and_parts (is_offset (text_of ls) j) (eqb (line_at (text_of ls) j) m && leb (units_at w (text_of ls) j) c) e in
+      let q = and_parts (eqb (line_at (text_of ls) j) m) (leb (units_at w (text_of ls) j) c) p.1 in
       let off = and_not (leb j (length (text_of ls))) (splits_crlf (text_of ls) j) p.0 in
       place (located ls h j (le_from j (length (text_of ls)) off.0) off.1) (eq_from (line_at (text_of ls) j) m q.0) (le_from (units_at w (text_of ls) j) c q.1)
     where
@@ -346,8 +326,8 @@ module _ (w : ℕ → ℕ) (ls : List Row) (h : AreLines ls) (m c : ℕ) where
       let here = at_line ls h m (fitting w (text_at ls m) c) lt in_line in
       let le : start_of ls m + fitting w (text_at ls m) c ≤ length (text_of ls) = omega (arith, start_le ls m lt, in_line) in
       let passes : is_within w (text_of ls) m c (start_of ls m + fitting w (text_at ls m) c) ≡ true =
-      both _ _ (both _ _ (le_to _ _ le) (ap not (is_apart ls h m (fitting w (text_at ls m) c) lt in_line))) (both _ _ (eq_to _ _ here.line_is) (le_to _ _ (subst (λ x. x ≤ c) (sym (ap (sum_by w) here.before_is)) f.within))) in
-      ap (λ o. unwrap_or o (length (text_of ls))) (greatest-is (is_within w (text_of ls) m c) (length (text_of ls)) (start_of ls m + fitting w (text_at ls m) c) le passes (λ j gt j_le. refuted (is_within w (text_of ls) m c j) (λ e. too_far j gt (within_place j e))))
+      and_from _ _ (and_from _ _ (le_to _ _ le) (ap not (is_apart ls h m (fitting w (text_at ls m) c) lt in_line))) (and_from _ _ (eq_to _ _ here.line_is) (le_to _ _ (subst (λ x. x ≤ c) (sym (ap (sum_by w) here.before_is)) f.within))) in
+      ap (λ o. unwrap_or o (length (text_of ls))) (greatest-is (is_within w (text_of ls) m c) (length (text_of ls)) (start_of ls m + fitting w (text_at ls m) c) le passes (λ j gt j_le. false_from_ne_true (is_within w (text_of ls) m c j) (λ e. too_far j gt (within_place j e))))
     where
       too_far : (j : ℕ) → start_of ls m + fitting w (text_at ls m) c < j → (k : ℕ) × (m < length ls) × (k ≤ length (text_at ls m)) × (j ≡ start_of ls m + k) × (sum_by w (take k (text_at ls m)) ≤ c) → ⊥
       too_far j gt at = omega (arith, (fits w (text_at ls m) c).most at.0 (omega (arith, at.3, gt)) at.2, at.4)
@@ -355,7 +335,7 @@ module _ (w : ℕ → ℕ) (ls : List Row) (h : AreLines ls) (m c : ℕ) where
   pub offset_of-past : length ls ≤ m → offset_of w (text_of ls) m c ≡ length (text_of ls)
   unfolding offset_of
   offset_of-past le =
-      ap (λ o. unwrap_or o (length (text_of ls))) (greatest-none (is_within w (text_of ls) m c) (length (text_of ls)) (λ j j_le. refuted (is_within w (text_of ls) m c j) (λ e. let at = within_place j e in omega (arith, at.1, le))))
+      ap (λ o. unwrap_or o (length (text_of ls))) (greatest-none (is_within w (text_of ls) m c) (length (text_of ls)) (λ j j_le. false_from_ne_true (is_within w (text_of ls) m c j) (λ e. let at = within_place j e in omega (arith, at.1, le))))
 
 -- ---- the index
 start_of-push : (ls : List Row) (l : Row) (m : ℕ) → m < length ls → start_of (ls ++ l ∷ []) m ≡ start_of ls m

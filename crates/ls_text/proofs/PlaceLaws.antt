@@ -1,5 +1,5 @@
 -- Laws of the position of so many bytes in a line.
-use Rattle.std.proofs.Common.{◌≡◌, ℕ, suc, ◌+◌, ◌-◌, ◌<◌, ◌≤◌, min, Bool, true, false, cond, leb, List, [], ◌∷◌, ◌++◌, length, length-append, take, drop, take-append-drop, refl, sym, ap, ◌∙◌, arith}
+use Rattle.std.proofs.Common.{◌≡◌, ℕ, suc, ◌+◌, ◌-◌, ◌<◌, ◌≤◌, min, false, cond, leb, List, [], ◌∷◌, ◌++◌, length, length-append, take, drop, take-append-drop, refl, sym, ap, ◌∙◌, arith}
 use Rattle.std.specs.Prelude.{sum_by}
 use Rattle.std.specs.Char.{len_utf8}
 use Rattle.std.specs.Str.{chars, IsUtf8, IsCharBoundary, encode_utf8_all as encodes}
@@ -7,6 +7,7 @@ use Rattle.std.proofs.Math.Seq.{take-append_seam}
 use Rattle.std.proofs.lemmas.List.{append-nil, length-take-le}
 use Rattle.std.proofs.lemmas.Bool.Decides.{nat_tests}
 use Rattle.std.proofs.lemmas.Str.{chars-append, encodes-append, encodes-chars, length-encode, len_utf8_bounds, IsUtf8-take}
+use Rattle.std.proofs.lemmas.Bool.{cond-false}
 use Rattle.ls_text.specs.Lines.{splits_crlf, line_at, units_at, lowered, offset_of, fitting}
 use Rattle.ls_text.specs.Cut.{text_of, AreLines, start_of, text_at}
 use Rattle.ls_text.specs.Positions.{position_of, position_in}
@@ -20,11 +21,7 @@ pub lowered_at : (t : List ℕ) (o : ℕ) → o ≤ length t → splits_crlf t o
 unfolding lowered
 lowered_at t o le apart =
     let is : min o (length t) ≡ o = omega (arith, le) in
-    cond_no _ _ _ (ap (splits_crlf t) is ∙ apart) ∙ is
-  where
-    cond_no : (b : Bool) (x y : ℕ) → b ≡ false → cond b x y ≡ y
-    cond_no false x y e = refl
-    cond_no true x y e = cc
+    cond-false _ _ _ (ap (splits_crlf t) is ∙ apart) ∙ is
 
 -- the offset of so many bytes in a line of the text stands in that line, after the characters that fit
 module _ (ls : List Row) (h : AreLines ls) (w : ℕ → ℕ) (l bytes : ℕ) (lt : l < length ls) where

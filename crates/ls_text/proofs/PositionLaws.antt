@@ -1,11 +1,11 @@
 -- Laws of the position of an offset, over the lines that a snapshot holds.
-use Rattle.std.proofs.Common.{◌≡◌, ℕ, zero, suc, ◌+◌, ◌-◌, ◌<◌, ◌≤◌, min, Bool, true, false, cond, ◌&&◌, List, [], ◌∷◌, ◌++◌, length, take, drop, refl, sym, ap, subst, ◌∙◌, ⊎_elim, arith, length-append}
+use Rattle.std.proofs.Common.{◌≡◌, ℕ, zero, suc, ◌+◌, ◌-◌, ◌<◌, ◌≤◌, min, true, cond, ◌&&◌, List, [], ◌∷◌, ◌++◌, length, take, drop, refl, sym, ap, subst, ◌∙◌, ⊎_elim, arith, length-append}
 use Rattle.std.specs.Prelude.{sum_by}
 use Rattle.std.specs.Str.{encode_utf8_all as encodes}
 use Rattle.std.proofs.lemmas.Str.{encodes-append, length-le-encodes}
 use Rattle.std.proofs.Math.Seq.{take-append-add, drop-append-add}
 use Rattle.std.proofs.lemmas.List.{take_all}
-use Rattle.std.proofs.lemmas.Bool.{cases_lt}
+use Rattle.std.proofs.lemmas.Bool.{cases_lt, cond-false, cond-true}
 use Rattle.ls_text.specs.Lines.{starts_with_lf, ends_with_cr, splits_crlf, line_at, units_at, lowered}
 use Rattle.ls_text.specs.Cut.{end_text, line_text, text_of, is_end_before, AreLines, start_of, text_at, end_at, IsKept}
 use Rattle.ls_text.specs.Chunks.{IsLineAt}
@@ -15,14 +15,6 @@ use Rattle.ls_text.specs.declared.line_end.LineEnd.{LineEnd}
 use Rattle.ls_text.specs.declared.line_end.LineEnd.TheVariants.{Eof, Lf, Cr, CrLf}
 use Rattle.ls_text.specs.Cut.{Row}
 use Rattle.ls_text.proofs.OffsetLaws.{take_past, drop_past, ends_with_cr-append, at_line, is_apart, start_le, text_found}
-
-cond_no : (b : Bool) (x y : ℕ) → b ≡ false → cond b x y ≡ y
-cond_no false x y e = refl
-cond_no true x y e = cc
-
-cond_yes : (b : Bool) (x y : ℕ) → b ≡ true → cond b x y ≡ x
-cond_yes true x y e = refl
-cond_yes false x y e = cc
 
 -- between CR and LF
 splits_front : (p : List ℕ) (e : LineEnd) (t : List ℕ) (o : ℕ) → length p < o → o < length p + length (end_text e) → splits_crlf (p ++ (end_text e ++ t)) o ≡ true
@@ -85,7 +77,7 @@ module _ (ls : List Row) (h : AreLines ls) (m o : ℕ) (lt : m < length ls) (sta
       within : o ≤ start_of ls m + length (text_at ls m) → cond (splits_crlf (text_of ls) (min o (length (text_of ls)))) (min o (length (text_of ls)) - 1) (min o (length (text_of ls))) ≡ start_of ls m + min (o - start_of ls m) (length (text_at ls m))
       within le =
           let is : min o (length (text_of ls)) ≡ start_of ls m + (o - start_of ls m) = omega (arith, le, start_le ls m lt, starts) in
-          cond_no _ _ _ (ap (splits_crlf (text_of ls)) is ∙ is_apart ls h m (o - start_of ls m) lt (omega (arith, le))) ∙ omega (arith, is, le)
+          cond-false _ _ _ (ap (splits_crlf (text_of ls)) is ∙ is_apart ls h m (o - start_of ls m) lt (omega (arith, le))) ∙ omega (arith, is, le)
 
       after : start_of ls m + length (text_at ls m) < o → cond (splits_crlf (text_of ls) (min o (length (text_of ls)))) (min o (length (text_of ls)) - 1) (min o (length (text_of ls))) ≡ start_of ls m + min (o - start_of ls m) (length (text_at ls m))
       after gt = ⊎_elim inner at_last (cases_lt (suc m) (length ls))
@@ -94,7 +86,7 @@ module _ (ls : List Row) (h : AreLines ls) (m o : ℕ) (lt : m < length ls) (sta
           at_last le =
               let full = last_full ls h m (omega (arith, le, lt)) in
               let is : min o (length (text_of ls)) ≡ start_of ls m + length (text_at ls m) = omega (arith, gt, full) in
-              cond_no _ _ _ (ap (splits_crlf (text_of ls)) is ∙ is_apart ls h m (length (text_at ls m)) lt (omega arith)) ∙ omega (arith, is, gt)
+              cond-false _ _ _ (ap (splits_crlf (text_of ls)) is ∙ is_apart ls h m (length (text_at ls m)) lt (omega arith)) ∙ omega (arith, is, gt)
 
           inner : suc m < length ls → cond (splits_crlf (text_of ls) (min o (length (text_of ls)))) (min o (length (text_of ls)) - 1) (min o (length (text_of ls))) ≡ start_of ls m + min (o - start_of ls m) (length (text_at ls m))
           inner more =
@@ -103,7 +95,7 @@ module _ (ls : List Row) (h : AreLines ls) (m o : ℕ) (lt : m < length ls) (sta
               let short = end_short (end_at ls m) in
               let fits : o < length (text_of ls) = omega (arith, below, start_le ls (suc m) more) in
               let is : min o (length (text_of ls)) ≡ o = omega (arith, fits) in
-              cond_yes _ _ _ (ap (splits_crlf (text_of ls)) is ∙ splits_in ls m o more gt below) ∙ omega (arith, is, gt, below, next, short)
+              cond-true _ _ _ (ap (splits_crlf (text_of ls)) is ∙ splits_in ls m o more gt below) ∙ omega (arith, is, gt, below, next, short)
 
   pub position_in : (w : ℕ → ℕ) (units : ℕ) → units ≡ sum_by w (take (o - start_of ls m) (text_at ls m)) → (line_at (text_of ls) (lowered (text_of ls) o) ≡ m) × (units_at w (text_of ls) (lowered (text_of ls) o) ≡ units)
   position_in w units units_is =

@@ -1,5 +1,5 @@
 -- Laws of counting on in a line.
-use Rattle.std.proofs.Common.{◌≡◌, ℕ, zero, suc, ◌+◌, ◌-◌, ◌≤◌, Bool, true, false, cond, leb, List, [], ◌∷◌, ◌++◌, length, length-append, take, drop, take-append-drop, refl, sym, ap, ◌∙◌, arith}
+use Rattle.std.proofs.Common.{◌≡◌, ℕ, zero, suc, ◌+◌, ◌-◌, ◌≤◌, true, cond, leb, List, [], ◌∷◌, ◌++◌, length, length-append, take, drop, take-append-drop, refl, sym, ap, ◌∙◌, arith}
 use Rattle.std.specs.Prelude.{◌&&◌, sum_by}
 use Rattle.std.specs.Char.{len_utf8}
 use Rattle.std.specs.Str.{chars, IsUtf8, IsCharBoundary, encode_utf8_all as encodes, all_scalars as scalars}
@@ -8,22 +8,19 @@ use Rattle.std.proofs.lemmas.List.{append-nil, append_assoc, length-take-le}
 use Rattle.std.proofs.lemmas.List.Sums.{sum_by-append}
 use Rattle.std.proofs.lemmas.Bool.Decides.{nat_tests}
 use Rattle.std.proofs.lemmas.Str.{IsCharBoundary-at_seam, chars-encodes, encodes-append, encodes-chars, length-encode, scalars-chars}
+use Rattle.std.proofs.lemmas.Bool.{and_parts}
 use Rattle.ls_text.specs.Lines.{fitting}
 use Rattle.ls_text.specs.Counts.{IsCountedIn}
 use Rattle.ls_text.specs.declared.ruler.Counted.{Counted}
 use Rattle.ls_text.proofs.OffsetLaws.{fitting_le}
 
 -- ---- the front of a text by so many characters
-both : (a b : Bool) → (a && b) ≡ true → (a ≡ true) × (b ≡ true)
-both true b e = (refl, e)
-both false b e = absurd (cc)
-
 scalars-parts : (cs : List ℕ) (n : ℕ) → scalars cs ≡ true → (scalars (take n cs) ≡ true) × (scalars (drop n cs) ≡ true)
 scalars-parts [] zero s = (refl, refl)
 scalars-parts [] (suc n) s = (refl, refl)
 scalars-parts (c ∷ cs) zero s = (refl, s)
 scalars-parts (c ∷ cs) (suc n) s =
-    let parts = both _ _ s in
+    let parts = and_parts _ _ s in
     let rest = scalars-parts cs n parts.1 in
     (ap (λ b. b && scalars (take n cs)) parts.0 ∙ rest.0, rest.1)
 

@@ -4,6 +4,7 @@ use Rattle.std.specs.Str.{chars, encode_utf8_all as encodes}
 use Rattle.std.proofs.Math.Seq.{take-append_seam}
 use Rattle.std.proofs.lemmas.List.{append-nil, take-append-le, drop-append-le}
 use Rattle.std.proofs.lemmas.Str.{chars-append, encodes-append, IsUtf8-take}
+use Rattle.std.proofs.lemmas.Bool.{not-true, both_ways}
 use Rattle.ls_text.specs.Lines.{is_break, starts_with_lf, ends_with_cr}
 use Rattle.ls_text.specs.Cut.{end_text, line_text, text_of, IsPlain, is_end_before, AreLines, AreLinesBefore, IsCut, IsCutOnto, IsPushed, start_of, text_at, end_at}
 use Rattle.ls_text.specs.Spots.{bytes_at, IsSpot, front_of, back_of}
@@ -131,10 +132,7 @@ final_end CrLf lt = refl
 pub rest_empty : (x p r : List ℕ) (e : LineEnd) → 0 < length (end_text e) → x ++ r ≡ p ++ end_text e → IsPlain r → r ≡ []
 rest_empty x p [] e some same h = refl
 rest_empty x p (c ∷ r) e some same h =
-    absurd (not_both (is_break (final (c ∷ r))) (final_plain c r h) (ap is_break (sym (final-append x (c ∷ r) (omega arith)) ∙ ap final same ∙ final-append p (end_text e) some) ∙ final_end e some))
-  where
-    not_both : (b : Bool) → b ≡ false → b ≡ true → ⊥
-    not_both b n y = cc
+    absurd (both_ways (is_break (final (c ∷ r))) (final_plain c r h) (ap is_break (sym (final-append x (c ∷ r) (omega arith)) ∙ ap final same ∙ final-append p (end_text e) some) ∙ final_end e some))
 
 -- ---- the text before and after a place in a line
 pub take_at : (ls : List Row) (m k : ℕ) → m < length ls → k ≤ length (text_at ls m) → take (start_of ls m + k) (text_of ls) ≡ text_of (take m ls) ++ take k (text_at ls m)
@@ -198,11 +196,7 @@ end_inner (l ∷ n ∷ ls) h (suc m) lt ne = end_inner (n ∷ ls) h.2 m (omega (
 seam_of : (p : List ℕ) (e : LineEnd) (t : List ℕ) → is_end_before e t ≡ true → (ends_with_cr (p ++ end_text e) && starts_with_lf t) ≡ false
 seam_of p Eof t k = cc
 seam_of p Lf t k = rw (ends_with_cr-append p (10 ∷ []) (omega arith)) refl
-seam_of p Cr t k = rw (ends_with_cr-append p (13 ∷ []) (omega arith)) (not_false (starts_with_lf t) k)
-  where
-    not_false : (b : Bool) → not b ≡ true → b ≡ false
-    not_false false e = refl
-    not_false true e = cc
+seam_of p Cr t k = rw (ends_with_cr-append p (13 ∷ []) (omega arith)) (not-true (starts_with_lf t) k)
 seam_of p CrLf t k = rw (ends_with_cr-append p (13 ∷ 10 ∷ []) (omega arith)) refl
 
 front_join : (ls : List Row) (m kept : ℕ) → kept ≤ m → text_of (take kept ls) ++ text_of (take (m - kept) (drop kept ls)) ≡ text_of (take m ls)

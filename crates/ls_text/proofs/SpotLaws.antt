@@ -1,10 +1,11 @@
 -- Laws of spots, over lines held behind pointers.
-use Rattle.std.proofs.Common.{Bool, true, false, ◌&&◌, ◌≡◌, ℕ, zero, suc, ◌+◌, ◌-◌, ◌<◌, List, [], ◌∷◌, ◌++◌, length, take, drop, get_or, refl, sym, ap, subst, ◌∙◌, arith, append_assoc, take-append-drop}
+use Rattle.std.proofs.Common.{true, ◌≡◌, ℕ, zero, suc, ◌+◌, ◌-◌, ◌<◌, List, [], ◌∷◌, ◌++◌, length, take, drop, get_or, refl, sym, ap, subst, ◌∙◌, arith, append_assoc, take-append-drop}
 use Rattle.std.specs.Str.{chars, IsUtf8, IsCharBoundary, encode_utf8_all as encodes}
 use Rattle.std.proofs.Math.Seq.{take-append_seam}
 use Rattle.std.proofs.Math.Utf8.{scalars, scalar}
 use Rattle.std.proofs.lemmas.Str.{encodes-append, encodes-chars, scalars-chars, chars-append, chars_from_encodes, IsCharBoundary-at_seam, IsCharBoundary-end}
 use Rattle.std.proofs.lemmas.List.{length-take-le, take_all}
+use Rattle.std.proofs.lemmas.Bool.{and_parts}
 use Rattle.ls_text.specs.Lines.{offset_of, fitting}
 use Rattle.ls_text.specs.Spots.{IsSpot}
 use Rattle.ls_text.proofs.OffsetLaws.{fitting_le, offset_found, text_found}
@@ -34,21 +35,17 @@ middle_chars bs front new back end u v w x =
     regroup a b c d e = simp append_assoc refl
 
 -- ---- a text cut after some of its characters
-both_true : (a b : Bool) → (a && b) ≡ true → (a ≡ true) × (b ≡ true)
-both_true true b e = (refl, e)
-both_true false b e = cc
-
 scalars-take : (k : ℕ) (cs : List ℕ) → scalars cs ≡ true → scalars (take k cs) ≡ true
 scalars-take zero cs e = refl
 scalars-take (suc k) [] e = refl
 scalars-take (suc k) (c ∷ cs) e =
-    let parts = both_true (scalar c) (scalars cs) e in
+    let parts = and_parts (scalar c) (scalars cs) e in
     rw (parts.0, scalars-take k cs parts.1) refl
 
 scalars-drop : (k : ℕ) (cs : List ℕ) → scalars cs ≡ true → scalars (drop k cs) ≡ true
 scalars-drop zero cs e = e
 scalars-drop (suc k) [] e = e
-scalars-drop (suc k) (c ∷ cs) e = scalars-drop k cs (both_true (scalar c) (scalars cs) e).1
+scalars-drop (suc k) (c ∷ cs) e = scalars-drop k cs (and_parts (scalar c) (scalars cs) e).1
 
 module _ (bs : List ℕ) (u : IsUtf8 bs) (k : ℕ) where
   seam : bs ≡ encodes (take k (chars bs)) ++ encodes (drop k (chars bs))

@@ -4,6 +4,7 @@ use Rattle.std.specs.Arc.{arc_value}
 use Rattle.std.specs.declared.sync.Arc.{Arc}
 use Rattle.std.specs.List.{flat_map}
 use Rattle.std.specs.Str.{encode_utf8_all}
+use Rattle.ls_text.specs.Lines.{max_bytes}
 use Rattle.ls_text.specs.Cut.{Row, text_of, start_of}
 use Rattle.ls_text.specs.declared.chunk.Chunk.{Chunk}
 
@@ -29,7 +30,7 @@ pub record IsSpine {X : Type 0} (value : X → List Row) (pieces : List X) (firs
   pub line_sums : AreSums value length pieces first_lines count
   pub char_sums : AreSums value char_length pieces starts chars
   pub bytes_are : bytes ≡ byte_length (flat_map value pieces)
-  pub small : bytes ≤ 4_194_304
+  pub small : bytes ≤ max_bytes
   pub fits : count < 2 ^ 64
 
 -- this is line m, which starts at this offset

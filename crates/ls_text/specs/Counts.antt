@@ -2,7 +2,7 @@
 use Rattle.std.specs.Prelude.{◌≡◌, ◌≤◌, ℕ, List, ◌++◌, Some, length, sum_by}
 use Rattle.std.specs.List.{slice_get}
 use Rattle.std.specs.Str.{chars, encode_utf8_all, IsUtf8}
-use Rattle.ls_text.specs.Lines.{lines}
+use Rattle.ls_text.specs.Lines.{lines, max_bytes}
 use Rattle.ls_text.specs.declared.ruler.Counted.{Counted}
 
 -- What has been counted, in units of this width, stands at the front of the line, and the rest behind it.
@@ -12,7 +12,7 @@ pub record IsCountedIn (width : ℕ → ℕ) (line : List ℕ) (counted : Counte
   pub bytes : counted.bytes ≡ length (encode_utf8_all front)
   pub units : counted.units ≡ sum_by width front
   pub utf8 : IsUtf8 counted.rest.now
-  pub small : length (encode_utf8_all line) ≤ 4_194_304
+  pub small : length (encode_utf8_all line) ≤ max_bytes
 
 -- So far a line of the text has been counted.
 pub record IsCountedAt (width : ℕ → ℕ) (text : List ℕ) (at : ℕ) (counted : Counted) : Type 0 where

@@ -2,7 +2,7 @@
 use Rattle.std.specs.Prelude.{zero, suc, ◌+◌, ◌<◌, ◌≤◌, length, slice_index, ◌≡◌, ℕ, Bool, true, false, not, ◌⊎◌, List, [], ◌∷◌, ◌++◌, ◌==◌, if◌then◌else◌}
 use Rattle.std.specs.List.{list_any}
 use Rattle.std.specs.Str.{chars, IsUtf8, encode_utf8_all}
-use Rattle.ls_text.specs.Lines.{is_break, starts_with_lf}
+use Rattle.ls_text.specs.Lines.{is_break, starts_with_lf, max_bytes}
 use Rattle.ls_text.specs.declared.line_end.LineEnd.{LineEnd}
 use Rattle.ls_text.specs.declared.line_end.LineEnd.TheVariants.{Eof, Lf, Cr, CrLf}
 
@@ -80,7 +80,7 @@ pub record IsIndex (starts : List ℕ) (len : ℕ) (ls : List Row) : Type 0 wher
 -- what a snapshot keeps: the lines of a text of at most 4,194,304 bytes of UTF-8
 pub record IsKept (ls : List Row) : Type 0 where
   pub lines : AreLines ls
-  pub small : length (encode_utf8_all (text_of ls)) ≤ 4_194_304
+  pub small : length (encode_utf8_all (text_of ls)) ≤ max_bytes
 
 -- these are the lines of the text t
 abbrev pub IsCut : List ℕ → List Row → Type 0

@@ -1,7 +1,7 @@
 -- Edits of a text (LSP 3.17, "TextDocumentContentChangeEvent"). The width of a character is a parameter, as in Lines.
 use Rattle.std.specs.Prelude.{ℕ, min, if◌then◌else◌, nat_lt, Bool, false, Option, Some, None, List, [], ◌∷◌, ◌++◌, length, take, drop}
 use Rattle.std.specs.Str.{chars, encode_utf8_all}
-use Rattle.ls_text.specs.Lines.{offset_of}
+use Rattle.ls_text.specs.Lines.{offset_of, max_bytes}
 use Rattle.ls_text.specs.declared.position.Position.{Position}
 use Rattle.ls_text.specs.declared.position.Range.{Range}
 use Rattle.ls_text.specs.declared.edit.Edit.{Edit}
@@ -27,7 +27,7 @@ edited width t e = by_range e.range
 
 -- over 4,194,304 bytes of UTF-8
 abbrev pub is_too_large : List ℕ → Bool
-is_too_large t = nat_lt 4_194_304 (length (encode_utf8_all t))
+is_too_large t = nat_lt max_bytes (length (encode_utf8_all t))
 
 -- the text after the edits, each on the text that the ones before it left, or none where one of these texts is too large
 unfoldable pub edited_all : (ℕ → ℕ) → List ℕ → List Edit → Option (List ℕ)

@@ -6,6 +6,10 @@ use Rattle.std.specs.Char.{len_utf8}
 use Rattle.ls_text.specs.declared.position.Encoding.{Encoding}
 use Rattle.ls_text.specs.declared.position.Encoding.TheVariants.{Utf8, Utf16, Utf32}
 
+-- how many bytes of UTF-8 a text of a document may have
+abbrev pub max_bytes : ℕ
+max_bytes = 4_194_304
+
 -- LF or CR
 abbrev pub is_break : ℕ → Bool
 is_break c = c == 10 || c == 13

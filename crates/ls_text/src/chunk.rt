@@ -1,7 +1,10 @@
+//! Some lines that texts share, and where each of them starts.
+
 ghost use Rattle.std.specs.Prelude.{◌≡◌, ◌+◌, ◌<◌, ◌≤◌, ◌++◌, ◌∷◌, [], length, All, OnOk, IfOk, IfErr, slice_index};
 ghost use Rattle.std.specs.Char.{IsScalar};
 ghost use Rattle.std.specs.List.{flat_map};
 ghost use Rattle.std.specs.Str.{encode_utf8_all};
+ghost use Rattle.ls_text.specs.Lines.{max_bytes};
 ghost use Rattle.ls_text.specs.Cut.{text_of, IsIndex};
 
 use crate::fault::TextFault;
@@ -26,7 +29,7 @@ pub struct Chunk {
     ghost few: { length lines ≤ 512 },
     ghost index: { IsIndex starts.items char_count lines },
     ghost bytes_are: { byte_count ≡ length (encode_utf8_all (text_of lines)) },
-    ghost small: { byte_count ≤ 4_194_304 },
+    ghost small: { byte_count ≤ max_bytes },
     ghost scalars: { All IsScalar (text_of lines) },
 }
 

@@ -1,3 +1,5 @@
+//! The lines of a text, cut from its front.
+
 ghost use Rattle.std.specs.Prelude.{◌≡◌, ℕ, ◌<◌, ◌≤◌, ◌^◌, length, true, false, IfOk, slice_index};
 ghost use Rattle.std.specs.Str.{chars};
 ghost use Rattle.ls_text.specs.Lines.{is_break};

@@ -1,3 +1,5 @@
+//! Why there is no snapshot.
+
 use std::alloc::AllocError;
 use thiserror::Error;
 

@@ -1,3 +1,5 @@
+//! A line.
+
 ghost use Rattle.std.specs.Prelude.{◌≡◌, length};
 ghost use Rattle.std.specs.Str.{chars, encode_utf8_all};
 ghost use Rattle.abnf_token.specs.Marks.{AreMarks};

@@ -1,3 +1,5 @@
+//! How lines end.
+
 ghost use Rattle.std.specs.Prelude.{◌≡◌, length};
 ghost use Rattle.ls_text.specs.Cut.{end_text, first_end};
 

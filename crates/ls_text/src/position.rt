@@ -1,3 +1,5 @@
+//! Encodings, positions, ranges and places.
+
 /// What the positions in a text count within their line (LSP 3.17, "PositionEncodingKind").
 #[derive(Clone, Copy, Debug, PartialEq, Eq)]
 pub enum Encoding {

@@ -1,4 +1,5 @@
 //! Ranges of places that ascend.
+
 ghost use Rattle.std.specs.Prelude.{◌≡◌, ◌≤◌, ℕ, List, Some, length, take, sum_by, IfSome};
 ghost use Rattle.std.specs.Char.{len_utf8};
 ghost use Rattle.std.specs.List.{slice_get};

@@ -1,3 +1,5 @@
+//! Texts that don't change.
+
 ghost use Rattle.std.specs.Prelude.{ℕ, ◌≡◌, ◌+◌, ◌<◌, ◌≤◌, ◌++◌, ◌↔◌, ◌∷◌, [], length, map, Option, true, false, Some, None, Err, All, IsTrue, OnOk, IfOk, IfErr, IfSome, slice_index};
 ghost use Rattle.std.specs.Char.{len_utf8, IsScalar};
 ghost use Rattle.std.specs.Str.{chars, encode_utf8_all, IsUtf8};

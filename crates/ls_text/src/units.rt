@@ -1,3 +1,5 @@
+//! How many units characters have, and which fit into so many.
+
 ghost use Rattle.std.specs.Prelude.{◌≡◌, ◌≤◌, length, take, sum_by};
 ghost use Rattle.std.specs.Char.{len_utf8};
 ghost use Rattle.std.specs.Str.{chars, encode_utf8_all};

@@ -1,7 +1,7 @@
 -- What an answer says of how the threads ended.
 use Rattle.std.proofs.Common.{◌≡◌, ◌∙◌, Bool, true, false, not, OnOk, IfOk, Result, Ok, Err, refl, sym, if◌then◌else◌}
-use Rattle.ls_session.specs.declared.event.Status.{Status}
-use Rattle.ls_session.specs.declared.event.Status.TheVariants.{Full}
+use Rattle.ls_session.specs.declared.turn.Status.{Status}
+use Rattle.ls_session.specs.declared.turn.Status.TheVariants.{Full}
 use Rattle.ls_devices.specs.declared.fault.ServeFault.{ServeFault}
 use Rattle.ls_threads.specs.Ends.{has_failed, has_met_full_session, has_strayed, is_ended, is_read, lacked_memory, result_of, status_of}
 use Rattle.ls_threads.specs.declared.ending.Early.TheVariants as early

@@ -1,9 +1,9 @@
 -- Messages that are heard one after the other.
-use Rattle.std.proofs.Common.{◌≡◌, ◌∙◌, ℕ, ◌+◌, ◌<◌, List, [], ◌∷◌, ◌++◌, length, take, drop, get_or, Vec, Bool, Option, Some, None, OnErr, Result, Ok, Err, refl, sym, ap, subst, append_assoc}
+use Rattle.std.proofs.Common.{◌≡◌, ◌∙◌, ℕ, ◌+◌, ◌<◌, List, [], ◌∷◌, ◌++◌, length, take, drop, get_or, Vec, Option, Some, None, OnErr, Result, Ok, Err, refl, sym, ap, subst, append_assoc}
 use Rattle.std.specs.declared.alloc.Global.{Global}
 use Rattle.std.proofs.lemmas.List.{take_more, take-append-drop, map-append}
 use Rattle.ls_frame.specs.Feeds.{contents_of}
-use Rattle.ls_session.specs.declared.event.Status.{Status}
+use Rattle.ls_session.specs.declared.turn.Status.{Status}
 use Rattle.ls_session.specs.declared.session.Stage.{Stage}
 use Rattle.ls_workers.specs.Seats.{ToldClient}
 use Rattle.ls_threads.specs.Reading.{Hears, HearsAll, HearsFront, HearsOn}

@@ -6,7 +6,7 @@ use Rattle.ls_frame.proofs.Streams.{no-fault, none-yet, stream-append}
 use Rattle.ls_devices.specs.Ends.{end_status}
 use Rattle.std.proofs.lemmas.List.{append-nil}
 use Rattle.ls_devices.proofs.Input.{no-stream, consumes-consumes, stream-behind}
-use Rattle.ls_session.specs.declared.event.Status.{Status}
+use Rattle.ls_session.specs.declared.turn.Status.{Status}
 use Rattle.ls_session.specs.declared.session.Stage.{Stage}
 use Rattle.ls_workers.specs.Seats.{ToldClient}
 use Rattle.ls_threads.specs.Input.{HearsInput, HearsMore, HearsPiece, HearsSome}

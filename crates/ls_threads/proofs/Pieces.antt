@@ -7,8 +7,8 @@ use Rattle.ls_frame.specs.declared.fault.FrameFault.{FrameFault}
 use Rattle.ls_frame.specs.declared.fault.FrameFault.TheVariants.{HeaderTooLong, BadHeader, NoLength, TwoLengths, BadLength, TooLarge, Truncated, Memory as NoMemory}
 use Rattle.std.proofs.lemmas.List.{append-nil}
 use Rattle.ls_devices.proofs.Input.{no-stream}
-use Rattle.ls_session.specs.declared.event.Status.{Status}
-use Rattle.ls_session.specs.declared.event.Status.TheVariants.{BadFrame}
+use Rattle.ls_session.specs.declared.turn.Status.{Status}
+use Rattle.ls_session.specs.declared.turn.Status.TheVariants.{BadFrame}
 use Rattle.ls_session.specs.declared.session.Stage.{Stage}
 use Rattle.ls_workers.specs.Seats.{ToldClient}
 use Rattle.ls_threads.specs.Input.{HearsLast, HearsPiece, HearsSome, end_of_piece}

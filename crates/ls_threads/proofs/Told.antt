@@ -16,13 +16,13 @@ use Rattle.ls_machine.specs.declared.event.Event.TheVariants.{Sent}
 use Rattle.ls_machine.specs.declared.event.Out.{Out}
 use Rattle.ls_machine.specs.declared.base.Base.{Base}
 use Rattle.ls_session.specs.Bodies.{body_of}
-use Rattle.ls_session.specs.declared.event.Status.{Status}
+use Rattle.ls_session.specs.declared.turn.Status.{Status}
 use Rattle.ls_session.specs.declared.session.Stage.TheVariants.{BeforeInitialize}
 use Rattle.ls_desk.specs.Stands.{Seen, Sends, counts_of, ticket_of_out, used}
 use Rattle.ls_devices.specs.Devices.{AppendsFront}
 use Rattle.ls_devices.proofs.Known.{appends-appends, appends-none}
 use Rattle.ls_workers.specs.Seats.{ToldClient, told_nothing}
-use Rattle.ls_workers.specs.Ends.{Leaves}
+use Rattle.ls_workers.specs.Ends.{LeavesADesk}
 use Rattle.ls_workers.specs.Jobs.{HasLimits}
 use Rattle.ls_workers.specs.Sent.{noted_of, sent_by}
 use Rattle.ls_workers.specs.declared.replies.Noted.{Noted}
@@ -32,7 +32,7 @@ use Rattle.ls_threads.specs.Input.{HasHeard}
 use Rattle.ls_threads.specs.Served.{IsServed, told_of}
 use Rattle.ls_threads.specs.declared.ending.Heard.{Heard}
 use Rattle.ls_threads.specs.Settled.{IsSettled}
-use Rattle.ls_threads.specs.Writing.{HasTold, HasWritten, IsFinished, LastAre, WritesFrames, WritesFront, frame_for, frames_for}
+use Rattle.ls_threads.specs.Writing.{HasTold, HasWritten, SaysTheRest, LastAre, WritesFrames, WritesFront, frame_for, frames_for}
 use Rattle.ls_threads.specs.declared.ending.Wrote.{Wrote}
 use Rattle.ls_threads.specs.declared.ending.Wrote.TheVariants.{All, Failed, Memory}
 
@@ -46,11 +46,11 @@ frame-is out body e = ap (λ o. option_map_or frame_of o []) e
 frames-more : (outs : List Out) (out : Out) → frames_for (outs ++ out ∷ []) ≡ frames_for outs ++ frame_for out
 frames-more outs out = flat_map-append frame_for outs (out ∷ []) ∙ ap (λ l. frames_for outs ++ l) (append-nil (frame_for out))
 
-all-more : (outs : List Out) (out : Out) → AllByRecursion Leaves outs → Leaves out → AllByRecursion Leaves (outs ++ out ∷ [])
+all-more : (outs : List Out) (out : Out) → AllByRecursion LeavesADesk outs → LeavesADesk out → AllByRecursion LeavesADesk (outs ++ out ∷ [])
 all-more [] out h l = (l, tt)
 all-more (o ∷ outs) out h l = (h.0, all-more outs out h.1 l)
 
-pub all-both : (outs later : List Out) → AllByRecursion Leaves outs → AllByRecursion Leaves later → AllByRecursion Leaves (outs ++ later)
+pub all-both : (outs later : List Out) → AllByRecursion LeavesADesk outs → AllByRecursion LeavesADesk later → AllByRecursion LeavesADesk (outs ++ later)
 all-both [] later h l = l
 all-both (o ∷ outs) later h l = (h.0, all-both outs later h.1 l)
 
@@ -121,7 +121,7 @@ last-noted {X = X} word outs out last later kept n e =
 
 -- a reply more was given, and its frame written, or a front of it
 pub writes-on : (a b c : Option (List ℕ)) (held before holds : Bool) (end : Wrote) (count after : ℕ) (tickets later : List ℕ) (notes newer : List Noted) (kept : Bool) (out : Out)
-    → HasWritten a b held before All count tickets notes → Leaves out
+    → HasWritten a b held before All count tickets notes → LeavesADesk out
     → after ≡ count + 1 → later ≡ (if kept then tickets else []) ++ ticket_of_out out ∷ [] → newer ≡ (if kept then notes else []) ++ noted_of out ∷ [] → (end ≡ All → Appends b c (frame_for out))
     → AppendsFront b c (frame_for out) → (end ≡ Memory → Appends b c []) → (before ≡ false → has_failed end ≡ false → holds ≡ false) → HasWritten a c held holds end after later newer
 writes-on a b c held before holds end count after tickets later notes newer kept out h l m t noted whole front none flushed =
@@ -223,7 +223,7 @@ same-told told d l c s =
 
 -- The writer wrote all that it was given, and what the desk of a full session still had to say was written too.
 pub is-served : (journal events : ℕ) (status : Status) (input left a b c : Option (List ℕ)) (heard : Heard) (told : ToldClient) (held holds : Bool) (end : Wrote) (count : ℕ) (tickets : List ℕ) (notes : List Noted) (kept full : Bool) (d : Seen) → HasWritten a b held holds end count tickets notes → end ≡ All
-    → HasLimits journal events d → count ≡ (counts_of d).sent → sent_tickets d.journal ≡ (if kept then tickets else []) → sent_by d ≡ (if kept then notes else []) → (f : IsFinished full d b c)
+    → HasLimits journal events d → count ≡ (counts_of d).sent → sent_tickets d.journal ≡ (if kept then tickets else []) → sent_by d ≡ (if kept then notes else []) → (f : SaysTheRest full d b c)
     → IsSettled events status heard f.after → HasHeard input left BeforeInitialize told_nothing heard told → client_events d.journal ≡ told.list → d.base.checkpoints ≡ told.checkpoints
     → told.strayed ≡ false → IsServed journal events status input left a c
 is-served journal events status input left a b c heard client held holds end count tickets notes kept full d h all limits counted sent noted f settled hears list checkpoints strayed =
@@ -252,7 +252,7 @@ none-written failed a b w = record { outs = []; leave = tt; front = all-front fa
 pub told-frames : (end : Wrote) (d e : Seen) (a b : Option (List ℕ)) → HasTold end d e a b → WritesFrames (has_failed end) a b
 told-frames end d e a b h = record { outs = h.outs; leave = h.leave; front = h.front }
 
-leave-front : (xs ys : List Out) → AllByRecursion Leaves (xs ++ ys) → AllByRecursion Leaves xs × AllByRecursion Leaves ys
+leave-front : (xs ys : List Out) → AllByRecursion LeavesADesk (xs ++ ys) → AllByRecursion LeavesADesk xs × AllByRecursion LeavesADesk ys
 leave-front [] ys h = (tt, h)
 leave-front (x ∷ xs) ys h = let more = leave-front xs ys h.1 in ((h.0, more.0), more.1)
 
@@ -263,7 +263,7 @@ both-fronts failed a b c x y =
     let two = y.front in
     let first : Appends a b (frames_for one.whole) = subst (λ l. Appends a b l) (ap (λ l. frames_for one.whole ++ l) (one.none refl) ∙ append-nil (frames_for one.whole)) one.written in
     let frames : frames_for (one.whole ++ two.whole) ≡ frames_for one.whole ++ frames_for two.whole = flat_map-append frame_for one.whole two.whole in
-    let leave = leave-front one.whole one.left (subst (AllByRecursion Leaves) one.outs_are x.leave) in
+    let leave = leave-front one.whole one.left (subst (AllByRecursion LeavesADesk) one.outs_are x.leave) in
     record {
       outs = one.whole ++ y.outs;
       leave = all-both one.whole y.outs leave.0 y.leave;

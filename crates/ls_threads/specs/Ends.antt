@@ -4,8 +4,8 @@ use Rattle.ls_machine.specs.declared.event.DeskFault.{DeskFault}
 use Rattle.ls_machine.specs.declared.event.DeskFault.TheVariants as desk
 use Rattle.ls_devices.specs.declared.fault.ServeFault.{ServeFault}
 use Rattle.ls_devices.specs.declared.fault.ServeFault.TheVariants as fault
-use Rattle.ls_session.specs.declared.event.Status.{Status}
-use Rattle.ls_session.specs.declared.event.Status.TheVariants as status
+use Rattle.ls_session.specs.declared.turn.Status.{Status}
+use Rattle.ls_session.specs.declared.turn.Status.TheVariants as status
 use Rattle.ls_threads.specs.declared.ending.Early.{Early}
 use Rattle.ls_threads.specs.declared.ending.Early.TheVariants as early
 use Rattle.ls_threads.specs.declared.ending.Heard.{Heard}
@@ -76,11 +76,11 @@ early_by desk.SessionFull = early.Full
 early_by fault = early.Memory
 
 -- how a worker ended, by the fault that ended its work
-abbrev pub ended_by : Option DeskFault → Worked
-ended_by None = worked.All
-ended_by (Some desk.SessionFull) = worked.Full
-ended_by (Some desk.Memory) = worked.Memory
-ended_by (Some _) = worked.Strayed
+abbrev pub worked_by : Option DeskFault → Worked
+worked_by None = worked.All
+worked_by (Some desk.SessionFull) = worked.Full
+worked_by (Some desk.Memory) = worked.Memory
+worked_by (Some _) = worked.Strayed
 
 -- how much the end of a worker counts
 abbrev pub weight : Worked → ℕ

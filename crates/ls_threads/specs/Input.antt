@@ -5,9 +5,9 @@ use Rattle.ls_frame.specs.Frames.{Stream}
 use Rattle.ls_frame.specs.Faults.{fault_of}
 use Rattle.ls_frame.specs.declared.fault.FrameFault.{FrameFault}
 use Rattle.ls_frame.specs.declared.fault.FrameFault.TheVariants.{Memory as NoMemory}
-use Rattle.ls_devices.specs.Ends.{end_status, or_else}
-use Rattle.ls_session.specs.declared.event.Status.{Status}
-use Rattle.ls_session.specs.declared.event.Status.TheVariants.{BadFrame}
+use Rattle.ls_devices.specs.Ends.{end_status, status_or}
+use Rattle.ls_session.specs.declared.turn.Status.{Status}
+use Rattle.ls_session.specs.declared.turn.Status.TheVariants.{BadFrame}
 use Rattle.ls_session.specs.declared.session.Stage.{Stage}
 use Rattle.ls_workers.specs.Seats.{ToldClient}
 use Rattle.ls_threads.specs.Reading.{HearsAll, HearsFront, HearsOn}
@@ -30,7 +30,7 @@ pub record HearsLast (rest bytes : List ℕ) (stage : Stage) (old : ToldClient) 
   pub exit : Option Status
   pub stream : Stream (rest ++ bytes) contents last
   pub heard : HearsAll contents stage old exit after new
-  pub status_is : or_else exit (fault_of last) ≡ Some status
+  pub status_is : status_or exit (fault_of last) ≡ Some status
 
 -- Bytes come after a rest, and of the messages of a front of them a front was heard.
 pub record HearsSome (rest bytes : List ℕ) (stage : Stage) (old new : ToldClient) : Type 0 where

@@ -1,25 +1,19 @@
 -- What the reader makes of the messages that it hears.
 use Rattle.std.specs.Prelude.{◌≡◌, ◌⊎◌, ◌++◌, ◌∷◌, ℕ, List, [], true, false, Option, Some, None}
 use Rattle.ls_rpc.specs.Message.{message_of}
-use Rattle.ls_rpc.specs.declared.message.Id.{Id}
 use Rattle.ls_machine.specs.Client.{asker_of}
 use Rattle.ls_machine.specs.declared.client.ClientAnswer.{ClientAnswer}
 use Rattle.ls_machine.specs.declared.client.ClientEvent.{ClientEvent}
 use Rattle.ls_machine.specs.declared.client.ClientEvent.TheVariants.{Say}
 use Rattle.ls_machine.specs.declared.event.DeskFault.{DeskFault}
-use Rattle.ls_session.specs.Bodies.{refusal_of}
+use Rattle.ls_session.specs.Bodies.{refusal_to}
 use Rattle.ls_session.specs.Session.{turn_of}
-use Rattle.ls_session.specs.declared.event.Status.{Status}
-use Rattle.ls_session.specs.declared.event.Turn.{Turn}
-use Rattle.ls_session.specs.declared.event.Turn.TheVariants.{Nothing, Event, Exit}
+use Rattle.ls_session.specs.declared.turn.Status.{Status}
+use Rattle.ls_session.specs.declared.turn.Turn.{Turn}
+use Rattle.ls_session.specs.declared.turn.Turn.TheVariants.{Nothing, Event, Exit}
 use Rattle.ls_session.specs.declared.session.Stage.{Stage}
 use Rattle.ls_workers.specs.Refusals.{is_shortage, may_refuse}
 use Rattle.ls_workers.specs.Seats.{IsHeard, ToldClient}
-
--- the body that tells whoever asked that the desk refused it; none where nobody asked
-abbrev pub refusal_to : Option Id → DeskFault → Option (List ℕ)
-refusal_to None fault = None
-refusal_to (Some id) fault = refusal_of id fault
 
 -- the event stands at the end of the seat's list, with the board's answer
 abbrev pub IsEntered : ClientEvent → ToldClient → ToldClient → Type 0
@@ -36,14 +30,14 @@ IsMet e old new = IsEntered e old new
     ⊎ ((fault : DeskFault) × ((may_refuse e fault ≡ true) × (is_shortage fault ≡ false) × IsTold (refusal_to (asker_of e) fault) old new))
 
 -- what a turn leaves at the seat, and the status of an exit
-abbrev pub IsTaken : Turn → ToldClient → Option Status → ToldClient → Type 0
-IsTaken Nothing old status new = (status ≡ None) × (new ≡ old)
-IsTaken (Event e) old status new = (status ≡ None) × IsMet e old new
-IsTaken (Exit s) old status new = (status ≡ Some s) × (new ≡ old)
+abbrev pub LeavesAtSeat : Turn → ToldClient → Option Status → ToldClient → Type 0
+LeavesAtSeat Nothing old status new = (status ≡ None) × (new ≡ old)
+LeavesAtSeat (Event e) old status new = (status ≡ None) × IsMet e old new
+LeavesAtSeat (Exit s) old status new = (status ≡ Some s) × (new ≡ old)
 
 -- A message is heard by its body: the session's turn on it, and what that leaves.
 abbrev pub Hears : List ℕ → Stage → ToldClient → Option Status → Stage → ToldClient → Type 0
-Hears body stage old status after new = (turn : Turn) × (((turn, after) ≡ turn_of stage (message_of body)) × IsTaken turn old status new)
+Hears body stage old status after new = (turn : Turn) × (((turn, after) ≡ turn_of stage (message_of body)) × LeavesAtSeat turn old status new)
 
 -- messages are heard in their order, none of which is an exit
 abbrev pub HearsOn : List (List ℕ) → Stage → ToldClient → Stage → ToldClient → Type 0

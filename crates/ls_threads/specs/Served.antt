@@ -4,10 +4,10 @@ use Rattle.std.specs.List.{AllByRecursion}
 use Rattle.std.specs.Io.KnownBytes.{Appends}
 use Rattle.ls_machine.specs.Client.{client_events, sent_tickets}
 use Rattle.ls_machine.specs.declared.event.Out.{Out}
-use Rattle.ls_session.specs.declared.event.Status.{Status}
+use Rattle.ls_session.specs.declared.turn.Status.{Status}
 use Rattle.ls_session.specs.declared.session.Stage.TheVariants.{BeforeInitialize}
 use Rattle.ls_desk.specs.Stands.{IsSound, Seen, counts_of, ticket_of_out}
-use Rattle.ls_workers.specs.Ends.{Leaves}
+use Rattle.ls_workers.specs.Ends.{LeavesADesk}
 use Rattle.ls_workers.specs.Jobs.{HasLimits}
 use Rattle.ls_workers.specs.Seats.{ToldClient, told_nothing}
 use Rattle.ls_workers.specs.Sent.{noted_of, sent_by}
@@ -32,7 +32,7 @@ pub record IsServed (journal events : ℕ) (status : Status) (input left old new
   pub heard : HasHeard input left BeforeInitialize told_nothing end (told_of desk)
   pub settled : IsSettled events status end desk
   pub outs : List Out
-  pub leave : AllByRecursion Leaves outs
+  pub leave : AllByRecursion LeavesADesk outs
   pub count_is : length outs ≡ (counts_of desk).sent
   pub tickets_are : LastAre ticket_of_out outs (sent_tickets desk.journal)
   pub notes_are : LastAre noted_of outs (sent_by desk)

@@ -1,7 +1,7 @@
 -- How a run that ended well leaves its desk.
 use Rattle.std.specs.Prelude.{◌≡◌, ◌<◌, ◌+◌, ◌⊎◌, ◌==◌, ◌&&◌, ℕ, [], length, Bool, false, nat_lt, if◌then◌else◌}
-use Rattle.ls_session.specs.declared.event.Status.{Status}
-use Rattle.ls_session.specs.declared.event.Status.TheVariants.{Full}
+use Rattle.ls_session.specs.declared.turn.Status.{Status}
+use Rattle.ls_session.specs.declared.turn.Status.TheVariants.{Full}
 use Rattle.ls_desk.specs.Stands.{Seen, state_of, used}
 use Rattle.ls_threads.specs.Ends.{has_met_full_session, is_ended, is_read}
 use Rattle.ls_threads.specs.declared.ending.Heard.{Heard}

@@ -8,7 +8,7 @@ use Rattle.ls_machine.specs.Client.{client_events, sent_tickets}
 use Rattle.ls_machine.specs.declared.event.Out.{Out}
 use Rattle.ls_session.specs.Bodies.{body_of}
 use Rattle.ls_desk.specs.Stands.{IsSound, Seen, counts_of, ticket_of_out, used}
-use Rattle.ls_workers.specs.Ends.{Leaves}
+use Rattle.ls_workers.specs.Ends.{LeavesADesk}
 use Rattle.ls_workers.specs.Jobs.{HasLimits}
 use Rattle.ls_workers.specs.Sent.{noted_of, sent_by}
 use Rattle.ls_workers.specs.declared.replies.Noted.{Noted}
@@ -44,7 +44,7 @@ pub record WritesFront (failed : Bool) (old new : Option (List ℕ)) (outs : Lis
 -- What was written are whole frames of replies that left a desk, and behind them a front of one more, but only where the sink failed.
 pub record WritesFrames (failed : Bool) (old new : Option (List ℕ)) : Type 0 where
   pub outs : List Out
-  pub leave : AllByRecursion Leaves outs
+  pub leave : AllByRecursion LeavesADesk outs
   pub front : WritesFront failed old new outs
 
 -- What the writer's seat was given are replies that left a desk: as many as it counted, and the last of them have the tickets and the notes that
@@ -52,7 +52,7 @@ pub record WritesFrames (failed : Bool) (old new : Option (List ℕ)) : Type 0 w
 -- unless the sink failed.
 pub record HasWritten (old new : Option (List ℕ)) (held holds : Bool) (end : Wrote) (count : ℕ) (tickets : List ℕ) (notes : List Noted) : Type 0 where
   pub outs : List Out
-  pub leave : AllByRecursion Leaves outs
+  pub leave : AllByRecursion LeavesADesk outs
   pub count_is : length outs ≡ count
   pub tickets_are : LastAre ticket_of_out outs tickets
   pub notes_are : LastAre noted_of outs notes
@@ -64,7 +64,7 @@ pub record HasWritten (old new : Option (List ℕ)) (held holds : Bool) (end : W
 -- of them where that ended well.
 pub record HasTold (end : Wrote) (before after : Seen) (old new : Option (List ℕ)) : Type 0 where
   pub outs : List Out
-  pub leave : AllByRecursion Leaves outs
+  pub leave : AllByRecursion LeavesADesk outs
   pub count_is : (counts_of after).sent ≡ (counts_of before).sent + length outs
   pub tickets_are : sent_tickets after.journal ≡ sent_tickets before.journal ++ map ticket_of_out outs
   pub notes_are : sent_by after ≡ sent_by before ++ map noted_of outs
@@ -76,7 +76,7 @@ pub record HasTold (end : Wrote) (before after : Seen) (old new : Option (List �
   pub whole : end ≡ All → Appends old new (frames_for outs)
 
 -- Where its session is full a desk told all that it still had to say, and otherwise nothing.
-pub record IsFinished (full : Bool) (before : Seen) (old new : Option (List ℕ)) : Type 0 where
+pub record SaysTheRest (full : Bool) (before : Seen) (old new : Option (List ℕ)) : Type 0 where
   pub after : Seen
   pub sound : IsSound after
   pub told : HasTold All before after old new

@@ -1,6 +1,6 @@
 //! How the threads end, and what that makes of the run.
 ghost use Rattle.std.specs.Prelude.{◌≡◌};
-ghost use Rattle.ls_threads.specs.Ends.{ended_by, has_met_full_session, is_ended, result_of, worse};
+ghost use Rattle.ls_threads.specs.Ends.{worked_by, has_met_full_session, is_ended, result_of, worse};
 
 use ls_desk::DeskFault;
 use ls_devices::ServeFault;
@@ -77,7 +77,7 @@ pub enum Worked {
 impl Worked {
     /// How a worker ended, by the fault that ended its work early, if one did.
     pub fn by(fault: Option<DeskFault>) -> Worked
-        ensures { result ≡ ended_by fault }
+        ensures { result ≡ worked_by fault }
     {
         match fault {
             None => Worked::All,

@@ -5,10 +5,11 @@ ghost use Rattle.ls_frame.specs.Faults.{fault_of};
 ghost use Rattle.ls_frame.specs.Frames.{HasNoFrame};
 ghost use Rattle.ls_machine.specs.Client.{IsAllowed};
 ghost use Rattle.ls_devices.specs.Ends.{end_status};
+ghost use Rattle.ls_session.specs.Bodies.{refusal_to};
 ghost use Rattle.ls_workers.specs.Seats.{told_by};
 ghost use Rattle.ls_threads.specs.Ends.{has_cause};
 ghost use Rattle.ls_threads.specs.Input.{HearsInput, HearsPiece, end_of_piece};
-ghost use Rattle.ls_threads.specs.Reading.{Hears, HearsAll, HearsFront, IsMet, IsTold, refusal_to};
+ghost use Rattle.ls_threads.specs.Reading.{Hears, HearsAll, HearsFront, IsMet, IsTold};
 
 use crate::ending::{Early, Heard};
 use ls_desk::DeskFault;
@@ -16,7 +17,7 @@ use ls_devices::{DeviceFault, READ_MOST, READS_END, Source};
 use ls_frame::{FrameFault, Framer};
 use ls_lists::List;
 use ls_rpc::Id;
-use ls_session::{ClientEvent, Session, Status, Turn, refusal_body};
+use ls_session::{ClientEvent, Session, Status, Turn, refusal_to};
 use ls_workers::{Board, ClientSeat, Crew};
 use std::alloc::Global;
 use std::sync::Wait;
@@ -57,17 +58,14 @@ impl<C: Crew> Reader<C> {
         &mut self,
         rt: &R,
         board: &Board<C>,
-        id: Option<Id>,
+        asker: Option<Id>,
         fault: DeskFault,
     ) -> Result<(), Early>
-        ensures ok { OnOk result (IsTold (refusal_to id fault) (told_by self.old.seat.told) (told_by self.new.seat.told)) }
+        ensures ok { OnOk result (IsTold (refusal_to asker fault) (told_by self.old.seat.told) (told_by self.new.seat.told)) }
         ensures err { OnErr result (told_by self.new.seat.told ≡ told_by self.old.seat.told) }
         ensures session { self.new.session ≡ self.old.session }
     {
-        let Some(id) = id else {
-            return Ok(());
-        };
-        let Some(body) = refusal_body(self.alloc, &id, fault)? else {
+        let Some(body) = refusal_to(self.alloc, &asker, fault)? else {
             return Ok(());
         };
         board.client(rt, &mut self.seat, ClientEvent::Say(List::from_vec(body)))?;
@@ -81,11 +79,11 @@ impl<C: Crew> Reader<C> {
         ensures err { OnErr result (told_by self.new.seat.told ≡ told_by self.old.seat.told) }
         ensures session { self.new.session ≡ self.old.session }
     {
-        let id = event.asker()?;
+        let asker = event.asker()?;
         match board.client(rt, &mut self.seat, event) {
             Ok(_) => Ok(()),
             Err(fault @ (DeskFault::SessionFull | DeskFault::Memory)) => Err(fault.into()),
-            Err(fault) => self.tell(rt, board, id, fault),
+            Err(fault) => self.tell(rt, board, asker, fault),
         }
     }
 

@@ -13,7 +13,7 @@ ghost use Rattle.ls_threads.specs.Ends.{has_cause, has_failed, has_met_full_sess
 ghost use Rattle.ls_threads.specs.Input.{HasHeard};
 ghost use Rattle.ls_threads.specs.Served.{IsServed};
 ghost use Rattle.ls_threads.specs.Settled.{is_settled};
-ghost use Rattle.ls_threads.specs.Writing.{HasWritten, IsFinished, WritesFrames};
+ghost use Rattle.ls_threads.specs.Writing.{HasWritten, SaysTheRest, WritesFrames};
 
 use crate::ending::{Early, Heard, Worked, Wrote, has_met_full_session, result_of};
 use crate::halt::halt;
@@ -100,6 +100,23 @@ impl<C: Crew, I: Source> Unread<C, I> {
             end: Heard::Broken(Early::Memory),
         }
     }
+
+    /// Reads up to the end where all threads could be made, and else nothing.
+    fn read_where<R: Wait>(
+        self,
+        made: bool,
+        rt: &R,
+        board: &Board<C>,
+        halted: &AtomicU64,
+    ) -> ReadUp<C, I>
+        ensures { HasHeard (I.remaining self.source) (I.remaining result.source) self.reader.session (told_by self.reader.seat.told) result.end (told_by result.seat.told) }
+    {
+        if made {
+            self.read_up(rt, board, halted)
+        } else {
+            self.given_up()
+        }
+    }
 }
 
 /// What the reader and the workers leave.
@@ -173,11 +190,7 @@ fn read_and_work<
                     }
                 }
             }
-            let read = if made {
-                unread.read_up(rt, board, halted)
-            } else {
-                unread.given_up()
-            };
+            let read = unread.read_where(made, rt, board, halted);
             'handles: while let Some(handle) = handles.pop() {
                 let (seat, fault) = handle.join(rt);
                 worked = worked.and(Worked::by(fault));
@@ -254,7 +267,7 @@ fn run_threads<
 fn finished<W: Sink>(alloc: Global, desk: Desk, sink: &mut W, full: bool, wrote: Wrote) -> Wrote
     requires { W.failed sink.old ≡ has_failed wrote }
     ensures failed { W.failed sink.new ≡ has_failed result }
-    ensures all { result ≡ Wrote.All → (wrote ≡ Wrote.All) × IsFinished full desk (W.contents sink.old) (W.contents sink.new) }
+    ensures all { result ≡ Wrote.All → (wrote ≡ Wrote.All) × SaysTheRest full desk (W.contents sink.old) (W.contents sink.new) }
     ensures kept { full ≡ false → result ≡ wrote }
     ensures frames { WritesFrames (has_failed result) (W.contents sink.old) (W.contents sink.new) }
     ensures still { has_failed wrote ≡ true → (result ≡ Wrote.Failed) × Appends (W.contents sink.old) (W.contents sink.new) [] }

@@ -48,5 +48,5 @@ has_news (Some Drain) desk = nat_lt 0 (length desk.outbox) || (length (state_of 
 has_news (Some Now) desk = true
 
 -- a reply that leaves a desk: there are the desk before and the desk after
-abbrev pub Leaves : Out → Type 0
-Leaves out = (old new : Seen) × Sends old new out
+abbrev pub LeavesADesk : Out → Type 0
+LeavesADesk out = (old new : Seen) × Sends old new out

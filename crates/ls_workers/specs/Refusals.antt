@@ -1,10 +1,9 @@
 -- Which refusals each call through a seat can meet.
 use Rattle.std.specs.Prelude.{◌≡◌, ◌⊎◌, ◌||◌, Bool, true, false, Option, Some}
 use Rattle.ls_machine.specs.declared.client.ClientEvent.{ClientEvent}
-use Rattle.ls_machine.specs.declared.client.ClientEvent.TheVariants.{DidOpen, DidChange, DidClose, Request, Cancel, Say}
+use Rattle.ls_machine.specs.declared.client.ClientEvent.TheVariants.{DidOpen, DidChange, DidClose, Request}
 use Rattle.ls_machine.specs.declared.event.DeskFault.{DeskFault}
 use Rattle.ls_machine.specs.declared.event.DeskFault.TheVariants.{NotOpen, AlreadyOpen, TooManyDocuments, TooManyWaiting, IdInUse, TooLarge, UnknownTicket, OtherText, SessionFull, Memory}
-use Rattle.ls_desk.specs.Faults.{open_fault, end_fault, request_fault, cancel_fault, full_fault}
 use Rattle.ls_desk.specs.Stands.{Seen}
 
 -- the session is full, or memory was refused: any call may meet that
@@ -44,15 +43,6 @@ may_refuse_run fault = is_shortage fault
 abbrev pub ends_work : DeskFault → Bool
 ends_work OtherText = true
 ends_work fault = is_shortage fault
-
--- the refusal of a client's event that comes first at a desk, memory aside
-abbrev pub client_fault : Seen → ClientEvent → Option DeskFault
-client_fault desk (DidOpen uri label text encoding) = open_fault desk uri text
-client_fault desk (DidChange uri label edits) = end_fault desk uri
-client_fault desk (DidClose uri) = end_fault desk uri
-client_fault desk (Request id uri question links) = request_fault desk id uri
-client_fault desk (Cancel id) = cancel_fault desk id
-client_fault desk (Say body) = full_fault desk 2
 
 -- a client's event is refused for want of memory, which what is made for the seat's list may lack before the desk is asked, or for the first
 -- cause that holds, and nothing has changed

@@ -10,7 +10,7 @@ use crate::same::same_event;
 use crate::seats::ToldClient;
 use ls_desk::{Desk, Event};
 
-// The event where it is a client's.
+/// The event where it is a client's.
 fn client_event(event: &Event) -> Option<&Event>
     ensures { option_map (λ entry. entry.now) result ≡ client_event event.now }
 {
@@ -26,7 +26,7 @@ fn client_event(event: &Event) -> Option<&Event>
     }
 }
 
-// The ticket where a reply left.
+/// The ticket where a reply left.
 fn sent_ticket(event: &Event) -> Option<u64>
     ensures { result ≡ sent_ticket event.now }
 {
@@ -55,7 +55,7 @@ pub fn same_events(journal: &[Event], list: &[Event]) -> bool
     count == list.len()
 }
 
-// Whether these are the tickets of what a journal sent.
+/// Whether these are the tickets of what a journal sent.
 fn same_tickets(journal: &[Event], tickets: &[u64]) -> bool
     ensures { IsTrue result ↔ (sent_tickets journal.now ≡ tickets.now) }
 {
@@ -74,14 +74,14 @@ fn same_tickets(journal: &[Event], tickets: &[u64]) -> bool
     count == tickets.len()
 }
 
-// Whether these are the client's events of a journal, and the tickets of what it sent.
+/// Whether these are the client's events of a journal, and the tickets of what it sent.
 fn agrees(journal: &[Event], list: &[Event], tickets: &[u64]) -> bool
     ensures { IsTrue result ↔ Agrees journal.now list.now tickets.now }
 {
     same_events(journal, list) && same_tickets(journal, tickets)
 }
 
-// What a list has since the last checkpoint of a desk, by how many the seat had seen whose list it is.
+/// What a list has since the last checkpoint of a desk, by how many the seat had seen whose list it is.
 fn since<'t, T>(desk: &Desk, seen: u64, list: &'t [T]) -> &'t [T]
     ensures { result.now ≡ since desk.now.base.checkpoints seen list.now }
 {

@@ -2,7 +2,7 @@
 ghost use Rattle.std.specs.Prelude.{◌≡◌, ◌+◌, ◌<◌, ◌≤◌, ◌++◌, ◌∷◌, [], IfOk, IfErr, OnOk, OnErr, IfNone, IfSome, OnSome, vec_len, sum_by, false, true};
 ghost use Rattle.ls_desk.specs.Stands.{ticket_of_out};
 ghost use Rattle.ls_workers.specs.Count.{Counts};
-ghost use Rattle.ls_workers.specs.Ends.{Leaves};
+ghost use Rattle.ls_workers.specs.Ends.{LeavesADesk};
 ghost use Rattle.ls_workers.specs.Jobs.{HasLimits, IsFinished, IsReturned, IsTaken};
 ghost use Rattle.ls_workers.specs.Refusals.{is_shortage, may_refuse, may_refuse_return, may_refuse_run};
 ghost use Rattle.ls_workers.specs.Sent.{noted_of, sent_by};
@@ -198,7 +198,7 @@ impl<C: Crew> Board<C> {
         ensures some { IfOk result (λ next. OnSome next (seat.new.sent.share.amount ≡ seat.old.sent.share.amount + 1)) }
         ensures tickets { IfOk result (λ next. IfSome next (λ out. seat.new.tickets.items ≡ since seat.new.checkpoints seat.old.checkpoints seat.old.tickets.items ++ ticket_of_out out ∷ [])) }
         ensures notes { IfOk result (λ next. IfSome next (λ out. seat.new.notes.items ≡ since seat.new.checkpoints seat.old.checkpoints seat.old.notes.items ++ noted_of out ∷ [])) }
-        ensures leaves { IfOk result (λ next. IfSome next Leaves) }
+        ensures leaves { IfOk result (λ next. IfSome next LeavesADesk) }
         ensures none { IfOk result (λ next. IfNone next ((seat.new.sent.share.amount ≡ seat.old.sent.share.amount) × (seat.new.tickets.items ≡ seat.old.tickets.items) × (seat.new.notes.items ≡ seat.old.notes.items)
             × (seat.new.checkpoints ≡ seat.old.checkpoints))) }
         ensures err { OnErr result ((seat.new.sent.share.amount ≡ seat.old.sent.share.amount) × (seat.new.tickets.items ≡ seat.old.tickets.items) × (seat.new.notes.items ≡ seat.old.notes.items)

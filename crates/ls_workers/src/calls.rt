@@ -2,25 +2,23 @@
 //!
 //! What lies behind the lock counts the events of a session, and needs no more of a desk than this.
 ghost use Rattle.std.specs.Prelude.{◌≡◌, ◌↔◌, ◌++◌, ◌∷◌, [], IfOk, IfErr, IfNone, IfSome, OnOk, OnErr, OnSome, IsTrue, find, Some, None, false, true};
-ghost use Rattle.std.specs.Str.{chars};
 ghost use Rattle.ls_workers.specs.Count.{Adds};
 ghost use Rattle.ls_machine.specs.Client.{HasSmallText, Notes, IsAllowed, entry_of, filled, note_of, is_too_long};
 ghost use Rattle.ls_machine.specs.Machine.{is_queued};
 ghost use Rattle.ls_machine.specs.Counts.{no_events};
 ghost use Rattle.ls_desk.specs.Anew.{base_after, journal_after};
 ghost use Rattle.ls_desk.specs.Stands.{Sends, counts_of, fresh, is_long, state_of};
-ghost use Rattle.ls_desk.specs.Faults.{Refuses, Takes, open_fault, take_fault, give_back_fault, finish_fault};
+ghost use Rattle.ls_desk.specs.Door.{client_fault};
+ghost use Rattle.ls_desk.specs.Faults.{Refuses, Takes, take_fault, give_back_fault, finish_fault};
 ghost use Rattle.ls_workers.specs.Jobs.{Finishes, HasLimits, Returns};
-ghost use Rattle.ls_workers.specs.Refusals.{RefusesEvent, client_fault, is_shortage, may_refuse, may_refuse_return, may_refuse_run};
+ghost use Rattle.ls_workers.specs.Refusals.{RefusesEvent, is_shortage, may_refuse, may_refuse_return, may_refuse_run};
 ghost use Rattle.ls_workers.specs.Seats.{Strays};
 ghost use Rattle.ls_workers.specs.Sent.{noted_of, sent_by};
 
 use crate::agree::same_events;
 use ls_answers::{Done, Job};
 use ls_desk::{Desk, DeskFault, Event, Kept, Out};
-use ls_lists::Text;
 use ls_machine::{ClientAnswer, ClientEvent};
-use ls_text::Encoding;
 
 /// Says of an empty journal that nothing has happened at its desk.
 pub fn count_none(desk: &Desk)
@@ -45,31 +43,8 @@ pub fn strays(desk: &Desk, list: &[Event]) -> bool
     is_long(desk) && !same_events(desk.journal(), list)
 }
 
-/// Opens a document, by the text of its note: that one is made already. A text that is too large has no note.
-fn open(
-    desk: &mut Desk,
-    uri: Text,
-    label: i64,
-    text: Text,
-    encoding: Encoding,
-    note: Option<&Event>,
-) -> Result<u64, DeskFault>
-    requires some { IfSome note (λ noted. (noted.now ≡ note_of (ClientEvent.DidOpen uri label text encoding)) × (is_too_long (ClientEvent.DidOpen uri label text encoding) ≡ false) × HasSmallText noted.now) }
-    ensures ok { IfOk result (λ version. desk.new.journal ≡ journal_after (fresh desk.old) desk.old.journal ++ Event.Opened uri label (chars text) encoding version ∷ []) }
-    ensures base { OnOk result (desk.new.base ≡ base_after (fresh desk.old) (counts_of desk.old) desk.old.base) }
-    ensures counts { OnOk result (Adds 1 0 0 0 0 desk.old desk.new) }
-    ensures limits { OnOk result (HasLimits desk.old.max_journal desk.old.max_events desk.new) }
-    ensures fits { OnOk result (is_too_long (ClientEvent.DidOpen uri label text encoding) ≡ false) }
-    ensures err { OnErr result (desk.new ≡ desk.old) }
-    ensures cause { IfErr result (λ fault. RefusesEvent (open_fault desk.old uri text) desk.old desk.new fault) }
-{
-    match note {
-        Some(Event::Opened { text, .. }) => desk.open_shared(uri, label, text.again()?, encoding),
-        _ => desk.did_open(uri, label, text, encoding),
-    }
-}
-
-/// Enters a client's event, whose note it is.
+#[tactic(auto, using(crate::proofs::Entering::notes_entry, crate::proofs::Entering::base_is, crate::proofs::Entering::adds_one, crate::proofs::Entering::same_limits))]
+/// Enters a client's event, whose note it is: the desk shares the text of an opening with the note. A text that is too large has no note.
 pub fn enter(
     desk: &mut Desk,
     event: ClientEvent,
@@ -87,35 +62,11 @@ pub fn enter(
     ensures cause { IfErr result (λ fault. RefusesEvent (client_fault desk.old event) desk.old desk.new fault) }
     ensures refused { IfErr result (λ fault. may_refuse event fault ≡ true) }
 {
-    match event {
-        ClientEvent::DidOpen(uri, label, text, encoding) => {
-            match open(desk, uri, label, text, encoding, note) {
-                Ok(version) => Ok(ClientAnswer::Version(version)),
-                Err(fault) => Err(fault),
-            }
-        }
-        ClientEvent::DidChange(uri, label, edits) => match desk.did_change(uri, label, edits) {
-            Ok(Some(version)) => Ok(ClientAnswer::Version(version)),
-            Ok(None) => Ok(ClientAnswer::Closed),
-            Err(fault) => Err(fault),
-        },
-        ClientEvent::DidClose(uri) => match desk.did_close(uri) {
-            Ok(()) => Ok(ClientAnswer::Closed),
-            Err(fault) => Err(fault),
-        },
-        ClientEvent::Request(id, uri, ask, links) => match desk.request(id, uri, ask, links) {
-            Ok(ticket) => Ok(ClientAnswer::Ticket(ticket)),
-            Err(fault) => Err(fault),
-        },
-        ClientEvent::Cancel(id) => match desk.cancel(&id) {
-            Ok(found) => Ok(ClientAnswer::Cancelled(found)),
-            Err(fault) => Err(fault),
-        },
-        ClientEvent::Say(body) => match desk.say(body) {
-            Ok(()) => Ok(ClientAnswer::Said),
-            Err(fault) => Err(fault),
-        },
-    }
+    let made = match note {
+        Some(Event::Opened { text, .. }) => Some(text.again()?),
+        _ => None,
+    };
+    desk.enter(event, made)
 }
 
 /// Takes the first queued job.

@@ -42,14 +42,14 @@ pub fn seats_of<C: Ledgers>(
     Ok(seats)
 }
 
-// Whether all seats have a mark.
+/// Whether all seats have a mark.
 fn are_marked<C: Ledgers>(seats: &[WorkerSeat<C>], mark: u64) -> bool
     ensures { result ≡ list_all (λ seat. seat.mark == mark) seats.now }
 {
     seats.iter().all(|seat| seat.mark == mark)
 }
 
-// How many seats have a number.
+/// How many seats have a number.
 fn count_of<C: Ledgers>(seats: &[WorkerSeat<C>], number: u32) -> usize
     ensures { result ≡ count_by (λ seat. seat.number == number) seats.now }
 {
@@ -62,7 +62,7 @@ fn count_of<C: Ledgers>(seats: &[WorkerSeat<C>], number: u32) -> usize
     count
 }
 
-// Whether just one seat has a number.
+/// Whether just one seat has a number.
 fn is_once<C: Ledgers>(seats: &[WorkerSeat<C>], number: u32) -> bool
     ensures { IsTrue result ↔ (count_by (λ seat. seat.number == number) seats.now ≡ 1) }
 {

@@ -15,9 +15,10 @@
 //!   desk only where all agree, as the client's list did at each checkpoint, and then there were as many events of each kind as the seats
 //!   counted.
 //!
-//! Nothing is computed under the lock: [`work`] passes its gate and runs its job while the lock is free, and the text of a document that is
-//! opened is made before the lock is taken, as all that a call needs memory for in its seat, but for the notes of a reply, which is known there
-//! alone. A thread that waits for a job or a reply sleeps until something has changed.
+//! What takes long is done while the lock is free: [`work`] passes its gate and runs its job, and the text of a document that is opened is made
+//! before the lock is taken, as all that a call needs memory for in its seat, but for the notes of a reply, which is known there alone. Under the
+//! lock the edits of a change are applied, which stand on the text that the desk has just then, a run's text is compared with its job's, and at a
+//! checkpoint the seat's list with the journal. A thread that waits for a job or a reply sleeps until something has changed.
 #![tactic(auto)]
 
 mod agree;

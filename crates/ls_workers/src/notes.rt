@@ -56,62 +56,24 @@ pub fn note_of(alloc: Global, event: &ClientEvent) -> Result<Option<Event>, Allo
 pub fn filled(note: Event, answer: ClientAnswer) -> Event
     ensures { result ≡ filled note answer }
 {
-    match (note, answer) {
-        (
-            Event::Opened {
-                uri,
-                label,
-                text,
-                encoding,
-                ..
-            },
-            ClientAnswer::Version(version),
-        ) => {
-            Event::Opened {
-                uri,
-                label,
-                text,
-                encoding,
-                version,
+    let mut note = note;
+    match answer {
+        ClientAnswer::Version(given) => match &mut note {
+            Event::Opened { version, .. } => *version = given,
+            Event::Changed { version, .. } => *version = Some(given),
+            _ => {}
+        },
+        ClientAnswer::Ticket(given) => {
+            if let Event::Asked { ticket, .. } = &mut note {
+                *ticket = given;
             }
         }
-        (
-            Event::Changed {
-                uri,
-                label,
-                edits,
-                ..
-            },
-            ClientAnswer::Version(version),
-        ) => {
-            Event::Changed {
-                uri,
-                label,
-                edits,
-                version: Some(version),
+        ClientAnswer::Cancelled(waited) => {
+            if let Event::Cancelled { found, .. } = &mut note {
+                *found = waited;
             }
         }
-        (
-            Event::Asked {
-                id,
-                uri,
-                ask,
-                links,
-                ..
-            },
-            ClientAnswer::Ticket(ticket),
-        ) => {
-            Event::Asked {
-                id,
-                uri,
-                ask,
-                links,
-                ticket,
-            }
-        }
-        (Event::Cancelled { id, .. }, ClientAnswer::Cancelled(found)) => {
-            Event::Cancelled { id, found }
-        }
-        (note, _) => note,
+        ClientAnswer::Closed | ClientAnswer::Said => {}
     }
+    note
 }

@@ -3,9 +3,10 @@ ghost use Rattle.std.specs.Prelude.{◌≡◌, ◌↔◌, ◌<◌, ◌++◌, ◌
 ghost use Rattle.std.specs.Option.{option_map};
 ghost use Rattle.ls_workers.specs.Sent.{noted_of};
 
-use crate::same::{same_id, same_text};
+use crate::same::same_text;
 use ls_desk::{Desk, Out};
 use ls_lists::{List, Text};
+use ls_machine::find::same_id;
 use ls_rpc::Id;
 use std::alloc::AllocError as Memory;
 
@@ -101,65 +102,93 @@ pub fn begin_anew(notes: &mut Vec<Noted>, checkpoint: bool)
     }
 }
 
-// Whether two notes are the same.
+/// Whether a note is that of this answer to a request.
+fn is_reply(
+    note: &Noted,
+    ticket: u64,
+    id: &Id,
+    uri: &Text,
+    version: u64,
+    label: i64,
+    links: bool,
+) -> bool
+    ensures { IsTrue result ↔ (Noted.Replied ticket id.now uri.now version label links ≡ note.now) }
+{
+    match note {
+        Noted::Replied {
+            ticket: other,
+            id: other_id,
+            uri: other_uri,
+            version: other_version,
+            label: other_label,
+            links: other_links,
+        } => {
+            ticket == *other
+                && same_id(id, other_id)
+                && same_text(uri, other_uri)
+                && version == *other_version
+                && label == *other_label
+                && links == *other_links
+        }
+        _ => false,
+    }
+}
+
+/// Whether a note is that of this failure.
+fn is_failure(note: &Noted, ticket: u64, id: &Id, code: i32) -> bool
+    ensures { IsTrue result ↔ (Noted.Failed ticket id.now code ≡ note.now) }
+{
+    match note {
+        Noted::Failed {
+            ticket: other,
+            id: other_id,
+            code: other_code,
+        } => ticket == *other && same_id(id, other_id) && code == *other_code,
+        _ => false,
+    }
+}
+
+/// Whether a note is that of the findings on this version of a document.
+fn is_findings(note: &Noted, ticket: u64, uri: &Text, version: u64, label: i64) -> bool
+    ensures { IsTrue result ↔ (Noted.Findings ticket uri.now version label ≡ note.now) }
+{
+    match note {
+        Noted::Findings {
+            ticket: other,
+            uri: other_uri,
+            version: other_version,
+            label: other_label,
+        } => {
+            ticket == *other
+                && same_text(uri, other_uri)
+                && version == *other_version
+                && label == *other_label
+        }
+        _ => false,
+    }
+}
+
+/// Whether two notes are the same.
 fn same_note(a: &Noted, b: &Noted) -> bool
     ensures { IsTrue result ↔ (a.now ≡ b.now) }
 {
-    match (a, b) {
-        (Noted::Said(body), Noted::Said(body_b)) => body.as_slice() == body_b.as_slice(),
-        (
-            Noted::Replied {
-                ticket,
-                id,
-                uri,
-                version,
-                label,
-                links,
-            },
-            Noted::Replied {
-                ticket: ticket_b,
-                id: id_b,
-                uri: uri_b,
-                version: version_b,
-                label: label_b,
-                links: links_b,
-            },
-        ) => {
-            *ticket == *ticket_b
-                && same_id(id, id_b)
-                && same_text(uri, uri_b)
-                && *version == *version_b
-                && *label == *label_b
-                && *links == *links_b
-        }
-        (
-            Noted::Failed { ticket, id, code },
-            Noted::Failed {
-                ticket: ticket_b,
-                id: id_b,
-                code: code_b,
-            },
-        ) => *ticket == *ticket_b && same_id(id, id_b) && *code == *code_b,
-        (
-            Noted::Findings {
-                ticket,
-                uri,
-                version,
-                label,
-            },
-            Noted::Findings {
-                ticket: ticket_b,
-                uri: uri_b,
-                version: version_b,
-                label: label_b,
-            },
-        ) => {
-            *ticket == *ticket_b
-                && same_text(uri, uri_b)
-                && *version == *version_b
-                && *label == *label_b
-        }
-        _ => false,
+    match a {
+        Noted::Said(body) => matches!(b, Noted::Said(other) if body.as_slice() == other.as_slice()),
+        Noted::Replied {
+            ticket,
+            id,
+            uri,
+            version,
+            label,
+            links,
+        } => is_reply(b, *ticket, id, uri, *version, *label, *links),
+        Noted::Failed { ticket, id, code } => is_failure(b, *ticket, id, *code),
+        Noted::Findings {
+            ticket,
+            uri,
+            version,
+            label,
+        } => is_findings(b, *ticket, uri, *version, *label),
     }
 }
 

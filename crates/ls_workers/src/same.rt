@@ -1,11 +1,13 @@
 //! Whether two entries of a journal are the same.
-ghost use Rattle.std.specs.Prelude.{◌≡◌, ◌↔◌, IsTrue, ◌<◌, length};
+ghost use Rattle.std.specs.Prelude.{◌≡◌, ◌↔◌, IsTrue, ◌<◌, length, false};
+ghost use Rattle.ls_machine.specs.Counts.{is_client};
 
 use ls_answers::Ask;
-use ls_desk::Event;
-use ls_lists::Text;
+use ls_desk::{Event, SharedSnapshot};
+use ls_lists::{List, Text};
+use ls_machine::find::{same_ask, same_encoding, same_id, same_range};
 use ls_rpc::Id;
-use ls_text::{Edit, Encoding, Position, Range};
+use ls_text::{Edit, Encoding, Range};
 
 /// Whether two texts are the same.
 pub fn same_text(a: &Text, b: &Text) -> bool
@@ -14,29 +16,7 @@ pub fn same_text(a: &Text, b: &Text) -> bool
     a.as_str() == b.as_str()
 }
 
-fn same_encoding(a: Encoding, b: Encoding) -> bool
-    ensures { IsTrue result ↔ (a ≡ b) }
-{
-    match (a, b) {
-        (Encoding::Utf8, Encoding::Utf8) => true,
-        (Encoding::Utf16, Encoding::Utf16) => true,
-        (Encoding::Utf32, Encoding::Utf32) => true,
-        _ => false,
-    }
-}
-
-fn same_position(a: &Position, b: &Position) -> bool
-    ensures { IsTrue result ↔ (a.now ≡ b.now) }
-{
-    a.line == b.line && a.character == b.character
-}
-
-fn same_range(a: &Range, b: &Range) -> bool
-    ensures { IsTrue result ↔ (a.now ≡ b.now) }
-{
-    same_position(&a.start, &b.start) && same_position(&a.end, &b.end)
-}
-
+/// Whether two ranges, or none, are the same.
 fn same_ranges(a: &Option<Range>, b: &Option<Range>) -> bool
     ensures { IsTrue result ↔ (a.now ≡ b.now) }
 {
@@ -47,39 +27,14 @@ fn same_ranges(a: &Option<Range>, b: &Option<Range>) -> bool
     }
 }
 
+/// Whether two edits are the same.
 fn same_edit(a: &Edit, b: &Edit) -> bool
     ensures { IsTrue result ↔ (a.now ≡ b.now) }
 {
     same_ranges(&a.range, &b.range) && same_text(&a.text, &b.text)
 }
 
-/// Whether two ids are the same.
-pub fn same_id(a: &Id, b: &Id) -> bool
-    ensures { IsTrue result ↔ (a.now ≡ b.now) }
-{
-    match (a, b) {
-        (Id::Number(a), Id::Number(b)) => *a == *b,
-        (Id::Text(a), Id::Text(b)) => same_text(a, b),
-        _ => false,
-    }
-}
-
-fn same_ask(a: &Ask, b: &Ask) -> bool
-    ensures { IsTrue result ↔ (a.now ≡ b.now) }
-{
-    match (a, b) {
-        (Ask::Hover(a), Ask::Hover(b)) => same_position(a, b),
-        (Ask::Definition(a), Ask::Definition(b)) => same_position(a, b),
-        (Ask::References(a, x), Ask::References(b, y)) => same_position(a, b) && *x == *y,
-        (Ask::Symbols, Ask::Symbols) => true,
-        (Ask::Rename(a, n), Ask::Rename(b, m)) => same_position(a, b) && same_text(n, m),
-        (Ask::Action(a), Ask::Action(b)) => same_range(a, b),
-        (Ask::Tokens, Ask::Tokens) => true,
-        (Ask::Diagnose, Ask::Diagnose) => true,
-        _ => false,
-    }
-}
-
+/// Whether two lists of edits are the same.
 fn same_edits(a: &[Edit], b: &[Edit]) -> bool
     ensures { IsTrue result ↔ (a.now ≡ b.now) }
 {
@@ -94,94 +49,165 @@ fn same_edits(a: &[Edit], b: &[Edit]) -> bool
     true
 }
 
+/// Whether an event is the opening of this document.
+fn is_opening(
+    event: &Event,
+    uri: &Text,
+    label: i64,
+    text: &SharedSnapshot,
+    encoding: Encoding,
+    version: u64,
+) -> bool
+    ensures { IsTrue result ↔ (Event.Opened uri.now label text.now encoding version ≡ event.now) }
+{
+    match event {
+        Event::Opened {
+            uri: other,
+            label: other_label,
+            text: other_text,
+            encoding: other_encoding,
+            version: other_version,
+        } => {
+            same_text(uri, other)
+                && label == *other_label
+                && same_encoding(encoding, *other_encoding)
+                && text.get().same_text(other_text.get())
+                && version == *other_version
+        }
+        _ => false,
+    }
+}
+
+/// Whether an event is this change of a document.
+fn is_change(
+    event: &Event,
+    uri: &Text,
+    label: i64,
+    edits: &List<Edit>,
+    version: Option<u64>,
+) -> bool
+    ensures { IsTrue result ↔ (Event.Changed uri.now label edits.now version ≡ event.now) }
+{
+    match event {
+        Event::Changed {
+            uri: other,
+            label: other_label,
+            edits: other_edits,
+            version: other_version,
+        } => {
+            same_text(uri, other)
+                && label == *other_label
+                && same_edits(edits.as_slice(), other_edits.as_slice())
+                && version == *other_version
+        }
+        _ => false,
+    }
+}
+
+/// Whether an event is this request.
+fn is_request(event: &Event, id: &Id, uri: &Text, ask: &Ask, links: bool, ticket: u64) -> bool
+    ensures { IsTrue result ↔ (Event.Asked id.now uri.now ask.now links ticket ≡ event.now) }
+{
+    match event {
+        Event::Asked {
+            id: other,
+            uri: other_uri,
+            ask: other_ask,
+            links: other_links,
+            ticket: other_ticket,
+        } => {
+            same_id(id, other)
+                && same_text(uri, other_uri)
+                && same_ask(ask, other_ask)
+                && links == *other_links
+                && ticket == *other_ticket
+        }
+        _ => false,
+    }
+}
+
+/// Whether an event is the close of this document.
+fn is_close(event: &Event, uri: &Text) -> bool
+    ensures { IsTrue result ↔ (Event.Closed uri.now ≡ event.now) }
+{
+    match event {
+        Event::Closed { uri: other } => same_text(uri, other),
+        _ => false,
+    }
+}
+
+/// Whether an event is this cancel.
+fn is_cancel(event: &Event, id: &Id, found: bool) -> bool
+    ensures { IsTrue result ↔ (Event.Cancelled id.now found ≡ event.now) }
+{
+    match event {
+        Event::Cancelled {
+            id: other,
+            found: waited,
+        } => same_id(id, other) && found == *waited,
+        _ => false,
+    }
+}
+
+/// Whether an event is this body, said.
+fn is_said(event: &Event, body: &List<u8>) -> bool
+    ensures { IsTrue result ↔ (Event.Said body.now ≡ event.now) }
+{
+    match event {
+        Event::Said { body: other } => body.as_slice() == other.as_slice(),
+        _ => false,
+    }
+}
+
+/// Whether two events are the same, of which the first is none of the client's.
+fn same_work(a: &Event, b: &Event) -> bool
+    requires { is_client a.now ≡ false }
+    ensures { IsTrue result ↔ (a.now ≡ b.now) }
+{
+    match (a, b) {
+        (Event::Took { worker }, Event::Took { worker: other }) => *worker == *other,
+        (Event::Returned { ticket }, Event::Returned { ticket: other }) => *ticket == *other,
+        (
+            Event::Finished { ticket, failed },
+            Event::Finished {
+                ticket: other,
+                failed: other_failed,
+            },
+        ) => *ticket == *other && *failed == *other_failed,
+        (Event::Sent { ticket }, Event::Sent { ticket: other }) => *ticket == *other,
+        _ => false,
+    }
+}
+
 /// Whether two events are the same, a client's with its answer.
 pub fn same_event(a: &Event, b: &Event) -> bool
     ensures { IsTrue result ↔ (a.now ≡ b.now) }
 {
-    match (a, b) {
-        (
-            Event::Opened {
-                uri,
-                label,
-                text,
-                encoding,
-                version,
-            },
-            Event::Opened {
-                uri: uri_b,
-                label: label_b,
-                text: text_b,
-                encoding: encoding_b,
-                version: version_b,
-            },
-        ) => {
-            same_text(uri, uri_b)
-                && *label == *label_b
-                && same_encoding(*encoding, *encoding_b)
-                && text.get().same_text(text_b.get())
-                && *version == *version_b
-        }
-        (
-            Event::Changed {
-                uri,
-                label,
-                edits,
-                version,
-            },
-            Event::Changed {
-                uri: uri_b,
-                label: label_b,
-                edits: edits_b,
-                version: version_b,
-            },
-        ) => {
-            same_text(uri, uri_b)
-                && *label == *label_b
-                && same_edits(edits.as_slice(), edits_b.as_slice())
-                && *version == *version_b
-        }
-        (Event::Closed { uri }, Event::Closed { uri: uri_b }) => same_text(uri, uri_b),
-        (
-            Event::Asked {
-                id,
-                uri,
-                ask,
-                links,
-                ticket,
-            },
-            Event::Asked {
-                id: id_b,
-                uri: uri_b,
-                ask: ask_b,
-                links: links_b,
-                ticket: ticket_b,
-            },
-        ) => {
-            same_id(id, id_b)
-                && same_text(uri, uri_b)
-                && same_ask(ask, ask_b)
-                && *links == *links_b
-                && *ticket == *ticket_b
-        }
-        (
-            Event::Cancelled { id, found },
-            Event::Cancelled {
-                id: id_b,
-                found: found_b,
-            },
-        ) => { same_id(id, id_b) && *found == *found_b }
-        (Event::Said { body }, Event::Said { body: body_b }) => body.as_slice()
-            == body_b.as_slice(),
-        (Event::Took { worker }, Event::Took { worker: worker_b }) => *worker == *worker_b,
-        (Event::Returned { ticket }, Event::Returned { ticket: ticket_b }) => *ticket == *ticket_b,
-        (
-            Event::Finished { ticket, failed },
-            Event::Finished {
-                ticket: ticket_b,
-                failed: failed_b,
-            },
-        ) => *ticket == *ticket_b && *failed == *failed_b,
-        (Event::Sent { ticket }, Event::Sent { ticket: ticket_b }) => *ticket == *ticket_b,
-        _ => false,
+    match a {
+        Event::Opened {
+            uri,
+            label,
+            text,
+            encoding,
+            version,
+        } => is_opening(b, uri, *label, text, *encoding, *version),
+        Event::Changed {
+            uri,
+            label,
+            edits,
+            version,
+        } => is_change(b, uri, *label, edits, *version),
+        Event::Closed { uri } => is_close(b, uri),
+        Event::Asked {
+            id,
+            uri,
+            ask,
+            links,
+            ticket,
+        } => is_request(b, id, uri, ask, *links, *ticket),
+        Event::Cancelled { id, found } => is_cancel(b, id, *found),
+        Event::Said { body } => is_said(b, body),
+        Event::Took { .. } | Event::Returned { .. } | Event::Finished { .. } | Event::Sent { .. } =>
+            { same_work(a, b) }
     }
 }

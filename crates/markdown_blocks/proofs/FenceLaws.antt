@@ -3,10 +3,10 @@ use Rattle.std.proofs.Common.{◌≡◌, ℕ, zero, suc, ◌+◌, ◌-◌, ◌<�
 use Rattle.std.specs.Prelude.{Option, Some, None, nat_eq}
 use Rattle.std.proofs.lemmas.List.{append-nil, at_drop_more, drop_all, take_all}
 use Rattle.ls_text.specs.Lines.{ends_line}
-use Rattle.origins.specs.Origins.{Sourced, Block, aligned, grammar_of}
+use Rattle.origins.specs.Origins.{Sourced, SourcedBlock, aligned, grammar_of}
 use Rattle.markdown_blocks.specs.declared.fence.Fence.{Fence}
-use Rattle.markdown_blocks.specs.Fences.{Line, blocks, closes, content_of, ended, lines_from, opening, put_first, without_end}
-use Rattle.markdown_blocks.specs.Reading.{line_len, reading}
+use Rattle.markdown_blocks.specs.Fences.{Line, fenced_blocks, closes_fence, fence_content, ended_block, placed_lines_from, opening_fence, put_placed, without_end}
+use Rattle.markdown_blocks.specs.Reading.{line_len, reading_fence}
 
 -- ---- the first line of a text
 
@@ -36,78 +36,78 @@ line_len-some (c ∷ t) lt = by_test (ends_line c t)
     by_test true = omega arith
     by_test false = omega arith
 
-pub lines-first : (at : ℕ) (t : List ℕ) → 0 < length t → lines_from at t ≡ (at, take (line_len t) t) ∷ lines_from (at + line_len t) (drop (line_len t) t)
-unfolding line_len lines_from
+pub lines-first : (at : ℕ) (t : List ℕ) → 0 < length t → placed_lines_from at t ≡ (at, take (line_len t) t) ∷ placed_lines_from (at + line_len t) (drop (line_len t) t)
+unfolding line_len placed_lines_from
 lines-first at [] lt = absurd (omega (arith, lt))
 lines-first at (c ∷ []) lt = by_test (ends_line c [])
   where
-    by_test : (b : Bool) → cond b ((at, c ∷ []) ∷ []) ((at, c ∷ []) ∷ []) ≡ (at, take (cond b 1 1) (c ∷ [])) ∷ lines_from (at + cond b 1 1) (drop (cond b 1 1) (c ∷ []))
+    by_test : (b : Bool) → cond b ((at, c ∷ []) ∷ []) ((at, c ∷ []) ∷ []) ≡ (at, take (cond b 1 1) (c ∷ [])) ∷ placed_lines_from (at + cond b 1 1) (drop (cond b 1 1) (c ∷ []))
     by_test true = refl
     by_test false = refl
 lines-first at (c ∷ d ∷ t) lt = by_test (ends_line c (d ∷ t)) (lines-first (suc at) (d ∷ t) (omega arith))
   where
-    by_test : (b : Bool) → lines_from (suc at) (d ∷ t) ≡ (suc at, take (line_len (d ∷ t)) (d ∷ t)) ∷ lines_from (suc at + line_len (d ∷ t)) (drop (line_len (d ∷ t)) (d ∷ t))
-        → cond b ((at, c ∷ []) ∷ lines_from (suc at) (d ∷ t)) (put_first at c (lines_from (suc at) (d ∷ t))) ≡ (at, take (cond b 1 (suc (line_len (d ∷ t)))) (c ∷ d ∷ t)) ∷ lines_from (at + cond b 1 (suc (line_len (d ∷ t)))) (drop (cond b 1 (suc (line_len (d ∷ t)))) (c ∷ d ∷ t))
-    by_test true more = ap (λ n. (at, c ∷ []) ∷ lines_from n (d ∷ t)) (let e : suc at ≡ at + 1 = omega arith in e)
+    by_test : (b : Bool) → placed_lines_from (suc at) (d ∷ t) ≡ (suc at, take (line_len (d ∷ t)) (d ∷ t)) ∷ placed_lines_from (suc at + line_len (d ∷ t)) (drop (line_len (d ∷ t)) (d ∷ t))
+        → cond b ((at, c ∷ []) ∷ placed_lines_from (suc at) (d ∷ t)) (put_placed at c (placed_lines_from (suc at) (d ∷ t))) ≡ (at, take (cond b 1 (suc (line_len (d ∷ t)))) (c ∷ d ∷ t)) ∷ placed_lines_from (at + cond b 1 (suc (line_len (d ∷ t)))) (drop (cond b 1 (suc (line_len (d ∷ t)))) (c ∷ d ∷ t))
+    by_test true more = ap (λ n. (at, c ∷ []) ∷ placed_lines_from n (d ∷ t)) (let e : suc at ≡ at + 1 = omega arith in e)
     by_test false more =
-        ap (put_first at c) more
-        ∙ ap (λ n. (at, c ∷ take (line_len (d ∷ t)) (d ∷ t)) ∷ lines_from n (drop (line_len (d ∷ t)) (d ∷ t))) (let e : suc at + line_len (d ∷ t) ≡ at + suc (line_len (d ∷ t)) = omega arith in e)
+        ap (put_placed at c) more
+        ∙ ap (λ n. (at, c ∷ take (line_len (d ∷ t)) (d ∷ t)) ∷ placed_lines_from n (drop (line_len (d ∷ t)) (d ∷ t))) (let e : suc at + line_len (d ∷ t) ≡ at + suc (line_len (d ∷ t)) = omega arith in e)
 
 -- ---- a line behind an open fence
 
-pub blocks-closed : (end : ℕ) (fence : Fence) (content : List Sourced) (l : Line) (ls : List Line) → closes fence (without_end l.1) ≡ true → blocks end (Some (fence, content)) (l ∷ ls) ≡ ended (fence, content) l.0 ++ blocks end None ls
-unfolding blocks
+pub blocks-closed : (end : ℕ) (fence : Fence) (content : List Sourced) (l : Line) (ls : List Line) → closes_fence fence (without_end l.1) ≡ true → fenced_blocks end (Some (fence, content)) (l ∷ ls) ≡ ended_block (fence, content) l.0 ++ fenced_blocks end None ls
+unfolding fenced_blocks
 blocks-closed end fence content l ls e = rw e refl
 
-pub blocks-more : (end : ℕ) (fence : Fence) (content : List Sourced) (l : Line) (ls : List Line) → closes fence (without_end l.1) ≡ false → blocks end (Some (fence, content)) (l ∷ ls) ≡ blocks end (Some (fence, content ++ content_of fence l)) ls
-unfolding blocks
+pub blocks-more : (end : ℕ) (fence : Fence) (content : List Sourced) (l : Line) (ls : List Line) → closes_fence fence (without_end l.1) ≡ false → fenced_blocks end (Some (fence, content)) (l ∷ ls) ≡ fenced_blocks end (Some (fence, content ++ fence_content fence l)) ls
+unfolding fenced_blocks
 blocks-more end fence content l ls e = rw e refl
 
 -- the content of a block that isn't ABNF doesn't matter
-pub blocks-other : (end : ℕ) (fence : Fence) (ls : List Line) (content other : List Sourced) → fence.is_abnf ≡ false → blocks end (Some (fence, content)) ls ≡ blocks end (Some (fence, other)) ls
-unfolding blocks
+pub blocks-other : (end : ℕ) (fence : Fence) (ls : List Line) (content other : List Sourced) → fence.is_abnf ≡ false → fenced_blocks end (Some (fence, content)) ls ≡ fenced_blocks end (Some (fence, other)) ls
+unfolding fenced_blocks
 blocks-other end fence [] content other e = rw e refl
 blocks-other end fence (l ∷ ls) content other e =
-    by_test (closes fence (without_end l.1)) (blocks-other end fence ls (content ++ content_of fence l) (other ++ content_of fence l) e)
+    by_test (closes_fence fence (without_end l.1)) (blocks-other end fence ls (content ++ fence_content fence l) (other ++ fence_content fence l) e)
   where
-    by_test : (b : Bool) → blocks end (Some (fence, content ++ content_of fence l)) ls ≡ blocks end (Some (fence, other ++ content_of fence l)) ls → cond b (ended (fence, content) l.0 ++ blocks end None ls) (blocks end (Some (fence, content ++ content_of fence l)) ls) ≡ cond b (ended (fence, other) l.0 ++ blocks end None ls) (blocks end (Some (fence, other ++ content_of fence l)) ls)
+    by_test : (b : Bool) → fenced_blocks end (Some (fence, content ++ fence_content fence l)) ls ≡ fenced_blocks end (Some (fence, other ++ fence_content fence l)) ls → cond b (ended_block (fence, content) l.0 ++ fenced_blocks end None ls) (fenced_blocks end (Some (fence, content ++ fence_content fence l)) ls) ≡ cond b (ended_block (fence, other) l.0 ++ fenced_blocks end None ls) (fenced_blocks end (Some (fence, other ++ fence_content fence l)) ls)
     by_test true more = rw e refl
     by_test false more = more
 
 -- ---- what was read so far
 
-pub grammar_of-append : (bs cs : List Block) → grammar_of (bs ++ cs) ≡ grammar_of bs ++ grammar_of cs
+pub grammar_of-append : (bs cs : List SourcedBlock) → grammar_of (bs ++ cs) ≡ grammar_of bs ++ grammar_of cs
 grammar_of-append [] cs = refl
 grammar_of-append (b ∷ bs) cs = ap (λ g. aligned b ++ g) (grammar_of-append bs cs) ∙ sym (append_assoc (aligned b) (grammar_of bs) (grammar_of cs))
 
-pub blocks-outside : (end : ℕ) (content : List Sourced) (l : Line) (ls : List Line) → blocks end (reading (opening (without_end l.1)) []) ls ≡ blocks end (reading None content) (l ∷ ls)
-unfolding blocks
+pub blocks-outside : (end : ℕ) (content : List Sourced) (l : Line) (ls : List Line) → fenced_blocks end (reading_fence (opening_fence (without_end l.1)) []) ls ≡ fenced_blocks end (reading_fence None content) (l ∷ ls)
+unfolding fenced_blocks
 blocks-outside end content l ls = refl
 
-pub lines-split : (at n : ℕ) (t line behind : List ℕ) → 0 < length t → n ≡ line_len t → line ≡ take n t → behind ≡ drop n t → length line ≡ n → (at, line) ∷ lines_from (at + length line) behind ≡ lines_from at t
+pub lines-split : (at n : ℕ) (t line behind : List ℕ) → 0 < length t → n ≡ line_len t → line ≡ take n t → behind ≡ drop n t → length line ≡ n → (at, line) ∷ placed_lines_from (at + length line) behind ≡ placed_lines_from at t
 lines-split at n t line behind some n_is line_is behind_is len =
-    (λ i. (at, line_is i) ∷ lines_from (at + len i) (behind_is i))
-    ∙ ap (λ m. (at, take m t) ∷ lines_from (at + m) (drop m t)) n_is
+    (λ i. (at, line_is i) ∷ placed_lines_from (at + len i) (behind_is i))
+    ∙ ap (λ m. (at, take m t) ∷ placed_lines_from (at + m) (drop m t)) n_is
     ∙ sym (lines-first at t some)
 
 module _ (grammar : List Sourced) (end at : ℕ) (block : List Sourced) (rest : List ℕ) (none : length rest ≡ 0) (left : at + length rest ≡ end) where
-  lines-none : (t : List ℕ) → length t ≡ 0 → lines_from at t ≡ []
-  unfolding lines_from
+  lines-none : (t : List ℕ) → length t ≡ 0 → placed_lines_from at t ≡ []
+  unfolding placed_lines_from
   lines-none [] e = refl
   lines-none (c ∷ t) e = absurd (omega (arith, e))
 
-  pub end-open : (f : Option Fence) (fence : Fence) {whole : List Sourced} → f ≡ Some fence → grammar ++ grammar_of (blocks end (reading f block) (lines_from at rest)) ≡ whole → grammar ++ grammar_of (ended (fence, block) at) ≡ whole
-  unfolding blocks
+  pub end-open : (f : Option Fence) (fence : Fence) {whole : List Sourced} → f ≡ Some fence → grammar ++ grammar_of (fenced_blocks end (reading_fence f block) (placed_lines_from at rest)) ≡ whole → grammar ++ grammar_of (ended_block (fence, block) at) ≡ whole
+  unfolding fenced_blocks
   end-open f fence is was =
-      (λ i. grammar ++ grammar_of (ended (fence, block) ((let e : at ≡ end = omega (arith, none, left) in e) i)))
-      ∙ (λ i. grammar ++ grammar_of (blocks end (reading (sym is i) block) (sym (lines-none rest none) i)))
+      (λ i. grammar ++ grammar_of (ended_block (fence, block) ((let e : at ≡ end = omega (arith, none, left) in e) i)))
+      ∙ (λ i. grammar ++ grammar_of (fenced_blocks end (reading_fence (sym is i) block) (sym (lines-none rest none) i)))
       ∙ was
 
-  pub end-outside : (f : Option Fence) {whole : List Sourced} → f ≡ None → grammar ++ grammar_of (blocks end (reading f block) (lines_from at rest)) ≡ whole → grammar ≡ whole
-  unfolding blocks
+  pub end-outside : (f : Option Fence) {whole : List Sourced} → f ≡ None → grammar ++ grammar_of (fenced_blocks end (reading_fence f block) (placed_lines_from at rest)) ≡ whole → grammar ≡ whole
+  unfolding fenced_blocks
   end-outside f is was =
       sym (append-nil grammar)
-      ∙ (λ i. grammar ++ grammar_of (blocks end (reading (sym is i) block) (sym (lines-none rest none) i)))
+      ∙ (λ i. grammar ++ grammar_of (fenced_blocks end (reading_fence (sym is i) block) (sym (lines-none rest none) i)))
       ∙ was
 
 pub positive : (n : ℕ) → nat_eq n 0 ≡ false → 0 < n

@@ -4,7 +4,7 @@ use Rattle.std.specs.Prelude.{ℕ, suc, ◌+◌, min, Bool, not, ◌&&◌, ◌||
 use Rattle.std.specs.Option.{option_map}
 use Rattle.std.specs.List.{list_all, list_any, prefix_len, take_while}
 use Rattle.ls_text.specs.Lines.{ends_line}
-use Rattle.origins.specs.Origins.{Sourced, Block, from, is_blank, is_break}
+use Rattle.origins.specs.Origins.{Sourced, SourcedBlock, from, is_blank_char, is_break}
 use Rattle.markdown_blocks.specs.declared.fence.Fence.{Fence}
 
 -- ---- the lines of a text
@@ -14,26 +14,26 @@ abbrev pub Line : Type 0
 Line = ℕ × List ℕ
 
 -- lines with a character before the first, at this offset
-abbrev pub put_first : ℕ → ℕ → List Line → List Line
-put_first at c [] = (at, c ∷ []) ∷ []
-put_first at c (l ∷ ls) = (at, c ∷ l.1) ∷ ls
+abbrev pub put_placed : ℕ → ℕ → List Line → List Line
+put_placed at c [] = (at, c ∷ []) ∷ []
+put_placed at c (l ∷ ls) = (at, c ∷ l.1) ∷ ls
 
 -- the lines of a text that begins at this offset, where line ends are those of `Rattle.ls_text.specs.Lines`; no line is empty
-unfoldable pub lines_from : ℕ → List ℕ → List Line
-lines_from at [] = []
-lines_from at (c ∷ t) = if ends_line c t then (at, c ∷ []) ∷ lines_from (suc at) t else put_first at c (lines_from (suc at) t)
+unfoldable pub placed_lines_from : ℕ → List ℕ → List Line
+placed_lines_from at [] = []
+placed_lines_from at (c ∷ t) = if ends_line c t then (at, c ∷ []) ∷ placed_lines_from (suc at) t else put_placed at c (placed_lines_from (suc at) t)
 
 -- a line without its line end
 abbrev pub without_end : List ℕ → List ℕ
 without_end line = take_while (λ c. not (is_break c)) line
 
 -- how many blanks a line begins with
-abbrev pub blanks : List ℕ → ℕ
-blanks line = prefix_len is_blank line
+abbrev pub blank_count : List ℕ → ℕ
+blank_count line = prefix_len is_blank_char line
 
 -- a line without its indentation
 abbrev pub without_blanks : List ℕ → List ℕ
-without_blanks line = drop (blanks line) line
+without_blanks line = drop (blank_count line) line
 
 -- how many of these characters a line begins with
 abbrev pub marks : ℕ → List ℕ → ℕ
@@ -52,7 +52,7 @@ is_abnf_word word =
 
 -- whether the first word of an info string is `abnf`
 abbrev pub is_abnf : List ℕ → Bool
-is_abnf info = is_abnf_word (take_while (λ c. not (is_blank c)) (without_blanks info))
+is_abnf info = is_abnf_word (take_while (λ c. not (is_blank_char c)) (without_blanks info))
 
 -- whether marks before an info string open a block: tildes, or backticks if none is in the info string
 abbrev pub may_open : ℕ → List ℕ → Bool
@@ -70,21 +70,21 @@ fence_of indent mark line =
     else None
 
 -- the fence that a line opens, if it is one
-abbrev pub opening : List ℕ → Option Fence
-opening line = fence_of (blanks line) (slice_index (without_blanks line) 0) (without_blanks line)
+abbrev pub opening_fence : List ℕ → Option Fence
+opening_fence line = fence_of (blank_count line) (slice_index (without_blanks line) 0) (without_blanks line)
 
 -- whether a line closes what a fence opened: at least as many of its marks, and only blanks behind them
-abbrev pub closes : Fence → List ℕ → Bool
-closes fence line =
+abbrev pub closes_fence : Fence → List ℕ → Bool
+closes_fence fence line =
     let rest = without_blanks line in
-    nat_le fence.count (marks fence.mark rest) && list_all is_blank (drop (marks fence.mark rest) rest)
+    nat_le fence.count (marks fence.mark rest) && list_all is_blank_char (drop (marks fence.mark rest) rest)
 
 -- ---- blocks
 
 -- a line of the content without the fence's indentation, as far as the line has it
-abbrev pub content_of : Fence → Line → List Sourced
-content_of fence line =
-    let gone = min fence.indent (blanks line.1) in
+abbrev pub fence_content : Fence → Line → List Sourced
+fence_content fence line =
+    let gone = min fence.indent (blank_count line.1) in
     from (line.0 + gone) (drop gone line.1)
 
 -- a fence that is open, and the content behind it so far
@@ -92,18 +92,18 @@ abbrev pub Open : Type 0
 Open = Fence × List Sourced
 
 -- the block that ends at an offset, if it is ABNF
-abbrev pub ended : Open → ℕ → List Block
-ended opened end = if (opened.0).is_abnf then record { content = opened.1; end = end } ∷ [] else []
+abbrev pub ended_block : Open → ℕ → List SourcedBlock
+ended_block opened end = if (opened.0).is_abnf then record { content = opened.1; end = end } ∷ [] else []
 
 -- the blocks of these lines, up to the end of the text: outside of blocks, or behind an open fence
-unfoldable pub blocks : ℕ → Option Open → List Line → List Block
-blocks end None [] = []
-blocks end None (l ∷ ls) = blocks end (option_map (λ fence. (fence, [])) (opening (without_end l.1))) ls
-blocks end (Some opened) [] = ended opened end
-blocks end (Some opened) (l ∷ ls) =
-    if closes opened.0 (without_end l.1) then ended opened l.0 ++ blocks end None ls
-    else blocks end (Some (opened.0, opened.1 ++ content_of opened.0 l)) ls
+unfoldable pub fenced_blocks : ℕ → Option Open → List Line → List SourcedBlock
+fenced_blocks end None [] = []
+fenced_blocks end None (l ∷ ls) = fenced_blocks end (option_map (λ fence. (fence, [])) (opening_fence (without_end l.1))) ls
+fenced_blocks end (Some opened) [] = ended_block opened end
+fenced_blocks end (Some opened) (l ∷ ls) =
+    if closes_fence opened.0 (without_end l.1) then ended_block opened l.0 ++ fenced_blocks end None ls
+    else fenced_blocks end (Some (opened.0, opened.1 ++ fence_content opened.0 l)) ls
 
 -- the blocks of ABNF in a draft
-abbrev pub markdown_blocks : List ℕ → List Block
-markdown_blocks draft = blocks (length draft) None (lines_from 0 draft)
+abbrev pub markdown_blocks : List ℕ → List SourcedBlock
+markdown_blocks draft = fenced_blocks (length draft) None (placed_lines_from 0 draft)

@@ -12,5 +12,5 @@ line_len [] = 0
 line_len (c ∷ t) = if ends_line c t then 1 else suc (line_len t)
 
 -- what is read so far: the open fence, if there is one, and what was gathered behind it
-abbrev pub reading : Option Fence → List Sourced → Option Open
-reading fence content = option_map (λ f. (f, content)) fence
+abbrev pub reading_fence : Option Fence → List Sourced → Option Open
+reading_fence fence content = option_map (λ f. (f, content)) fence

@@ -1,7 +1,7 @@
 //! The fences of code blocks.
 
 ghost use Rattle.std.specs.Prelude.{◌≡◌, Some, None};
-ghost use Rattle.markdown_blocks.specs.Fences.{closes, fence_of, is_abnf, is_abnf_word, is_letter, may_open, opening, without_blanks};
+ghost use Rattle.markdown_blocks.specs.Fences.{closes_fence, fence_of, is_abnf, is_abnf_word, is_letter, may_open, opening_fence, without_blanks};
 
 use crate::line::{are_blank, blanks, first_word, marks};
 
@@ -77,7 +77,7 @@ fn fence_of(indent: usize, mark: char, line: &[char]) -> Option<Fence>
 
 // The fence that a line opens.
 pub fn opening(line: &[char]) -> Option<Fence>
-    ensures { result ≡ opening line.now }
+    ensures { result ≡ opening_fence line.now }
 {
     let indent = blanks(line);
     let rest = &line[indent..];
@@ -88,7 +88,7 @@ pub fn opening(line: &[char]) -> Option<Fence>
 impl Fence {
     // Whether a line closes the block.
     pub fn closes(self, line: &[char]) -> bool
-        ensures { result ≡ closes self line.now }
+        ensures { result ≡ closes_fence self line.now }
     {
         let rest = without_blanks(line);
         let count = marks(self.mark, rest);

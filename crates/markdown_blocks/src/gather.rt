@@ -2,8 +2,8 @@
 
 ghost use Rattle.std.specs.Prelude.{◌≡◌, ℕ, ◌+◌, ◌<◌, ◌^◌, List, ◌∷◌, ◌++◌, IfOk, OnOk, length};
 ghost use Rattle.origins.specs.Origins.{from, grammar_of};
-ghost use Rattle.markdown_blocks.specs.Fences.{Line, blocks, content_of, ended, markdown_blocks};
-ghost use Rattle.markdown_blocks.specs.Reading.{reading};
+ghost use Rattle.markdown_blocks.specs.Fences.{Line, fenced_blocks, fence_content, ended_block, markdown_blocks};
+ghost use Rattle.markdown_blocks.specs.Reading.{reading_fence};
 
 use crate::fence::{Fence, opening};
 use crate::line::{blanks, line_len, without_end};
@@ -25,7 +25,7 @@ fn put_row(block: &mut Gathered, row: &[char], at: usize) -> Result<(), AllocErr
 // Adds a line of a block's content.
 fn put_line(block: &mut Gathered, fence: Fence, line: &[char], at: usize) -> Result<(), AllocError>
     requires { at + length line.now < 2 ^ 64 }
-    ensures { OnOk result (block.new ≡ block.old ++ content_of fence (at, line.now)) }
+    ensures { OnOk result (block.new ≡ block.old ++ fence_content fence (at, line.now)) }
 {
     let gone = fence.indent.min(blanks(line));
     put_row(block, &line[gone..], at + gone)
@@ -38,7 +38,7 @@ fn end_block(
     fence: Fence,
     end: usize,
 ) -> Result<(), AllocError>
-    ensures { OnOk result (grammar.new ≡ grammar.old ++ grammar_of (ended (fence, block.now) end)) }
+    ensures { OnOk result (grammar.new ≡ grammar.old ++ grammar_of (ended_block (fence, block.now) end)) }
 {
     if fence.is_abnf {
         grammar.add_block(block, end)?;
@@ -55,7 +55,7 @@ fn read_line(
     at: usize,
 ) -> Result<Option<Fence>, AllocError>
     requires { at + length line.now < 2 ^ 64 }
-    ensures { IfOk result (λ next. (end : ℕ) (ls : List Line) → grammar.new ++ grammar_of (blocks end (reading next block.new) ls) ≡ grammar.old ++ grammar_of (blocks end (reading fence block.old) ((at, line.now) ∷ ls))) }
+    ensures { IfOk result (λ next. (end : ℕ) (ls : List Line) → grammar.new ++ grammar_of (fenced_blocks end (reading_fence next block.new) ls) ≡ grammar.old ++ grammar_of (fenced_blocks end (reading_fence fence block.old) ((at, line.now) ∷ ls))) }
 {
     let text = without_end(line);
     let Some(open) = fence else {

@@ -3,8 +3,8 @@
 ghost use Rattle.std.specs.Prelude.{◌≡◌, ◌≤◌, length, not};
 ghost use Rattle.std.specs.List.{list_all, prefix_len, take_while};
 ghost use Rattle.ls_text.specs.Lines.{ends_line};
-ghost use Rattle.origins.specs.Origins.{is_blank, is_break};
-ghost use Rattle.markdown_blocks.specs.Fences.{blanks, marks, without_end};
+ghost use Rattle.origins.specs.Origins.{is_blank_char, is_break};
+ghost use Rattle.markdown_blocks.specs.Fences.{blank_count, marks, without_end};
 ghost use Rattle.markdown_blocks.specs.Reading.{line_len};
 
 use origins::{is_blank, is_break};
@@ -30,14 +30,14 @@ pub fn line_len(text: &[char]) -> usize
 
 // Whether all characters are blanks.
 pub fn are_blank(text: &[char]) -> bool
-    ensures { result ≡ list_all is_blank text.now }
+    ensures { result ≡ list_all is_blank_char text.now }
 {
     text.iter().all(|c| is_blank(*c))
 }
 
 // How many blanks a line begins with.
 pub fn blanks(line: &[char]) -> usize
-    ensures count { result ≡ blanks line.now }
+    ensures count { result ≡ blank_count line.now }
     ensures within { result ≤ length line.now }
 {
     line.iter().take_while(|c| is_blank(**c)).count()
@@ -53,7 +53,7 @@ pub fn marks(mark: char, line: &[char]) -> usize
 
 // How many characters the first word of a text has, at whose front no blanks stand.
 fn word_len(text: &[char]) -> usize
-    ensures count { result ≡ prefix_len (λ c. not (is_blank c)) text.now }
+    ensures count { result ≡ prefix_len (λ c. not (is_blank_char c)) text.now }
     ensures within { result ≤ length text.now }
 {
     text.iter().take_while(|c| !is_blank(**c)).count()
@@ -69,7 +69,7 @@ fn text_len(line: &[char]) -> usize
 
 // The first word of a text, at whose front no blanks stand.
 pub fn first_word(text: &[char]) -> &[char]
-    ensures { result.now ≡ take_while (λ c. not (is_blank c)) text.now }
+    ensures { result.now ≡ take_while (λ c. not (is_blank_char c)) text.now }
 {
     &text[..word_len(text)]
 }

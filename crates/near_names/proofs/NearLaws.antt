@@ -3,7 +3,7 @@ use Rattle.std.proofs.Common.{◌≡◌, ◌∙◌, ◌<◌, ◌≤◌, ℕ, Boo
 use Rattle.std.specs.Prelude.{All, ◌&&◌, if◌then◌else◌, nat_le}
 use Rattle.std.proofs.lemmas.Bool.{leb-true, leb-false}
 use Rattle.std.proofs.lemmas.List.Elements.{All-append, All-cons, All-head, All-nil, All-tail, All-weaker}
-use Rattle.near_names.specs.Near.{IsAnswer, IsNear, IsNearest, distance, is_near, nearer, nearest}
+use Rattle.near_names.specs.Near.{IsNearAnswer, IsNear, IsNearest, distance, is_near, nearer, nearest}
 
 -- what holds of all holds of one among them
 among : {X : Type 0} (P : X → Type 0) (before after : List X) (x : X) → All P (before ++ x ∷ after) → P x
@@ -26,7 +26,7 @@ module _ (name : List ℕ) where
   -- ---- there is one
 
   ahead_of_none : (other : List ℕ) (known : List (List ℕ)) (near : Bool) → is_near name other ≡ near → All IsFar known
-      → IsAnswer name (other ∷ known) (if near then Some other else None)
+      → IsNearAnswer name (other ∷ known) (if near then Some other else None)
   ahead_of_none other known true e far = record {
     before = [];
     after = known;
@@ -56,7 +56,7 @@ module _ (name : List ℕ) where
   }
 
   ahead_of_some : (other found : List ℕ) (known : List (List ℕ)) (near less : Bool) → is_near name other ≡ near → nat_le (distance name other) (distance name found) ≡ less
-      → IsNearest name known found → IsAnswer name (other ∷ known) (if near && less then Some other else Some found)
+      → IsNearest name known found → IsNearAnswer name (other ∷ known) (if near && less then Some other else Some found)
   ahead_of_some other found known true true e le is = record {
     before = [];
     after = known;
@@ -69,12 +69,12 @@ module _ (name : List ℕ) where
   ahead_of_some other found known true false e le is = passed other found known (λ near. leb-false (distance name other) (distance name found) le) is
   ahead_of_some other found known false less e le is = passed other found known (λ near. absurd (true≢false (sym near ∙ e))) is
 
-  ahead_of : (other : List ℕ) (known : List (List ℕ)) (found : Option (List ℕ)) → IsAnswer name known found → IsAnswer name (other ∷ known) (nearer name other found)
+  ahead_of : (other : List ℕ) (known : List (List ℕ)) (found : Option (List ℕ)) → IsNearAnswer name known found → IsNearAnswer name (other ∷ known) (nearer name other found)
   ahead_of other known None is = ahead_of_none other known (is_near name other) refl is
   ahead_of other known (Some found) is =
       ahead_of_some other found known (is_near name other) (nat_le (distance name other) (distance name found)) refl refl is
 
-  pub is_nearest : (known : List (List ℕ)) → IsAnswer name known (nearest name known)
+  pub is_nearest : (known : List (List ℕ)) → IsNearAnswer name known (nearest name known)
   is_nearest [] = All-nil IsFar
   is_nearest (other ∷ known) = ahead_of other known (nearest name known) (is_nearest known)
 
@@ -102,7 +102,7 @@ module _ (name : List ℕ) where
   one_split a b (c ∷ ba) aa (d ∷ bb) ab e near_a near_b first_a least_a first_b least_b =
       one_split a b ba aa bb ab (ap (drop 1) e) near_a near_b (All-tail (IsBehind a) c ba first_a) least_a (All-tail (IsBehind b) d bb first_b) least_b
 
-  pub one_nearest : (known : List (List ℕ)) (a b : Option (List ℕ)) → IsAnswer name known a → IsAnswer name known b → a ≡ b
+  pub one_nearest : (known : List (List ℕ)) (a b : Option (List ℕ)) → IsNearAnswer name known a → IsNearAnswer name known b → a ≡ b
   one_nearest known None None p q = refl
   one_nearest known None (Some b) p q = absurd (not_both known b p q)
   one_nearest known (Some a) None p q = absurd (not_both known a q p)

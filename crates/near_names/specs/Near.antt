@@ -12,11 +12,11 @@ abbrev pub reach : List ℕ → List ℕ → ℕ
 reach name other = max (max (length name) (length other) / 3) 1
 
 -- Names of these lengths are compared: one letter has nothing in common with another, and each comparison takes a bounded time.
-abbrev pub is_compared : List ℕ → Bool
-is_compared name = nat_le 2 (length name) && nat_le (length name) 64
+abbrev pub is_compared_name : List ℕ → Bool
+is_compared_name name = nat_le 2 (length name) && nat_le (length name) 64
 
 abbrev pub is_near : List ℕ → List ℕ → Bool
-is_near name other = is_compared name && is_compared other && nat_le (distance name other) (reach name other)
+is_near name other = is_compared_name name && is_compared_name other && nat_le (distance name other) (reach name other)
 
 -- a name ahead of the nearest of those behind it: of two that are as near it is the first
 abbrev pub nearer : List ℕ → List ℕ → Option (List ℕ) → Option (List ℕ)
@@ -43,9 +43,9 @@ pub record IsNearest (name : List ℕ) (known : List (List ℕ)) (found : List �
   pub least : All (λ other. IsNear name other → distance name found ≤ distance name other) after
 
 -- the nearest of the known names, or none where none is near
-abbrev pub IsAnswer : List ℕ → List (List ℕ) → Option (List ℕ) → Type 0
-IsAnswer name known None = All (λ other. IsNear name other → ⊥) known
-IsAnswer name known (Some found) = IsNearest name known found
+abbrev pub IsNearAnswer : List ℕ → List (List ℕ) → Option (List ℕ) → Type 0
+IsNearAnswer name known None = All (λ other. IsNear name other → ⊥) known
+IsNearAnswer name known (Some found) = IsNearest name known found
 
 -- ---- how the code compares
 

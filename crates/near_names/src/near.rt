@@ -16,7 +16,7 @@ const MOST: usize = 64;
 
 /// Whether a name is compared at all.
 fn is_compared(name: &str) -> bool
-    ensures { result ≡ spec.is_compared name.now }
+    ensures { result ≡ spec.is_compared_name name.now }
 {
     FEWEST <= name.len() && name.len() <= MOST
 }

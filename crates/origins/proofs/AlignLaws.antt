@@ -5,7 +5,7 @@ use Rattle.std.proofs.lemmas.List.{append-nil, at_drop_more, drop_all, length_pu
 use Rattle.std.specs.List.{enumerate_from}
 use Rattle.std.proofs.lemmas.List.FromFn.{get_or-enumerate_from, length-enumerate_from}
 use Rattle.std.proofs.lemmas.Bool.Decides.{eqb_tells}
-use Rattle.origins.specs.Origins.{Sourced, first_indent, is_blank, is_break, left_aligned}
+use Rattle.origins.specs.Origins.{Sourced, first_indent, is_blank_char, is_break, left_aligned}
 use Rattle.origins.specs.Runs.{placed}
 
 -- a character of a text, and what is left behind it
@@ -22,13 +22,13 @@ module _ (c : ℕ) (cs : List ℕ) where
   pub indent-comment : is_break c ≡ false → first_indent None (c ∷ cs) ≡ first_indent None cs
   indent-comment e = rw e refl
 
-  pub indent-blank : (n : ℕ) → is_break c ≡ false → is_blank c ≡ true → first_indent (Some n) (c ∷ cs) ≡ first_indent (Some (n + 1)) cs
+  pub indent-blank : (n : ℕ) → is_break c ≡ false → is_blank_char c ≡ true → first_indent (Some n) (c ∷ cs) ≡ first_indent (Some (n + 1)) cs
   indent-blank n e b = rw (e, b) (ap (λ m. first_indent (Some m) cs) (let same : suc n ≡ n + 1 = omega arith in same))
 
-  pub indent-semicolon : (n : ℕ) → is_break c ≡ false → is_blank c ≡ false → nat_eq c 59 ≡ true → first_indent (Some n) (c ∷ cs) ≡ first_indent None cs
+  pub indent-semicolon : (n : ℕ) → is_break c ≡ false → is_blank_char c ≡ false → nat_eq c 59 ≡ true → first_indent (Some n) (c ∷ cs) ≡ first_indent None cs
   indent-semicolon n e b s = rw (e, b, s) refl
 
-  pub indent-content : (n : ℕ) → is_break c ≡ false → is_blank c ≡ false → (c ≡ 59 → ⊥) → first_indent (Some n) (c ∷ cs) ≡ n
+  pub indent-content : (n : ℕ) → is_break c ≡ false → is_blank_char c ≡ false → (c ≡ 59 → ⊥) → first_indent (Some n) (c ∷ cs) ≡ n
   indent-content n e b s = let other : nat_eq c 59 ≡ false = elim (eqb_tells c 59) [ inl x ↦ absurd (s x.1) | inr x ↦ x.0 ] in rw (e, b, other) refl
 
 pub indent-end : (front : Option ℕ) → first_indent front [] ≡ 0

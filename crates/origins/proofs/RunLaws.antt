@@ -16,7 +16,7 @@ use Rattle.std.proofs.lemmas.Bool.{le-leb, lt-leb, leb-true}
 use Rattle.std.proofs.lemmas.List.Sorted.{IsNonDecreasingBy-push}
 use Rattle.origins.specs.declared.runs.Run.{Run}
 use Rattle.origins.specs.Origins.{Sourced, from, characters}
-use Rattle.origins.specs.Runs.{run_at, origin_by, origin_at, start, placed, AreRuns}
+use Rattle.origins.specs.Runs.{run_at, origin_by, origin_at, first_run, placed, AreRuns}
 
 -- ---- the run of a character
 
@@ -113,25 +113,25 @@ runs-push rs r lt h = record {
 -- ---- places
 
 -- the last run goes on at what comes behind, where its next place is this one
-pub origin_at-goes_on : (rs : List Run) (last : Run) (count at k : ℕ) → AreRuns rs count → last ≡ get_or (start ∷ rs) (length rs) start → origin_by last count ≡ at → origin_at rs (count + k) ≡ at + k
+pub origin_at-goes_on : (rs : List Run) (last : Run) (count at k : ℕ) → AreRuns rs count → last ≡ get_or (first_run ∷ rs) (length rs) first_run → origin_by last count ≡ at → origin_at rs (count + k) ≡ at + k
 origin_at-goes_on rs last count at k h is place =
-    let same : run_at start rs (count + k) ≡ last = run_at-last start start rs count (count + k) h.within (omega arith) ∙ sym is in
-    let now : run_at start rs count ≡ last = run_at-last start start rs count count h.within (omega arith) ∙ sym is in
-    let low : last.begins ≤ count = subst (λ (r : Run). r.begins ≤ count) now (run_at-begins start rs count (omega arith)) in
+    let same : run_at first_run rs (count + k) ≡ last = run_at-last first_run first_run rs count (count + k) h.within (omega arith) ∙ sym is in
+    let now : run_at first_run rs count ≡ last = run_at-last first_run first_run rs count count h.within (omega arith) ∙ sym is in
+    let low : last.begins ≤ count = subst (λ (r : Run). r.begins ≤ count) now (run_at-begins first_run rs count (omega arith)) in
     ap (λ (r : Run). origin_by r (count + k)) same ∙ (let e : last.origin + (count + k - last.begins) ≡ at + k = omega (arith, low, place) in e)
 
 pub origin_at-push_before : (rs : List Run) (r : Run) (k : ℕ) → k < r.begins → origin_at (rs ++ r ∷ []) k ≡ origin_at rs k
-origin_at-push_before rs r k lt = ap (λ (s : Run). origin_by s k) (run_at-push_before start rs r k lt)
+origin_at-push_before rs r k lt = ap (λ (s : Run). origin_by s k) (run_at-push_before first_run rs r k lt)
 
 pub origin_at-push : (rs : List Run) (r : Run) (k : ℕ) → AreRuns rs r.begins → origin_at (rs ++ r ∷ []) (r.begins + k) ≡ r.origin + k
 origin_at-push rs r k h =
-    ap (λ (s : Run). origin_by s (r.begins + k)) (run_at-push start rs r r.begins (r.begins + k) h.within (omega arith) (omega arith))
+    ap (λ (s : Run). origin_by s (r.begins + k)) (run_at-push first_run rs r r.begins (r.begins + k) h.within (omega arith) (omega arith))
     ∙ (let e : r.origin + (r.begins + k - r.begins) ≡ r.origin + k = omega arith in e)
 
 -- a place in memory
 pub origin-fits : (rs : List Run) (count k : ℕ) → AreRuns rs count → k < 2 ^ 63 → origin_at rs k < 2 ^ 64
 origin-fits rs count k h lt =
-    let low : (run_at start rs k).origin < 2 ^ 63 = all_at (λ (r : Run). r.origin < 2 ^ 63) rs start k (omega arith) h.small in
+    let low : (run_at first_run rs k).origin < 2 ^ 63 = all_at (λ (r : Run). r.origin < 2 ^ 63) rs first_run k (omega arith) h.small in
     omega (arith, low, lt)
 
 -- ---- characters with their places

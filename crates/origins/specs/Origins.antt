@@ -15,22 +15,22 @@ abbrev pub characters : List Sourced → List ℕ
 characters cs = map (λ c. c.0) cs
 
 -- a block of grammar in a draft: its characters, and the offset at which it ends
-pub record Block : Type 0 where
+pub record SourcedBlock : Type 0 where
   pub content : List Sourced
   pub end : ℕ
 
 -- SP or HTAB
-abbrev pub is_blank : ℕ → Bool
-is_blank c = c == 32 || c == 9
+abbrev pub is_blank_char : ℕ → Bool
+is_blank_char c = c == 32 || c == 9
 
 -- LF or CR
 abbrev pub is_break : ℕ → Bool
 is_break c = c == 10 || c == 13
 
 -- how many blanks stand at the front
-abbrev pub blanks : List Sourced → ℕ
-blanks [] = 0
-blanks (c ∷ cs) = if is_blank c.0 then suc (blanks cs) else 0
+abbrev pub blank_front : List Sourced → ℕ
+blank_front [] = 0
+blank_front (c ∷ cs) = if is_blank_char c.0 then suc (blank_front cs) else 0
 
 -- The indent of the first line with content, as RFC 5234 section 2.2 has it of a grammar: how many blanks it begins with. A line has
 -- content, unless it has only blanks, or its first other character is the `;` of a comment. Of the line at hand so many blanks have
@@ -40,21 +40,21 @@ first_indent front [] = 0
 first_indent None (c ∷ cs) = first_indent (if is_break c then Some 0 else None) cs
 first_indent (Some n) (c ∷ cs) =
     if is_break c then first_indent (Some 0) cs
-    else (if is_blank c then first_indent (Some (suc n)) cs else (if c == 59 then first_indent None cs else n))
+    else (if is_blank_char c then first_indent (Some (suc n)) cs else (if c == 59 then first_indent None cs else n))
 
 -- without so many blanks at the front of each line, of which so many may still go
 abbrev pub left_aligned : ℕ → ℕ → List Sourced → List Sourced
 left_aligned base left [] = []
 left_aligned base left (c ∷ cs) =
-    if is_blank c.0 && nat_lt 0 left then left_aligned base (pred left) cs
+    if is_blank_char c.0 && nat_lt 0 left then left_aligned base (pred left) cs
     else c ∷ left_aligned base (if is_break c.0 then base else 0) cs
 
 -- the characters of a block without its base indent, and a line end at the block's end
-abbrev pub aligned : Block → List Sourced
+abbrev pub aligned : SourcedBlock → List Sourced
 aligned block =
     let base = first_indent (Some 0) (characters block.content) in
     left_aligned base base block.content ++ (10, block.end) ∷ []
 
 -- the grammar of blocks: one behind the other, each aligned by itself
-abbrev pub grammar_of : List Block → List Sourced
+abbrev pub grammar_of : List SourcedBlock → List Sourced
 grammar_of blocks = flat_map aligned blocks

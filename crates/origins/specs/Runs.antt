@@ -16,12 +16,12 @@ abbrev pub origin_by : Run → ℕ → ℕ
 origin_by run k = run.origin + (k - run.begins)
 
 -- what stands before any run: a run from the draft's start
-abbrev pub start : Run
-start = record { begins = 0; origin = 0 }
+abbrev pub first_run : Run
+first_run = record { begins = 0; origin = 0 }
 
 -- where the character k begins in the draft
 abbrev pub origin_at : List Run → ℕ → ℕ
-origin_at runs k = origin_by (run_at start runs k) k
+origin_at runs k = origin_by (run_at first_run runs k) k
 
 -- characters, the first of which is number n, each with its place
 unfoldable pub placed : (ℕ → ℕ) → ℕ → List ℕ → List Sourced

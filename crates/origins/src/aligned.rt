@@ -2,11 +2,11 @@
 
 ghost use Rattle.std.specs.Prelude.{◌≡◌, Some};
 ghost use Rattle.std.specs.Str.{chars};
-ghost use Rattle.origins.specs.Origins.{first_indent, is_blank, is_break};
+ghost use Rattle.origins.specs.Origins.{first_indent, is_blank_char, is_break};
 
 /// Whether a character is SP or HTAB.
 pub fn is_blank(c: char) -> bool
-    ensures { result ≡ is_blank c }
+    ensures { result ≡ is_blank_char c }
 {
     c == ' ' || c == '\t'
 }

@@ -2,7 +2,7 @@
 
 ghost use Rattle.std.specs.Prelude.{◌≡◌, ℕ, ◌+◌, ◌-◌, ◌^◌, ◌<◌, ◌≤◌, ◌∷◌, OnOk, length, slice_index_or};
 ghost use Rattle.std.specs.List.Sorted.{IsNonDecreasingBy};
-ghost use Rattle.origins.specs.Runs.{AreRuns, origin_at, origin_by, run_at, start};
+ghost use Rattle.origins.specs.Runs.{AreRuns, origin_at, origin_by, run_at, first_run};
 
 use std::alloc::AllocError;
 
@@ -38,7 +38,7 @@ impl Run {
 // The last of the first `count` runs.
 fn last_of(runs: &[Run], count: usize) -> Run
     requires { count ≤ length runs.now }
-    ensures { result ≡ slice_index_or (start ∷ runs.now) count start }
+    ensures { result ≡ slice_index_or (first_run ∷ runs.now) count first_run }
 {
     if count == 0 { START } else { runs[count - 1] }
 }
@@ -46,7 +46,7 @@ fn last_of(runs: &[Run], count: usize) -> Run
 // The run of a character.
 pub fn run_of(runs: &[Run], offset: usize) -> Run
     requires ordered { IsNonDecreasingBy (λ r. r.begins) runs.now }
-    ensures { result ≡ run_at start runs.now offset }
+    ensures { result ≡ run_at first_run runs.now offset }
 {
     last_of(runs, runs.partition_point(|run| run.begins <= offset))
 }

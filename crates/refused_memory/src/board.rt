@@ -2,11 +2,12 @@
 ghost use Rattle.std.specs.Prelude.{◌≡◌, ◌<◌, IfOk};
 ghost use Rattle.ls_machine.specs.Client.{IsAllowed};
 
+use crate::call::{START, uri, whole};
 use ls_answers::Ask;
 use ls_desk::{Desk, DeskFault};
-use ls_lists::{List, Text};
+use ls_lists::Text;
 use ls_rpc::Id;
-use ls_text::{Edit, Encoding, Position};
+use ls_text::Encoding;
 use ls_workers::{
     Blanks, Board, ClientAnswer, ClientEvent, ClientSeat, Crew, WorkerSeat, WriterSeat,
 };
@@ -33,23 +34,10 @@ const SESSION: [Does; 5] = [
     Does::Open("a = \"z\""),
 ];
 
-const START: Position = Position {
-    line: 0,
-    character: 0,
-};
-
-// One edit that replaces the whole text.
-fn whole(alloc: Global, text: &str) -> Result<List<Edit>, AllocError> {
-    let text = Text::from_str(alloc, text)?;
-    let mut edits = List::new(alloc);
-    edits.push(Edit { range: None, text })?;
-    Ok(edits)
-}
-
 fn event(alloc: Global, does: Does) -> Result<ClientEvent, AllocError>
     ensures { IfOk result (λ event. IsAllowed event) }
 {
-    let uri = Text::from_str(alloc, "file:///g")?;
+    let uri = uri(alloc)?;
     match does {
         Does::Open(text) => {
             let text = Text::from_str(alloc, text)?;

@@ -41,12 +41,14 @@ pub enum Answer {
     Refused(DeskFault),
 }
 
-const START: Position = Position {
+/// The start of the document, where the name of its first rule stands.
+pub const START: Position = Position {
     line: 0,
     character: 0,
 };
 
-fn uri(alloc: Global) -> Result<Text, AllocError> {
+/// The document's name.
+pub fn uri(alloc: Global) -> Result<Text, AllocError> {
     Text::from_str(alloc, "file:///g")
 }
 
@@ -59,8 +61,8 @@ fn open(desk: &mut Desk, alloc: Global, text: &str) -> Result<u64, DeskFault> {
     )
 }
 
-// One edit that replaces the whole text.
-fn whole(alloc: Global, text: &str) -> Result<List<Edit>, AllocError> {
+/// One edit that replaces the whole text.
+pub fn whole(alloc: Global, text: &str) -> Result<List<Edit>, AllocError> {
     let text = Text::from_str(alloc, text)?;
     let mut edits = List::new(alloc);
     edits.push(Edit { range: None, text })?;
@@ -69,10 +71,6 @@ fn whole(alloc: Global, text: &str) -> Result<List<Edit>, AllocError> {
 
 fn change(desk: &mut Desk, alloc: Global, text: &str) -> Result<Option<u64>, DeskFault> {
     desk.did_change(uri(alloc)?, 2, whole(alloc, text)?)
-}
-
-fn close(desk: &mut Desk, alloc: Global) -> Result<(), DeskFault> {
-    desk.did_close(uri(alloc)?)
 }
 
 fn hover(desk: &mut Desk, alloc: Global, id: i64) -> Result<u64, DeskFault> {
@@ -87,10 +85,6 @@ fn rename(desk: &mut Desk, alloc: Global, id: i64) -> Result<u64, DeskFault> {
 
 fn symbols(desk: &mut Desk, alloc: Global, id: i64) -> Result<u64, DeskFault> {
     desk.request(Id::Number(id), uri(alloc)?, Ask::Symbols, false)
-}
-
-fn say(desk: &mut Desk, alloc: Global) -> Result<(), DeskFault> {
-    desk.say(List::from_slice(alloc, b"{}")?)
 }
 
 // What the oldest reply is.
@@ -112,59 +106,48 @@ fn sent(desk: &mut Desk) -> Answer {
     if is_sent { first } else { Answer::Nothing }
 }
 
-fn numbered(answer: Result<u64, DeskFault>) -> Answer {
-    match answer {
-        Ok(number) => Answer::Number(number),
-        Err(fault) => Answer::Refused(fault),
-    }
-}
-
-fn changed(answer: Result<Option<u64>, DeskFault>) -> Answer {
-    match answer {
-        Ok(Some(version)) => Answer::Number(version),
-        Ok(None) => Answer::Nothing,
-        Err(fault) => Answer::Refused(fault),
-    }
-}
-
-fn done(answer: Result<(), DeskFault>) -> Answer {
-    match answer {
-        Ok(()) => Answer::Done,
-        Err(fault) => Answer::Refused(fault),
-    }
-}
-
-fn found(answer: Result<bool, DeskFault>) -> Answer {
-    match answer {
-        Ok(found) => Answer::Found(found),
-        Err(fault) => Answer::Refused(fault),
-    }
-}
-
-fn kept(answer: Result<Kept, DeskFault>) -> Answer {
-    match answer {
-        Ok(kept) => Answer::Held(kept),
-        Err(fault) => Answer::Refused(fault),
-    }
-}
-
 impl Call {
     /// Makes the call.
     pub fn made(&self, desk: &mut Desk, worker: &mut Worker, alloc: Global) -> Answer {
-        match self {
-            Call::Open(text) => numbered(open(desk, alloc, text)),
-            Call::Change(text) => changed(change(desk, alloc, text)),
-            Call::Close => done(close(desk, alloc)),
-            Call::Hover(id) => numbered(hover(desk, alloc, *id)),
-            Call::Rename(id) => numbered(rename(desk, alloc, *id)),
-            Call::Symbols(id) => numbered(symbols(desk, alloc, *id)),
-            Call::Cancel(id) => found(desk.cancel(&Id::Number(*id))),
-            Call::Say => done(say(desk, alloc)),
-            Call::Take => numbered(worker.take(desk)),
-            Call::GiveBack => done(worker.give_back(desk)),
-            Call::Finish => kept(worker.finish(desk, alloc)),
-            Call::NextOut => sent(desk),
+        match self.tried(desk, worker, alloc) {
+            Ok(answer) => answer,
+            Err(fault) => Answer::Refused(fault),
         }
+    }
+
+    fn tried(
+        &self,
+        desk: &mut Desk,
+        worker: &mut Worker,
+        alloc: Global,
+    ) -> Result<Answer, DeskFault> {
+        let answer = match self {
+            Call::Open(text) => Answer::Number(open(desk, alloc, text)?),
+            Call::Change(text) => match change(desk, alloc, text)? {
+                Some(version) => Answer::Number(version),
+                None => Answer::Nothing,
+            },
+            Call::Close => {
+                desk.did_close(uri(alloc)?)?;
+                Answer::Done
+            }
+            Call::Hover(id) => Answer::Number(hover(desk, alloc, *id)?),
+            Call::Rename(id) => Answer::Number(rename(desk, alloc, *id)?),
+            Call::Symbols(id) => Answer::Number(symbols(desk, alloc, *id)?),
+            Call::Cancel(id) => Answer::Found(desk.cancel(&Id::Number(*id))?),
+            Call::Say => {
+                desk.say(List::from_slice(alloc, b"{}")?)?;
+                Answer::Done
+            }
+            Call::Take => Answer::Number(worker.take(desk)?),
+            Call::GiveBack => {
+                worker.give_back(desk)?;
+                Answer::Done
+            }
+            Call::Finish => Answer::Held(worker.finish(desk, alloc)?),
+            Call::NextOut => sent(desk),
+        };
+        Ok(answer)
     }
 
     /// Its name.

@@ -32,8 +32,8 @@ fn are_same_questions(a: (&Id, &Text, &Ask), b: (&Id, &Text, &Ask)) -> bool {
     same_id(a.0, b.0) && is_same_name(a.1, b.1) && same_ask(a.2, b.2)
 }
 
-// Whether two events of a document are the same.
-fn is_same_change(a: &Event, b: &Event) -> bool {
+// Whether a document was opened, and both times the same.
+fn is_same_opening(a: &Event, b: &Event) -> bool {
     match (a, b) {
         (
             Event::Opened {
@@ -56,6 +56,13 @@ fn is_same_change(a: &Event, b: &Event) -> bool {
                 && is_same_text(text, other_text)
                 && are_utf16(*encoding, *other_encoding)
         }
+        _ => false,
+    }
+}
+
+// Whether two events of an open document are the same.
+fn is_same_change(a: &Event, b: &Event) -> bool {
+    match (a, b) {
         (
             Event::Changed {
                 uri,
@@ -131,11 +138,12 @@ fn is_same_step(a: &Event, b: &Event) -> bool {
     }
 }
 
+fn is_same_event(a: &Event, b: &Event) -> bool {
+    is_same_opening(a, b) || is_same_change(a, b) || is_same_request(a, b) || is_same_step(a, b)
+}
+
 fn are_same_events(a: &[Event], b: &[Event]) -> bool {
-    a.len() == b.len()
-        && a.iter().zip(b.iter()).all(|(a, b)| {
-            is_same_change(a, b) || is_same_request(a, b) || is_same_step(a, b)
-        })
+    a.len() == b.len() && a.iter().zip(b.iter()).all(|(a, b)| is_same_event(a, b))
 }
 
 fn is_same_document(a: &Document, b: &Document) -> bool {

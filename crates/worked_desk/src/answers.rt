@@ -1,7 +1,7 @@
 //! Answers for the text that was asked about, whatever has happened since.
 
 use super::steps::{
-    DESKS, change, finish, hover, leaves, nth_desk, open, opened, rename, sends_failure, take,
+    change, finish, hover, leaves, on_each_desk, open, opened, rename, sends_failure, take,
     tells_findings,
 };
 use abnf_least::Shortest;
@@ -19,12 +19,7 @@ fn is_findings_alone(desk: &mut Desk, alloc: Global) -> Result<bool, DeskFault> 
 
 #[test]
 fn an_open_text_has_findings(rt: HostRuntime) -> Result<(), Fail> {
-    for number in 0..DESKS {
-        let mut desk = nth_desk(rt.alloc(), number);
-        let alone = is_findings_alone(&mut desk, rt.alloc());
-        drop(desk);
-        assert!(rt; alone?);
-    }
+    assert!(rt; on_each_desk(rt.alloc(), is_findings_alone)?);
     Ok(())
 }
 
@@ -66,15 +61,14 @@ pub(crate) fn hovers_over_a_change(desk: &mut Desk, alloc: Global) -> Result<boo
     Ok(begun && changed? == Some(2) && kept? == Kept::Reply && sends_hover(desk, 1, 120))
 }
 
+// A hover over a change, and then the findings of that change.
+fn hovers_and_tells(desk: &mut Desk, alloc: Global) -> Result<bool, DeskFault> {
+    Ok(hovers_over_a_change(desk, alloc)? && tells_findings(desk, alloc, 3)?)
+}
+
 #[test]
 fn a_hover_is_for_its_own_text(rt: HostRuntime) -> Result<(), Fail> {
-    for number in 0..DESKS {
-        let mut desk = nth_desk(rt.alloc(), number);
-        let hovers = hovers_over_a_change(&mut desk, rt.alloc());
-        let told = tells_findings(&mut desk, rt.alloc(), 3);
-        drop(desk);
-        assert!(rt; hovers? && told?);
-    }
+    assert!(rt; on_each_desk(rt.alloc(), hovers_and_tells)?);
     Ok(())
 }
 
@@ -84,20 +78,13 @@ fn ends(desk: &mut Desk, alloc: Global) -> Result<bool, DeskFault> {
     let job = take(desk)?;
     let changed = change(desk, alloc, "a = \"z\"");
     let one = desk.unsent() == 1 && sends_failure(desk, 2, 3, -32801);
-    let kept = finish(desk, alloc, job);
-    Ok(begun && changed? == Some(2) && one && kept == Err(DeskFault::UnknownTicket))
+    let unknown = finish(desk, alloc, job) == Err(DeskFault::UnknownTicket);
+    Ok(begun && changed? == Some(2) && one && unknown && desk.unsent() == 0)
 }
 
 #[test]
 fn a_change_ends_a_rename(rt: HostRuntime) -> Result<(), Fail> {
-    for number in 0..DESKS {
-        let mut desk = nth_desk(rt.alloc(), number);
-        let ended = ends(&mut desk, rt.alloc());
-        let unsent = desk.unsent();
-        drop(desk);
-        assert!(rt; ended?);
-        assert_eq!(rt; unsent, 0);
-    }
+    assert!(rt; on_each_desk(rt.alloc(), ends)?);
     Ok(())
 }
 
@@ -110,11 +97,6 @@ fn drops_the_findings(desk: &mut Desk, alloc: Global) -> Result<bool, DeskFault>
 
 #[test]
 fn a_change_drops_the_findings(rt: HostRuntime) -> Result<(), Fail> {
-    for number in 0..DESKS {
-        let mut desk = nth_desk(rt.alloc(), number);
-        let drops = drops_the_findings(&mut desk, rt.alloc());
-        drop(desk);
-        assert!(rt; drops?);
-    }
+    assert!(rt; on_each_desk(rt.alloc(), drops_the_findings)?);
     Ok(())
 }

@@ -1,6 +1,6 @@
 //! Requests that are cancelled, and jobs that are given back.
 
-use super::steps::{DESKS, finish, leaves, nth_desk, opened, sends_failure, symbols, take};
+use super::steps::{finish, leaves, on_each_desk, opened, sends_failure, symbols, take};
 use ls_desk::{Desk, DeskFault, Out};
 use ls_lists::List;
 use ls_rpc::Id;
@@ -23,15 +23,13 @@ pub(crate) fn is_over(desk: &mut Desk, alloc: Global) -> Result<bool, DeskFault>
     Ok(!found && symbols(desk, alloc, 2)? == 3)
 }
 
+fn cancels_once(desk: &mut Desk, alloc: Global) -> Result<bool, DeskFault> {
+    Ok(cancels(desk, alloc)? && is_over(desk, alloc)?)
+}
+
 #[test]
 fn a_cancel_is_told_once(rt: HostRuntime) -> Result<(), Fail> {
-    for number in 0..DESKS {
-        let mut desk = nth_desk(rt.alloc(), number);
-        let told = cancels(&mut desk, rt.alloc());
-        let over = is_over(&mut desk, rt.alloc());
-        drop(desk);
-        assert!(rt; told? && over?);
-    }
+    assert!(rt; on_each_desk(rt.alloc(), cancels_once)?);
     Ok(())
 }
 
@@ -54,12 +52,7 @@ fn comes_again(desk: &mut Desk, alloc: Global) -> Result<bool, DeskFault> {
 
 #[test]
 fn a_job_comes_back(rt: HostRuntime) -> Result<(), Fail> {
-    for number in 0..DESKS {
-        let mut desk = nth_desk(rt.alloc(), number);
-        let again = comes_again(&mut desk, rt.alloc());
-        drop(desk);
-        assert!(rt; again?);
-    }
+    assert!(rt; on_each_desk(rt.alloc(), comes_again)?);
     Ok(())
 }
 

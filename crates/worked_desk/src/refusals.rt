@@ -2,43 +2,21 @@
 
 use super::cancels::taken;
 use super::steps::{
-    DESKS, START, change, close, comes_back, finish, leaves, nth_desk, open, opened, symbols, take,
+    START, change, close, comes_back, finish, job_of, leaves, on_each_desk, open, opened, symbols,
+    take,
 };
-use ls_answers::{Ask, Done, Job, run};
-use ls_desk::{Counts, Desk, DeskFault, Kept, SharedSnapshot};
+use ls_answers::{Ask, Done, run};
+use ls_desk::{Counts, Desk, DeskFault, Kept};
 use ls_lists::List;
 use ls_rpc::Id;
-use ls_text::{Encoding, Snapshot, TextFault};
+use ls_text::Encoding;
 use std::alloc::Global;
 use std::test::Fail;
 
-// A run with a ticket, of a text, an encoding and a question of its own.
-fn done_in(
-    alloc: Global,
-    ticket: u64,
-    text: &str,
-    encoding: Encoding,
-    ask: Ask,
-) -> Result<Done, DeskFault> {
-    let text = String::from_str(alloc, text)?;
-    let snapshot = match Snapshot::of_text(alloc, text) {
-        Ok(snapshot) => SharedSnapshot::new(alloc, snapshot)?.arc()?,
-        Err(TextFault::TooLarge) => return Err(DeskFault::TooLarge),
-        Err(TextFault::Memory) => return Err(DeskFault::Memory),
-    };
-    Ok(run(
-        alloc,
-        Job {
-            ticket,
-            snapshot,
-            encoding,
-            ask,
-        },
-    ))
-}
-
+// A run with a ticket, of a text and a question of its own.
 fn done(alloc: Global, ticket: u64, text: &str, ask: Ask) -> Result<Done, DeskFault> {
-    done_in(alloc, ticket, text, Encoding::Utf16, ask)
+    let job = job_of(alloc, ticket, text, Encoding::Utf16, ask)?;
+    Ok(run(alloc, job))
 }
 
 // Whether a run of the first ticket after the findings is refused for this.
@@ -55,8 +33,8 @@ fn is_refused(
 
 // Whether a run of the first ticket after the findings is refused by its encoding alone.
 fn is_refused_in(desk: &mut Desk, alloc: Global, encoding: Encoding) -> Result<bool, DeskFault> {
-    let other = done_in(alloc, 2, "a = \"x\"", encoding, Ask::Symbols)?;
-    Ok(comes_back(desk, other, DeskFault::OtherText))
+    let job = job_of(alloc, 2, "a = \"x\"", encoding, Ask::Symbols)?;
+    Ok(comes_back(desk, run(alloc, job), DeskFault::OtherText))
 }
 
 // An outline is asked for and taken.
@@ -66,21 +44,20 @@ fn outlined(desk: &mut Desk, alloc: Global) -> Result<bool, DeskFault> {
     Ok(begun && job.ticket == 2)
 }
 
+// Of another text, of another question, and in other encodings.
+fn refuses_others(desk: &mut Desk, alloc: Global) -> Result<bool, DeskFault> {
+    let fault = DeskFault::OtherText;
+    let begun = outlined(desk, alloc)?;
+    let text = is_refused(desk, alloc, "a = \"y\"", Ask::Symbols, fault)?;
+    let question = is_refused(desk, alloc, "a = \"x\"", Ask::Hover(START), fault)?;
+    let bytes = is_refused_in(desk, alloc, Encoding::Utf8)?;
+    let characters = is_refused_in(desk, alloc, Encoding::Utf32)?;
+    Ok(begun && text && question && bytes && characters)
+}
+
 #[test]
 fn of_another_text_encoding_or_question(rt: HostRuntime) -> Result<(), Fail> {
-    let alloc = rt.alloc();
-    let fault = DeskFault::OtherText;
-    for number in 0..DESKS {
-        let mut desk = nth_desk(alloc, number);
-        let begun = outlined(&mut desk, alloc);
-        let text = is_refused(&mut desk, alloc, "a = \"y\"", Ask::Symbols, fault);
-        let question = is_refused(&mut desk, alloc, "a = \"x\"", Ask::Hover(START), fault);
-        let bytes = is_refused_in(&mut desk, alloc, Encoding::Utf8);
-        let characters = is_refused_in(&mut desk, alloc, Encoding::Utf32);
-        drop(desk);
-        assert!(rt; begun? && text? && question?);
-        assert!(rt; bytes? && characters?);
-    }
+    assert!(rt; on_each_desk(rt.alloc(), refuses_others)?);
     Ok(())
 }
 
@@ -95,12 +72,7 @@ fn refuses_tickets(desk: &mut Desk, alloc: Global) -> Result<bool, DeskFault> {
 
 #[test]
 fn of_another_ticket(rt: HostRuntime) -> Result<(), Fail> {
-    for number in 0..DESKS {
-        let mut desk = nth_desk(rt.alloc(), number);
-        let refused = refuses_tickets(&mut desk, rt.alloc());
-        drop(desk);
-        assert!(rt; refused?);
-    }
+    assert!(rt; on_each_desk(rt.alloc(), refuses_tickets)?);
     Ok(())
 }
 
@@ -121,12 +93,7 @@ fn takes_one_run(desk: &mut Desk, alloc: Global) -> Result<bool, DeskFault> {
 
 #[test]
 fn of_a_second_run(rt: HostRuntime) -> Result<(), Fail> {
-    for number in 0..DESKS {
-        let mut desk = nth_desk(rt.alloc(), number);
-        let one = takes_one_run(&mut desk, rt.alloc());
-        drop(desk);
-        assert!(rt; one?);
-    }
+    assert!(rt; on_each_desk(rt.alloc(), takes_one_run)?);
     Ok(())
 }
 
@@ -204,11 +171,6 @@ fn opens_and_closes(desk: &mut Desk, alloc: Global) -> Result<bool, DeskFault> {
 
 #[test]
 fn of_what_is_not_open(rt: HostRuntime) -> Result<(), Fail> {
-    for number in 0..DESKS {
-        let mut desk = nth_desk(rt.alloc(), number);
-        let opens = opens_and_closes(&mut desk, rt.alloc());
-        drop(desk);
-        assert!(rt; opens?);
-    }
+    assert!(rt; on_each_desk(rt.alloc(), opens_and_closes)?);
     Ok(())
 }

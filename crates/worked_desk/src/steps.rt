@@ -2,10 +2,10 @@
 ghost use Rattle.std.specs.Prelude.{◌<◌, ◌≤◌};
 
 use ls_answers::{Ask, Done, Job, run};
-use ls_desk::{Desk, DeskFault, Kept, Out};
+use ls_desk::{Desk, DeskFault, Kept, Out, SharedSnapshot};
 use ls_lists::{List, Text};
 use ls_rpc::Id;
-use ls_text::{Edit, Encoding, Position};
+use ls_text::{Edit, Encoding, Position, Snapshot, TextFault};
 use std::alloc::{AllocError, Global};
 
 const URI: &str = "file:///g";
@@ -16,6 +16,9 @@ pub(crate) const START: Position = Position {
     character: 0,
 };
 
+/// How many desks there are on which each worked session goes the same way.
+const DESKS: usize = 5;
+
 // How many events a journal may have before it begins anew: 1 to 4, and then as many as it may have at all.
 fn longest(number: usize) -> usize
     ensures { (0 < result) × (result ≤ 1000000) }
@@ -23,12 +26,23 @@ fn longest(number: usize) -> usize
     if number < 4 { number + 1 } else { 1_000_000 }
 }
 
-/// How many desks there are on which each worked session goes the same way.
-pub(crate) const DESKS: usize = 5;
-
-/// One of these desks, on which nothing has happened. They differ in how long their journals may be.
-pub(crate) fn nth_desk(alloc: Global, number: usize) -> Desk {
-    Desk::new(alloc, longest(number), 1_000_000)
+/// Whether a session goes as it must on each of these desks, on which nothing has happened. They differ in how long their journals may be.
+/// (A function that is passed has three proofs as an `Fn`, and one so.)
+pub(crate) fn on_each_desk<F: FnOnce(&mut Desk, Global) -> Result<bool, DeskFault> + Copy>(
+    alloc: Global,
+    session: F,
+) -> Result<bool, DeskFault>
+    requires { F.IsAlwaysCallable session }
+{
+    for number in 0..DESKS {
+        let mut desk = Desk::new(alloc, longest(number), 1_000_000);
+        let goes = session(&mut desk, alloc);
+        drop(desk);
+        if !goes? {
+            return Ok(false);
+        }
+    }
+    Ok(true)
 }
 
 fn uri(alloc: Global) -> Result<Text, AllocError> {
@@ -71,6 +85,28 @@ pub(crate) fn symbols(desk: &mut Desk, alloc: Global, id: i64) -> Result<u64, De
 pub(crate) fn rename(desk: &mut Desk, alloc: Global, id: i64) -> Result<u64, DeskFault> {
     let ask = Ask::Rename(START, Text::from_str(alloc, "b")?);
     desk.request(Id::Number(id), uri(alloc)?, ask, false)
+}
+
+/// A job with a ticket, of a text, an encoding and a question of its own.
+pub(crate) fn job_of(
+    alloc: Global,
+    ticket: u64,
+    text: &str,
+    encoding: Encoding,
+    ask: Ask,
+) -> Result<Job, DeskFault> {
+    let text = String::from_str(alloc, text)?;
+    let snapshot = match Snapshot::of_text(alloc, text) {
+        Ok(snapshot) => SharedSnapshot::new(alloc, snapshot)?.arc()?,
+        Err(TextFault::TooLarge) => return Err(DeskFault::TooLarge),
+        Err(TextFault::Memory) => return Err(DeskFault::Memory),
+    };
+    Ok(Job {
+        ticket,
+        snapshot,
+        encoding,
+        ask,
+    })
 }
 
 /// The first queued job, which is there.

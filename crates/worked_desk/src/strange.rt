@@ -1,10 +1,10 @@
 //! Runs that are strange to a desk come back whole, and the own one is taken once.
 
 use super::answers::{sends_hover, shows};
-use super::steps::{DESKS, finish, hover, nth_desk, opened, take};
+use super::steps::{finish, hover, job_of, on_each_desk, opened, take};
 use ls_answers::{Ask, Done, Job, run};
-use ls_desk::{Desk, DeskFault, Kept, SharedSnapshot};
-use ls_text::{Encoding, Position, Snapshot, TextFault};
+use ls_desk::{Desk, DeskFault, Kept};
+use ls_text::{Encoding, Position};
 use std::alloc::Global;
 use std::test::Fail;
 
@@ -32,22 +32,17 @@ impl Hovered {
     }
 
     fn job(&self, alloc: Global) -> Result<Job, DeskFault> {
-        let text = String::from_str(alloc, self.text)?;
-        let snapshot = match Snapshot::of_text(alloc, text) {
-            Ok(snapshot) => SharedSnapshot::new(alloc, snapshot)?.arc()?,
-            Err(TextFault::TooLarge) => return Err(DeskFault::TooLarge),
-            Err(TextFault::Memory) => return Err(DeskFault::Memory),
-        };
         let at = Position {
             line: 0,
             character: self.character,
         };
-        Ok(Job {
-            ticket: self.ticket,
-            snapshot,
-            encoding: Encoding::Utf16,
-            ask: Ask::Hover(at),
-        })
+        job_of(
+            alloc,
+            self.ticket,
+            self.text,
+            Encoding::Utf16,
+            Ask::Hover(at),
+        )
     }
 
     // Whether this is the run, with all that it had.
@@ -94,18 +89,12 @@ fn takes_its_own(desk: &mut Desk, alloc: Global) -> Result<bool, DeskFault> {
     let kept = finish(desk, alloc, job);
     let own = Hovered::new(2, TEXT, 0, 120);
     let again = own.comes_back(desk, alloc, DeskFault::UnknownTicket)?;
-    Ok(begun && refused? && kept? == Kept::Reply && again && sends_hover(desk, 1, 120))
+    let taken = kept? == Kept::Reply && sends_hover(desk, 1, 120);
+    Ok(begun && refused? && taken && again && desk.unsent() == 0)
 }
 
 #[test]
 fn strange_runs_come_back(rt: HostRuntime) -> Result<(), Fail> {
-    for number in 0..DESKS {
-        let mut desk = nth_desk(rt.alloc(), number);
-        let own = takes_its_own(&mut desk, rt.alloc());
-        let unsent = desk.unsent();
-        drop(desk);
-        assert!(rt; own?);
-        assert_eq!(rt; unsent, 0);
-    }
+    assert!(rt; on_each_desk(rt.alloc(), takes_its_own)?);
     Ok(())
 }

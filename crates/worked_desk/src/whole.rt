@@ -2,7 +2,7 @@
 
 use super::answers::hovers_over_a_change;
 use super::cancels::{cancels, is_over, taken};
-use super::steps::{DESKS, change, finish, nth_desk, rename, sends_failure, take, tells_findings};
+use super::steps::{change, finish, on_each_desk, rename, sends_failure, take, tells_findings};
 use ls_desk::{Desk, DeskFault};
 use std::alloc::Global;
 use std::test::Fail;
@@ -18,18 +18,14 @@ fn ends_the_fourth(desk: &mut Desk, alloc: Global) -> Result<bool, DeskFault> {
 }
 
 // A hover that is finished after a change, the findings of that change, and then a rename that another change ends.
+fn hovers_and_ends(desk: &mut Desk, alloc: Global) -> Result<bool, DeskFault> {
+    let hovers = hovers_over_a_change(desk, alloc)? && tells_findings(desk, alloc, 3)?;
+    Ok(hovers && ends_the_fourth(desk, alloc)? && desk.unsent() == 0)
+}
+
 #[test]
 fn a_rename_behind_a_hover(rt: HostRuntime) -> Result<(), Fail> {
-    for number in 0..DESKS {
-        let mut desk = nth_desk(rt.alloc(), number);
-        let hovers = hovers_over_a_change(&mut desk, rt.alloc());
-        let findings = tells_findings(&mut desk, rt.alloc(), 3);
-        let ends = ends_the_fourth(&mut desk, rt.alloc());
-        let unsent = desk.unsent();
-        drop(desk);
-        assert!(rt; hovers? && findings? && ends?);
-        assert_eq!(rt; unsent, 0);
-    }
+    assert!(rt; on_each_desk(rt.alloc(), hovers_and_ends)?);
     Ok(())
 }
 
@@ -41,14 +37,12 @@ fn comes_back_as_the_third(desk: &mut Desk, alloc: Global) -> Result<bool, DeskF
     Ok(over && first == 3 && taken(desk)? == 3)
 }
 
+fn cancels_and_comes_back(desk: &mut Desk, alloc: Global) -> Result<bool, DeskFault> {
+    Ok(cancels(desk, alloc)? && comes_back_as_the_third(desk, alloc)?)
+}
+
 #[test]
 fn a_job_comes_back_behind_a_cancel(rt: HostRuntime) -> Result<(), Fail> {
-    for number in 0..DESKS {
-        let mut desk = nth_desk(rt.alloc(), number);
-        let told = cancels(&mut desk, rt.alloc());
-        let back = comes_back_as_the_third(&mut desk, rt.alloc());
-        drop(desk);
-        assert!(rt; told? && back?);
-    }
+    assert!(rt; on_each_desk(rt.alloc(), cancels_and_comes_back)?);
     Ok(())
 }

@@ -1,4 +1,4 @@
-//! The bodies of the sessions, and what is made of a stream of them.
+//! What the two sides of a session say, and what is made of a stream of it.
 
 use ls_frame::{Framer, write_frame};
 use std::alloc::Global;
@@ -7,28 +7,35 @@ use std::test::Fail;
 pub const INITIALIZE: &str =
     r#"{"jsonrpc":"2.0","id":1,"method":"initialize","params":{"capabilities":{}}}"#;
 
-/// Opens a document with the text `a = "x"`.
+/// The document `file:///g` with the label 1 and the text `a = "x"`.
 pub const OPEN: &str =
     r#"{"jsonrpc":"2.0","method":"textDocument/didOpen","params":{"textDocument":{"uri":"file:///g","languageId":"abnf","version":1,"text":"a = \"x\""}}}"#;
 
 pub const SYMBOLS: &str =
     r#"{"jsonrpc":"2.0","id":2,"method":"textDocument/documentSymbol","params":{"textDocument":{"uri":"file:///g"}}}"#;
 
+pub const HOVER: &str =
+    r#"{"jsonrpc":"2.0","id":2,"method":"textDocument/hover","params":{"textDocument":{"uri":"file:///g"},"position":{"line":0,"character":0}}}"#;
+
 pub const SHUTDOWN: &str = r#"{"jsonrpc":"2.0","id":1000,"method":"shutdown"}"#;
 
 pub const EXIT: &str = r#"{"jsonrpc":"2.0","method":"exit"}"#;
 
-/// 480 bytes.
+/// The answer to `initialize` (LSP 3.17, "Initialize Request"): 480 bytes.
 pub const CAPABILITIES: &str =
     r#"{"id":1,"jsonrpc":"2.0","result":{"capabilities":{"codeActionProvider":true,"definitionProvider":true,"documentSymbolProvider":true,"hoverProvider":true,"positionEncoding":"utf-16","referencesProvider":true,"renameProvider":true,"semanticTokensProvider":{"full":true,"legend":{"tokenModifiers":["definition","defaultLibrary"],"tokenTypes":["type","string","number","operator","comment","macro"]}},"textDocumentSync":{"change":2,"openClose":true}},"serverInfo":{"name":"abnf_ls"}}}"#;
 
-/// 118 bytes.
+/// Nothing is wrong with the document as it was opened: 118 bytes.
 pub const NOTHING_WRONG: &str =
     r#"{"jsonrpc":"2.0","method":"textDocument/publishDiagnostics","params":{"diagnostics":[],"uri":"file:///g","version":1}}"#;
 
 /// 215 bytes.
 pub const OUTLINE: &str =
     r#"{"id":2,"jsonrpc":"2.0","result":[{"kind":12,"name":"a","range":{"end":{"character":7,"line":0},"start":{"character":0,"line":0}},"selectionRange":{"end":{"character":1,"line":0},"start":{"character":0,"line":0}}}]}"#;
+
+/// The answer to the hover: 180 bytes.
+pub const HOVERED: &str =
+    r#"{"id":2,"jsonrpc":"2.0","result":{"contents":{"kind":"plaintext","value":"shortest length 1\nexample x"},"range":{"end":{"character":1,"line":0},"start":{"character":0,"line":0}}}}"#;
 
 pub const DOWN: &str = r#"{"id":1000,"jsonrpc":"2.0","result":null}"#;
 

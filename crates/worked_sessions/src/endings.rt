@@ -1,12 +1,11 @@
 //! Sessions that end.
 
-use super::said::{CAPABILITIES, INITIALIZE, frames, run_through};
+use super::bodies::{CAPABILITIES, EXIT, INITIALIZE, frames};
+use super::by_steps::run_through;
 use ls_frame::FrameFault;
 use ls_session::Status;
 use ls_steps::Step;
 use std::test::Fail;
-
-const EXIT: &str = r#"{"jsonrpc":"2.0","method":"exit"}"#;
 
 #[test]
 fn nothing_is_heard_after_an_exit(rt: HostRuntime) -> Result<(), Fail> {

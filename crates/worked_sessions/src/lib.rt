@@ -10,6 +10,8 @@
 #[cfg(test)]
 mod bodies;
 #[cfg(test)]
+mod by_steps;
+#[cfg(test)]
 mod devices;
 #[cfg(test)]
 mod endings;
@@ -25,8 +27,6 @@ mod messages;
 mod overtaking;
 #[cfg(test)]
 mod replies;
-#[cfg(test)]
-mod said;
 #[cfg(test)]
 mod sessions;
 #[cfg(test)]

@@ -1,7 +1,7 @@
 //! Two hovers, the first of which is held back until the reply of the second has been written.
 ghost use Rattle.std.specs.Prelude.{◌<◌, ◌≤◌};
 
-use super::bodies::{EXIT, INITIALIZE, OPEN, SHUTDOWN, push};
+use super::bodies::{EXIT, HOVER, HOVERED, INITIALIZE, OPEN, SHUTDOWN, frames};
 use super::devices::{Bytes, Noting};
 use ls_frame::Framer;
 use ls_server::Status;
@@ -13,18 +13,11 @@ use std::test::Fail;
 use std::thread;
 use std::thread::Threads;
 
-const FIRST_HOVER: &str =
-    r#"{"jsonrpc":"2.0","id":2,"method":"textDocument/hover","params":{"textDocument":{"uri":"file:///g"},"position":{"line":0,"character":0}}}"#;
-
 const SECOND_HOVER: &str =
     r#"{"jsonrpc":"2.0","id":3,"method":"textDocument/hover","params":{"textDocument":{"uri":"file:///g"},"position":{"line":0,"character":0}}}"#;
 
-/// 180 bytes.
-const FIRST_HOVERED: &[u8] =
-    br#"{"id":2,"jsonrpc":"2.0","result":{"contents":{"kind":"plaintext","value":"shortest length 1\nexample x"},"range":{"end":{"character":1,"line":0},"start":{"character":0,"line":0}}}}"#;
-
-const SECOND_HOVERED: &[u8] =
-    br#"{"id":3,"jsonrpc":"2.0","result":{"contents":{"kind":"plaintext","value":"shortest length 1\nexample x"},"range":{"end":{"character":1,"line":0},"start":{"character":0,"line":0}}}}"#;
+const SECOND_HOVERED: &str =
+    r#"{"id":3,"jsonrpc":"2.0","result":{"contents":{"kind":"plaintext","value":"shortest length 1\nexample x"},"range":{"end":{"character":1,"line":0},"start":{"character":0,"line":0}}}}"#;
 
 // Holds ticket 2, that of the first hover, until the sink has seen the reply of the second, for a million turns at most.
 #[derive(Drop)]
@@ -53,18 +46,20 @@ impl Gate for HoldsFirst {
 }
 
 // The place of a body among those that are written.
-fn place_of(bodies: &[Vec<u8>], wanted: &[u8]) -> Option<usize> {
-    bodies.iter().position(|body| body.as_slice() == wanted)
+fn place_of(bodies: &[Vec<u8>], wanted: &str) -> Option<usize> {
+    bodies
+        .iter()
+        .position(|body| body.as_slice() == wanted.as_bytes())
 }
 
 // Whether the second hover is answered before the first, and the gate didn't give up.
 fn overtakes<R: Threads + Wait + Sync>(rt: &R, alloc: Global, workers: u32) -> Result<bool, Fail>
     requires { (0 < workers) × (workers ≤ 8) }
 {
-    let mut input = Vec::new(alloc);
-    for body in [INITIALIZE, OPEN, FIRST_HOVER, SECOND_HOVER, SHUTDOWN, EXIT] {
-        push(alloc, &mut input, body)?;
-    }
+    let input = frames(
+        alloc,
+        &[INITIALIZE, OPEN, HOVER, SECOND_HOVER, SHUTDOWN, EXIT],
+    )?;
     let seen = Arc::new(alloc, AtomicU64::new(0))?;
     let gate = HoldsFirst {
         seen: seen.clone()?,
@@ -79,7 +74,7 @@ fn overtakes<R: Threads + Wait + Sync>(rt: &R, alloc: Global, workers: u32) -> R
     } = serve_threads(rt, alloc, Bytes::new(input, 0), sink, workers, &gate);
     let mut bodies = Vec::new(alloc);
     Framer::new(alloc).feed(&sink.into_bytes(), &mut bodies)?;
-    let first = place_of(&bodies, FIRST_HOVERED);
+    let first = place_of(&bodies, HOVERED);
     let second = place_of(&bodies, SECOND_HOVERED);
     let overtaken = match (first, second) {
         (Some(first), Some(second)) => second < first,

@@ -1,8 +1,7 @@
 //! Requests that are answered, ended by a change, cancelled or refused.
 
-use super::said::{
-    CAPABILITIES, HOVER, INITIALIZE, Left, NOTHING_WRONG, OPEN, frames, run_through,
-};
+use super::bodies::{CAPABILITIES, HOVER, HOVERED, INITIALIZE, NOTHING_WRONG, OPEN, frames};
+use super::by_steps::{Left, run_through};
 use ls_steps::Step;
 use std::alloc::Global;
 use std::test::Fail;
@@ -19,10 +18,6 @@ const CHANGE_AGAIN: &str =
     r#"{"jsonrpc":"2.0","method":"textDocument/didChange","params":{"textDocument":{"uri":"file:///g","version":3},"contentChanges":[{"text":"a = \"z\""}]}}"#;
 
 const CANCEL: &str = r#"{"jsonrpc":"2.0","method":"$/cancelRequest","params":{"id":2}}"#;
-
-/// Of the text that was open when the hover was asked: 180 bytes.
-const HOVERED: &str =
-    r#"{"id":2,"jsonrpc":"2.0","result":{"contents":{"kind":"plaintext","value":"shortest length 1\nexample x"},"range":{"end":{"character":1,"line":0},"start":{"character":0,"line":0}}}}"#;
 
 const NOTHING_WRONG_THEN: &str =
     r#"{"jsonrpc":"2.0","method":"textDocument/publishDiagnostics","params":{"diagnostics":[],"uri":"file:///g","version":2}}"#;
@@ -68,6 +63,7 @@ fn changed(alloc: Global, steps: usize) -> Result<Left, Fail> {
     Ok(run_through(alloc, &input, &OVER_CHANGES[..steps.min(19)])?)
 }
 
+// The hover is answered about the text that was open when it was asked.
 #[test]
 fn a_change_ends_a_rename_and_no_hover(rt: HostRuntime) -> Result<(), Fail> {
     let run = changed(rt.alloc(), 18)?;

@@ -7,13 +7,13 @@ use Rattle.std.proofs.Math.Seq.{drop-append_seam}
 use Rattle.std.proofs.lemmas.Bool.Decides.{eqb_tells}
 use Rattle.std.proofs.lemmas.List.{append-nil, append_cancel_right, take-append-drop}
 use Rattle.std.proofs.lemmas.Str.{encodes-chars, length-le-encodes, chars-nil, chars-append, encodes-append, IsCharBoundary-at_seam, IsUtf8-take}
-use Rattle.origins.specs.Origins.{Sourced, Block, aligned, grammar_of}
+use Rattle.origins.specs.Origins.{Sourced, SourcedBlock, aligned, grammar_of}
 use Rattle.xml_blocks.specs.declared.fault.XmlFault.{XmlFault}
 use Rattle.xml_blocks.specs.declared.fault.XmlFault.TheVariants.{BlockWithoutEnd}
 use Rattle.xml_blocks.specs.declared.gather.Open.{Open}
 use Rattle.xml_blocks.specs.declared.piece.Piece.{Piece}
-use Rattle.xml_blocks.specs.Reading.{reading}
-use Rattle.xml_blocks.specs.Xml.{Opened, and_then, begins, begins_type, behind, blocks, closes, grammar_behind, has_abnf_type, is_scalar, named, number, open_quote, piece_at, put_before, quoted_len, until, with_digit, with_value}
+use Rattle.xml_blocks.specs.Reading.{reading_element}
+use Rattle.xml_blocks.specs.Xml.{Opened, and_then, begins, begins_type, behind_piece, element_blocks, closes_tag, grammar_behind, has_abnf_type, is_scalar, named_value, number, open_quote, piece_at, put_before, quoted_len, until, value_with_digit, with_value}
 
 -- ---- texts
 
@@ -109,13 +109,13 @@ module _ (count : ℕ) (quote : Option ℕ) (t : List ℕ) {whole : Option ℕ} 
   unfolding quoted_len
   quoted-none is = ap (λ u. option_map (λ n. count + n) (quoted_len quote u)) (sym is) ∙ was
 
-  pub quoted-closed : (c : ℕ) (u : List ℕ) → t ≡ c ∷ u → closes quote c ≡ true → Some (count + 1) ≡ whole
+  pub quoted-closed : (c : ℕ) (u : List ℕ) → t ≡ c ∷ u → closes_tag quote c ≡ true → Some (count + 1) ≡ whole
   unfolding quoted_len
   quoted-closed c u is b =
       ap (λ x. option_map (λ n. count + n) (cond x (Some 1) (option_map suc (quoted_len (open_quote quote c) u)))) (sym b)
       ∙ ap (λ v. option_map (λ n. count + n) (quoted_len quote v)) (sym is) ∙ was
 
-  pub quoted-more : (c : ℕ) (u : List ℕ) (next : Option ℕ) → t ≡ c ∷ u → closes quote c ≡ false → next ≡ open_quote quote c → option_map (λ n. count + 1 + n) (quoted_len next u) ≡ whole
+  pub quoted-more : (c : ℕ) (u : List ℕ) (next : Option ℕ) → t ≡ c ∷ u → closes_tag quote c ≡ false → next ≡ open_quote quote c → option_map (λ n. count + 1 + n) (quoted_len next u) ≡ whole
   unfolding quoted_len
   quoted-more c u next is b e =
       ap (λ q. option_map (λ n. count + 1 + n) (quoted_len q u)) e
@@ -138,7 +138,7 @@ module _ (quote : Option ℕ) (t : List ℕ) {whole : Bool} (was : has_abnf_type
 
 -- ---- references
 
-count-named : (value count : ℕ) → named value (count + 1) ≡ option_map {U = ℕ × ℕ} (λ r. (r.0, count + r.1)) (named value 1)
+count-named : (value count : ℕ) → named_value value (count + 1) ≡ option_map {U = ℕ × ℕ} (λ r. (r.0, count + r.1)) (named_value value 1)
 count-named value count = by_test (is_scalar value)
   where
     by_test : (b : Bool) → cond {A = Option (ℕ × ℕ)} b (Some (value, count + 1)) None ≡ option_map {U = ℕ × ℕ} (λ r. (r.0, count + r.1)) (cond {A = Option (ℕ × ℕ)} b (Some (value, 1)) None)
@@ -156,24 +156,24 @@ module _ (base value count : ℕ) (t : List ℕ) {whole : Option (ℕ × ℕ)} (
   unfolding number
   number-none is = ap (λ u. option_map {U = ℕ × ℕ} (λ r. (r.0, count + r.1)) (number base value u)) (sym is) ∙ was
 
-  number-at : (c : ℕ) (u : List ℕ) → t ≡ c ∷ u → (b : Bool) → nat_eq c 59 ≡ b → option_map {U = ℕ × ℕ} (λ r. (r.0, count + r.1)) (cond b (named value 1) (with_value (with_digit value base c) (λ more. option_map {U = ℕ × ℕ} (λ r. (r.0, suc r.1)) (number base more u)))) ≡ whole
+  number-at : (c : ℕ) (u : List ℕ) → t ≡ c ∷ u → (b : Bool) → nat_eq c 59 ≡ b → option_map {U = ℕ × ℕ} (λ r. (r.0, count + r.1)) (cond b (named_value value 1) (with_value (value_with_digit value base c) (λ more. option_map {U = ℕ × ℕ} (λ r. (r.0, suc r.1)) (number base more u)))) ≡ whole
   unfolding number
   number-at c u is b e =
-      ap (λ x. option_map {U = ℕ × ℕ} (λ r. (r.0, count + r.1)) (cond x (named value 1) (with_value (with_digit value base c) (λ more. option_map {U = ℕ × ℕ} (λ r. (r.0, suc r.1)) (number base more u))))) (sym e)
+      ap (λ x. option_map {U = ℕ × ℕ} (λ r. (r.0, count + r.1)) (cond x (named_value value 1) (with_value (value_with_digit value base c) (λ more. option_map {U = ℕ × ℕ} (λ r. (r.0, suc r.1)) (number base more u))))) (sym e)
       ∙ ap (λ v. option_map {U = ℕ × ℕ} (λ r. (r.0, count + r.1)) (number base value v)) (sym is) ∙ was
 
-  pub number-ends : (c : ℕ) (u : List ℕ) → t ≡ c ∷ u → c ≡ 59 → named value (count + 1) ≡ whole
+  pub number-ends : (c : ℕ) (u : List ℕ) → t ≡ c ∷ u → c ≡ 59 → named_value value (count + 1) ≡ whole
   number-ends c u is e = count-named value count ∙ number-at c u is true (eq-eqb c 59 e)
 
   not_end : (c : ℕ) → (c ≡ 59 → ⊥) → nat_eq c 59 ≡ false
   not_end c s = elim (eqb_tells c 59) [ inl x ↦ absurd (s x.1) | inr x ↦ x.0 ]
 
-  pub number-bad : (c : ℕ) (u : List ℕ) → t ≡ c ∷ u → (c ≡ 59 → ⊥) → None ≡ with_digit value base c → None ≡ whole
+  pub number-bad : (c : ℕ) (u : List ℕ) → t ≡ c ∷ u → (c ≡ 59 → ⊥) → None ≡ value_with_digit value base c → None ≡ whole
   number-bad c u is s e =
       ap (λ d. option_map {U = ℕ × ℕ} (λ r. (r.0, count + r.1)) (with_value d (λ more. option_map {U = ℕ × ℕ} (λ r. (r.0, suc r.1)) (number base more u)))) e
       ∙ number-at c u is false (not_end c s)
 
-  pub number-more : (c next : ℕ) (u : List ℕ) → t ≡ c ∷ u → (c ≡ 59 → ⊥) → Some next ≡ with_digit value base c → option_map {U = ℕ × ℕ} (λ r. (r.0, count + 1 + r.1)) (number base next u) ≡ whole
+  pub number-more : (c next : ℕ) (u : List ℕ) → t ≡ c ∷ u → (c ≡ 59 → ⊥) → Some next ≡ value_with_digit value base c → option_map {U = ℕ × ℕ} (λ r. (r.0, count + 1 + r.1)) (number base next u) ≡ whole
   number-more c next u is s e =
       map-suc_of count (number base next u)
       ∙ ap (λ d. option_map {U = ℕ × ℕ} (λ r. (r.0, count + r.1)) (with_value d (λ more. option_map {U = ℕ × ℕ} (λ r. (r.0, suc r.1)) (number base more u)))) e
@@ -182,65 +182,65 @@ module _ (base value count : ℕ) (t : List ℕ) {whole : Option (ℕ × ℕ)} (
 -- ---- blocks
 
 -- what was read already is passed over
-blocks-skip : (state : Option Opened) (n at : ℕ) (t : List ℕ) → blocks state n at t ≡ blocks state 0 (at + length (take n t)) (drop n t)
-unfolding blocks
-blocks-skip state zero at t = ap (λ a. blocks state 0 a t) (let e : at ≡ at + 0 = omega arith in e)
+blocks-skip : (state : Option Opened) (n at : ℕ) (t : List ℕ) → element_blocks state n at t ≡ element_blocks state 0 (at + length (take n t)) (drop n t)
+unfolding element_blocks
+blocks-skip state zero at t = ap (λ a. element_blocks state 0 a t) (let e : at ≡ at + 0 = omega arith in e)
 blocks-skip state (suc n) at [] = refl
 blocks-skip state (suc n) at (c ∷ t) =
     blocks-skip state n (suc at) t
-    ∙ ap (λ a. blocks state 0 a (drop n t)) (let e : suc at + length (take n t) ≡ at + suc (length (take n t)) = omega arith in e)
+    ∙ ap (λ a. element_blocks state 0 a (drop n t)) (let e : suc at + length (take n t) ≡ at + suc (length (take n t)) = omega arith in e)
 
 pub parts_len : (n : ℕ) (t : List ℕ) → length (take n t) + length (drop n t) ≡ length t
 parts_len n t = sym (length-append (take n t) (drop n t)) ∙ ap length (take-append-drop n t)
 
-grammar_of-append : (bs cs : List Block) → grammar_of (bs ++ cs) ≡ grammar_of bs ++ grammar_of cs
+grammar_of-append : (bs cs : List SourcedBlock) → grammar_of (bs ++ cs) ≡ grammar_of bs ++ grammar_of cs
 grammar_of-append [] cs = refl
 grammar_of-append (b ∷ bs) cs = ap (λ g. aligned b ++ g) (grammar_of-append bs cs) ∙ sym (append_assoc (aligned b) (grammar_of bs) (grammar_of cs))
 
-behind-put : (front : List Sourced) (bs : List Block) (r : Result (List Block) XmlFault) → grammar_behind (front ++ grammar_of bs) r ≡ grammar_behind front (put_before bs r)
+behind-put : (front : List Sourced) (bs : List SourcedBlock) (r : Result (List SourcedBlock) XmlFault) → grammar_behind (front ++ grammar_of bs) r ≡ grammar_behind front (put_before bs r)
 behind-put front bs (Err f) = refl
 behind-put front bs (Ok cs) = ap Ok (append_assoc front (grammar_of bs) (grammar_of cs) ∙ ap (λ g. front ++ g) (sym (grammar_of-append bs cs)))
 
-reading-some : (current : Option Open) (block : List Sourced) → is_some current ≡ is_some (reading current block)
+reading-some : (current : Option Open) (block : List Sourced) → is_some current ≡ is_some (reading_element current block)
 reading-some None block = refl
 reading-some (Some o) block = refl
 
 -- the blocks behind a piece
-after : Option Opened → ℕ → List ℕ → Piece → Result (List Block) XmlFault
-after state at t piece = put_before (behind state piece.kind at (take piece.more t)).1 (blocks (behind state piece.kind at (take piece.more t)).0 piece.more (suc at) t)
+after : Option Opened → ℕ → List ℕ → Piece → Result (List SourcedBlock) XmlFault
+after state at t piece = put_before (behind_piece state piece.kind at (take piece.more t)).1 (element_blocks (behind_piece state piece.kind at (take piece.more t)).0 piece.more (suc at) t)
 
-module _ (grammar : List Sourced) (at : ℕ) (rest : List ℕ) (current : Option Open) (block : List Sourced) {whole : Result (List Sourced) XmlFault} (was : grammar_behind grammar (blocks (reading current block) 0 at rest) ≡ whole) where
+module _ (grammar : List Sourced) (at : ℕ) (rest : List ℕ) (current : Option Open) (block : List Sourced) {whole : Result (List Sourced) XmlFault} (was : grammar_behind grammar (element_blocks (reading_element current block) 0 at rest) ≡ whole) where
   pub ends-open : (o : Open) → rest ≡ [] → current ≡ Some o → Err (BlockWithoutEnd o.begin) ≡ whole
-  unfolding blocks
-  ends-open o none is = (λ i. grammar_behind grammar (blocks (reading (sym is i) block) 0 at (sym none i))) ∙ was
+  unfolding element_blocks
+  ends-open o none is = (λ i. grammar_behind grammar (element_blocks (reading_element (sym is i) block) 0 at (sym none i))) ∙ was
 
   pub ends-outside : rest ≡ [] → current ≡ None → Ok grammar ≡ whole
-  unfolding blocks
-  ends-outside none is = ap Ok (sym (append-nil grammar)) ∙ (λ i. grammar_behind grammar (blocks (reading (sym is i) block) 0 at (sym none i))) ∙ was
+  unfolding element_blocks
+  ends-outside none is = ap Ok (sym (append-nil grammar)) ∙ (λ i. grammar_behind grammar (element_blocks (reading_element (sym is i) block) 0 at (sym none i))) ∙ was
 
   module _ (c : ℕ) (t : List ℕ) (is : rest ≡ c ∷ t) (flag : Bool) (some : flag ≡ is_some current) where
-    stands : grammar_behind grammar (and_then (piece_at flag at c t) (after (reading current block) at t)) ≡ whole
-    unfolding blocks after
+    stands : grammar_behind grammar (and_then (piece_at flag at c t) (after (reading_element current block) at t)) ≡ whole
+    unfolding element_blocks after
     stands =
-        (λ i. grammar_behind grammar (and_then (piece_at ((some ∙ reading-some current block) i) at c t) (after (reading current block) at t)))
-        ∙ (λ i. grammar_behind grammar (blocks (reading current block) 0 at (sym is i)))
+        (λ i. grammar_behind grammar (and_then (piece_at ((some ∙ reading-some current block) i) at c t) (after (reading_element current block) at t)))
+        ∙ (λ i. grammar_behind grammar (element_blocks (reading_element current block) 0 at (sym is i)))
         ∙ was
 
     pub piece-fault : (fault : XmlFault) → Err fault ≡ piece_at flag at c t → Err fault ≡ whole
-    piece-fault fault e = ap (λ r. grammar_behind grammar (and_then r (after (reading current block) at t))) e ∙ stands
+    piece-fault fault e = ap (λ r. grammar_behind grammar (and_then r (after (reading_element current block) at t))) e ∙ stands
 
     module _ (piece : Piece) (piece_is : Ok piece ≡ piece_at flag at c t) where
-      skipped : grammar_behind (grammar ++ grammar_of (behind (reading current block) piece.kind at (take piece.more t)).1) (blocks (behind (reading current block) piece.kind at (take piece.more t)).0 0 (at + (1 + length (take piece.more t))) (drop piece.more t)) ≡ whole
+      skipped : grammar_behind (grammar ++ grammar_of (behind_piece (reading_element current block) piece.kind at (take piece.more t)).1) (element_blocks (behind_piece (reading_element current block) piece.kind at (take piece.more t)).0 0 (at + (1 + length (take piece.more t))) (drop piece.more t)) ≡ whole
       unfolding after
       skipped =
-          ap (λ a. grammar_behind (grammar ++ grammar_of (behind (reading current block) piece.kind at (take piece.more t)).1) (blocks (behind (reading current block) piece.kind at (take piece.more t)).0 0 a (drop piece.more t))) (let e : at + (1 + length (take piece.more t)) ≡ suc at + length (take piece.more t) = omega arith in e)
-          ∙ ap (λ r. grammar_behind (grammar ++ grammar_of (behind (reading current block) piece.kind at (take piece.more t)).1) r) (sym (blocks-skip (behind (reading current block) piece.kind at (take piece.more t)).0 piece.more (suc at) t))
-          ∙ behind-put grammar (behind (reading current block) piece.kind at (take piece.more t)).1 (blocks (behind (reading current block) piece.kind at (take piece.more t)).0 piece.more (suc at) t)
-          ∙ ap (λ r. grammar_behind grammar (and_then r (after (reading current block) at t))) piece_is
+          ap (λ a. grammar_behind (grammar ++ grammar_of (behind_piece (reading_element current block) piece.kind at (take piece.more t)).1) (element_blocks (behind_piece (reading_element current block) piece.kind at (take piece.more t)).0 0 a (drop piece.more t))) (let e : at + (1 + length (take piece.more t)) ≡ suc at + length (take piece.more t) = omega arith in e)
+          ∙ ap (λ r. grammar_behind (grammar ++ grammar_of (behind_piece (reading_element current block) piece.kind at (take piece.more t)).1) r) (sym (blocks-skip (behind_piece (reading_element current block) piece.kind at (take piece.more t)).0 piece.more (suc at) t))
+          ∙ behind-put grammar (behind_piece (reading_element current block) piece.kind at (take piece.more t)).1 (element_blocks (behind_piece (reading_element current block) piece.kind at (take piece.more t)).0 piece.more (suc at) t)
+          ∙ ap (λ r. grammar_behind grammar (and_then r (after (reading_element current block) at t))) piece_is
           ∙ stands
 
-      pub piece-read : (text left : List ℕ) (n : ℕ) (next : Option Open) (to content : List Sourced) → text ≡ take piece.more t → left ≡ drop piece.more t → n ≡ length text → reading next content ≡ (behind (reading current block) piece.kind at text).0 → to ≡ grammar ++ grammar_of (behind (reading current block) piece.kind at text).1 → grammar_behind to (blocks (reading next content) 0 (at + (1 + n)) left) ≡ whole
+      pub piece-read : (text left : List ℕ) (n : ℕ) (next : Option Open) (to content : List Sourced) → text ≡ take piece.more t → left ≡ drop piece.more t → n ≡ length text → reading_element next content ≡ (behind_piece (reading_element current block) piece.kind at text).0 → to ≡ grammar ++ grammar_of (behind_piece (reading_element current block) piece.kind at text).1 → grammar_behind to (element_blocks (reading_element next content) 0 (at + (1 + n)) left) ≡ whole
       piece-read text left n next to content text_is left_is n_is next_is to_is =
-          (λ i. grammar_behind (to_is i) (blocks (next_is i) 0 (at + (1 + n_is i)) (left_is i)))
-          ∙ ap (λ x. grammar_behind (grammar ++ grammar_of (behind (reading current block) piece.kind at x).1) (blocks (behind (reading current block) piece.kind at x).0 0 (at + (1 + length x)) (drop piece.more t))) text_is
+          (λ i. grammar_behind (to_is i) (element_blocks (next_is i) 0 (at + (1 + n_is i)) (left_is i)))
+          ∙ ap (λ x. grammar_behind (grammar ++ grammar_of (behind_piece (reading_element current block) piece.kind at x).1) (element_blocks (behind_piece (reading_element current block) piece.kind at x).0 0 (at + (1 + length x)) (drop piece.more t))) text_is
           ∙ skipped

@@ -6,8 +6,8 @@ use Rattle.xml_blocks.specs.declared.gather.Open.{Open}
 use Rattle.xml_blocks.specs.Xml.{Opened}
 
 -- what is read so far: the open block, if there is one, and what was gathered of it
-abbrev pub reading : Option Open → List Sourced → Option Opened
-reading current content = option_map (λ o. (o, content)) current
+abbrev pub reading_element : Option Open → List Sourced → Option Opened
+reading_element current content = option_map (λ o. (o, content)) current
 
 -- a decimal or a hexadecimal number
 abbrev pub IsBase : ℕ → Type 0

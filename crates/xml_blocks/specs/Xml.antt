@@ -4,7 +4,7 @@ use Rattle.std.specs.Prelude.{◌≡◌, ℕ, zero, suc, ◌+◌, ◌*◌, ◌-�
 use Rattle.std.specs.Option.{option_map, is_some}
 use Rattle.std.specs.List.{prefix_len}
 use Rattle.std.specs.Char.{digit_value, is_digit, is_ascii_alphabetic, to_ascii_lowercase}
-use Rattle.origins.specs.Origins.{Sourced, Block, from, grammar_of}
+use Rattle.origins.specs.Origins.{Sourced, SourcedBlock, from, grammar_of}
 use Rattle.xml_blocks.specs.declared.fault.XmlFault.{XmlFault}
 use Rattle.xml_blocks.specs.declared.fault.XmlFault.TheVariants.{BlockWithoutEnd, CommentWithoutEnd, SectionWithoutEnd, TagWithoutEnd, BadReference, Memory}
 use Rattle.xml_blocks.specs.declared.piece.Kind.{Kind}
@@ -46,26 +46,26 @@ open_quote None c = if is_quote c then Some c else None
 open_quote (Some q) c = if c == q then None else Some q
 
 -- a `>` outside of quotes
-abbrev pub closes : Option ℕ → ℕ → Bool
-closes quote c = c == 62 && not (is_some quote)
+abbrev pub closes_tag : Option ℕ → ℕ → Bool
+closes_tag quote c = c == 62 && not (is_some quote)
 
 -- How many characters a text has up to the first `>` outside of quotes, and with it. Of the text at hand a quote may be open.
 unfoldable pub quoted_len : Option ℕ → List ℕ → Option ℕ
 quoted_len quote [] = None
-quoted_len quote (c ∷ t) = if closes quote c then Some 1 else option_map suc (quoted_len (open_quote quote c) t)
+quoted_len quote (c ∷ t) = if closes_tag quote c then Some 1 else option_map suc (quoted_len (open_quote quote c) t)
 
 -- how many characters a tag has behind its `<`: quotes count behind a letter alone
 abbrev pub tag_len : List ℕ → Option ℕ
 tag_len t = if is_ascii_alphabetic (slice_index t 0) then quoted_len None t else option_map suc (until (62 ∷ []) t)
 
 -- `abnf` in any case of letters
-abbrev pub is_abnf_word : List ℕ → Bool
-is_abnf_word t =
+abbrev pub begins_abnf_word : List ℕ → Bool
+begins_abnf_word t =
     to_ascii_lowercase (slice_index t 0) == 97 && to_ascii_lowercase (slice_index t 1) == 98 && to_ascii_lowercase (slice_index t 2) == 110 && to_ascii_lowercase (slice_index t 3) == 102
 
 -- a value in quotes that is `abnf`
 abbrev pub is_abnf_value : List ℕ → Bool
-is_abnf_value t = is_quote (slice_index t 0) && is_abnf_word (drop 1 t) && slice_index t 5 == slice_index t 0
+is_abnf_value t = is_quote (slice_index t 0) && begins_abnf_word (drop 1 t) && slice_index t 5 == slice_index t 0
 
 -- `type`, `=` and such a value, with white space around the `=`: the attribute `type` of RFC 7991 sections 2.48 and 2.5
 abbrev pub is_abnf_type : List ℕ → Bool
@@ -86,9 +86,9 @@ has_abnf_type quote (c ∷ t) = begins_type quote c t || has_abnf_type (open_quo
 abbrev pub is_empty_element : List ℕ → Bool
 is_empty_element t = slice_index t (length t - 2) == 47
 
-abbrev pub name_of : Element → List ℕ
-name_of Sourcecode = 115 ∷ 111 ∷ 117 ∷ 114 ∷ 99 ∷ 101 ∷ 99 ∷ 111 ∷ 100 ∷ 101 ∷ []
-name_of Artwork = 97 ∷ 114 ∷ 116 ∷ 119 ∷ 111 ∷ 114 ∷ 107 ∷ []
+abbrev pub element_name : Element → List ℕ
+element_name Sourcecode = 115 ∷ 111 ∷ 117 ∷ 114 ∷ 99 ∷ 101 ∷ 99 ∷ 111 ∷ 100 ∷ 101 ∷ []
+element_name Artwork = 97 ∷ 114 ∷ 116 ∷ 119 ∷ 111 ∷ 114 ∷ 107 ∷ []
 
 -- how many characters the name has
 abbrev pub name_len : Element → ℕ
@@ -97,11 +97,11 @@ name_len Artwork = 7
 
 -- a start tag without its `<` has a name, behind which comes white space: without it there is no attribute
 abbrev pub is_named : Element → List ℕ → Bool
-is_named element t = begins (name_of element) t && is_space (slice_index t (name_len element))
+is_named element t = begins (element_name element) t && is_space (slice_index t (name_len element))
 
 -- the element that a tag without its `<` begins, if it has content, and this is ABNF
-abbrev pub opening : List ℕ → Option Element
-opening t =
+abbrev pub opening_element : List ℕ → Option Element
+opening_element t =
     if not (is_empty_element t) && has_abnf_type None t then
     (if is_named Sourcecode t then Some Sourcecode else (if is_named Artwork t then Some Artwork else None))
     else None
@@ -109,7 +109,7 @@ opening t =
 -- the end tag of an element, without its `<`
 abbrev pub is_end : Element → List ℕ → Bool
 is_end element t =
-    slice_index t 0 == 47 && begins (name_of element) (drop 1 t) && slice_index (without_space (drop (name_len element) (drop 1 t))) 0 == 62
+    slice_index t 0 == 47 && begins (element_name element) (drop 1 t) && slice_index (without_space (drop (name_len element) (drop 1 t))) 0 == 62
 
 -- ---- references, XML sections 4.1 and 4.6
 
@@ -118,12 +118,12 @@ abbrev pub is_scalar : ℕ → Bool
 is_scalar c = nat_lt c 0xD800 || nat_lt 0xDFFF c
 
 -- a number with a digit more, if it is at most 0x10FFFF
-abbrev pub with_digit : ℕ → ℕ → ℕ → Option ℕ
-with_digit value base c = if is_digit c base && nat_le (value * base + digit_value c) 0x10FFFF then Some (value * base + digit_value c) else None
+abbrev pub value_with_digit : ℕ → ℕ → ℕ → Option ℕ
+value_with_digit value base c = if is_digit c base && nat_le (value * base + digit_value c) 0x10FFFF then Some (value * base + digit_value c) else None
 
 -- the character with a number, which so many characters name
-abbrev pub named : ℕ → ℕ → Option (ℕ × ℕ)
-named value count = if is_scalar value then Some (value, count) else None
+abbrev pub named_value : ℕ → ℕ → Option (ℕ × ℕ)
+named_value value count = if is_scalar value then Some (value, count) else None
 
 -- the value behind another, if there is one
 abbrev pub with_value : Option ℕ → (ℕ → Option (ℕ × ℕ)) → Option (ℕ × ℕ)
@@ -135,15 +135,15 @@ with_value (Some n) f = f n
 unfoldable pub number : ℕ → ℕ → List ℕ → Option (ℕ × ℕ)
 number base value [] = None
 number base value (c ∷ t) =
-    if c == 59 then named value 1 else with_value (with_digit value base c) (λ more. option_map (λ r. (r.0, suc r.1)) (number base more t))
+    if c == 59 then named_value value 1 else with_value (value_with_digit value base c) (λ more. option_map (λ r. (r.0, suc r.1)) (number base more t))
 
 -- the same of at least one digit, behind so many characters
-abbrev pub numbered : ℕ → ℕ → List ℕ → Option (ℕ × ℕ)
-numbered base front t = if is_digit (slice_index (drop front t) 0) base then option_map (λ r. (r.0, r.1 + front)) (number base 0 (drop front t)) else None
+abbrev pub numbered_value : ℕ → ℕ → List ℕ → Option (ℕ × ℕ)
+numbered_value base front t = if is_digit (slice_index (drop front t) 0) base then option_map (λ r. (r.0, r.1 + front)) (number base 0 (drop front t)) else None
 
 -- `&#x` or `&#` with a number, here without the `&`
 abbrev pub by_number : List ℕ → Option (ℕ × ℕ)
-by_number t = if begins (35 ∷ 120 ∷ []) t then numbered 16 2 t else (if begins (35 ∷ []) t then numbered 10 1 t else None)
+by_number t = if begins (35 ∷ 120 ∷ []) t then numbered_value 16 2 t else (if begins (35 ∷ []) t then numbered_value 10 1 t else None)
 
 -- The reference that stands here without its `&`: its character, and how many characters it has. By name there are `&lt;`, `&gt;`,
 -- `&amp;`, `&quot;` and `&apos;`.
@@ -171,31 +171,31 @@ markup at t =
     else piece_of Tag (TagWithoutEnd at) (tag_len t) 0)
 
 -- what `&` begins
-abbrev pub referred : ℕ → Option (ℕ × ℕ) → Result Piece XmlFault
-referred at None = Err (BadReference at)
-referred at (Some r) = Ok (record { kind = Reference r.0; more = r.1 })
+abbrev pub referred_piece : ℕ → Option (ℕ × ℕ) → Result Piece XmlFault
+referred_piece at None = Err (BadReference at)
+referred_piece at (Some r) = Ok (record { kind = Reference r.0; more = r.1 })
 
 -- a character that begins no markup, and in a block no reference
-abbrev pub is_plain : Bool → ℕ → Bool
-is_plain in_block c = not (c == 60) && not (in_block && c == 38)
+abbrev pub is_plain_char : Bool → ℕ → Bool
+is_plain_char in_block c = not (c == 60) && not (in_block && c == 38)
 
 -- the piece that stands at an offset: its first character, and what stands behind it
 abbrev pub piece_at : Bool → ℕ → ℕ → List ℕ → Result Piece XmlFault
 piece_at in_block at c t =
     if c == 60 then markup at t
-    else (if in_block && c == 38 then referred at (reference t) else Ok (record { kind = Text c; more = prefix_len (is_plain in_block) t }))
+    else (if in_block && c == 38 then referred_piece at (reference t) else Ok (record { kind = Text c; more = prefix_len (is_plain_char in_block) t }))
 
 -- what a section has between `<![CDATA[` and `]]>`, by what it has behind its `<`
 abbrev pub section_text : List ℕ → List ℕ
 section_text t = take (length t - 11) (drop 8 t)
 
 -- the characters of a block that a piece stands for, by what it has behind its first character
-abbrev pub content_of : Kind → ℕ → List ℕ → List Sourced
-content_of (Text c) at t = (c, at) ∷ from (at + 1) t
-content_of Comment at t = []
-content_of Section at t = from (at + 9) (section_text t)
-content_of Tag at t = []
-content_of (Reference c) at t = (c, at) ∷ []
+abbrev pub piece_content : Kind → ℕ → List ℕ → List Sourced
+piece_content (Text c) at t = (c, at) ∷ from (at + 1) t
+piece_content Comment at t = []
+piece_content Section at t = from (at + 9) (section_text t)
+piece_content Tag at t = []
+piece_content (Reference c) at t = (c, at) ∷ []
 
 -- ---- blocks, RFC 7991 sections 2.48 and 2.5
 
@@ -213,48 +213,48 @@ ends element (Reference c) t = false
 
 -- the block that a piece at an offset begins
 abbrev pub opened_by : Kind → ℕ → List ℕ → Option Open
-opened_by Tag at t = option_map (λ e. record { element = e; begin = at }) (opening t)
+opened_by Tag at t = option_map (λ e. record { element = e; begin = at }) (opening_element t)
 opened_by (Text c) at t = None
 opened_by Comment at t = None
 opened_by Section at t = None
 opened_by (Reference c) at t = None
 
 -- the block that is open behind a piece, and the block that ended with it
-abbrev pub behind : Option Opened → Kind → ℕ → List ℕ → Option Opened × List Block
-behind None kind at t = (option_map (λ o. (o, [])) (opened_by kind at t), [])
-behind (Some opened) kind at t =
+abbrev pub behind_piece : Option Opened → Kind → ℕ → List ℕ → Option Opened × List SourcedBlock
+behind_piece None kind at t = (option_map (λ o. (o, [])) (opened_by kind at t), [])
+behind_piece (Some opened) kind at t =
     if ends (opened.0).element kind t then (None, record { content = opened.1; end = at } ∷ [])
-    else (Some (opened.0, opened.1 ++ content_of kind at t), [])
+    else (Some (opened.0, opened.1 ++ piece_content kind at t), [])
 
 abbrev pub and_then : {A B : Type 0} → Result A XmlFault → (A → Result B XmlFault) → Result B XmlFault
 and_then (Ok x) f = f x
 and_then (Err e) f = Err e
 
 -- blocks before others
-abbrev pub put_before : List Block → Result (List Block) XmlFault → Result (List Block) XmlFault
+abbrev pub put_before : List SourcedBlock → Result (List SourcedBlock) XmlFault → Result (List SourcedBlock) XmlFault
 put_before bs rest = and_then rest (λ cs. Ok (bs ++ cs))
 
 -- at the end of the draft no block is open
-abbrev pub at_end : Option Opened → Result (List Block) XmlFault
+abbrev pub at_end : Option Opened → Result (List SourcedBlock) XmlFault
 at_end None = Ok []
 at_end (Some opened) = Err (BlockWithoutEnd (opened.0).begin)
 
 -- The blocks of a text that begins at an offset, or the first fault. A block may be open, and so many characters are of a piece that
 -- was read already.
-unfoldable pub blocks : Option Opened → ℕ → ℕ → List ℕ → Result (List Block) XmlFault
-blocks state read at [] = at_end state
-blocks state (suc read) at (c ∷ t) = blocks state read (suc at) t
-blocks state zero at (c ∷ t) =
+unfoldable pub element_blocks : Option Opened → ℕ → ℕ → List ℕ → Result (List SourcedBlock) XmlFault
+element_blocks state read at [] = at_end state
+element_blocks state (suc read) at (c ∷ t) = element_blocks state read (suc at) t
+element_blocks state zero at (c ∷ t) =
     and_then (piece_at (is_some state) at c t) (λ piece.
-    let next = behind state piece.kind at (take piece.more t) in
-    put_before next.1 (blocks next.0 piece.more (suc at) t))
+    let next = behind_piece state piece.kind at (take piece.more t) in
+    put_before next.1 (element_blocks next.0 piece.more (suc at) t))
 
 -- the blocks of ABNF in a draft, or its first fault
-abbrev pub xml_blocks : List ℕ → Result (List Block) XmlFault
-xml_blocks draft = blocks None 0 0 draft
+abbrev pub xml_blocks : List ℕ → Result (List SourcedBlock) XmlFault
+xml_blocks draft = element_blocks None 0 0 draft
 
 -- the grammar of the blocks behind some characters
-abbrev pub grammar_behind : List Sourced → Result (List Block) XmlFault → Result (List Sourced) XmlFault
+abbrev pub grammar_behind : List Sourced → Result (List SourcedBlock) XmlFault → Result (List Sourced) XmlFault
 grammar_behind front bs = and_then bs (λ cs. Ok (front ++ grammar_of cs))
 
 -- what is gathered from a draft: the grammar of its blocks or its first fault, unless memory was refused

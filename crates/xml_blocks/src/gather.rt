@@ -3,7 +3,7 @@
 ghost use Rattle.std.specs.Prelude.{◌≡◌, ◌<◌, ◌^◌, ◌++◌, IfOk, OnOk, length};
 ghost use Rattle.std.specs.Str.{chars};
 ghost use Rattle.origins.specs.Origins.{grammar_of};
-ghost use Rattle.xml_blocks.specs.Reading.{reading};
+ghost use Rattle.xml_blocks.specs.Reading.{reading_element};
 ghost use Rattle.xml_blocks.specs.Xml as spec;
 
 use crate::fault::XmlFault;
@@ -28,7 +28,7 @@ pub struct Open {
 // Adds the characters of a block that a piece stands for, by what it has behind its first character.
 fn put_piece(block: &mut Gathered, kind: Kind, text: &str, at: usize) -> Result<(), AllocError>
     requires { at < 2 ^ 63 }
-    ensures { OnOk result (block.new ≡ block.old ++ spec.content_of kind at (chars text.now)) }
+    ensures { OnOk result (block.new ≡ block.old ++ spec.piece_content kind at (chars text.now)) }
 {
     match kind {
         Kind::Text(c) => {
@@ -79,8 +79,8 @@ fn read(
     at: usize,
 ) -> Result<Option<Open>, AllocError>
     requires { at < 2 ^ 63 }
-    ensures state { IfOk result (λ next. reading next block.new ≡ (spec.behind (reading current block.old) kind at (chars text.now)).0) }
-    ensures ended { IfOk result (λ next. grammar.new ≡ grammar.old ++ grammar_of (spec.behind (reading current block.old) kind at (chars text.now)).1) }
+    ensures state { IfOk result (λ next. reading_element next block.new ≡ (spec.behind_piece (reading_element current block.old) kind at (chars text.now)).0) }
+    ensures ended { IfOk result (λ next. grammar.new ≡ grammar.old ++ grammar_of (spec.behind_piece (reading_element current block.old) kind at (chars text.now)).1) }
 {
     let Some(opened) = current else {
         block.clear();

@@ -67,14 +67,14 @@ fn markup(text: &str, at: usize) -> Result<Piece, XmlFault>
 
 // Whether a character begins no markup, and in a block no reference.
 fn is_plain(in_block: bool, c: char) -> bool
-    ensures { result ≡ spec.is_plain in_block c }
+    ensures { result ≡ spec.is_plain_char in_block c }
 {
     c != '<' && !(in_block && c == '&')
 }
 
 // How many such characters a text begins with.
 fn text_len(in_block: bool, text: &str) -> usize
-    ensures { result ≡ prefix_len (spec.is_plain in_block) (chars text.now) }
+    ensures { result ≡ prefix_len (spec.is_plain_char in_block) (chars text.now) }
 {
     text.chars().take_while(|c| is_plain(in_block, *c)).count()
 }

@@ -14,7 +14,7 @@ const GREATEST: u32 = 0x10FFFF;
 fn with_digit(value: u32, base: u32, c: char) -> Option<u32>
     requires value { value ≤ 0x10FFFF }
     requires base { IsBase base }
-    ensures number { result ≡ spec.with_digit value base c }
+    ensures number { result ≡ spec.value_with_digit value base c }
     ensures small { IfSome result (λ n. n ≤ 0x10FFFF) }
 {
     let more = value * base + c.to_digit(base)?;
@@ -24,7 +24,7 @@ fn with_digit(value: u32, base: u32, c: char) -> Option<u32>
 // The character with this number, with the count of characters that name it.
 fn named(value: u32, count: usize) -> Option<(char, usize)>
     requires { value ≤ 0x10FFFF }
-    ensures named { result ≡ spec.named value count }
+    ensures named { result ≡ spec.named_value value count }
     ensures count { IfSome result (λ r. r.1 ≡ count) }
 {
     match char::from_u32(value) {
@@ -64,7 +64,7 @@ fn numbered(base: u32, front: usize, text: &str) -> Option<(char, usize)>
     requires base { IsBase base }
     requires front { front < 3 }
     requires small { length (chars text.now) < 2 ^ 63 }
-    ensures { result ≡ spec.numbered base front (chars text.now) }
+    ensures { result ≡ spec.numbered_value base front (chars text.now) }
 {
     let digits = behind(text, front);
     let Some(_) = char_at(digits, 0).to_digit(base) else {

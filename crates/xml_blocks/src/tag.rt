@@ -18,7 +18,7 @@ pub enum Element {
 impl Element {
     // The name of the element.
     fn name(self) -> &'static [char]
-        ensures { result.now ≡ spec.name_of self }
+        ensures { result.now ≡ spec.element_name self }
     {
         match self {
             Element::Sourcecode => &['s', 'o', 'u', 'r', 'c', 'e', 'c', 'o', 'd', 'e'],
@@ -66,7 +66,7 @@ fn open_quote(quote: Option<char>, c: char) -> Option<char>
 
 // Whether a character is a `>` outside of quotes.
 fn closes(quote: Option<char>, c: char) -> bool
-    ensures { result ≡ spec.closes quote c }
+    ensures { result ≡ spec.closes_tag quote c }
 {
     c == '>' && quote.is_none()
 }
@@ -110,7 +110,7 @@ pub fn tag_len(text: &str) -> Option<usize>
 
 // Whether `abnf` stands here, in any case of letters.
 fn is_abnf_word(text: &str) -> bool
-    ensures { result ≡ spec.is_abnf_word (chars text.now) }
+    ensures { result ≡ spec.begins_abnf_word (chars text.now) }
 {
     char_at(text, 0).to_ascii_lowercase() == 'a'
         && char_at(text, 1).to_ascii_lowercase() == 'b'
@@ -171,7 +171,7 @@ fn is_empty_element(tag: &str) -> bool
 
 // The element that a tag without its `<` begins, if its content is ABNF.
 pub fn opening(tag: &str) -> Option<Element>
-    ensures { result ≡ spec.opening (chars tag.now) }
+    ensures { result ≡ spec.opening_element (chars tag.now) }
 {
     if is_empty_element(tag) || !has_abnf_type(tag) {
         None

@@ -2,7 +2,7 @@ use Rattle.std.proofs.Common.{◌≡◌, ◌<◌, ◌-◌, ◌∙◌, suc, List,
 use Rattle.std.proofs.lemmas.List.{length-take-le}
 use Rattle.std.specs.Option.{option_to_list}
 use Rattle.abnf_parts.specs.Nodes.{trees_at}
-use Rattle.abnf_names.specs.Search.{AreWithin, AreMarks}
+use Rattle.abnf_names.specs.Search.{AreUsersWithin, AreMarks}
 use Rattle.abnf_names.specs.Users.{AreUsers}
 use Rattle.abnf_names.proofs.UsersLaws.{users_within, reaching}
 use Rattle.abnf_names.proofs.reach.reaching_by_uses.Goals as goal
@@ -13,7 +13,7 @@ marks_of-requires c =
     let some : 0 < length c.in_ok-users.users.items = omega (arith, c.in_ok-users.ensures.one_each) in
     record {
       some = subst (λ (us : List (List ℕ)). 0 < length us) (sym c.as_slice.ensures.value) some;
-      within = subst AreWithin (sym c.as_slice.ensures.value) (users_within trees (length c.args.roots.now) c.in_ok-users.users.items c.in_ok-users.ensures);
+      within = subst AreUsersWithin (sym c.as_slice.ensures.value) (users_within trees (length c.args.roots.now) c.in_ok-users.users.items c.in_ok-users.ensures);
     }
 
 pub returns : goal.returns

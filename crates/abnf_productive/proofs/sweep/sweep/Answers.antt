@@ -1,4 +1,4 @@
-use Rattle.std.proofs.Common.{◌≡◌, ◌-◌, ◌<◌, suc, true, true≢false, length, arith}
+use Rattle.std.proofs.Common.{◌≡◌, ◌-◌, ◌<◌, suc, true≢false, length, arith}
 use Rattle.std.proofs.lemmas.Option.{slice_get_within}
 use Rattle.abnf_parts.specs.Part.{parts_of, root_number}
 use Rattle.abnf_productive.specs.Marks.{mark_at}

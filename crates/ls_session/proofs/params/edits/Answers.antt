@@ -1,4 +1,4 @@
-use Rattle.std.proofs.Common.{Some, ap, sym, ◌∙◌, arith}
+use Rattle.std.proofs.Common.{ap, sym, ◌∙◌, arith}
 use Rattle.serde_json.specs.View.{items_view}
 use Rattle.ls_session.specs.Params.{edits_of}
 use Rattle.ls_session.proofs.Changes.{Found-start, Found-some, Found-none, Found-end}

@@ -1,8 +1,8 @@
 use Rattle.std.proofs.Common.{◌≡◌, ◌+◌, ◌<◌, ◌++◌, length, ap, sym, ◌∙◌, arith}
 use Rattle.std.proofs.lemmas.Bool.{eqb-true}
 use Rattle.origins.specs.Origins.{grammar_of}
-use Rattle.markdown_blocks.specs.Fences.{blocks, lines_from}
-use Rattle.markdown_blocks.specs.Reading.{reading}
+use Rattle.markdown_blocks.specs.Fences.{fenced_blocks, placed_lines_from}
+use Rattle.markdown_blocks.specs.Reading.{reading_fence}
 use Rattle.markdown_blocks.proofs.FenceLaws.{end-open, end-outside, line_len-le, line_len-some, lines-split, positive}
 use Rattle.markdown_blocks.proofs.gather.gather.Goals as goal
 use Rattle.markdown_blocks.proofs.gather.gather.Goals.{in-Some+in_ok-end_block, in_default}
@@ -20,8 +20,8 @@ lines-preserved c =
     let some : 0 < length c.lines.rest.now = positive (length c.lines.rest.now) (sym c.is_empty.ensures ∙ c.lines-test.true) in
     record {
       left = omega (arith, c.lines.invariant.left, c.split_at.ensures.front_len, c.split_at.ensures.back_len);
-      so_far = c.in_ok-fence.ensures (length c.args.text.now) (lines_from (c.lines.at + length c.split_at.result.0.now) c.split_at.result.1.now)
-          ∙ ap (λ ls. c.lines.grammar ++ grammar_of (blocks (length c.args.text.now) (reading c.lines.fence c.lines.block) ls)) (lines-split c.lines.at c.line_len.result c.lines.rest.now c.split_at.result.0.now c.split_at.result.1.now some c.line_len.ensures c.split_at.ensures.front c.split_at.ensures.back c.split_at.ensures.front_len)
+      so_far = c.in_ok-fence.ensures (length c.args.text.now) (placed_lines_from (c.lines.at + length c.split_at.result.0.now) c.split_at.result.1.now)
+          ∙ ap (λ ls. c.lines.grammar ++ grammar_of (fenced_blocks (length c.args.text.now) (reading_fence c.lines.fence c.lines.block) ls)) (lines-split c.lines.at c.line_len.result c.lines.rest.now c.split_at.result.0.now c.split_at.result.1.now some c.line_len.ensures c.split_at.ensures.front c.split_at.ensures.back c.split_at.ensures.front_len)
           ∙ c.lines.invariant.so_far;
     }
 

@@ -5,7 +5,7 @@ use Rattle.std.proofs.lemmas.Iterator.Consumers.{YieldsList-end, YieldsList-from
 use Rattle.std.proofs.lemmas.List.{length_push}
 use Rattle.std.proofs.lemmas.List.FromFn.{length-enumerate_from}
 use Rattle.origins.specs.declared.runs.Run.{Run}
-use Rattle.origins.specs.Runs.{origin_at, origin_by, start}
+use Rattle.origins.specs.Runs.{origin_at, origin_by, first_run}
 use Rattle.origins.proofs.AlignLaws.{aligned-end, aligned-more, enumerated}
 use Rattle.origins.proofs.RunLaws.{origin-fits, run_at-begins}
 use Rattle.origins.proofs.gathered.put_aligned.Goals as goal
@@ -14,7 +14,7 @@ pub origin_of-requires-clause-from : goal.origin_of-requires-clause-from
 origin_of-requires-clause-from c =
     let here = enumerated (chars c.args.text.now) c.loop-offset.yielded (c.in-Some.offset, c.in-Some.c) (YieldsList-turn (YieldsList-from_enumerate (YieldsList-from_chars c.args.text.now c.utf8.text cc) cc) c.loop-offset.yielded _ c.loop-offset.yielded_by _ _ (c.in-Some.offset, c.in-Some.c) c.in-Some.is c.next.ensures.steps) in
     let run = c.forward.ensures.run_is ∙ c.loop-offset.invariant.run_is c.in-Some.offset (omega (arith, here.0)) in
-    subst (λ (r : Run). r.begins ≤ c.in-Some.offset) (sym run) (run_at-begins start c.args.runs.now c.in-Some.offset (omega arith))
+    subst (λ (r : Run). r.begins ≤ c.in-Some.offset) (sym run) (run_at-begins first_run c.args.runs.now c.in-Some.offset (omega arith))
 
 pub origin_of-requires-clause-fits : goal.origin_of-requires-clause-fits
 origin_of-requires-clause-fits c =

@@ -1,5 +1,5 @@
 use Rattle.std.proofs.Common.{◌≡◌, ◌+◌, ◌∷◌, ap, length, get_or, arith, ◌∙◌}
-use Rattle.origins.specs.Runs.{origin_at, start}
+use Rattle.origins.specs.Runs.{origin_at, first_run}
 use Rattle.origins.proofs.RunLaws.{origin_at-goes_on, origin_at-push, origin_at-push_before}
 use Rattle.origins.proofs.runs.continue_at.Goals as goal
 
@@ -13,5 +13,5 @@ returns-in_ok-push-clause-behind c k =
 pub returns-else-origin_of-at-clause-behind : goal.returns-else-origin_of-at-clause-behind
 returns-else-origin_of-at-clause-behind c k =
     origin_at-goes_on c.args.runs.now.items c.last_of-last.result c.args.count c.args.at k c.requires.runs
-    (c.last_of-last.ensures ∙ ap (λ rs. get_or (start ∷ rs) c.len.result start) c.deref.ensures.value ∙ ap (λ n. get_or (start ∷ c.args.runs.now.items) n start) (let e : c.len.result ≡ length c.args.runs.now.items = omega (arith, c.len.ensures, c.args.runs.now.ok.0) in e))
+    (c.last_of-last.ensures ∙ ap (λ rs. get_or (first_run ∷ rs) c.len.result first_run) c.deref.ensures.value ∙ ap (λ n. get_or (first_run ∷ c.args.runs.now.items) n first_run) (let e : c.len.result ≡ length c.args.runs.now.items = omega (arith, c.len.ensures, c.args.runs.now.ok.0) in e))
     (omega (arith, c.if-origin_of-at.false, c.origin_of.ensures))

@@ -2,7 +2,6 @@ use Rattle.std.proofs.Common.{◌≡◌, drop}
 use denote.Text.{Utf8}
 use denote.Shadow.{shadow}
 use Rattle.std.specs.Str.{chars}
-use Rattle.xml_blocks.specs.Xml as spec
 use Rattle.xml_blocks.proofs.text.behind.Given as goal
 
 abbrev pub invariant-characters : goal.invariant-characters

@@ -1,7 +1,8 @@
 use Rattle.std.proofs.Common.{◌≡◌, List, subst, sym, ap, ◌∙◌, get_or, length, ◌-◌}
+use Rattle.std.proofs.lemmas.Bool.{not-true, not_from_false}
 use Rattle.abnf_least.specs.declared.candidate.Candidate.{Candidate}
 use Rattle.abnf_least.specs.Queue.{ComesLast}
-use Rattle.abnf_least.proofs.Rows.{is_not, not_true, row_ends, row_last}
+use Rattle.abnf_least.proofs.Rows.{row_ends, row_last}
 use Rattle.abnf_least.proofs.row.Row.takes.Goals as goal
 
 pub returns-in-Some : goal.returns-in-Some
@@ -11,8 +12,8 @@ returns-in-Some c =
     let is : last ≡ get_or row (length row - 1) last = c.in-Some.ensures.lookup ∙ ap (λ n. get_or row (n - 1) last) c.self.inside.candidates.ok.0 in (
       λ taken.
           subst (λ (all : List Candidate). ComesLast all c.args.candidate) c.self.view_is
-          (row_last row c.args.candidate last c.self.invariant is (sym c.comes_before.ensures ∙ not_true c.comes_before.result taken)),
+          (row_last row c.args.candidate last c.self.invariant is (sym c.comes_before.ensures ∙ not-true c.comes_before.result taken)),
       λ ends.
-          is_not c.comes_before.result
+          not_from_false c.comes_before.result
           (c.comes_before.ensures ∙ row_ends row c.args.candidate last c.in-Some.ensures.item.3.0 is (subst (λ (all : List Candidate). ComesLast all c.args.candidate) (sym c.self.view_is) ends)),
     )

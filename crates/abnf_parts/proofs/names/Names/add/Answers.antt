@@ -3,8 +3,9 @@ use Rattle.std.specs.Prelude.{if◌then◌else◌}
 use Rattle.std.specs.List.{list_any}
 use Rattle.std.specs.Option.{is_some}
 use Rattle.std.specs.Str.{bytes_eq}
+use Rattle.std.proofs.lemmas.Bool.{not-true, not-false}
 use Rattle.abnf_parts.specs.Names.{with_name, folded_text, rule_number}
-use Rattle.abnf_parts.proofs.NameLaws.{is_off, is_on, list_any-map, map_if, no_place, old_place, position-map, position_any}
+use Rattle.abnf_parts.proofs.NameLaws.{list_any-map, map_if, no_place, old_place, position-map, position_any}
 use Rattle.abnf_parts.proofs.names.Names.add.Goals.{then-is_new, else-is_new}
 use Rattle.abnf_parts.proofs.names.Names.add.Goals as goal
 
@@ -25,10 +26,10 @@ returns-clause-place c =
     let seen = list_any-map folded_text (bytes_eq name) keys in
     let here = position-map folded_text (bytes_eq name) keys in
     elim c.if-is_new.branch [
-      | then-is_new w ↦ w.result-is ∙ (no_place name (map folded_text keys) (seen ∙ is_off is_there (sym c.in_ok-place.ensures.added ∙ w.if-is_new.true)) ∙ ap (λ names. rule_number names name) c.self.view_is)
+      | then-is_new w ↦ w.result-is ∙ (no_place name (map folded_text keys) (seen ∙ not-true is_there (sym c.in_ok-place.ensures.added ∙ w.if-is_new.true)) ∙ ap (λ names. rule_number names name) c.self.view_is)
       | else-is_new w ↦
           w.result-is
           ∙ (old_place (λ k. bytes_eq name (folded_text k)) keys c.in_ok-place.place
-          (ap is_some (sym here) ∙ (sym (position_any name (map folded_text keys)) ∙ (seen ∙ is_on is_there (sym c.in_ok-place.ensures.added ∙ w.if-is_new.false)))) c.in_ok-place.ensures.index
+          (ap is_some (sym here) ∙ (sym (position_any name (map folded_text keys)) ∙ (seen ∙ not-false is_there (sym c.in_ok-place.ensures.added ∙ w.if-is_new.false)))) c.in_ok-place.ensures.index
           ∙ (sym here ∙ ap (λ names. rule_number names name) c.self.view_is))
     ]

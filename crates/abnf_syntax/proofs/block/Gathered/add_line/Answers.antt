@@ -1,11 +1,11 @@
 use Rattle.std.proofs.Common.{subst, sym}
 use Rattle.std.proofs.lemmas.List.{get_or_default}
-use Rattle.abnf_syntax.specs.Gather.{state_of}
+use Rattle.abnf_syntax.specs.Gather.{gathering_of}
 use Rattle.abnf_syntax.proofs.GatherLaws.{HasMarked, none_marked, token_more, line_done}
 use Rattle.abnf_syntax.proofs.block.Gathered.add_line.Goals as goal
 
 pub loop-mark-init : goal.loop-mark-init
-loop-mark-init c = subst (λ s. HasMarked c.args.at c.args.line.now c.args.marks.now 0 (state_of c.args.self.now) s) (sym c.in_ok-make_room.ensures) (none_marked _ _ _ _ c.requires)
+loop-mark-init c = subst (λ s. HasMarked c.args.at c.args.line.now c.args.marks.now 0 (gathering_of c.args.self.now) s) (sym c.in_ok-make_room.ensures) (none_marked _ _ _ _ c.requires)
 
 pub token_at-requires : goal.token_at-requires
 token_at-requires c =

@@ -1,6 +1,6 @@
-use Rattle.abnf_syntax.specs.Gather.{state_of}
+use Rattle.abnf_syntax.specs.Gather.{gathering_of}
 use Rattle.abnf_syntax.proofs.GatherLaws.{HasMarked}
 use Rattle.abnf_syntax.proofs.block.Gathered.add_line.Given as goal
 
 abbrev pub invariant-loop-mark : goal.invariant-loop-mark
-invariant-loop-mark l = HasMarked l.at l.line l.marks l.mark-index (state_of l.fn.self) (state_of l.self)
+invariant-loop-mark l = HasMarked l.at l.line l.marks l.mark-index (gathering_of l.fn.self) (gathering_of l.self)

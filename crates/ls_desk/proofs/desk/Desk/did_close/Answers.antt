@@ -12,53 +12,55 @@ use Rattle.ls_desk.specs.Stands.{Seen, Enters, state_of, failures, fresh, fresh_
 use Rattle.ls_desk.proofs.Grows.{Goes, enters, goes, holds, kept-room, seen}
 use Rattle.ls_desk.proofs.Events.{closed}
 use Rattle.ls_desk.proofs.desk.Desk.did_close.Goals as goal
-use Rattle.ls_desk.proofs.desk.Desk.did_close.Goals.{After-close}
+use Rattle.ls_desk.proofs.desk.Desk.did_close.Goals.{After-enter}
 
 pub invariant_of-self : goal.invariant_of-self
 invariant_of-self c =
     let e = c.put_replies.ensures in
-    kept-room _ _ _ _ _ _ _ _ _ _ _ _ _ _ _ _ c.self.invariant refl refl c.in_err-put_replies.ensures.same e.journal e.more
+    kept-room _ _ _ _ _ _ _ _ _ _ _ _ c.self.invariant refl refl refl refl c.in_err-put_replies.ensures.same e.journal e.more
 
-abbrev now : After-close → State
+abbrev now : After-enter → State
 now c = replay_from c.self.inside.history.base.state c.self.inside.history.events.items
 
-told : (c : After-close) → c.in_ok-replies.replies.items ≡ failures c.args.uri (now c).waiting
+told : (c : After-enter) → c.in_ok-replies.replies.items ≡ failures c.args.uri (now c).waiting
 told c = let P : Seen → Type 0 = λ d. c.in_ok-replies.replies.items ≡ failures c.args.uri (state_of d).waiting in subst P (sym c.self.view_is) c.in_ok-replies.ensures.replies
 
-open_there : (c : After-close) → is_open c.args.uri (now c).documents ≡ true
+open_there : (c : After-enter) → is_open c.args.uri (now c).documents ≡ true
 open_there c = let P : Seen → Type 0 = λ d. is_open c.args.uri (state_of d).documents ≡ true in subst P (sym c.self.view_is) c.in_ok-replies.ensures.open
 
-outbox_is : (c : After-close) → c.put_replies.new.outbox.items ≡ c.self.inside.outbox.items ++ c.in_ok-replies.replies.items
+outbox_is : (c : After-enter) → c.put_replies.new.outbox.items ≡ c.self.inside.outbox.items ++ c.in_ok-replies.replies.items
 outbox_is c = c.in_ok-put_replies.ensures.outbox
 
-state_is : (c : After-close) → c.in_ok-state.state ≡ fresh_for (seen c.self.inside.history.base c.self.inside.history.events.items c.self.inside.outbox.items c.self.inside.max_journal c.self.inside.max_events) (Closed c.args.uri)
+state_is : (c : After-enter) → c.in_ok-state.state ≡ fresh_for (seen c.self.inside.history.base c.self.inside.history.events.items c.self.inside.outbox.items c.self.inside.max_journal c.self.inside.max_events) (Closed c.args.uri)
 state_is c = let P : Seen → Type 0 = λ d. c.in_ok-state.state ≡ fresh d in subst P (sym c.self.view_is) c.in_ok-state.ensures
 
-fits : (c : After-close) → total c.self.inside.history.counts + 1 + length c.put_replies.new.outbox.items ≤ c.self.inside.max_events
+fits : (c : After-enter) → total c.self.inside.history.counts + 1 + length c.put_replies.new.outbox.items ≤ c.self.inside.max_events
 fits c =
     let P : Seen → Type 0 = λ d. used d + (1 + length c.in_ok-replies.replies.items) ≤ d.max_events in
     let r = subst P (sym c.self.view_is) c.in_ok-replies.ensures.room in
     let k = ap total c.self.invariant.counts_are in
     let l = ap length (outbox_is c) ∙ length-append c.self.inside.outbox.items c.in_ok-replies.replies.items in omega arith
 
-roomy : (c : After-close) → length (journal_after c.in_ok-state.state c.self.inside.history.events.items) + 1 + length c.put_replies.new.outbox.items ≤ vec_capacity c.close.new.history.events
+roomy : (c : After-enter) → length (journal_after c.in_ok-state.state c.self.inside.history.events.items) + 1 + length c.put_replies.new.outbox.items ≤ vec_capacity c.enter.new.self.events
 roomy c =
     let r = c.in_ok-put_replies.ensures.room in
     let j = ap (λ (es : List Event). length (journal_after c.in_ok-state.state es)) c.put_replies.ensures.journal in
-    let k = c.close.ensures.history.capacity in
+    let k = c.enter.ensures.capacity in
     let l = ap length (outbox_is c) ∙ length-append c.self.inside.outbox.items c.in_ok-replies.replies.items in omega arith
 
-went : (c : After-close) → Goes c.self.inside.history.base c.self.inside.history.events.items c.self.inside.history.counts c.in_ok-state.state (Closed c.args.uri) c.close.new.history.base c.close.new.history.events.items c.close.new.history.counts
-    c.close.new.documents.items c.close.new.waiting.items c.self.inside.next_version c.self.inside.next_ticket c.put_replies.new.outbox.items c.self.inside.max_journal c.self.inside.max_events (vec_capacity c.close.new.history.events)
+went : (c : After-enter) → Goes c.self.inside.history.base c.self.inside.history.events.items c.self.inside.history.counts c.in_ok-state.state (Closed c.args.uri) c.enter.new.self.base c.enter.new.self.events.items c.enter.new.self.counts
+    c.close.new.self c.put_replies.new.outbox.items c.self.inside.max_journal c.self.inside.max_events (vec_capacity c.enter.new.self.events)
 went c =
-    goes _ _ _ _ _ _ _ _ _ _ _ c.in_ok-state.state (Closed c.args.uri) _ _ _ _ _ _ _ _ _ c.self.invariant (state_is c)
-    (closed _ _ _ _ _ _ c.args.uri _ _ _ (holds _ _ _ _ _ _ _ _ _ _ _ c.self.invariant) (open_there c)
+    goes _ _ _ _ _ _ _ _ c.in_ok-state.state (Closed c.args.uri) _ _ _ _ _ _ c.self.invariant (state_is c)
+    (closed _ _ _ c.args.uri _ _ (holds _ _ _ _ _ _ _ _ c.self.invariant) (open_there c)
     c.close.ensures.documents
     c.close.ensures.waiting
+    c.close.ensures.version
+    c.close.ensures.ticket
     (outbox_is c ∙ ap (λ (os : List Out). c.self.inside.outbox.items ++ os) (told c)))
-    c.close.ensures.history.base
-    (c.close.ensures.history.events ∙ ap (λ (es : List Event). journal_after c.in_ok-state.state es ++ Closed c.args.uri ∷ []) c.put_replies.ensures.journal)
-    c.close.ensures.history.counts
+    c.enter.ensures.base
+    (c.enter.ensures.events ∙ ap (λ (es : List Event). journal_after c.in_ok-state.state es ++ Closed c.args.uri ∷ []) c.put_replies.ensures.journal)
+    c.enter.ensures.counts
     (fits c)
     (roomy c)
 
@@ -67,5 +69,5 @@ invariant_of-self-2 c = (went c).kept
 
 pub returns-clause-ok : goal.returns-clause-ok
 returns-clause-ok c =
-    let P : Seen → Type 0 = λ d. Enters d (seen c.close.new.history.base c.close.new.history.events.items c.put_replies.new.outbox.items c.self.inside.max_journal c.self.inside.max_events) (Closed c.args.uri) in
-    record { none = c.in_ok-replies.ensures.none; enters = subst P c.self.view_is (enters _ _ _ _ _ _ _ _ _ _ _ c.in_ok-state.state _ _ _ _ _ _ _ _ _ _ c.self.invariant (state_is c) (went c)) }
+    let P : Seen → Type 0 = λ d. Enters d (seen c.enter.new.self.base c.enter.new.self.events.items c.put_replies.new.outbox.items c.self.inside.max_journal c.self.inside.max_events) (Closed c.args.uri) in
+    record { none = c.in_ok-replies.ensures.none; enters = subst P c.self.view_is (enters _ _ _ _ _ _ _ _ c.in_ok-state.state _ _ _ _ _ _ _ c.self.invariant (state_is c) (went c)) }

@@ -10,7 +10,7 @@ returns c =
     subst P c.self.view_is
     (fresh-is c.self.inside.history.base c.self.inside.history.events.items c.self.inside.outbox.items c.self.inside.max_journal c.self.inside.max_events c.len.result c.in_ok-state.state
     (c.in_ok-state.ensures
-    ∙ ((λ i. record { documents = c.as_slice.ensures.value i; waiting = c.as_slice-2.ensures.value i; unsent = map entry_for c.self.inside.outbox.items; next_version = c.self.inside.next_version; next_ticket = c.self.inside.next_ticket })
-    ∙ state-is _ _ _ _ _ _ _ _ _ _ _ c.self.invariant))
+    ∙ ((λ i. record { documents = c.as_slice.ensures.value i; waiting = c.as_slice-2.ensures.value i; unsent = map entry_for c.self.inside.outbox.items; next_version = c.self.inside.present.next_version; next_ticket = c.self.inside.present.next_ticket })
+    ∙ state-is _ _ _ _ _ _ _ _ c.self.invariant))
     (search rules)
     c.if-len-self.false)

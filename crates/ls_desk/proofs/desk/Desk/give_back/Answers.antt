@@ -11,44 +11,45 @@ use Rattle.ls_desk.proofs.Grows.{Goes, enters, goes, holds, kept-room, seen}
 use Rattle.ls_machine.specs.Machine.{is_held}
 use Rattle.ls_desk.proofs.Events.{returned}
 use Rattle.ls_desk.proofs.desk.Desk.give_back.Goals as goal
-use Rattle.ls_desk.proofs.desk.Desk.give_back.Goals.{After-give_back}
+use Rattle.ls_desk.proofs.desk.Desk.give_back.Goals.{After-enter}
 
 pub invariant_of-self : goal.invariant_of-self
 invariant_of-self c =
     let e = c.room_for_event.ensures in
-    kept-room _ _ _ _ _ _ _ _ _ _ _ _ _ _ _ _ c.self.invariant refl refl refl e.journal e.more
+    kept-room _ _ _ _ _ _ _ _ _ _ _ _ c.self.invariant refl refl refl refl refl e.journal e.more
 
-abbrev now : After-give_back → State
+abbrev now : After-enter → State
 now c = replay_from c.self.inside.history.base.state c.self.inside.history.events.items
 
-at_place : (c : After-give_back) → position (is_held c.args.ticket) c.self.inside.waiting.items ≡ Some c.in_ok-at.at
+at_place : (c : After-enter) → position (is_held c.args.ticket) c.self.inside.present.waiting.items ≡ Some c.in_ok-at.at
 at_place c =
     let P : Seen → Type 0 = λ d. position (is_held c.args.ticket) (state_of d).waiting ≡ Some c.in_ok-at.at in
     ap (λ (ws : List Waiting). position (is_held c.args.ticket) ws) c.self.invariant.waiting_are ∙ subst P (sym c.self.view_is) c.in_ok-at.ensures.at
 
-there : (c : After-give_back) → is_some (find (is_held c.args.ticket) (now c).waiting) ≡ true
+there : (c : After-enter) → is_some (find (is_held c.args.ticket) (now c).waiting) ≡ true
 there c = let P : Seen → Type 0 = λ d. is_some (find (is_held c.args.ticket) (state_of d).waiting) ≡ true in subst P (sym c.self.view_is) c.in_ok-at.ensures.there
 
-fits : (c : After-give_back) → total c.self.inside.history.counts + 1 + length c.self.inside.outbox.items ≤ c.self.inside.max_events
+fits : (c : After-enter) → total c.self.inside.history.counts + 1 + length c.self.inside.outbox.items ≤ c.self.inside.max_events
 fits c =
     let P : Seen → Type 0 = λ d. used d + 1 ≤ d.max_events in
     let r = subst P (sym c.self.view_is) c.in_ok-at.ensures.room in
     let k = ap total c.self.invariant.counts_are in omega arith
 
-roomy : (c : After-give_back) → length c.self.inside.history.events.items + 1 + length c.self.inside.outbox.items ≤ vec_capacity c.give_back.new.history.events
+roomy : (c : After-enter) → length c.self.inside.history.events.items + 1 + length c.self.inside.outbox.items ≤ vec_capacity c.enter.new.self.events
 roomy c =
     let r = c.in_ok-room_for_event.ensures.room in
     let j = ap length c.room_for_event.ensures.journal in
-    let k = c.give_back.ensures.history.capacity in omega arith
+    let k = c.enter.ensures.capacity in omega arith
 
-went : (c : After-give_back) → Goes c.self.inside.history.base c.self.inside.history.events.items c.self.inside.history.counts None (Returned c.args.ticket) c.give_back.new.history.base c.give_back.new.history.events.items c.give_back.new.history.counts
-    c.self.inside.documents.items c.give_back.new.waiting.items c.self.inside.next_version c.self.inside.next_ticket c.self.inside.outbox.items c.self.inside.max_journal c.self.inside.max_events (vec_capacity c.give_back.new.history.events)
+went : (c : After-enter) → Goes c.self.inside.history.base c.self.inside.history.events.items c.self.inside.history.counts None (Returned c.args.ticket) c.enter.new.self.base c.enter.new.self.events.items c.enter.new.self.counts
+    c.give_back.new.self c.self.inside.outbox.items c.self.inside.max_journal c.self.inside.max_events (vec_capacity c.enter.new.self.events)
 went c =
-    goes _ _ _ _ _ _ _ _ _ _ _ None (Returned c.args.ticket) _ _ _ _ _ _ _ _ _ c.self.invariant refl
-    (returned _ _ _ _ _ _ c.args.ticket _ (holds _ _ _ _ _ _ _ _ _ _ _ c.self.invariant) (there c) (c.give_back.ensures.waiting (is_held c.args.ticket) (at_place c)))
-    c.give_back.ensures.history.base
-    (c.give_back.ensures.history.events ∙ ap (λ (es : List Event). es ++ Returned c.args.ticket ∷ []) c.room_for_event.ensures.journal)
-    c.give_back.ensures.history.counts
+    goes _ _ _ _ _ _ _ _ None (Returned c.args.ticket) _ _ _ _ _ _ c.self.invariant refl
+    (returned _ _ _ c.args.ticket _ (holds _ _ _ _ _ _ _ _ c.self.invariant) (there c)
+    c.give_back.ensures.documents (c.give_back.ensures.waiting (is_held c.args.ticket) (at_place c)) c.give_back.ensures.version c.give_back.ensures.ticket)
+    c.enter.ensures.base
+    (c.enter.ensures.events ∙ ap (λ (es : List Event). es ++ Returned c.args.ticket ∷ []) c.room_for_event.ensures.journal)
+    c.enter.ensures.counts
     (fits c)
     (roomy c)
 
@@ -57,5 +58,5 @@ invariant_of-self-2 c = (went c).kept
 
 pub returns-clause-ok : goal.returns-clause-ok
 returns-clause-ok c =
-    let P : Seen → Type 0 = λ d. Enters d (seen c.give_back.new.history.base c.give_back.new.history.events.items c.self.inside.outbox.items c.self.inside.max_journal c.self.inside.max_events) (Returned c.args.ticket) in
-    record { none = c.in_ok-at.ensures.none; enters = subst P c.self.view_is (enters _ _ _ _ _ _ _ _ _ _ _ None _ _ _ _ _ _ _ _ _ _ c.self.invariant refl (went c)) }
+    let P : Seen → Type 0 = λ d. Enters d (seen c.enter.new.self.base c.enter.new.self.events.items c.self.inside.outbox.items c.self.inside.max_journal c.self.inside.max_events) (Returned c.args.ticket) in
+    record { none = c.in_ok-at.ensures.none; enters = subst P c.self.view_is (enters _ _ _ _ _ _ _ _ None _ _ _ _ _ _ _ c.self.invariant refl (went c)) }

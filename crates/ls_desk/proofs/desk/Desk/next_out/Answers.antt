@@ -10,7 +10,7 @@ use Rattle.ls_desk.proofs.desk.Desk.next_out.Goals as goal
 use Rattle.ls_desk.proofs.desk.Desk.next_out.Goals.{After-enter}
 
 pub invariant_of-self : goal.invariant_of-self
-invariant_of-self c = kept-same _ _ _ _ _ _ _ _ _ _ _ _ c.self.invariant c.in_err-out.ensures.items
+invariant_of-self c = kept-same _ _ _ _ _ _ _ _ _ c.self.invariant c.in_err-out.ensures.items
 
 first : (c : After-enter) → Front (replay_from c.self.inside.history.base.state c.self.inside.history.events.items).unsent c.in_ok-out.out c.pop_front.new.self.items
 first c = front-of _ c.self.inside.outbox.items c.in_ok-out.out c.pop_front.new.self.items c.self.invariant.outs c.in_ok-out.ensures.items
@@ -28,10 +28,10 @@ roomy c =
     let l = shorter c in omega arith
 
 went : (c : After-enter) → Goes c.self.inside.history.base c.self.inside.history.events.items c.self.inside.history.counts None (Sent (ticket_of_out c.in_ok-out.out)) c.enter.new.self.base c.enter.new.self.events.items c.enter.new.self.counts
-    c.self.inside.documents.items c.self.inside.waiting.items c.self.inside.next_version c.self.inside.next_ticket c.pop_front.new.self.items c.self.inside.max_journal c.self.inside.max_events (vec_capacity c.enter.new.self.events)
+    c.self.inside.present c.pop_front.new.self.items c.self.inside.max_journal c.self.inside.max_events (vec_capacity c.enter.new.self.events)
 went c =
-    goes _ _ _ _ _ _ _ _ _ _ _ None (Sent (ticket_of_out c.in_ok-out.out)) _ _ _ _ _ _ _ _ _ c.self.invariant refl
-    (sent _ _ _ _ _ _ c.in_ok-out.out c.pop_front.new.self.items (holds _ _ _ _ _ _ _ _ _ _ _ c.self.invariant) (first c))
+    goes _ _ _ _ _ _ _ _ None (Sent (ticket_of_out c.in_ok-out.out)) _ _ _ _ _ _ c.self.invariant refl
+    (sent _ _ _ c.in_ok-out.out c.pop_front.new.self.items (holds _ _ _ _ _ _ _ _ c.self.invariant) (first c))
     c.enter.ensures.base
     (c.enter.ensures.events ∙ (λ i. c.self.inside.history.events.items ++ Sent (c.ticket_of-ticket.ensures i) ∷ []))
     c.enter.ensures.counts
@@ -46,5 +46,5 @@ returns-clause-some c =
     let new = seen c.enter.new.self.base c.enter.new.self.events.items c.pop_front.new.self.items c.self.inside.max_journal c.self.inside.max_events in
     let P : Seen → Type 0 = λ d. Sends d new c.in_ok-out.out in
     subst P c.self.view_is
-    (sends _ _ _ _ _ _ _ _ _ _ _ new c.in_ok-out.out c.pop_front.new.self.items c.self.invariant (first c) c.in_ok-out.ensures.items refl
-    (enters _ _ _ _ _ _ _ _ _ _ _ None _ _ _ _ _ _ _ _ _ _ c.self.invariant refl (went c)))
+    (sends _ _ _ _ _ _ _ _ new c.in_ok-out.out c.pop_front.new.self.items c.self.invariant (first c) c.in_ok-out.ensures.items refl
+    (enters _ _ _ _ _ _ _ _ None _ _ _ _ _ _ _ c.self.invariant refl (went c)))

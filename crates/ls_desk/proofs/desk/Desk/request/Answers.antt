@@ -13,48 +13,49 @@ use Rattle.std.specs.Option.{option_map}
 use Rattle.ls_machine.specs.Machine.{document_of, asked, requests, id_waits}
 use Rattle.ls_desk.proofs.Events.{requested}
 use Rattle.ls_desk.proofs.desk.Desk.request.Goals as goal
-use Rattle.ls_desk.proofs.desk.Desk.request.Goals.{After-ask-ticket}
+use Rattle.ls_desk.proofs.desk.Desk.request.Goals.{After-enter}
 
 pub invariant_of-self : goal.invariant_of-self
 invariant_of-self c =
     let e = c.room_for_job.ensures in
-    kept-room _ _ _ _ _ _ _ _ _ _ _ _ _ _ _ _ c.self.invariant refl e.waiting refl e.journal e.more
+    kept-room _ _ _ _ _ _ _ _ _ _ _ _ c.self.invariant refl e.waiting refl refl refl e.journal e.more
 
-abbrev now : After-ask-ticket → State
+abbrev now : After-enter → State
 now c = replay_from c.self.inside.history.base.state c.self.inside.history.events.items
 
-can : (c : After-ask-ticket) → (requests (now c).waiting < 1024) × (id_waits c.args.id (now c).waiting ≡ false)
+can : (c : After-enter) → (requests (now c).waiting < 1024) × (id_waits c.args.id (now c).waiting ≡ false)
 can c = let P : Seen → Type 0 = λ d. (requests (state_of d).waiting < 1024) × (id_waits c.args.id (state_of d).waiting ≡ false) in subst P (sym c.self.view_is) c.in_ok-job.ensures.possible
 
-job_is : (c : After-ask-ticket) → option_map (asked (now c).next_ticket c.args.id c.args.question c.args.links) (document_of c.args.uri (now c).documents) ≡ Some c.in_ok-job.job
+job_is : (c : After-enter) → option_map (asked (now c).next_ticket c.args.id c.args.question c.args.links) (document_of c.args.uri (now c).documents) ≡ Some c.in_ok-job.job
 job_is c = let P : Seen → Type 0 = λ d. option_map (asked (state_of d).next_ticket c.args.id c.args.question c.args.links) (document_of c.args.uri (state_of d).documents) ≡ Some c.in_ok-job.job in subst P (sym c.self.view_is) c.in_ok-job.ensures.job
 
-state_is : (c : After-ask-ticket) → c.in_ok-state.state ≡ fresh_for (seen c.self.inside.history.base c.self.inside.history.events.items c.self.inside.outbox.items c.self.inside.max_journal c.self.inside.max_events) (Asked c.args.id c.args.uri c.args.question c.args.links c.self.inside.next_ticket)
+state_is : (c : After-enter) → c.in_ok-state.state ≡ fresh_for (seen c.self.inside.history.base c.self.inside.history.events.items c.self.inside.outbox.items c.self.inside.max_journal c.self.inside.max_events) (Asked c.args.id c.args.uri c.args.question c.args.links c.self.inside.present.next_ticket)
 state_is c = let P : Seen → Type 0 = λ d. c.in_ok-state.state ≡ fresh d in subst P (sym c.self.view_is) c.in_ok-state.ensures
 
-fits : (c : After-ask-ticket) → total c.self.inside.history.counts + 1 + length c.self.inside.outbox.items ≤ c.self.inside.max_events
+fits : (c : After-enter) → total c.self.inside.history.counts + 1 + length c.self.inside.outbox.items ≤ c.self.inside.max_events
 fits c =
     let P : Seen → Type 0 = λ d. used d + 1 ≤ d.max_events in
     let r = subst P (sym c.self.view_is) c.in_ok-job.ensures.room in
     let k = ap total c.self.invariant.counts_are in omega arith
 
-roomy : (c : After-ask-ticket) → length (journal_after c.in_ok-state.state c.self.inside.history.events.items) + 1 + length c.self.inside.outbox.items ≤ vec_capacity c.ask-ticket.new.history.events
+roomy : (c : After-enter) → length (journal_after c.in_ok-state.state c.self.inside.history.events.items) + 1 + length c.self.inside.outbox.items ≤ vec_capacity c.enter.new.self.events
 roomy c =
     let r = c.in_ok-room_for_job.ensures.room in
     let j = ap (λ (es : List Event). length (journal_after c.in_ok-state.state es)) c.room_for_job.ensures.journal in
-    let k = c.ask-ticket.ensures.history.capacity in omega arith
+    let k = c.enter.ensures.capacity in omega arith
 
-went : (c : After-ask-ticket) → Goes c.self.inside.history.base c.self.inside.history.events.items c.self.inside.history.counts c.in_ok-state.state (Asked c.args.id c.args.uri c.args.question c.args.links c.self.inside.next_ticket) c.ask-ticket.new.history.base c.ask-ticket.new.history.events.items c.ask-ticket.new.history.counts
-    c.self.inside.documents.items c.ask-ticket.new.waiting.items c.self.inside.next_version c.ask-ticket.new.next_ticket c.self.inside.outbox.items c.self.inside.max_journal c.self.inside.max_events (vec_capacity c.ask-ticket.new.history.events)
+went : (c : After-enter) → Goes c.self.inside.history.base c.self.inside.history.events.items c.self.inside.history.counts c.in_ok-state.state (Asked c.args.id c.args.uri c.args.question c.args.links c.self.inside.present.next_ticket) c.enter.new.self.base c.enter.new.self.events.items c.enter.new.self.counts
+    c.ask-ticket.new.self c.self.inside.outbox.items c.self.inside.max_journal c.self.inside.max_events (vec_capacity c.enter.new.self.events)
 went c =
-    goes _ _ _ _ _ _ _ _ _ _ _ c.in_ok-state.state (Asked c.args.id c.args.uri c.args.question c.args.links c.self.inside.next_ticket) _ _ _ _ _ _ _ _ _ c.self.invariant (state_is c)
-    (requested _ _ _ _ _ _ c.args.id c.args.uri c.args.question c.args.links c.in_ok-job.job _ _ _ (holds _ _ _ _ _ _ _ _ _ _ _ c.self.invariant) (job_is c) (can c).0 (can c).1
-    refl
+    goes _ _ _ _ _ _ _ _ c.in_ok-state.state (Asked c.args.id c.args.uri c.args.question c.args.links c.self.inside.present.next_ticket) _ _ _ _ _ _ c.self.invariant (state_is c)
+    (requested _ _ _ c.args.id c.args.uri c.args.question c.args.links c.in_ok-job.job _ (holds _ _ _ _ _ _ _ _ c.self.invariant) (job_is c) (can c).0 (can c).1
+    c.ask-ticket.ensures.documents
     (c.ask-ticket.ensures.waiting ∙ ap (λ (ws : List Waiting). ws ++ c.in_ok-job.job ∷ []) c.room_for_job.ensures.waiting)
+    c.ask-ticket.ensures.version
     c.ask-ticket.ensures.ticket)
-    c.ask-ticket.ensures.history.base
-    (c.ask-ticket.ensures.history.events ∙ ap (λ (es : List Event). journal_after c.in_ok-state.state es ++ Asked c.args.id c.args.uri c.args.question c.args.links c.self.inside.next_ticket ∷ []) c.room_for_job.ensures.journal)
-    c.ask-ticket.ensures.history.counts
+    c.enter.ensures.base
+    (c.enter.ensures.events ∙ (λ i. journal_after c.in_ok-state.state (c.room_for_job.ensures.journal i) ++ Asked c.args.id c.args.uri c.args.question c.args.links (c.ask-ticket.ensures.result i) ∷ []))
+    c.enter.ensures.counts
     (fits c)
     (roomy c)
 
@@ -63,6 +64,6 @@ invariant_of-self-2 c = (went c).kept
 
 pub returns-clause-ok : goal.returns-clause-ok
 returns-clause-ok c =
-    let P : Seen → Type 0 = λ d. Enters d (seen c.ask-ticket.new.history.base c.ask-ticket.new.history.events.items c.self.inside.outbox.items c.self.inside.max_journal c.self.inside.max_events) (Asked c.args.id c.args.uri c.args.question c.args.links c.self.inside.next_ticket) in
-    let Q : ℕ → Type 0 = λ ticket. Enters c.args.self.now (seen c.ask-ticket.new.history.base c.ask-ticket.new.history.events.items c.self.inside.outbox.items c.self.inside.max_journal c.self.inside.max_events) (Asked c.args.id c.args.uri c.args.question c.args.links ticket) in
-    record { none = c.in_ok-job.ensures.none; enters = subst Q (sym c.ask-ticket.ensures.result) (subst P c.self.view_is (enters _ _ _ _ _ _ _ _ _ _ _ c.in_ok-state.state _ _ _ _ _ _ _ _ _ _ c.self.invariant (state_is c) (went c))) }
+    let P : Seen → Type 0 = λ d. Enters d (seen c.enter.new.self.base c.enter.new.self.events.items c.self.inside.outbox.items c.self.inside.max_journal c.self.inside.max_events) (Asked c.args.id c.args.uri c.args.question c.args.links c.self.inside.present.next_ticket) in
+    let Q : ℕ → Type 0 = λ ticket. Enters c.args.self.now (seen c.enter.new.self.base c.enter.new.self.events.items c.self.inside.outbox.items c.self.inside.max_journal c.self.inside.max_events) (Asked c.args.id c.args.uri c.args.question c.args.links ticket) in
+    record { none = c.in_ok-job.ensures.none; enters = subst Q (sym c.ask-ticket.ensures.result) (subst P c.self.view_is (enters _ _ _ _ _ _ _ _ c.in_ok-state.state _ _ _ _ _ _ _ c.self.invariant (state_is c) (went c))) }

@@ -9,44 +9,44 @@ use Rattle.ls_desk.proofs.Grows.{Goes, enters, goes, holds, kept-room, seen}
 use Rattle.ls_machine.specs.declared.event.Out.TheVariants as out
 use Rattle.ls_desk.proofs.Events.{said}
 use Rattle.ls_desk.proofs.desk.Desk.say.Goals as goal
-use Rattle.ls_desk.proofs.desk.Desk.say.Goals.{After-say}
+use Rattle.ls_desk.proofs.desk.Desk.say.Goals.{After-enter}
 
 pub invariant_of-self : goal.invariant_of-self
 invariant_of-self c =
     let e = c.room_for_replies.ensures in
-    kept-room _ _ _ _ _ _ _ _ _ _ _ _ _ _ _ _ c.self.invariant refl refl e.outbox e.journal e.more
+    kept-room _ _ _ _ _ _ _ _ _ _ _ _ c.self.invariant refl refl refl refl e.outbox e.journal e.more
 
-grown_by : (c : After-say) → c.say.new.outbox.items ≡ c.self.inside.outbox.items ++ out.Said c.args.body ∷ []
-grown_by c = c.say.ensures.outbox ∙ (λ i. c.room_for_replies.ensures.outbox i ++ out.Said (c.in_ok-copy.ensures.copy i) ∷ [])
+grown_by : (c : After-enter) → c.push_back_reserved.new.self.items ≡ c.self.inside.outbox.items ++ out.Said c.args.body ∷ []
+grown_by c = c.push_back_reserved.ensures.items ∙ (λ i. c.room_for_replies.ensures.outbox i ++ out.Said (c.in_ok-copy.ensures.copy i) ∷ [])
 
-longer : (c : After-say) → length c.say.new.outbox.items ≡ length c.self.inside.outbox.items + 1
+longer : (c : After-enter) → length c.push_back_reserved.new.self.items ≡ length c.self.inside.outbox.items + 1
 longer c = ap length (grown_by c) ∙ omega (arith, length-append c.self.inside.outbox.items (out.Said c.args.body ∷ []))
 
-state_is : (c : After-say) → c.in_ok-state.state ≡ fresh_for (seen c.self.inside.history.base c.self.inside.history.events.items c.self.inside.outbox.items c.self.inside.max_journal c.self.inside.max_events) (Said c.args.body)
+state_is : (c : After-enter) → c.in_ok-state.state ≡ fresh_for (seen c.self.inside.history.base c.self.inside.history.events.items c.self.inside.outbox.items c.self.inside.max_journal c.self.inside.max_events) (Said c.args.body)
 state_is c = let P : Seen → Type 0 = λ d. c.in_ok-state.state ≡ fresh d in subst P (sym c.self.view_is) c.in_ok-state.ensures
 
-fits : (c : After-say) → total c.self.inside.history.counts + 1 + length c.say.new.outbox.items ≤ c.self.inside.max_events
+fits : (c : After-enter) → total c.self.inside.history.counts + 1 + length c.push_back_reserved.new.self.items ≤ c.self.inside.max_events
 fits c =
     let P : Seen → Type 0 = λ d. used d + 2 ≤ d.max_events in
     let r = subst P (sym c.self.view_is) c.in_ok-copy.ensures.room in
     let k = ap total c.self.invariant.counts_are in
     let l = longer c in omega arith
 
-roomy : (c : After-say) → length (journal_after c.in_ok-state.state c.self.inside.history.events.items) + 1 + length c.say.new.outbox.items ≤ vec_capacity c.say.new.history.events
+roomy : (c : After-enter) → length (journal_after c.in_ok-state.state c.self.inside.history.events.items) + 1 + length c.push_back_reserved.new.self.items ≤ vec_capacity c.enter.new.self.events
 roomy c =
     let r = c.in_ok-room_for_replies.ensures.room in
     let j = ap (λ (es : List Event). length (journal_after c.in_ok-state.state es)) c.room_for_replies.ensures.journal in
-    let k = c.say.ensures.history.capacity in
+    let k = c.enter.ensures.capacity in
     let l = longer c in omega arith
 
-went : (c : After-say) → Goes c.self.inside.history.base c.self.inside.history.events.items c.self.inside.history.counts c.in_ok-state.state (Said c.args.body) c.say.new.history.base c.say.new.history.events.items c.say.new.history.counts
-    c.self.inside.documents.items c.self.inside.waiting.items c.self.inside.next_version c.self.inside.next_ticket c.say.new.outbox.items c.self.inside.max_journal c.self.inside.max_events (vec_capacity c.say.new.history.events)
+went : (c : After-enter) → Goes c.self.inside.history.base c.self.inside.history.events.items c.self.inside.history.counts c.in_ok-state.state (Said c.args.body) c.enter.new.self.base c.enter.new.self.events.items c.enter.new.self.counts
+    c.self.inside.present c.push_back_reserved.new.self.items c.self.inside.max_journal c.self.inside.max_events (vec_capacity c.enter.new.self.events)
 went c =
-    goes _ _ _ _ _ _ _ _ _ _ _ c.in_ok-state.state (Said c.args.body) _ _ _ _ _ _ _ _ _ c.self.invariant (state_is c)
-    (said _ _ _ _ _ _ c.args.body _ (holds _ _ _ _ _ _ _ _ _ _ _ c.self.invariant) (grown_by c))
-    c.say.ensures.history.base
-    (c.say.ensures.history.events ∙ ap (λ (es : List Event). journal_after c.in_ok-state.state es ++ Said c.args.body ∷ []) c.room_for_replies.ensures.journal)
-    c.say.ensures.history.counts
+    goes _ _ _ _ _ _ _ _ c.in_ok-state.state (Said c.args.body) _ _ _ _ _ _ c.self.invariant (state_is c)
+    (said _ _ _ c.args.body _ (holds _ _ _ _ _ _ _ _ c.self.invariant) (grown_by c))
+    c.enter.ensures.base
+    (c.enter.ensures.events ∙ ap (λ (es : List Event). journal_after c.in_ok-state.state es ++ Said c.args.body ∷ []) c.room_for_replies.ensures.journal)
+    c.enter.ensures.counts
     (fits c)
     (roomy c)
 
@@ -55,5 +55,5 @@ invariant_of-self-2 c = (went c).kept
 
 pub returns-clause-ok : goal.returns-clause-ok
 returns-clause-ok c =
-    let P : Seen → Type 0 = λ d. Enters d (seen c.say.new.history.base c.say.new.history.events.items c.say.new.outbox.items c.self.inside.max_journal c.self.inside.max_events) (Said c.args.body) in
-    record { none = c.in_ok-copy.ensures.none; enters = subst P c.self.view_is (enters _ _ _ _ _ _ _ _ _ _ _ c.in_ok-state.state _ _ _ _ _ _ _ _ _ _ c.self.invariant (state_is c) (went c)) }
+    let P : Seen → Type 0 = λ d. Enters d (seen c.enter.new.self.base c.enter.new.self.events.items c.push_back_reserved.new.self.items c.self.inside.max_journal c.self.inside.max_events) (Said c.args.body) in
+    record { none = c.in_ok-copy.ensures.none; enters = subst P c.self.view_is (enters _ _ _ _ _ _ _ _ c.in_ok-state.state _ _ _ _ _ _ _ c.self.invariant (state_is c) (went c)) }

@@ -1,0 +1,39 @@
+//! A text that is to stand at a desk, and what it puts down.
+ghost use Rattle.std.specs.Prelude.{◌≡◌, ◌≤◌, IfOk, false, length};
+ghost use Rattle.std.specs.Str.{chars};
+ghost use Rattle.ls_text.specs.Edits.{is_too_large};
+
+use ls_lists::Text;
+use ls_machine::{Document, SharedSnapshot, Waiting};
+use ls_text::{Encoding, Snapshot, TextFault};
+use std::alloc::{AllocError, Global};
+
+/// A text that is to stand at a desk, and the job to diagnose it.
+#[derive(Drop)]
+pub struct Next {
+    pub document: Document,
+    pub waiting: Waiting,
+}
+
+/// A text that is to be opened, and what it puts down.
+#[derive(Drop)]
+pub struct Opening {
+    pub text: SharedSnapshot,
+    pub encoding: Encoding,
+    pub next: Next,
+}
+
+/// The text of a document that is to be opened, which isn't too large, as the desk keeps it.
+///
+/// The error says that an allocation was refused.
+pub fn shared_text(alloc: Global, text: Text) -> Result<SharedSnapshot, AllocError>
+    requires { length text ≤ 4194304 }
+    ensures text { IfOk result (λ shared. shared ≡ chars text) }
+    ensures fits { IfOk result (λ shared. is_too_large shared ≡ false) }
+{
+    match Snapshot::of_text(alloc, text.into_string()) {
+        Ok(snapshot) => Ok(SharedSnapshot::new(alloc, snapshot)?),
+        Err(TextFault::TooLarge) => unreachable!(),
+        Err(TextFault::Memory) => Err(AllocError),
+    }
+}
