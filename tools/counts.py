@@ -10,8 +10,8 @@ something is missing, and so does one that is higher, as it could go again witho
 With --raise each count that is higher or new is put into counts.txt, the rows as the last gate found them (out/rows), and the figures in
 the pages are written anew. It lowers none: what is taken away with intent is taken out of counts.txt by hand.
 
-Beside the counts it fails where a test, an edit or a crate stands where nothing looks for it, and where a page tells another figure than
-counts.txt (tools/figures.py).
+Beside the counts it fails where a test, an edit or a crate stands where nothing looks for it, where something names what another crate says
+for itself alone (specs/own/), and where a page tells another figure than counts.txt (tools/figures.py).
 """
 import collections
 import importlib
@@ -53,6 +53,10 @@ TEST = re.compile(r"(?m)^ *#\[test\]")
 # A function as tests are, with the attributes above it
 LIKE_A_TEST = re.compile(r"(?m)^((?: *#\[.*\]\n)*) *(?:pub(?:\(\w+\))? )?fn (\w+)\(\w+: HostRuntime\)")
 ROOTS = ("lib.rt", "main.rt", "mod.rt")
+# Where a module of specs/ is named
+SAID_IN = (".rt", ".antt")
+# A module of what a crate says for itself alone
+OWN = re.compile(r"Rattle\.(\w+)\.specs\.own\.(\w+)")
 
 
 def text_of(path):
@@ -175,6 +179,17 @@ def out_of_place(paths, names):
         yield f"crates/{name}: crates.txt doesn't have it"
 
 
+def misused(texts):
+    """The files, by their paths in crates/, that name a module of a crate's specs/own/ where only that crate's private statements may."""
+    for path, text in texts.items():
+        crate, folder, _ = path.split("/", 2)
+        # (a definition that others may cite stands on no own one)
+        is_open = folder == "specs" and not path.startswith((f"{crate}/specs/own.", f"{crate}/specs/own/"))
+        for owner, name in dict.fromkeys(OWN.findall(text)):
+            if owner != crate or is_open:
+                yield f"crates/{path}: names {owner}'s own {name}, of which no public contract speaks"
+
+
 def places():
     """The paths of all files of the crates and tools, but for those that are built."""
     for top in ("crates", "tools"):
@@ -193,8 +208,9 @@ def keep_rows(found):
 def faults(told):
     """All that isn't as counts.txt tells, or that stands where nothing looks for it."""
     yield from differences(of_kind(told, False), of_sources())
-    names = crates()
-    yield from out_of_place([*places()], names)
+    names, paths = crates(), [*places()]
+    yield from out_of_place(paths, names)
+    yield from misused({it[len("crates/") :]: text_of(os.path.join(TOP, it)) for it in paths if it.startswith("crates/") and it.endswith(SAID_IN)})
     for crate in names:
         texts = sources(crate)
         yield from (f"crates/{crate}/src/{it}" for some in (unmarked, unread) for it in some(texts))

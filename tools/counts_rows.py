@@ -72,6 +72,16 @@ PLACED = (
     ("a crate that isn't told", ["crates/c/src/lib.rt"], ["crates/c: crates.txt doesn't have it"]),
 )
 
+USE = "use Rattle.a.specs.own.Kept.{IsKept}\n"
+# Files of crates, by their paths, and what is said of those that name another's own statements
+OWNED = (
+    ("a private statement", {"a/src/desk.rt": f"ghost {USE};", "a/proofs/X.antt": USE}, []),
+    ("own ones among themselves", {"a/specs/own/Puts.antt": USE, "a/specs/own.antt": "pub mod Kept\n"}, []),
+    ("an open definition", {"a/specs/Stands.antt": USE}, ["crates/a/specs/Stands.antt: names a's own Kept, of which no public contract speaks"]),
+    ("another crate", {"b/proofs/X.antt": USE + USE}, ["crates/b/proofs/X.antt: names a's own Kept, of which no public contract speaks"]),
+    ("a module of like name", {"b/src/x.rt": "ghost use Rattle.a.specs.owned.Kept.{IsKept};"}, []),
+)
+
 FIGURE = figures.Figure("README.md", "| edits | {} in {} crates |", lambda told: figures.all_of(told, "edits"))
 WRONG = "README.md: '| edits | {} in {} crates |' has 1,006, 2, and not 6, 2"
 # A page's text, what is wrong with its figure by TOLD, and the text once it is written anew
@@ -127,6 +137,8 @@ def source_cases():
         yield f"files: {what}", [*counts.unread(texts)], lines
     for what, paths, lines in PLACED:
         yield f"places: {what}", [*counts.out_of_place(paths, ["a", "b"])], lines
+    for what, texts, lines in OWNED:
+        yield f"own: {what}", [*counts.misused(texts)], lines
 
 
 def figure_cases():

@@ -11,7 +11,7 @@ use Rattle.abnf_parts.specs.declared.node.Node.TheVariants.{Quoted, Series, Span
 use Rattle.abnf_parts.specs.Part.{Part, quoted, series, span, seq, alt, rep, ref, opaque, parts_of, root_number, numbers}
 use Rattle.abnf_parts.specs.Nodes.{IsNode, RefersWithin, AreNodes}
 use Rattle.abnf_cert.specs.FitsNode.{FitsNode, NodeRefersWithin}
-use Rattle.abnf_cert.specs.Test.{entries_at}
+use Rattle.abnf_cert.specs.own.Test.{entries_at}
 use Rattle.abnf_cert.specs.Accepted.{HasPair, top, EntryFits, entry_at, Saturated, IsFirstLeast, IsChoice, IsAccepted}
 
 -- the chosen part has the pair

@@ -18,9 +18,9 @@ use Rattle.abnf_cert.specs.Read.{digit_count, is_plain_number, number_at}
 capped : (v n r d : ℕ) → n ≡ min v 18446744073709551616 → r ≡ min (n * 10 + d) 18446744073709551616 → r ≡ min (v * 10 + d) 18446744073709551616
 capped v n r d e f = omega arith
 
-pub digit-more : (ds : List ℕ) (i n r : ℕ) → i < length ds → IsInRange 48 57 (get_or ds i 0) → n ≡ min (digits_value 10 (take i ds)) 18446744073709551616
+pub digit_more : (ds : List ℕ) (i n r : ℕ) → i < length ds → IsInRange 48 57 (get_or ds i 0) → n ≡ min (digits_value 10 (take i ds)) 18446744073709551616
     → r ≡ min (n * 10 + (get_or ds i 0 - 48)) 18446744073709551616 → r ≡ min (digits_value 10 (take (i + 1) ds)) 18446744073709551616
-digit-more ds i n r h digit e f =
+digit_more ds i n r h digit e f =
     let d : digit_value (get_or ds i 0) + 48 ≡ get_or ds i 0 = digit_value_digit (get_or ds i 0) digit in
     let value : get_or ds i 0 - 48 ≡ digit_value (get_or ds i 0) = omega (arith, d) in
     let g : r ≡ min (n * 10 + digit_value (get_or ds i 0)) 18446744073709551616 = f ∙ ap (λ x. min (n * 10 + x) 18446744073709551616) value in

@@ -4,14 +4,14 @@ use Rattle.std.proofs.lemmas.Bool.{cases_lt}
 use Rattle.abnf_cert.specs.declared.entry.Entry.{Entry}
 use Rattle.abnf_cert.specs.declared.entry.Entry.TheVariants.{Nothing, Least}
 use Rattle.abnf_parts.specs.Part.{Part, root_number}
-use Rattle.abnf_parts.specs.Generates.{Gen, RuleGen, IsLeastLength, IsValue}
+use Rattle.abnf_parts.specs.Generates.{Gen, RuleGen, IsLeastLength, IsLeastPair}
 use Rattle.abnf_cert.specs.Accepted.{top, entry_at, IsAccepted}
 use Rattle.abnf_cert.specs.Says.{EntrySays, AcceptedIsRight}
 use Rattle.abnf_cert.proofs.Below.{TreeFits, part_fits}
 use Rattle.abnf_cert.proofs.Lower.{NotBelow, lower, rule_lower}
 use Rattle.abnf_cert.proofs.Upper.{Reached, upper, rule_upper}
 
-least_of_value : (roots : List Part) (p : Part) (n k : ℕ) → IsValue roots p n k → IsLeastLength roots p n
+least_of_value : (roots : List Part) (p : Part) (n k : ℕ) → IsLeastPair roots p n k → IsLeastLength roots p n
 least_of_value roots p n k v =
     record {
       reached = (v.reached.0, (k, v.reached.1), v.reached.2);
@@ -26,7 +26,7 @@ said : (roots : List Part) (p : Part) (e : Entry) → ((k : ℕ) (s : List ℕ) 
 said roots p Nothing low up = λ s g. low g.0 s g.1
 said roots p (Least l h c) low up =
     let s = up h (omega arith) in
-    let value : l < top → IsValue roots p l h = λ below.
+    let value : l < top → IsLeastPair roots p l h = λ below.
     record {
       reached = (s.0, s.1, s.2 below);
       least = λ t j g. pairs below t j (low j t g);

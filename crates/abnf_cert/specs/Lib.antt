@@ -1,7 +1,7 @@
 pub mod Accepted
 pub mod FitsNode
-pub mod Test
 pub mod Says
 pub mod Text
 pub mod Read
 pub mod Agreed
+pub mod own

@@ -3,7 +3,7 @@ use Rattle.std.specs.Prelude.{◌≡◌, ℕ, ◌<◌, ◌≤◌, List, length, 
 use Rattle.abnf_cert.specs.declared.entry.Entry.{Entry}
 use Rattle.abnf_cert.specs.declared.entry.Entry.TheVariants.{Nothing, Least}
 use Rattle.abnf_parts.specs.Part.{Part, parts_of}
-use Rattle.abnf_parts.specs.Generates.{Generates, IsLeastLength, IsValue}
+use Rattle.abnf_parts.specs.Generates.{Generates, IsLeastLength, IsLeastPair}
 use Rattle.abnf_cert.specs.Accepted.{top, entry_at, IsAccepted}
 
 -- Nothing: the part generates no string. A length below the top: it is the part's least length, and with the height its value.
@@ -11,7 +11,7 @@ use Rattle.abnf_cert.specs.Accepted.{top, entry_at, IsAccepted}
 abbrev pub EntrySays : List Part → Part → Entry → Type 0
 EntrySays roots p Nothing = (s : List ℕ) → Generates roots p s → ⊥
 EntrySays roots p (Least l h c) =
-    (l < top → IsValue roots p l h × IsLeastLength roots p l)
+    (l < top → IsLeastPair roots p l h × IsLeastLength roots p l)
     × (l ≡ top → ((s : List ℕ) × Generates roots p s) × ((s : List ℕ) → Generates roots p s → top ≤ length s))
 
 -- each entry is right

@@ -6,7 +6,7 @@ ghost use Rattle.abnf_parts.specs.Part.{root_number};
 ghost use Rattle.abnf_cert.specs.Accepted.{After, IsAccepted, IsChoice, IsFirstLeast, entry_at, referred};
 ghost use Rattle.abnf_cert.specs.FitsNode.{FitsNode, IsRepeated, NodeRefersWithin};
 ghost use Rattle.abnf_cert.specs.Says.{EachSays};
-ghost use Rattle.abnf_cert.specs.Test.{Passes, entries_at};
+ghost use Rattle.abnf_cert.specs.own.Test.{Passes, entries_at};
 
 use crate::entries::{characters, entry_of, has_pair, repeated, row};
 use crate::entry::{Cert, Entry};

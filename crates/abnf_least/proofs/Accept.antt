@@ -8,10 +8,10 @@ use Rattle.abnf_parts.specs.declared.node.Node.{Node}
 use Rattle.abnf_parts.specs.Nodes.{IsNode}
 use Rattle.abnf_parts.specs.Part.{Part, quoted, series, span, seq, alt, rep, ref, opaque, parts_of, root_number, numbers}
 use Rattle.abnf_cert.specs.Accepted.{top, in_a_row, all_in_a_row, times, referred, EntryFits, entry_at, IsAccepted}
-use Rattle.abnf_least.specs.Form.{Form, text, never, row, one_of, repeated, refers, entry_given, better, first_least, part_form, node_form, repetition_form}
+use Rattle.abnf_least.specs.own.Form.{Form, text, never, row, one_of, repeated, refers, entry_given, better, first_least, part_form, node_form, repetition_form}
 use Rattle.abnf_least.proofs.Choice.{is_choice}
 use Rattle.abnf_least.specs.Table.{InRange}
-use Rattle.abnf_least.specs.Search.{Settled, IsDone, AreGiven, form_or, form_at}
+use Rattle.abnf_least.specs.own.Search.{Settled, IsDone, AreGiven, form_or, form_at}
 use Rattle.std.proofs.Common.{Result, Ok, Err}
 use Rattle.std.specs.Prelude.{IfOk}
 

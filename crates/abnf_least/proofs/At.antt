@@ -12,9 +12,9 @@ use Rattle.abnf_cert.specs.Accepted.{HasPair}
 use Rattle.abnf_cert.specs.Accepted.{entry_at}
 use Rattle.abnf_cert.proofs.Checked.{stands_at}
 use Rattle.abnf_least.specs.declared.candidate.Candidate.{Candidate}
-use Rattle.abnf_least.specs.Form.{Form, never, entry_given, node_form}
-use Rattle.abnf_least.specs.Queue.{Leaves}
-use Rattle.abnf_least.specs.Search.{form_or, form_at, IsGiven, IsFound, IsDone, AllWait, candidate}
+use Rattle.abnf_least.specs.own.Form.{Form, never, entry_given, node_form}
+use Rattle.abnf_least.specs.own.Queue.{LeavesQueue}
+use Rattle.abnf_least.specs.own.Search.{form_or, form_at, IsGiven, IsFound, IsDone, AllWait, candidate}
 use Rattle.abnf_least.proofs.Accept.{same_form}
 use Rattle.abnf_least.proofs.Settle.{some_least}
 use Rattle.abnf_least.proofs.SearchStep.{first_of_all, others_wait, all_wait}
@@ -44,7 +44,7 @@ module _ (trees : List Part) (table : List Entry) (x : Candidate) (e : Entry) wh
   pair_from is g = (g.choice, is ∙ g.given)
 
 module _ (trees : List Part) (table : List Entry) (old new : List Candidate) (x : Candidate) (one_each : length table ≡ length (parts_of trees)) (waiting : AllWait (form_at trees) (entry_at table) old) where
-  pub found : Leaves old x new → IsGiven (form_at trees) table x → IsFound (form_at trees) table x new
+  pub found : LeavesQueue old x new → IsGiven (form_at trees) table x → IsFound (form_at trees) table x new
   found leaves g =
       record {
         is_given = g;
@@ -52,7 +52,7 @@ module _ (trees : List Part) (table : List Entry) (old new : List Candidate) (x 
         others = others_wait (form_at trees) (entry_at table) old new x waiting leaves;
       }
 
-  pub passed : Leaves old x new → (IsGiven (form_at trees) table x → ⊥) → AllWait (form_at trees) (entry_at table) new
+  pub passed : LeavesQueue old x new → (IsGiven (form_at trees) table x → ⊥) → AllWait (form_at trees) (entry_at table) new
   passed leaves not_given =
       all_wait (form_at trees) table old new x refl waiting leaves (λ k past. past_form trees k (omega (arith, one_each))) not_given
 

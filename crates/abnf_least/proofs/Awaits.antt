@@ -8,8 +8,8 @@ use Rattle.abnf_parts.specs.declared.node.Node.TheVariants.{Alt, Ref, Opaque}
 use Rattle.abnf_cert.specs.declared.entry.Entry.{Entry}
 use Rattle.abnf_cert.specs.declared.entry.Entry.TheVariants.{Nothing}
 use Rattle.abnf_cert.specs.Accepted.{entry_at}
-use Rattle.abnf_least.specs.Form.{Form, AwaitsParts, row, one_of, entry_given, first_least, node_form}
-use Rattle.abnf_least.specs.Table.{NoneSettled, IsUpTo, HasRoom}
+use Rattle.abnf_least.specs.own.Form.{Form, AwaitsParts, row, one_of, entry_given, first_least, node_form}
+use Rattle.abnf_least.specs.Table.{NoneSettled, IsUpTo, HasRoomAbove}
 use Rattle.abnf_least.proofs.Accept.{SamePair, given_alike}
 
 both : (A : Type 0) → A → IsTrue true ↔ A
@@ -51,5 +51,5 @@ module _ (table : List Entry) (none : NoneSettled table) where
   pub still_nothing : (f : Form) → AwaitsParts f → entry_given (entry_at table) f ≡ Nothing
   still_nothing f awaits = given_alike (λ n. Nothing) (entry_at table) (λ n. subst (λ e. SamePair Nothing e) (sym (none n)) tt) f ∙ awaits
 
-  pub room_for_all : HasRoom table
+  pub room_for_all : HasRoomAbove table
   room_for_all n = subst (IsUpTo 18446744073709551614) (sym (none n)) tt

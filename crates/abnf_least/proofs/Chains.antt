@@ -2,7 +2,7 @@
 use Rattle.std.proofs.Common.{◌≡◌, ℕ, zero, suc, ◌+◌, ◌-◌, ◌^◌, ◌<◌, ◌≤◌, ◌⊎◌, inl, inr, ⊎_elim, List, [], ◌∷◌, ◌++◌, length, refl, sym, ◌∙◌, subst, arith}
 use Rattle.std.proofs.lemmas.List.{length_push, get_or_append_left, get_or_push}
 use Rattle.abnf_least.specs.declared.users.Link.{Link}
-use Rattle.abnf_least.specs.Users.{link_at, MetFrom, InChain, Reaches, Leads}
+use Rattle.abnf_least.specs.own.Users.{link_at, MetFrom, InChain, Reaches, Leads}
 
 abbrev none : Link
 none = record { user = 0; next = 0 }

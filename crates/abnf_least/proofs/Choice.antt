@@ -7,7 +7,7 @@ use Rattle.std.specs.List.{AllByRecursion}
 use Rattle.abnf_cert.specs.declared.entry.Entry.{Entry}
 use Rattle.abnf_cert.specs.declared.entry.Entry.TheVariants.{Nothing, Least}
 use Rattle.abnf_cert.specs.Accepted.{NotBefore, After, Saturated, IsChoice, top}
-use Rattle.abnf_least.specs.Form.{is_before, better, first_least}
+use Rattle.abnf_least.specs.own.Form.{is_before, better, first_least}
 use Rattle.abnf_least.specs.Table.{InRange}
 
 pub before_true : (l h m k : ℕ) → is_before l h m k ≡ true → (l < m) ⊎ ((l ≡ m) × (h < k))

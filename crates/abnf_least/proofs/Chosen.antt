@@ -9,9 +9,9 @@ use Rattle.abnf_parts.specs.declared.node.Node.{Node}
 use Rattle.abnf_parts.specs.declared.node.Node.TheVariants.{Quoted, Series, Span, Seq, Alt, Rep, Ref, Opaque}
 use Rattle.abnf_parts.specs.Part.{Part, parts_of}
 use Rattle.abnf_cert.specs.Accepted.{in_a_row, all_in_a_row, times, referred, entry_at, IsAccepted}
-use Rattle.abnf_least.specs.Form.{Form, text, never, row, one_of, repeated, refers, repetition_form, node_form, entry_given, first_least}
+use Rattle.abnf_least.specs.own.Form.{Form, text, never, row, one_of, repeated, refers, repetition_form, node_form, entry_given, first_least}
 use Rattle.abnf_least.specs.Table.{InRange, IsUnchosen}
-use Rattle.abnf_least.specs.Search.{IsDone, Stands, AreGiven, form_at}
+use Rattle.abnf_least.specs.own.Search.{IsDone, IsSearchState, AreGiven, form_at}
 use Rattle.abnf_least.proofs.Accept.{SamePair, given_alike, done_same, accepted_given}
 use Rattle.abnf_least.proofs.At.{past_form, done_from}
 
@@ -92,7 +92,7 @@ pub record ChosenUpTo (form : ℕ → Form) (old new : List Entry) (count : ℕ)
 pub none_chosen : (form : ℕ → Form) (table : List Entry) → ChosenUpTo form table table 0
 none_chosen form table = record { one_each = refl; chosen = λ n below. absurd (omega arith); left = λ n past. refl }
 
-module _ (trees : List Part) (old : List Entry) (s : Stands trees old []) where
+module _ (trees : List Part) (old : List Entry) (s : IsSearchState trees old []) where
   pub done : IsDone (form_at trees) (entry_at old)
   done = done_from (form_at trees) (entry_at old) [] s.waiting refl
 
@@ -153,5 +153,5 @@ module _ (trees : List Part) (old : List Entry) (s : Stands trees old []) where
           lengths = λ n. same_range (entry_at old n) (entry_at new n) (pairs_stay n) (s.lengths n);
         }
 
-pub accepted_chosen : (trees : List Part) (old new : List Entry) → Stands trees old [] → AreGiven trees old new → IsAccepted trees new
+pub accepted_chosen : (trees : List Part) (old new : List Entry) → IsSearchState trees old [] → AreGiven trees old new → IsAccepted trees new
 accepted_chosen trees old new s given = accepted_given trees old new s.settled (done trees old s) given

@@ -17,7 +17,7 @@ use Rattle.abnf_cert.proofs.Right.{low_at}
 use Rattle.abnf_least.specs.Sentence.{PartSentence, EachSentence, FirstSentence, RuleSentence, IsSentence}
 use Rattle.abnf_least.specs.declared.work.Task.{Task}
 use Rattle.abnf_least.specs.declared.work.Task.TheVariants.{Write, End}
-use Rattle.abnf_least.specs.Walk.{IsBelowTop, keep, keep_by, keep_all, keep_times}
+use Rattle.abnf_least.specs.own.Walk.{IsBelowTop, keep, keep_by, keep_all, keep_times}
 use Rattle.abnf_least.proofs.Named.{Named, part_named, value_at, later}
 use Rattle.abnf_least.proofs.More.{up, all_more}
 

@@ -15,7 +15,7 @@ use Rattle.abnf_parts.specs.Nodes.{IsNode, AreNodes}
 use Rattle.abnf_cert.specs.Accepted.{entry_at, IsAccepted}
 use Rattle.abnf_least.specs.declared.work.Task.{Task}
 use Rattle.abnf_least.specs.declared.work.Task.TheVariants.{Write, End}
-use Rattle.abnf_least.specs.Walk.{IsBelowTop, choice_of, keep, keep_by, keep_all, keep_times, keep_some, work_after, leaf_text, Place, LiesWithin, AllLieWithin, IsNodeOf, IsTaskOf, Writes, Does}
+use Rattle.abnf_least.specs.own.Walk.{IsBelowTop, choice_of, keep, keep_by, keep_all, keep_times, keep_some, work_after, leaf_text, Place, LiesWithin, AllLieWithin, IsNodeOf, IsTaskOf, WritesPart, Does}
 use Rattle.abnf_least.proofs.Weight.{room, weight_of, weight}
 use Rattle.abnf_least.proofs.Complete.{IsShort, NodeSentence, Complete, part_at}
 use Rattle.abnf_least.proofs.WalkStep.{AllShort, keep_short, start, short_below, next_step}
@@ -150,7 +150,7 @@ module _ (roots : List Part) (cert : List Entry) (accepted : IsAccepted roots ce
           omega arith,
         )
 
-    written : (n : ℕ) (place : Place) → get_or ps n None ≡ place → (ts' : List Task) (w' : List ℕ) (ps' : List Place) → Writes roots (entry_at cert) n place ts w ps ts' w' ps' → IsDraft roots cert r (Write n ∷ ts) w ps →
+    written : (n : ℕ) (place : Place) → get_or ps n None ≡ place → (ts' : List Task) (w' : List ℕ) (ps' : List Place) → WritesPart roots (entry_at cert) n place ts w ps ts' w' ps' → IsDraft roots cert r (Write n ∷ ts) w ps →
         LeadsTo (left (entry_at cert) (length (parts_of roots)) (Write n ∷ ts)) ts' w' ps'
     written n None e ts' w' ps' does d =
         let x = does.0 in

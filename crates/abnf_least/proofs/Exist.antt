@@ -8,9 +8,9 @@ use Rattle.abnf_cert.specs.declared.entry.Entry.{Entry}
 use Rattle.abnf_cert.specs.declared.entry.Entry.TheVariants.{Nothing, Least}
 use Rattle.abnf_parts.specs.Part.{Part, quoted, series, span, seq, alt, rep, ref, opaque, parts_of, root_number}
 use Rattle.abnf_cert.specs.Accepted.{NotBefore, top, times, referred, entry_at, IsAccepted}
-use Rattle.abnf_least.specs.Form.{Form, text, never, row, one_of, repeated, refers, entry_given, better, first_least, is_before, part_form, repetition_form}
+use Rattle.abnf_least.specs.own.Form.{Form, text, never, row, one_of, repeated, refers, entry_given, better, first_least, is_before, part_form, repetition_form}
 use Rattle.abnf_least.specs.Table.{InRange, unsettled}
-use Rattle.abnf_least.specs.Search.{Settled, IsNext, IsDone, form_or, form_at}
+use Rattle.abnf_least.specs.own.Search.{Settled, IsNextPart, IsDone, form_or, form_at}
 use Rattle.abnf_least.proofs.Choice.{earlier}
 use Rattle.abnf_least.proofs.Settle.{nothing_least, not_before_nothing, some_least, row_range, none_settled, settled_more}
 use Rattle.abnf_least.proofs.Height.{settle_one, unsettled_up}
@@ -179,7 +179,7 @@ module _ (trees : List Part) (short : AreShort trees) where
       let is : after f.number ≡ e = get_or-set_same table f.number e Nothing f.within in
       let others : (n : ℕ) → (n ≡ f.number → ⊥) → after n ≡ at n = λ n ne. get_or-set_other table f.number n e Nothing ne in
       let range : f.size ≤ top = subst InRange f.given (given_range at s.lengths (form_at trees f.number) (short_or (root_number trees) f.number (slice_get (parts_of trees) f.number) (short f.number))) in
-      let next : IsNext (form_at trees) at f.size f.height =
+      let next : IsNextPart (form_at trees) at f.size f.height =
       λ k waits. ⊎_elim (λ less. f.later k less waits) (λ beyond. not_before_nothing f.size f.height (entry_given at (form_at trees k)) (past table s k beyond)) (cases_lt k (length table)) in
       record {
         one_each = length-set table f.number e ∙ s.one_each;

@@ -4,7 +4,7 @@ use Rattle.std.proofs.lemmas.Bool.{cond_both}
 use Rattle.abnf_cert.specs.declared.entry.Entry.{Entry}
 use Rattle.abnf_cert.specs.declared.entry.Entry.TheVariants.{Nothing, Least}
 use Rattle.abnf_cert.specs.Accepted.{in_a_row, all_in_a_row, times, referred, entry_at}
-use Rattle.abnf_least.specs.Form.{Form, text, never, row, one_of, repeated, refers, entry_given, better, first_least, is_before}
+use Rattle.abnf_least.specs.own.Form.{Form, text, never, row, one_of, repeated, refers, entry_given, better, first_least, is_before}
 use Rattle.abnf_least.specs.Table.{IsUpTo, unsettled}
 
 module _ (b : ℕ) where

@@ -3,11 +3,11 @@ use Rattle.std.proofs.Common.{◌≡◌, ℕ, ◌+◌, ◌^◌, ◌<◌, ◌≤�
 use Rattle.std.proofs.lemmas.List.{length-set, take_more, take_all}
 use Rattle.std.proofs.lemmas.Bool.{cases_lt, cases_eq}
 use Rattle.abnf_parts.specs.Part.{Part, parts_of}
-use Rattle.abnf_least.specs.Form.{Form, needs}
+use Rattle.abnf_least.specs.own.Form.{Form, needs}
 use Rattle.abnf_least.specs.declared.users.Link.{Link}
 use Rattle.abnf_least.specs.declared.users.Users.{Users}
-use Rattle.abnf_least.specs.Search.{Among, form_at}
-use Rattle.abnf_least.specs.Users.{Reaches, Uses, Adds, AddsEach, AreUsers}
+use Rattle.abnf_least.specs.own.Search.{Among, form_at}
+use Rattle.abnf_least.specs.own.Users.{Reaches, Uses, AddsUser, AddsEach, AreUsers}
 use Rattle.abnf_least.proofs.Chains.{reached_alone, reached_last, reached_on, reached_still, ends_at}
 use Rattle.abnf_least.proofs.At.{past_form}
 
@@ -15,7 +15,7 @@ use Rattle.abnf_least.proofs.At.{past_form}
 adds_at :
     (old new : Users) (part user place : ℕ) → part < length old.starts.items → new.starts.items ≡ set old.starts.items part place →
     ((n k : ℕ) → Reaches old.links.items n k → Reaches new.links.items n k) → ((k : ℕ) → Uses old part k → Reaches new.links.items place k) → Reaches new.links.items place user →
-    Adds old part user new
+    AddsUser old part user new
 adds_at old new part user place within is still on joins =
     let starts = old.starts.items in
     let first : get_or new.starts.items part 0 ≡ place = ap (λ xs. get_or xs part 0) is ∙ get_or-set_same starts part place 0 within in
@@ -33,7 +33,7 @@ adds_at old new part user place within is still on joins =
 -- the only user
 pub adds_first :
     (old new : Users) (part user place : ℕ) → part < length old.starts.items → get_or old.starts.items part 0 ≡ 0 → place < 2 ^ 31 → place ≡ user + 1 →
-    new.links.items ≡ old.links.items → new.starts.items ≡ set old.starts.items part place → Adds old part user new
+    new.links.items ≡ old.links.items → new.starts.items ≡ set old.starts.items part place → AddsUser old part user new
 adds_first old new part user place within none low is links_are starts_are =
     adds_at old new part user place within starts_are (λ n k r. subst (λ ls. Reaches ls n k) (sym links_are) r)
     (λ k uses. absurd (ends_at old.links.items (get_or old.starts.items part 0) (inl none) uses.0 k uses.1))
@@ -42,7 +42,7 @@ adds_first old new part user place within none low is links_are starts_are =
 -- one more link, which leads to where the part's users began
 pub adds_link :
     (old new : Users) (part user : ℕ) (link : Link) (place : ℕ) → part < length old.starts.items → link.user ≡ user → link.next ≡ get_or old.starts.items part 0 → place ≡ 2 ^ 31 + length old.links.items →
-    new.links.items ≡ old.links.items ++ link ∷ [] → new.starts.items ≡ set old.starts.items part place → Adds old part user new
+    new.links.items ≡ old.links.items ++ link ∷ [] → new.starts.items ≡ set old.starts.items part place → AddsUser old part user new
 adds_link old new part user link place within same next is links_are starts_are =
     let links = old.links.items in
     let move : (n k : ℕ) → Reaches (links ++ link ∷ []) n k → Reaches new.links.items n k = λ n k r. subst (λ ls. Reaches ls n k) (sym links_are) r in
@@ -50,7 +50,7 @@ adds_link old new part user link place within same next is links_are starts_are 
     (λ k uses. move place k (reached_on links link place k is (subst (λ n. Reaches links n k) (sym next) uses)))
     (move place user (subst (λ k. Reaches (links ++ link ∷ []) place k) same (reached_last links link place is)))
 
-pub adds_past : (old : Users) (part user : ℕ) → length old.starts.items ≤ part → Adds old part user old
+pub adds_past : (old : Users) (part user : ℕ) → length old.starts.items ≤ part → AddsUser old part user old
 adds_past old part user past =
     record { one_each = refl; kept = λ m k uses. uses; joins = λ within. absurd (omega arith) }
 
@@ -61,7 +61,7 @@ among_last : (m : ℕ) (xs : List ℕ) (x : ℕ) → Among m (xs ++ x ∷ []) �
 among_last m [] x a = ⊎_elim (λ e. inr e) (λ b. absurd b) a
 among_last m (y ∷ xs) x a = ⊎_elim (λ e. inl (inl e)) (λ b. ⊎_elim (λ c. inl (inr c)) (λ d. inr d) (among_last m xs x b)) a
 
-pub adds_more : (old mid new : Users) (parts : List ℕ) (i user : ℕ) → i < length parts → AddsEach old (take i parts) user mid → Adds mid (get_or parts i 0) user new → AddsEach old (take (i + 1) parts) user new
+pub adds_more : (old mid new : Users) (parts : List ℕ) (i user : ℕ) → i < length parts → AddsEach old (take i parts) user mid → AddsUser mid (get_or parts i 0) user new → AddsEach old (take (i + 1) parts) user new
 adds_more old mid new parts i user within front one =
     record {
       one_each = one.one_each ∙ front.one_each;
@@ -76,7 +76,7 @@ adds_more old mid new parts i user within front one =
 pub adds_all : (old new : Users) (parts : List ℕ) (i user : ℕ) → length parts ≤ i → AddsEach old (take i parts) user new → AddsEach old parts user new
 adds_all old new parts i user past all = subst (λ xs. AddsEach old xs user new) (take_all i parts past) all
 
-pub adds_single : (old new : Users) (part user : ℕ) → Adds old part user new → AddsEach old (part ∷ []) user new
+pub adds_single : (old new : Users) (part user : ℕ) → AddsUser old part user new → AddsEach old (part ∷ []) user new
 adds_single old new part user one =
     record {
       one_each = one.one_each;

@@ -6,7 +6,7 @@ use Rattle.std.specs.Prelude.{slice_get}
 use Rattle.abnf_cert.specs.declared.entry.Entry.{Entry}
 use Rattle.abnf_cert.specs.declared.entry.Entry.TheVariants.{Nothing, Least}
 use Rattle.abnf_parts.specs.Part.{Part, Parts, quoted, series, span, seq, alt, rep, ref, opaque, end, next, subparts, root_number, parts_of, numbers}
-use Rattle.abnf_parts.specs.Generates.{Spells, UpTo, Joins, Split, PartGen, EachGen, SomeGen, RuleGen, Gen, IsValue}
+use Rattle.abnf_parts.specs.Generates.{Spells, UpTo, Joins, Split, PartGen, EachGen, SomeGen, RuleGen, Gen, IsLeastPair}
 use Rattle.abnf_cert.specs.Accepted.{top, in_a_row, all_in_a_row, times, referred, Exceeds, After, IsChoice, entry_at, IsAccepted}
 use Rattle.abnf_cert.specs.Says.{EntrySays}
 use Rattle.abnf_least.specs.Sentence.{PartSentence, EachSentence, FirstSentence, RuleSentence}
@@ -57,7 +57,7 @@ module _ (k : ℕ) where
 
 module _ (roots : List Part) (cert : List Entry) (accepted : IsAccepted roots cert) where
   -- a part with a later pair doesn't have this value
-  pub later : (p : Part) (e : Entry) (l h : ℕ) → l < top → ((j : ℕ) (s : List ℕ) → Gen roots j p s → NotBelow j s e) → After l h e → IsValue roots p l h → ⊥
+  pub later : (p : Part) (e : Entry) (l h : ℕ) → l < top → ((j : ℕ) (s : List ℕ) → Gen roots j p s → NotBelow j s e) → After l h e → IsLeastPair roots p l h → ⊥
   later p Nothing l h below low a v = low h v.reached.0 v.reached.1
   later p (Least m j d) l h below low (inl a) v = absurd (omega (arith, (low h v.reached.0 v.reached.1).0, v.reached.2))
   later p (Least m j d) l h below low (inr a) v =
@@ -65,10 +65,10 @@ module _ (roots : List Part) (cert : List Entry) (accepted : IsAccepted roots ce
       let le : j ≤ h = b.1 (omega (arith, a.0)) (omega (arith, a.0, v.reached.2)) in
       absurd (omega (arith, a.1))
 
-  pub value_at : (n : ℕ) (p : Part) (l h c : ℕ) → TreeFits (entry_at cert) (root_number roots) n p → entry_at cert n ≡ Least l h c → l < top → IsValue roots p l h
+  pub value_at : (n : ℕ) (p : Part) (l h c : ℕ) → TreeFits (entry_at cert) (root_number roots) n p → entry_at cert n ≡ Least l h c → l < top → IsLeastPair roots p l h
   value_at n p l h c fits is below = ((subst (λ e. EntrySays roots p e) is (says_at roots cert accepted n p fits)).0 below).0
 
-  choice_named : (k n : ℕ) (ps : Parts) (S G : ℕ → List ℕ → Type 0) (e : Entry) → IsChoice (map (entry_at cert) (numbers (suc n) ps)) e → ((l h c : ℕ) → e ≡ Least l h c → l < top → IsValue roots (alt ps) l h) → ((c l h d : ℕ) → slice_get (map (entry_at cert) (numbers (suc n) ps)) c ≡ Some (Least l h d) → AllByRecursion (After l h) (take c (map (entry_at cert) (numbers (suc n) ps))) → l < top → h ≤ k → Both (FirstSentence roots S l h ps) (SomeGen G ps) l) → Named k (PartSentence roots S (alt ps)) (SomeGen G ps) e
+  choice_named : (k n : ℕ) (ps : Parts) (S G : ℕ → List ℕ → Type 0) (e : Entry) → IsChoice (map (entry_at cert) (numbers (suc n) ps)) e → ((l h c : ℕ) → e ≡ Least l h c → l < top → IsLeastPair roots (alt ps) l h) → ((c l h d : ℕ) → slice_get (map (entry_at cert) (numbers (suc n) ps)) c ≡ Some (Least l h d) → AllByRecursion (After l h) (take c (map (entry_at cert) (numbers (suc n) ps))) → l < top → h ≤ k → Both (FirstSentence roots S l h ps) (SomeGen G ps) l) → Named k (PartSentence roots S (alt ps)) (SomeGen G ps) e
   choice_named k n ps S G Nothing ch v f = tt
   choice_named k n ps S G (Least l h c) ch v f = λ below le.
       ⊎_elim

@@ -8,10 +8,10 @@ use Rattle.abnf_cert.specs.declared.entry.Entry.TheVariants.{Nothing, Least}
 use Rattle.abnf_parts.specs.Part.{Part, parts_of}
 use Rattle.abnf_least.specs.declared.candidate.Candidate.{Candidate}
 use Rattle.abnf_least.specs.declared.users.Link.{Link}
-use Rattle.abnf_least.specs.Form.{Form, entry_given}
-use Rattle.abnf_least.specs.Queue.{Joins}
-use Rattle.abnf_least.specs.Search.{form_at, offered, IsOffered, IsPushed, Keeps, AllWait, candidate}
-use Rattle.abnf_least.specs.Users.{InChain, Reaches, Leads}
+use Rattle.abnf_least.specs.own.Form.{Form, entry_given}
+use Rattle.abnf_least.specs.own.Queue.{JoinsQueue}
+use Rattle.abnf_least.specs.own.Search.{form_at, offered, IsOffered, IsPushedPart, Keeps, AllWait, candidate}
+use Rattle.abnf_least.specs.own.Users.{InChain, Reaches, Leads}
 use Rattle.abnf_least.proofs.At.{past_form}
 use Rattle.abnf_least.proofs.Queued.{now_there}
 use Rattle.abnf_least.proofs.Settle.{nothing_least, same_least}
@@ -20,7 +20,7 @@ pub on_ok : {A E : Type 0} (r : Result A E) {P Q : Type 0} → OnOk r P → (P �
 on_ok (Ok x) p f = f p
 on_ok (Err e) p f = tt
 
-pub offered_from : (form : ℕ → Form) (at : ℕ → Entry) (part user : ℕ) (queue : List Candidate) (e : Entry) (f : Form) → form user ≡ f → e ≡ offered at f part → IsPushed e user queue → IsOffered form at part user queue
+pub offered_from : (form : ℕ → Form) (at : ℕ → Entry) (part user : ℕ) (queue : List Candidate) (e : Entry) (f : Form) → form user ≡ f → e ≡ offered at f part → IsPushedPart e user queue → IsOffered form at part user queue
 offered_from form at part user queue e f is e_is pushed l h d waits given =
     pushed l h d (e_is ∙ ap (λ x. offered at x part) (sym is) ∙ given)
 
@@ -28,7 +28,7 @@ pub offered_still : (form : ℕ → Form) (at : ℕ → Entry) (part user : ℕ)
 offered_still form at part user old new keeps off l h d waits given = keeps (candidate l h user) (off l h d waits given)
 
 -- what joins waits
-pub pushed_from : (e : Entry) (l h c n : ℕ) (old new : List Candidate) → e ≡ Least l h c → Joins old (candidate l h n) new → IsPushed e n new
+pub pushed_from : (e : Entry) (l h c n : ℕ) (old new : List Candidate) → e ≡ Least l h c → JoinsQueue old (candidate l h n) new → IsPushedPart e n new
 pushed_from e l h c n old new is j a b d given =
     let p = same_least l h c a b d (sym is ∙ given) in
     subst (λ x. Contains new (candidate x b n)) p.0 (subst (λ x. Contains new (candidate l x n)) p.1 (now_there old new (candidate l h n) j))
@@ -65,7 +65,7 @@ WaitUpTo form at count queue = (k l h d : ℕ) → k < count → at k ≡ Nothin
 
 pub wait_more :
     (form : ℕ → Form) (at : ℕ → Entry) (count : ℕ) (old new : List Candidate) (e : Entry) (f : Form) → WaitUpTo form at count old → Keeps old new → form count ≡ f →
-    e ≡ entry_given at f → IsPushed e count new → WaitUpTo form at (count + 1) new
+    e ≡ entry_given at f → IsPushedPart e count new → WaitUpTo form at (count + 1) new
 wait_more form at count old new e f wait keeps is e_is pushed k l h d below none given =
     ⊎_elim
     (λ less. keeps (candidate l h k) (wait k l h d less none given))

@@ -6,12 +6,12 @@ use Rattle.std.specs.Prelude.{slice_get}
 use Rattle.abnf_cert.specs.declared.entry.Entry.{Entry}
 use Rattle.abnf_cert.specs.declared.entry.Entry.TheVariants.{Least}
 use Rattle.abnf_parts.specs.Part.{Part, Parts, quoted, series, span, seq, alt, rep, ref, opaque, end, next, root_number}
-use Rattle.abnf_parts.specs.Generates.{IsValue, RuleGen, Generates}
+use Rattle.abnf_parts.specs.Generates.{IsLeastPair, RuleGen, Generates}
 use Rattle.abnf_cert.specs.Accepted.{top, referred, entry_at, IsAccepted}
 use Rattle.abnf_least.specs.Sentence.{PartSentence, EachSentence, FirstSentence, RuleSentence, IsSentence}
 use Rattle.abnf_least.proofs.Named.{Named, rule_named}
 
-same_value : (roots : List Part) (p : Part) (n k m j : ℕ) → IsValue roots p n k → IsValue roots p m j → (n ≡ m) × (k ≡ j)
+same_value : (roots : List Part) (p : Part) (n k m j : ℕ) → IsLeastPair roots p n k → IsLeastPair roots p m j → (n ≡ m) × (k ≡ j)
 same_value roots p n k m j v u =
     ⊎_elim
     (λ before. ⊎_elim (λ after. absurd (omega (arith, v.reached.2, u.reached.2))) (λ after. absurd (omega (arith, v.reached.2, u.reached.2, after.0))) (v.least u.reached.0 j u.reached.1))

@@ -10,8 +10,8 @@ use Rattle.std.specs.declared.cmp.Ordering.{Ordering}
 use Rattle.std.specs.declared.cmp.Ordering.TheVariants.{Less, Equal, Greater}
 use Rattle.std.specs.declared.cmp.Reverse.{Reverse}
 use Rattle.abnf_least.specs.declared.candidate.Candidate.{Candidate}
-use Rattle.abnf_least.specs.Order.{candidate_cmp}
-use Rattle.abnf_least.specs.Queue.{Joins, Leaves}
+use Rattle.abnf_least.specs.own.Order.{candidate_cmp}
+use Rattle.abnf_least.specs.own.Queue.{JoinsQueue, LeavesQueue}
 
 abbrev pub candidates : List (Reverse Candidate) → List Candidate
 candidates xs = map (λ r. r.0) xs
@@ -43,10 +43,10 @@ pub all_mapped : (x : Candidate) (xs : List (Reverse Candidate)) → AllByRecurs
 all_mapped x [] all = tt
 all_mapped x (r ∷ xs) all = (not_less x r.0 all.0, all_mapped x xs all.1)
 
-pub joined : (old new : List (Reverse Candidate)) (x : Candidate) → IsPermutation (record { 0 = x } ∷ old) new → Joins (candidates old) x (candidates new)
+pub joined : (old new : List (Reverse Candidate)) (x : Candidate) → IsPermutation (record { 0 = x } ∷ old) new → JoinsQueue (candidates old) x (candidates new)
 joined old new x moved = IsPermutation-map (λ (r : Reverse Candidate). r.0) (record { 0 = x } ∷ old) new moved
 
-pub left : (old new : List (Reverse Candidate)) (x : Candidate) → IsPermutation old (record { 0 = x } ∷ new) → AllByRecursion (λ r. is_lt (candidate_cmp r.0 x) ≡ false) old → Leaves (candidates old) x (candidates new)
+pub left : (old new : List (Reverse Candidate)) (x : Candidate) → IsPermutation old (record { 0 = x } ∷ new) → AllByRecursion (λ r. is_lt (candidate_cmp r.0 x) ≡ false) old → LeavesQueue (candidates old) x (candidates new)
 left old new x moved upper =
     record {
       others = IsPermutation-map (λ (r : Reverse Candidate). r.0) old (record { 0 = x } ∷ new) moved;
@@ -60,15 +60,15 @@ only x y (zero, within, is) = sym is
 only x y (suc k, within, is) = absurd (omega arith)
 
 module _ (old new : List Candidate) (x : Candidate) where
-  pub still_there : Joins old x new → (y : Candidate) → Contains old y → Contains new y
+  pub still_there : JoinsQueue old x new → (y : Candidate) → Contains old y → Contains new y
   still_there j y here = Contains-permutation (x ∷ old) new y j (Contains-append_right (x ∷ []) old y here)
 
-  pub now_there : Joins old x new → Contains new x
+  pub now_there : JoinsQueue old x new → Contains new x
   now_there j = Contains-permutation (x ∷ old) new x j (0, omega arith, refl)
 
-  pub others_there : Leaves old x new → (y : Candidate) → Contains old y → (y ≡ x) ⊎ Contains new y
+  pub others_there : LeavesQueue old x new → (y : Candidate) → Contains old y → (y ≡ x) ⊎ Contains new y
   others_there l y here =
       ⊎_elim (λ a. inl (only x y a)) (λ b. inr b) (Contains-append_cases (x ∷ []) new y (Contains-permutation old (x ∷ new) y l.others here))
 
-  pub one_fewer : Leaves old x new → length new + 1 ≡ length old
+  pub one_fewer : LeavesQueue old x new → length new + 1 ≡ length old
   one_fewer l = let e = length_permutation old (x ∷ new) l.others in omega (arith, e)

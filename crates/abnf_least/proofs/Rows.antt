@@ -9,8 +9,8 @@ use Rattle.std.specs.List.{Contains, AllByRecursion}
 use Rattle.std.specs.Ordering.{is_lt}
 use Rattle.std.specs.declared.cmp.Reverse.{Reverse}
 use Rattle.abnf_least.specs.declared.candidate.Candidate.{Candidate}
-use Rattle.abnf_least.specs.Order.{candidate_cmp}
-use Rattle.abnf_least.specs.Queue.{ComesLast, IsFirst, IsInOrder, Joins, Leaves, NotAfter, comes_before}
+use Rattle.abnf_least.specs.own.Order.{candidate_cmp}
+use Rattle.abnf_least.specs.own.Queue.{ComesLast, IsFirstCandidate, IsInOrder, JoinsQueue, LeavesQueue, NotAfter, comes_before}
 use Rattle.abnf_least.proofs.Choice.{before_false, before_true}
 use Rattle.abnf_least.proofs.Queued.{all_mapped, candidates}
 
@@ -38,7 +38,7 @@ not_before x y p =
 
 -- ---- a row
 
-pub row_first : (row : List Candidate) (x : Candidate) → IsInOrder row → 0 < length row → x ≡ get_or row 0 x → IsFirst row x
+pub row_first : (row : List Candidate) (x : Candidate) → IsInOrder row → 0 < length row → x ≡ get_or row 0 x → IsFirstCandidate row x
 row_first row x ordered some is = (
   (0, some, sym is),
   λ y here.
@@ -73,8 +73,8 @@ row_ends row c last some is ends = not_before c last (ends last (length row - 1,
 pub empty_row : (row : List Candidate) (c : Candidate) → row ≡ [] → ComesLast row c
 empty_row row c none y here = let n = ap length none in let w = here.1 in absurd (omega (arith, n, w))
 
-pub row_joins : (row new : List Candidate) (c : Candidate) → new ≡ row ++ c ∷ [] → Joins row c new
-row_joins row new c is = subst (λ all. Joins row c all) (sym is) (IsPermutation-sym (row ++ c ∷ []) (c ∷ row) (IsPermutation-to_front row c))
+pub row_joins : (row new : List Candidate) (c : Candidate) → new ≡ row ++ c ∷ [] → JoinsQueue row c new
+row_joins row new c is = subst (λ all. JoinsQueue row c all) (sym is) (IsPermutation-sym (row ++ c ∷ []) (c ∷ row) (IsPermutation-to_front row c))
 
 pub row_more : (row new : List Candidate) (c : Candidate) → IsInOrder row → ComesLast row c → new ≡ row ++ c ∷ [] → IsInOrder new
 row_more row new c ordered last is =
@@ -92,10 +92,10 @@ row_more row new c ordered last is =
     (not_before c (get_or row i d) (last (get_or row i d) (i, omega arith, get_or_default row i (get_or row i d) d (omega arith))))))
     (cases_lt j (length row)))
 
-pub row_left : (old new : List Candidate) (o : Option Candidate) → IsInOrder old → old ≡ option_to_list o ++ new → IfSome o (λ x. Leaves old x new)
+pub row_left : (old new : List Candidate) (o : Option Candidate) → IsInOrder old → old ≡ option_to_list o ++ new → IfSome o (λ x. LeavesQueue old x new)
 row_left old new None ordered is = tt
 row_left old new (Some x) ordered is =
-    subst (λ row. Leaves row x new) (sym is)
+    subst (λ row. LeavesQueue row x new) (sym is)
     (record {
       others = IsPermutation-refl (x ∷ new);
       least = (row_first (x ∷ new) x (subst IsInOrder is ordered) (omega arith) refl).1;
@@ -103,7 +103,7 @@ row_left old new (Some x) ordered is =
 
 -- ---- a heap
 
-pub heap_first : (items : List (Reverse Candidate)) (r : Reverse Candidate) → 0 < length items → r ≡ get_or items 0 r → AllByRecursion (λ y. is_lt (candidate_cmp y.0 r.0) ≡ false) items → IsFirst (candidates items) r.0
+pub heap_first : (items : List (Reverse Candidate)) (r : Reverse Candidate) → 0 < length items → r ≡ get_or items 0 r → AllByRecursion (λ y. is_lt (candidate_cmp y.0 r.0) ≡ false) items → IsFirstCandidate (candidates items) r.0
 heap_first [] r some is upper = absurd (omega arith)
 heap_first (s ∷ items) r some is upper = (
   (0, omega arith, sym (ap (λ (x : Reverse Candidate). x.0) is)),
@@ -112,25 +112,25 @@ heap_first (s ∷ items) r some is upper = (
 
 -- ---- both
 
-pub joins_row : {E : Type 0} (result : Result (Unit {0}) E) (whole row new heap : List Candidate) (x : Candidate) → row ++ heap ≡ whole → OnOk result (Joins row x new) → OnOk result (Joins whole x (new ++ heap))
+pub joins_row : {E : Type 0} (result : Result (Unit {0}) E) (whole row new heap : List Candidate) (x : Candidate) → row ++ heap ≡ whole → OnOk result (JoinsQueue row x new) → OnOk result (JoinsQueue whole x (new ++ heap))
 joins_row (Err e) whole row new heap x is j = tt
 joins_row (Ok u) whole row new heap x is j =
-    subst (λ all. Joins all x (new ++ heap)) is (IsPermutation-append_left heap (x ∷ row) new j)
+    subst (λ all. JoinsQueue all x (new ++ heap)) is (IsPermutation-append_left heap (x ∷ row) new j)
 
-pub joins_heap : {E : Type 0} (result : Result (Unit {0}) E) (whole row heap new : List Candidate) (x : Candidate) → row ++ heap ≡ whole → OnOk result (Joins heap x new) → OnOk result (Joins whole x (row ++ new))
+pub joins_heap : {E : Type 0} (result : Result (Unit {0}) E) (whole row heap new : List Candidate) (x : Candidate) → row ++ heap ≡ whole → OnOk result (JoinsQueue heap x new) → OnOk result (JoinsQueue whole x (row ++ new))
 joins_heap (Err e) whole row heap new x is j = tt
 joins_heap (Ok u) whole row heap new x is j =
-    subst (λ all. Joins all x (row ++ new)) is
+    subst (λ all. JoinsQueue all x (row ++ new)) is
     (IsPermutation-trans (x ∷ (row ++ heap)) (row ++ x ∷ heap) (row ++ new)
     (IsPermutation-sym (row ++ x ∷ heap) (x ∷ (row ++ heap)) (IsPermutation-middle row x heap))
     (IsPermutation-append_right row (x ∷ heap) new j))
 
 -- what leaves the row, where the first of the heap isn't before the first of the row
-pub leaves_row : (o : Option Candidate) (whole row new heap : List Candidate) (first : Candidate) → row ++ heap ≡ whole → IsFirst row first → ((y : Candidate) → Contains heap y → NotAfter first y) →
-    IfSome o (λ x. Leaves row x new) → IfSome o (λ x. Leaves whole x (new ++ heap))
+pub leaves_row : (o : Option Candidate) (whole row new heap : List Candidate) (first : Candidate) → row ++ heap ≡ whole → IsFirstCandidate row first → ((y : Candidate) → Contains heap y → NotAfter first y) →
+    IfSome o (λ x. LeavesQueue row x new) → IfSome o (λ x. LeavesQueue whole x (new ++ heap))
 leaves_row None whole row new heap first is f others l = tt
 leaves_row (Some x) whole row new heap first is f others l =
-    subst (λ all. Leaves all x (new ++ heap)) is
+    subst (λ all. LeavesQueue all x (new ++ heap)) is
     (record {
       others = IsPermutation-append_left heap row (x ∷ new) l.others;
       least = λ y here. ⊎_elim (λ a. l.least y a) (λ b. after_both x first y (l.least first f.0) (others y b)) (Contains-append_cases row heap y here);
@@ -138,20 +138,20 @@ leaves_row (Some x) whole row new heap first is f others l =
 
 -- and what leaves the heap, where its first is before that of the row
 pub leaves_heap : (o : Option Candidate) (whole row heap new : List Candidate) (other : Candidate) → row ++ heap ≡ whole → Contains heap other → ((y : Candidate) → Contains row y → NotAfter other y) →
-    IfSome o (λ x. Leaves heap x new) → IfSome o (λ x. Leaves whole x (row ++ new))
+    IfSome o (λ x. LeavesQueue heap x new) → IfSome o (λ x. LeavesQueue whole x (row ++ new))
 leaves_heap None whole row heap new other is there others l = tt
 leaves_heap (Some x) whole row heap new other is there others l =
-    subst (λ all. Leaves all x (row ++ new)) is
+    subst (λ all. LeavesQueue all x (row ++ new)) is
     (record {
       others = IsPermutation-trans (row ++ heap) (row ++ x ∷ new) (x ∷ (row ++ new)) (IsPermutation-append_right row heap (x ∷ new) l.others) (IsPermutation-middle row x new);
       least = λ y here. ⊎_elim (λ a. after_both x other y (l.least other there) (others y a)) (λ b. l.least y b) (Contains-append_cases row heap y here);
     })
 
-pub ahead : (row : List Candidate) (first other : Candidate) → IsFirst row first → comes_before other first ≡ true → (y : Candidate) → Contains row y → NotAfter other y
+pub ahead : (row : List Candidate) (first other : Candidate) → IsFirstCandidate row first → comes_before other first ≡ true → (y : Candidate) → Contains row y → NotAfter other y
 ahead row first other f before y here = after_both other first y (sooner (before_true other.length other.height first.length first.height before)) (f.1 y here)
   where
     sooner : (other.length < first.length) ⊎ ((other.length ≡ first.length) × (other.height < first.height)) → NotAfter other first
     sooner p = ⊎_elim (λ a. inl a) (λ b. inr (b.0, let e = b.1 in omega arith)) p
 
-pub behind : (heap : List Candidate) (first other : Candidate) → IsFirst heap other → comes_before other first ≡ false → (y : Candidate) → Contains heap y → NotAfter first y
+pub behind : (heap : List Candidate) (first other : Candidate) → IsFirstCandidate heap other → comes_before other first ≡ false → (y : Candidate) → Contains heap y → NotAfter first y
 behind heap first other f later y here = after_both first other y (before_false other.length other.height first.length first.height later) (f.1 y here)

@@ -8,25 +8,25 @@ use Rattle.abnf_cert.specs.declared.entry.Entry.TheVariants.{Nothing, Least}
 use Rattle.abnf_parts.specs.Part.{Part, parts_of}
 use Rattle.abnf_cert.specs.Accepted.{NotBefore, top, entry_at}
 use Rattle.abnf_least.specs.declared.candidate.Candidate.{Candidate}
-use Rattle.abnf_least.specs.Form.{Form, text, never, row, one_of, repeated, refers, needs, entry_given}
-use Rattle.abnf_least.specs.Table.{InRange, IsUnchosen, IsUpTo, HasRoom, unsettled}
-use Rattle.abnf_least.specs.Queue.{Leaves}
-use Rattle.abnf_least.specs.Search.{IsDone, IsNext, OthersWait, AllWait, IsGiven, IsFound, offered, IsOffered, Keeps, Stands, form_at, candidate}
+use Rattle.abnf_least.specs.own.Form.{Form, text, never, row, one_of, repeated, refers, needs, entry_given}
+use Rattle.abnf_least.specs.Table.{InRange, IsUnchosen, IsUpTo, HasRoomAbove, unsettled}
+use Rattle.abnf_least.specs.own.Queue.{LeavesQueue}
+use Rattle.abnf_least.specs.own.Search.{IsDone, IsNextPart, OthersWait, AllWait, IsGiven, IsFound, offered, IsOffered, Keeps, IsSearchState, form_at, candidate}
 use Rattle.abnf_least.specs.declared.users.Users.{Users}
-use Rattle.abnf_least.specs.Users.{Uses, AreUsers}
+use Rattle.abnf_least.specs.own.Users.{Uses, AreUsers}
 use Rattle.abnf_least.proofs.Settle.{among, nothing_least, moved_to, some_least, none_settled, given_same, choice_from, settled_more}
 use Rattle.abnf_least.proofs.Height.{given_up, settle_one}
 use Rattle.abnf_least.proofs.Queued.{others_there}
 
 -- the first to leave the queue has the least pair
-pub first_of_all : (form : ℕ → Form) (at : ℕ → Entry) (old new : List Candidate) (x : Candidate) → AllWait form at old → Leaves old x new → IsNext form at x.length x.height
+pub first_of_all : (form : ℕ → Form) (at : ℕ → Entry) (old new : List Candidate) (x : Candidate) → AllWait form at old → LeavesQueue old x new → IsNextPart form at x.length x.height
 first_of_all form at old new x waiting leaves k waits =
     ⊎_elim
     (λ none. subst (λ e. NotBefore x.length x.height e) (sym none) tt)
     (λ some. subst (λ e. NotBefore x.length x.height e) (sym some.3) (leaves.least (candidate some.0 some.1 k) (waiting k some.0 some.1 some.2 waits some.3)))
     (some_least (entry_given at (form k)))
 
-pub others_wait : (form : ℕ → Form) (at : ℕ → Entry) (old new : List Candidate) (x : Candidate) → AllWait form at old → Leaves old x new → OthersWait (λ k. k ≡ x.number → ⊥) form at new
+pub others_wait : (form : ℕ → Form) (at : ℕ → Entry) (old new : List Candidate) (x : Candidate) → AllWait form at old → LeavesQueue old x new → OthersWait (λ k. k ≡ x.number → ⊥) form at new
 others_wait form at old new x waiting leaves k l h d apart waits given =
     ⊎_elim
     (λ same. absurd (apart (ap (λ (y : Candidate). y.number) same)))
@@ -34,7 +34,7 @@ others_wait form at old new x waiting leaves k l h d apart waits given =
     (others_there old new x leaves (candidate l h k) (waiting k l h d waits given))
 
 -- where the first isn't to be settled, the others wait still
-pub all_wait : (form : ℕ → Form) (table : List Entry) (old new : List Candidate) (x : Candidate) → length table ≡ length table → AllWait form (entry_at table) old → Leaves old x new → ((k : ℕ) → length table ≤ k → form k ≡ never) → (IsGiven form table x → ⊥) → AllWait form (entry_at table) new
+pub all_wait : (form : ℕ → Form) (table : List Entry) (old new : List Candidate) (x : Candidate) → length table ≡ length table → AllWait form (entry_at table) old → LeavesQueue old x new → ((k : ℕ) → length table ≤ k → form k ≡ never) → (IsGiven form table x → ⊥) → AllWait form (entry_at table) new
 all_wait form table old new x _ waiting leaves past not_given k l h d waits given =
     ⊎_elim
     (λ same.
@@ -67,9 +67,9 @@ up_to_more b (Least l h c) u = omega (arith, u)
 
 module _ (trees : List Part) (table : List Entry) (queue found new : List Candidate) (x : Candidate) (users : Users) where
   pub stands_more :
-      Stands trees table queue → IsFound (form_at trees) table x found → AreUsers trees users → x.length ≤ top → Keeps found new →
+      IsSearchState trees table queue → IsFound (form_at trees) table x found → AreUsers trees users → x.length ≤ top → Keeps found new →
       ((k : ℕ) → Uses users x.number k → IsOffered (form_at trees) (entry_at (set table x.number (Least x.length x.height 0))) x.number k new) →
-      Stands trees (set table x.number (Least x.length x.height 0)) new
+      IsSearchState trees (set table x.number (Least x.length x.height 0)) new
   stands_more s f are range keeps offers =
       let e = Least x.length x.height 0 in
       let after = set table x.number e in
@@ -115,7 +115,7 @@ up_to_weaker a b Nothing le u = tt
 up_to_weaker a b (Least l h c) le u = omega (arith, u)
 
 -- heights are far from the greatest number
-pub room : (trees : List Part) (table : List Entry) (queue : List Candidate) → Stands trees table queue → HasRoom table
+pub room : (trees : List Part) (table : List Entry) (queue : List Candidate) → IsSearchState trees table queue → HasRoomAbove table
 room trees table queue s n =
     up_to_weaker s.height 18446744073709551614 (entry_at table n) (let low = s.low in let small = s.small in omega arith) (s.heights n)
 
@@ -127,7 +127,7 @@ empty_at (Least l h c ∷ table) none = omega (arith, empty_at table (λ n. none
 -- how it stands at the start
 pub stands_first :
     (trees : List Part) (table : List Entry) (queue : List Candidate) → length table ≡ length (parts_of trees) → length table < 2 ^ 63 →
-    ((n : ℕ) → entry_at table n ≡ Nothing) → AllWait (form_at trees) (entry_at table) queue → Stands trees table queue
+    ((n : ℕ) → entry_at table n ≡ Nothing) → AllWait (form_at trees) (entry_at table) queue → IsSearchState trees table queue
 stands_first trees table queue one_each small none waiting =
     record {
       one_each = one_each;
@@ -143,8 +143,8 @@ stands_first trees table queue one_each small none waiting =
 
 -- and once one more is settled
 pub room_more :
-    (trees : List Part) (table : List Entry) (queue found : List Candidate) (x : Candidate) → Stands trees table queue → IsFound (form_at trees) table x found →
-    HasRoom (set table x.number (Least x.length x.height 0))
+    (trees : List Part) (table : List Entry) (queue found : List Candidate) (x : Candidate) → IsSearchState trees table queue → IsFound (form_at trees) table x found →
+    HasRoomAbove (set table x.number (Least x.length x.height 0))
 room_more trees table queue found x s f n =
     let e = Least x.length x.height 0 in
     let is : entry_at (set table x.number e) x.number ≡ e = get_or-set_same table x.number e Nothing f.is_given.within in
@@ -162,7 +162,7 @@ none_at (suc n) zero = refl
 none_at (suc n) (suc m) = none_at n m
 
 -- where no part is given an entry any more, nothing waits
-pub stands_done : (trees : List Part) (table : List Entry) (queue : List Candidate) → Stands trees table queue → IsDone (form_at trees) (entry_at table) → Stands trees table []
+pub stands_done : (trees : List Part) (table : List Entry) (queue : List Candidate) → IsSearchState trees table queue → IsDone (form_at trees) (entry_at table) → IsSearchState trees table []
 stands_done trees table queue s done =
     record {
       one_each = s.one_each;
@@ -178,7 +178,7 @@ stands_done trees table queue s done =
 
 pub stands_at_start :
     (trees : List Part) (table : List Entry) (queue : List Candidate) (n : ℕ) → table ≡ replicate n Nothing → n ≡ length (parts_of trees) → n < 2 ^ 63 →
-    AllWait (form_at trees) (entry_at table) queue → Stands trees table queue
+    AllWait (form_at trees) (entry_at table) queue → IsSearchState trees table queue
 stands_at_start trees table queue n is count small waiting =
     let long : length table ≡ n = ap length is ∙ length-replicate n Nothing in
     stands_first trees table queue (long ∙ count) (subst (λ k. k < 2 ^ 63) (sym long) small) (λ m. ap (λ t. entry_at t m) is ∙ none_at n m) waiting

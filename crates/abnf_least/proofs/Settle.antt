@@ -8,10 +8,10 @@ use Rattle.std.specs.List.{AllByRecursion}
 use Rattle.abnf_cert.specs.declared.entry.Entry.{Entry}
 use Rattle.abnf_cert.specs.declared.entry.Entry.TheVariants.{Nothing, Least}
 use Rattle.abnf_cert.specs.Accepted.{NotBefore, top, in_a_row, all_in_a_row, times, referred}
-use Rattle.abnf_least.specs.Form.{Form, text, never, row, one_of, repeated, refers, needs, entry_given, first_least}
+use Rattle.abnf_least.specs.own.Form.{Form, text, never, row, one_of, repeated, refers, needs, entry_given, first_least}
 use Rattle.abnf_least.proofs.Choice.{FirstOf, first_is}
 use Rattle.abnf_least.specs.Table.{InRange}
-use Rattle.abnf_least.specs.Search.{Among, Settled, IsNext}
+use Rattle.abnf_least.specs.own.Search.{Among, Settled, IsNextPart}
 
 pub among : (m : ℕ) (ns : List ℕ) → Among m ns ⊎ (Among m ns → ⊥)
 among m [] = inr (λ x. x)
@@ -264,7 +264,7 @@ none_settled form at none =
 -- one more is settled
 pub settled_more :
     (form : ℕ → Form) (at next : ℕ → Entry) (m l h c d : ℕ) → Settled form at → at m ≡ Nothing → ((n : ℕ) → (n ≡ m → ⊥) → next n ≡ at n) →
-    next m ≡ Least l h c → l ≤ top → entry_given at (form m) ≡ Least l h d → IsNext form at l h → Settled form next
+    next m ≡ Least l h c → l ≤ top → entry_given at (form m) ≡ Least l h d → IsNextPart form at l h → Settled form next
 settled_more form at next m l h c d s was others is range given least =
     let in_range : InRange (next m) = subst InRange (sym is) range in
     let new_is : NotBefore l h (next m) = subst (λ x. NotBefore l h x) (sym is) (itself l h c) in

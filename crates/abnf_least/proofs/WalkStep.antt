@@ -18,7 +18,7 @@ use Rattle.abnf_cert.proofs.Below.{TreeFits, part_fits}
 use Rattle.abnf_least.specs.Sentence.{PartSentence, RuleSentence}
 use Rattle.abnf_least.specs.declared.work.Task.{Task}
 use Rattle.abnf_least.specs.declared.work.Task.TheVariants.{Write, End}
-use Rattle.abnf_least.specs.Walk.{IsBelowTop, choice_of, keep, keep_by, keep_all, keep_times, keep_some, work_after, leaf_text}
+use Rattle.abnf_least.specs.own.Walk.{IsBelowTop, choice_of, keep, keep_by, keep_all, keep_times, keep_some, work_after, leaf_text}
 use Rattle.abnf_least.proofs.Named.{value_at}
 use Rattle.abnf_least.proofs.Weight.{room, weight_of, weight, keep_weight, below_weight, root_weight, row_of, row_weight, times_weight}
 use Rattle.abnf_least.proofs.Complete.{IsShort, StandsAt, NodeSentence, Complete, keep_complete, row_complete, times_complete, first_sentence}

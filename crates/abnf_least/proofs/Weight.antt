@@ -7,7 +7,7 @@ use Rattle.abnf_cert.specs.declared.entry.Entry.TheVariants.{Nothing, Least}
 use Rattle.abnf_cert.specs.Accepted.{top, cut, in_a_row, all_in_a_row}
 use Rattle.abnf_least.specs.declared.work.Task.{Task}
 use Rattle.abnf_least.specs.declared.work.Task.TheVariants.{Write, End}
-use Rattle.abnf_least.specs.Walk.{keep, keep_by, keep_all, keep_times}
+use Rattle.abnf_least.specs.own.Walk.{keep, keep_by, keep_all, keep_times}
 
 -- the steps that a part may take for each of its characters
 abbrev pub room : ℕ → ℕ → ℕ → ℕ

@@ -1,11 +1,6 @@
-pub mod Form
 pub mod Table
-pub mod Order
-pub mod Queue
-pub mod Search
-pub mod Users
 pub mod Sentence
 pub mod Shown
-pub mod Walk
 pub mod Rendered
 pub mod Exist
+pub mod own

@@ -1,7 +1,7 @@
 -- The sentence of a part: one of the shortest strings that it generates.
 use Rattle.std.specs.Prelude.{◌≡◌, ℕ, zero, suc, ◌<◌, ◌≤◌, ◌⊎◌, length, Some, None, List, [], ◌∷◌, slice_get}
 use Rattle.abnf_parts.specs.Part.{Part, Parts, quoted, series, span, seq, alt, rep, ref, opaque, end, next, root_number}
-use Rattle.abnf_parts.specs.Generates.{Joins, Split, IsValue, Generates}
+use Rattle.abnf_parts.specs.Generates.{Joins, Split, IsLeastPair, Generates}
 use Rattle.abnf_cert.specs.declared.entry.Entry.{Entry}
 use Rattle.abnf_cert.specs.declared.entry.Entry.TheVariants.{Least}
 use Rattle.abnf_cert.specs.Accepted.{top, entry_at, IsAccepted}
@@ -15,7 +15,7 @@ module _ (roots : List Part) (Rule : ℕ → List ℕ → Type 0) where
     PartSentence (series characters) s = s ≡ characters
     PartSentence (span low high) s = (low ≤ high) × (s ≡ low ∷ [])
     PartSentence (seq ps) s = EachSentence ps s
-    PartSentence (alt ps) s = (n : ℕ) × (k : ℕ) × IsValue roots (alt ps) n k × FirstSentence n k ps s
+    PartSentence (alt ps) s = (n : ℕ) × (k : ℕ) × IsLeastPair roots (alt ps) n k × FirstSentence n k ps s
     PartSentence (rep least most p) s = Joins (PartSentence p) least (Some least) s
     PartSentence (ref name None) s = ⊥
     PartSentence (ref name (Some r)) s = Rule r s
@@ -29,7 +29,7 @@ module _ (roots : List Part) (Rule : ℕ → List ℕ → Type 0) where
     pub FirstSentence : ℕ → ℕ → Parts → List ℕ → Type 0
     FirstSentence n k end s = ⊥
     FirstSentence n k (next p ps) s =
-        (IsValue roots p n k × PartSentence p s) ⊎ ((IsValue roots p n k → ⊥) × FirstSentence n k ps s)
+        (IsLeastPair roots p n k × PartSentence p s) ⊎ ((IsLeastPair roots p n k → ⊥) × FirstSentence n k ps s)
 
 -- the sentence of rule r, with fewer than k nested references
 abbrev pub RuleSentence : List Part → ℕ → ℕ → List ℕ → Type 0

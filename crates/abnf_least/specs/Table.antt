@@ -16,8 +16,8 @@ unsettled (Nothing ∷ table) = suc (unsettled table)
 unsettled (Least l h c ∷ table) = unsettled table
 
 -- no height of the table is the greatest number of 64 bits
-abbrev pub HasRoom : List Entry → Type 0
-HasRoom table = (n : ℕ) → IsUpTo 18446744073709551614 (entry_at table n)
+abbrev pub HasRoomAbove : List Entry → Type 0
+HasRoomAbove table = (n : ℕ) → IsUpTo 18446744073709551614 (entry_at table n)
 
 -- no part is named as the choice
 abbrev pub IsUnchosen : Entry → Type 0

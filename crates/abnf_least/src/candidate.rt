@@ -1,7 +1,7 @@
 //! Parts that may be settled next.
 
 ghost use Rattle.std.specs.Prelude.{◌≡◌};
-ghost use Rattle.abnf_least.specs.Queue.{comes_before};
+ghost use Rattle.abnf_least.specs.own.Queue.{comes_before};
 
 /// A part that isn't settled, and the length and height that it is given. Candidates are ordered by length, then by height.
 #[derive(Clone, Copy, PartialEq, Eq, PartialOrd, Ord)]

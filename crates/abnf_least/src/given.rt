@@ -4,8 +4,8 @@ ghost use Rattle.std.specs.Prelude.{IsTrue, ◌≡◌, ◌↔◌, ℕ, length, m
 ghost use Rattle.abnf_parts.specs.Part.{root_number};
 ghost use Rattle.abnf_cert.specs.Accepted.{entry_at, referred};
 ghost use Rattle.abnf_cert.specs.FitsNode.{NodeRefersWithin};
-ghost use Rattle.abnf_least.specs.Form.{AwaitsParts, better, entry_given as given, first_least, node_form};
-ghost use Rattle.abnf_least.specs.Table.{HasRoom, InRange, IsUpTo};
+ghost use Rattle.abnf_least.specs.own.Form.{AwaitsParts, better, entry_given as given, first_least, node_form};
+ghost use Rattle.abnf_least.specs.Table.{HasRoomAbove, InRange, IsUpTo};
 
 use abnf_cert::Entry;
 use abnf_cert::entries::{characters, entry_of, repeated, row};
@@ -88,7 +88,7 @@ pub(crate) fn awaits_parts(node: &Node) -> bool
 /// isn't settled.
 pub(crate) fn entry_given(grammar: &Grammar, table: &[Entry], node: &Node) -> Entry
     requires refers { NodeRefersWithin (length grammar.now.rules) node.now }
-    requires room { HasRoom table.now }
+    requires room { HasRoomAbove table.now }
     ensures value { result ≡ given (entry_at table.now) (node_form (root_number grammar.now.rules) node.now) }
     ensures range { InRange result }
 {

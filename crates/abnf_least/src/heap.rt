@@ -1,7 +1,7 @@
 //! Candidates in any order.
 
 ghost use Rattle.std.specs.Prelude.{IfNone, IfSome, OnOk, ◌≡◌, []};
-ghost use Rattle.abnf_least.specs.Queue.{IsFirst, Joins, Leaves};
+ghost use Rattle.abnf_least.specs.own.Queue.{IsFirstCandidate, JoinsQueue, LeavesQueue};
 
 use crate::candidate::Candidate;
 use std::alloc::{AllocError, Global};
@@ -22,7 +22,7 @@ impl Model for Heap {
     ghost Value = { List Candidate };
 
     ghost use Rattle.std.specs.BinaryHeap.{IsHeap, heap_items};
-    ghost use Rattle.abnf_least.specs.Order.{candidate_cmp};
+    ghost use Rattle.abnf_least.specs.own.Order.{candidate_cmp};
 
     ghost view = { λ q. map (λ r. r.0) (heap_items q.heap) };
 
@@ -39,7 +39,7 @@ impl Heap {
     }
 
     pub fn push(&mut self, candidate: Candidate) -> Result<(), AllocError>
-        ensures { OnOk result (Joins self.old candidate self.new) }
+        ensures { OnOk result (JoinsQueue self.old candidate self.new) }
     {
         self.heap.push(Reverse(candidate))?;
         Ok(())
@@ -47,7 +47,7 @@ impl Heap {
 
     /// The least candidate.
     pub fn first(&self) -> Option<Candidate>
-        ensures some { IfSome result (λ x. IsFirst self.now x) }
+        ensures some { IfSome result (λ x. IsFirstCandidate self.now x) }
         ensures none { IfNone result (self.now ≡ []) }
     {
         match self.heap.peek() {
@@ -58,7 +58,7 @@ impl Heap {
 
     /// Takes the least candidate away.
     pub fn pop(&mut self) -> Option<Candidate>
-        ensures some { IfSome result (λ x. Leaves self.old x self.new) }
+        ensures some { IfSome result (λ x. LeavesQueue self.old x self.new) }
         ensures none { IfNone result (self.old ≡ []) }
     {
         match self.heap.pop() {

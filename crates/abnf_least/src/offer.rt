@@ -5,10 +5,10 @@ ghost use Rattle.abnf_parts.specs.Part.{parts_of, root_number};
 ghost use Rattle.abnf_cert.specs.Accepted.{all_in_a_row, entry_at};
 ghost use Rattle.abnf_cert.specs.FitsNode.{NodeRefersWithin};
 ghost use Rattle.abnf_cert.specs.declared.entry.Entry.TheVariants.{Nothing};
-ghost use Rattle.abnf_least.specs.Form.{node_form};
-ghost use Rattle.abnf_least.specs.Search.{IsOffered, IsPushed, Keeps, form_at, offered};
-ghost use Rattle.abnf_least.specs.Table.{HasRoom};
-ghost use Rattle.abnf_least.specs.Users.{Uses};
+ghost use Rattle.abnf_least.specs.own.Form.{node_form};
+ghost use Rattle.abnf_least.specs.own.Search.{IsOffered, IsPushedPart, Keeps, form_at, offered};
+ghost use Rattle.abnf_least.specs.Table.{HasRoomAbove};
+ghost use Rattle.abnf_least.specs.own.Users.{Uses};
 
 use crate::candidate::Candidate;
 use crate::given::entry_given;
@@ -23,7 +23,7 @@ use std::alloc::AllocError;
 /// Lets a part wait, if it is given an entry.
 pub(crate) fn push_given(queue: &mut Queue, number: usize, entry: Entry) -> Result<(), AllocError>
     ensures kept { OnOk result (Keeps queue.old queue.new) }
-    ensures pushed { OnOk result (IsPushed entry number queue.new) }
+    ensures pushed { OnOk result (IsPushedPart entry number queue.new) }
 {
     match entry {
         Entry::Nothing => Ok(()),
@@ -39,7 +39,7 @@ pub(crate) fn push_given(queue: &mut Queue, number: usize, entry: Entry) -> Resu
 /// part the entry that it is given.
 fn offered_entry(grammar: &Grammar, table: &[Entry], node: &Node, part: usize) -> Entry
     requires refers { NodeRefersWithin (length grammar.now.rules) node.now }
-    requires room { HasRoom table.now }
+    requires room { HasRoomAbove table.now }
     ensures { result ≡ offered (entry_at table.now) (node_form (root_number grammar.now.rules) node.now) part }
 {
     match node {
@@ -97,7 +97,7 @@ fn offer(
     queue: &mut Queue,
 ) -> Result<(), AllocError>
     requires one_each { length table.now ≡ length (parts_of grammar.now.rules) }
-    requires room { HasRoom table.now }
+    requires room { HasRoomAbove table.now }
     ensures kept { OnOk result (Keeps queue.old queue.new) }
     ensures offered { OnOk result (IsOffered (form_at grammar.now.rules) (entry_at table.now) part user queue.new) }
 {
@@ -124,7 +124,7 @@ pub(crate) fn offer_all(
     queue: &mut Queue,
 ) -> Result<(), AllocError>
     requires one_each { length table.now ≡ length (parts_of grammar.now.rules) }
-    requires room { HasRoom table.now }
+    requires room { HasRoomAbove table.now }
     requires within { part < length users.now.starts.items }
     ensures kept { OnOk result (Keeps queue.old queue.new) }
     ensures offered { OnOk result ((k : ℕ) → Uses users.now part k → IsOffered (form_at grammar.now.rules) (entry_at table.now) part k queue.new) }

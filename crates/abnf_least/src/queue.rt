@@ -1,7 +1,7 @@
 //! The parts that wait to be settled, the least pair of a length and a height first.
 
 ghost use Rattle.std.specs.Prelude.{IfNone, IfSome, OnOk, ◌≡◌, []};
-ghost use Rattle.abnf_least.specs.Queue.{Joins, Leaves};
+ghost use Rattle.abnf_least.specs.own.Queue.{JoinsQueue, LeavesQueue};
 
 use crate::candidate::Candidate;
 use crate::heap::Heap;
@@ -39,7 +39,7 @@ impl Queue {
     }
 
     pub fn push(&mut self, candidate: Candidate) -> Result<(), AllocError>
-        ensures { OnOk result (Joins self.old candidate self.new) }
+        ensures { OnOk result (JoinsQueue self.old candidate self.new) }
     {
         if self.row.takes(candidate) {
             self.row.push(candidate)
@@ -50,7 +50,7 @@ impl Queue {
 
     /// Takes a candidate with the least pair away.
     pub fn pop(&mut self) -> Option<Candidate>
-        ensures some { IfSome result (λ x. Leaves self.old x self.new) }
+        ensures some { IfSome result (λ x. LeavesQueue self.old x self.new) }
         ensures none { IfNone result (self.old ≡ []) }
     {
         let Some(first) = self.row.first() else {

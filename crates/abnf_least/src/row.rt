@@ -1,7 +1,7 @@
 //! Candidates in their order.
 
 ghost use Rattle.std.specs.Prelude.{IfNone, IfSome, IsTrue, OnOk, ◌≡◌, ◌↔◌, []};
-ghost use Rattle.abnf_least.specs.Queue.{ComesLast, IsFirst, Joins, Leaves};
+ghost use Rattle.abnf_least.specs.own.Queue.{ComesLast, IsFirstCandidate, JoinsQueue, LeavesQueue};
 
 use crate::candidate::Candidate;
 use std::alloc::{AllocError, Global};
@@ -16,7 +16,7 @@ pub(crate) struct Row {
 
 impl Model for Row {
     ghost use Rattle.std.specs.Prelude.{List};
-    ghost use Rattle.abnf_least.specs.Queue.{IsInOrder};
+    ghost use Rattle.abnf_least.specs.own.Queue.{IsInOrder};
     ghost use Rattle.abnf_least.specs.declared.candidate.Candidate.{Candidate};
 
     ghost Value = { List Candidate };
@@ -48,7 +48,7 @@ impl Row {
     /// A candidate joins at the end.
     pub fn push(&mut self, candidate: Candidate) -> Result<(), AllocError>
         requires { ComesLast self.old candidate }
-        ensures { OnOk result (Joins self.old candidate self.new) }
+        ensures { OnOk result (JoinsQueue self.old candidate self.new) }
     {
         self.candidates.push_back(candidate)?;
         Ok(())
@@ -56,7 +56,7 @@ impl Row {
 
     /// The first candidate.
     pub fn first(&self) -> Option<Candidate>
-        ensures some { IfSome result (λ x. IsFirst self.now x) }
+        ensures some { IfSome result (λ x. IsFirstCandidate self.now x) }
         ensures none { IfNone result (self.now ≡ []) }
     {
         match self.candidates.front() {
@@ -67,7 +67,7 @@ impl Row {
 
     /// Takes the first candidate away.
     pub fn pop(&mut self) -> Option<Candidate>
-        ensures some { IfSome result (λ x. Leaves self.old x self.new) }
+        ensures some { IfSome result (λ x. LeavesQueue self.old x self.new) }
         ensures none { IfNone result (self.old ≡ []) }
     {
         self.candidates.pop_front()

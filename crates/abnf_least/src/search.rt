@@ -8,9 +8,9 @@
 ghost use Rattle.std.specs.Prelude.{IfNone, IfOk, IfSome, IsTrue, OnOk, ◌≡◌, ◌↔◌, [], length};
 ghost use Rattle.abnf_parts.specs.Part.{parts_of};
 ghost use Rattle.abnf_cert.specs.Accepted.{IsAccepted, entry_at};
-ghost use Rattle.abnf_least.specs.Search.{AllWait, AreGiven, IsDone, IsFound, IsGiven, Stands, form_at};
-ghost use Rattle.abnf_least.specs.Table.{HasRoom, NoneSettled};
-ghost use Rattle.abnf_least.specs.Users.{AreUsers};
+ghost use Rattle.abnf_least.specs.own.Search.{AllWait, AreGiven, IsDone, IsFound, IsGiven, IsSearchState, form_at};
+ghost use Rattle.abnf_least.specs.Table.{HasRoomAbove, NoneSettled};
+ghost use Rattle.abnf_least.specs.own.Users.{AreUsers};
 
 use crate::candidate::Candidate;
 use crate::given::{awaits_parts, chosen, entry_given};
@@ -26,7 +26,7 @@ use std::alloc::{AllocError, Global};
 /// Whether a candidate isn't settled yet, and has the pair that the table gives it.
 fn is_given(grammar: &Grammar, table: &[Entry], candidate: Candidate) -> bool
     requires one_each { length table.now ≡ length (parts_of grammar.now.rules) }
-    requires room { HasRoom table.now }
+    requires room { HasRoomAbove table.now }
     ensures { IsTrue result ↔ IsGiven (form_at grammar.now.rules) table.now candidate }
 {
     let nodes = grammar.nodes();
@@ -49,7 +49,7 @@ fn is_given(grammar: &Grammar, table: &[Entry], candidate: Candidate) -> bool
 /// Takes the next part to be settled from the queue.
 fn take_next(grammar: &Grammar, table: &[Entry], queue: &mut Queue) -> Option<Candidate>
     requires one_each { length table.now ≡ length (parts_of grammar.now.rules) }
-    requires room { HasRoom table.now }
+    requires room { HasRoomAbove table.now }
     requires waiting { AllWait (form_at grammar.now.rules) (entry_at table.now) queue.old }
     ensures some { IfSome result (λ x. IsFound (form_at grammar.now.rules) table.now x queue.new) }
     ensures none { IfNone result (IsDone (form_at grammar.now.rules) (entry_at table.now)) }
@@ -70,9 +70,9 @@ fn settle(
     ready: &mut [u32],
     queue: &mut Queue,
 ) -> Result<(), AllocError>
-    requires stands { Stands grammar.now.rules table.old queue.old }
+    requires stands { IsSearchState grammar.now.rules table.old queue.old }
     requires users { AreUsers grammar.now.rules users.now }
-    ensures { OnOk result (Stands grammar.now.rules table.new []) }
+    ensures { OnOk result (IsSearchState grammar.now.rules table.new []) }
 {
     while let Some(next) = take_next(grammar, table, queue) {
         table[next.number] = Entry::Least {
@@ -102,7 +102,7 @@ fn start(grammar: &Grammar, table: &[Entry], queue: &mut Queue) -> Result<(), Al
 
 /// The table in which each part that is given an entry is settled. All else that the search needs is let go.
 fn settled(alloc: Global, grammar: &Grammar) -> Result<Vec<Entry>, AllocError>
-    ensures { IfOk result (λ table. Stands grammar.now.rules table.items []) }
+    ensures { IfOk result (λ table. IsSearchState grammar.now.rules table.items []) }
 {
     let count = grammar.nodes().len();
     let users = Users::of_grammar(alloc, grammar)?;
@@ -116,7 +116,7 @@ fn settled(alloc: Global, grammar: &Grammar) -> Result<Vec<Entry>, AllocError>
 
 /// Names at each choice the first part with the least pair, in the choice's own entry.
 fn choose(grammar: &Grammar, table: &mut [Entry])
-    requires { Stands grammar.now.rules table.old [] }
+    requires { IsSearchState grammar.now.rules table.old [] }
     ensures { AreGiven grammar.now.rules table.old table.new }
 {
     for (number, node) in grammar.nodes().iter().enumerate() {

@@ -3,8 +3,8 @@
 ghost use Rattle.std.specs.Prelude.{IfNone, IfOk, IfSome, OnOk, ◌≡◌, ◌<◌, ◌+◌, ◌^◌, ℕ, length, slice_index_or};
 ghost use Rattle.abnf_parts.specs.Part.{root_number};
 ghost use Rattle.abnf_cert.specs.FitsNode.{NodeRefersWithin};
-ghost use Rattle.abnf_least.specs.Form.{needs, node_form};
-ghost use Rattle.abnf_least.specs.Users.{Adds, AddsEach, AreUsers, InChain, Leads};
+ghost use Rattle.abnf_least.specs.own.Form.{needs, node_form};
+ghost use Rattle.abnf_least.specs.own.Users.{AddsUser, AddsEach, AreUsers, InChain, Leads};
 
 use abnf_names::Grammar;
 use abnf_parts::{Node, NodeNo};
@@ -100,9 +100,9 @@ impl Users {
         })
     }
 
-    /// Adds a user of a part, if there is that part.
+    /// AddsUser a user of a part, if there is that part.
     fn add(&mut self, part: usize, user: usize) -> Result<(), AllocError>
-        ensures { OnOk result (Adds self.old part user self.new) }
+        ensures { OnOk result (AddsUser self.old part user self.new) }
     {
         if part >= self.starts.len() {
             return Ok(());
@@ -128,7 +128,7 @@ impl Users {
         Ok(())
     }
 
-    /// Adds a node as the user of the parts from which its entry follows.
+    /// AddsUser a node as the user of the parts from which its entry follows.
     fn add_node(&mut self, grammar: &Grammar, node: &Node, user: usize) -> Result<(), AllocError>
         requires { NodeRefersWithin (length grammar.now.rules) node.now }
         ensures { OnOk result (AddsEach self.old (needs (node_form (root_number grammar.now.rules) node.now)) user self.new) }

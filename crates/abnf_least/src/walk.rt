@@ -8,7 +8,7 @@ ghost use Rattle.abnf_parts.specs.Part.{parts_of, root_number};
 ghost use Rattle.abnf_cert.specs.Accepted.{IsAccepted, entry_at};
 ghost use Rattle.abnf_cert.specs.FitsNode.{NodeRefersWithin};
 ghost use Rattle.abnf_least.specs.Sentence.{IsSentence};
-ghost use Rattle.abnf_least.specs.Walk.{AllLieWithin, Does, Expands, IsBelowTop, IsTaskOf, choice_of, leaf_text, work_after};
+ghost use Rattle.abnf_least.specs.own.Walk.{AllLieWithin, Does, Expands, IsBelowTop, IsTaskOf, choice_of, leaf_text, work_after};
 
 use crate::work::{Task, Work};
 use abnf_cert::Entry;

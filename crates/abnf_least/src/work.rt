@@ -2,7 +2,7 @@
 
 ghost use Rattle.std.specs.Prelude.{◌≡◌, [], ◌∷◌, MatchOption, OnOk};
 ghost use Rattle.abnf_cert.specs.Accepted.{entry_at};
-ghost use Rattle.abnf_least.specs.Walk.{keep, keep_all, keep_times};
+ghost use Rattle.abnf_least.specs.own.Walk.{keep, keep_all, keep_times};
 ghost use Rattle.abnf_least.specs.declared.work.Task.TheVariants.{End};
 
 use abnf_cert::Entry;

@@ -21,7 +21,7 @@ use Rattle.abnf_syntax.specs.Faults.{place_of}
 use Rattle.abnf_syntax.specs.Heads.{head_of}
 use Rattle.abnf_parts.specs.Leaf.{repeat_limits, ends_of, number_part}
 use Rattle.abnf_parts.specs.Names.{Name, rule_number}
-use Rattle.abnf_names.specs.Said.{AreWithin, Block, Says, name_of}
+use Rattle.abnf_names.specs.Said.{AreWithin, Block, BlockSays, name_of}
 use Rattle.abnf_names.specs.Places.{Named, is_touched, use_after}
 use Rattle.abnf_names.specs.Excerpts.{excerpt_of}
 use Rattle.abnf_names.specs.Shown.{fault_shown}
@@ -31,7 +31,7 @@ use Rattle.abnf_lint.specs.declared.finding.Code.{Code}
 use Rattle.abnf_lint.specs.declared.finding.Code.TheVariants as c
 use Rattle.abnf_lint.specs.declared.finding.Finding.{Finding}
 use Rattle.abnf_lint.specs.Order.{code_row}
-use Rattle.abnf_lint.specs.Findings.{based, block_findings, body_findings, fault_findings, findings_after, found_if, has_name, head_findings, is_empty_range, is_empty_repeat, is_marked, item_findings, items_findings, number_findings, said_findings, use_findings}
+use Rattle.abnf_lint.specs.own.Findings.{based, block_findings, body_findings, fault_findings, findings_after, found_if, has_name, head_findings, is_empty_range, is_empty_repeat, is_marked, item_findings, items_findings, number_findings, said_findings, use_findings}
 use Rattle.abnf_lint.proofs.FaultLines.{FaultWithin, IsAtLine, ItemWithin, fault_within}
 
 -- they differ in line, start or row
@@ -242,7 +242,7 @@ fault_all low high (f.NumberTooLarge p) h = ((h, inl (omega arith)), tt)
 fault_all low high (f.TooDeep p) h = ((h, inl (omega arith)), tt)
 fault_all low high f.Memory h = tt
 
-said_differ : (names : List Name) (low high : ℕ) (items : List Item) (said : Result Rule SyntaxFault) → Run (low, 0) (map item_point items) (high, 0) → Says items said →
+said_differ : (names : List Name) (low high : ℕ) (items : List Item) (said : Result Rule SyntaxFault) → Run (low, 0) (map item_point items) (high, 0) → BlockSays items said →
     (let found = option_map_or fault_findings (fault_shown said) (body_findings names items) in AllDiffer found × AllByRecursion (SaidAt low high) found)
 said_differ names low high items (Ok rule) run says =
     let both = body_differ names (low, 0) (high, 0) items run in
@@ -295,7 +295,7 @@ said_or_head low high g h a b line start same = elim a.1 [
   | inr x ↦ elim b.1 [ inl y ↦ omega (arith, x.0, x.1, y, same) | inr z ↦ elim z [ inl y ↦ omega (arith, x.0, x.1, y, same) | inr y ↦ omega (arith, x.0, x.1, y, same) ] ]
 ]
 
-block_differ : (marks : List Bool) (names heads bases : List Name) (low high : ℕ) (block : Block) → Run (low, 0) (map item_point block.items) (high, 0) → Says block.items block.said →
+block_differ : (marks : List Bool) (names heads bases : List Name) (low high : ℕ) (block : Block) → Run (low, 0) (map item_point block.items) (high, 0) → BlockSays block.items block.said →
     AllDiffer (block_findings marks names heads bases (excerpt_of block)) × AllByRecursion (At low high) (block_findings marks names heads bases (excerpt_of block))
 block_differ marks names heads bases low high block run says =
     let items_in = items_within low high (low, 0) block.items (inr (refl, omega arith)) run in

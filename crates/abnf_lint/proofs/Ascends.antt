@@ -1,4 +1,4 @@
--- Findings ascend strictly, and what stands in such a list settles it.
+-- Findings ascend strictly, and what stands in such a list settles it. So what is found are the rows of the table, and one list is.
 use Rattle.std.proofs.Common.{◌≡◌, ◌∙◌, ℕ, ◌<◌, ◌≤◌, ◌+◌, suc, Bool, true, false, List, [], ◌∷◌, length, refl, sym, ap, subst, arith, get_or, inl, inr}
 use Rattle.std.specs.Prelude.{Contains, not, ◌&&◌, filter, if◌then◌else◌}
 use Rattle.std.specs.Cmp.{IsStrictWeakOrder}
@@ -9,12 +9,15 @@ use Rattle.std.specs.List.Sorted.{IsSortedBy, ties}
 use Rattle.std.proofs.lemmas.Bool.{cases_order, lt-ltb, le-ltb, eq-eqb}
 use Rattle.std.proofs.lemmas.List.Sorted.{ranks_by, sorted_far}
 use Rattle.abnf_syntax.specs.Blocks.{line_texts}
-use Rattle.abnf_names.specs.Rules.{names_of}
+use Rattle.abnf_names.specs.Said.{AreSaid, Block}
+use Rattle.abnf_names.specs.Rules.{names_of, rules_of}
 use Rattle.abnf_lint.specs.declared.finding.Finding.{Finding}
 use Rattle.abnf_lint.specs.Order.{FindingsAscend, Key, finding_before, key, key_cmp}
-use Rattle.abnf_lint.specs.Findings.{AreFindings, findings_in}
+use Rattle.abnf_lint.specs.own.Findings.{AreFindings, findings_in}
 use Rattle.abnf_lint.specs.Rows.{AreRows}
+use Rattle.abnf_lint.specs.Unproductive.{AreUnproductive}
 use Rattle.abnf_lint.proofs.Apart.{AllDiffer, Differ, blocks_differ}
+use Rattle.abnf_lint.proofs.Exist.{some_order}
 use Rattle.abnf_lint.proofs.Member.{first_in, in_cons, later_in, none_in}
 use Rattle.abnf_lint.proofs.OneFinding.{key_total}
 use Rattle.abnf_lint.proofs.Stands.{stands_is}
@@ -142,7 +145,7 @@ ascends (f ∷ fs) up few =
         by true k = omega arith
         by false k = k
 
-pub findings_ascend : (text : List ℕ) (found : List Finding) → AreFindings text found → FindingsAscend found
+findings_ascend : (text : List ℕ) (found : List Finding) → AreFindings text found → FindingsAscend found
 findings_ascend text found are =
     let given = findings_in are.marks are.blocks in
     let apart = blocks_differ are.marks (names_of are.blocks) (line_texts text) 0 are.of_text.bounds [] are.blocks are.of_text.all are.of_text.each in
@@ -179,8 +182,17 @@ one_list (x ∷ xs) (y ∷ ys) a b h k =
     let rest : xs ≡ ys = one_list xs ys a.1 b.1 (λ f i. behind_first x y xs ys first a f (h f) i) (λ f i. behind_first y x ys xs (sym first) b f (k f) i) in
     ap (λ z. z ∷ xs) first ∙ ap (λ l. y ∷ l) rest
 
-pub rows_are : (text : List ℕ) (found rows : List Finding) → AreFindings text found → AreRows text rows → rows ≡ found
-rows_are text found rows are is =
-    one_list rows found is.ordered (findings_ascend text found are)
-    (λ f h. (stands_is text found are f).1 ((is.each f).0 h))
-    (λ f h. (is.each f).1 ((stands_is text found are f).0 h))
+pub rows_unique : (text : List ℕ) (xs ys : List Finding) → AreRows text xs → AreRows text ys → xs ≡ ys
+rows_unique text xs ys p q = one_list xs ys p.ordered q.ordered (λ f h. (q.each f).1 ((p.each f).0 h)) (λ f h. (p.each f).1 ((q.each f).0 h))
+
+-- ---- the rows of a text
+
+-- what the pass finds
+pub found_rows : (text : List ℕ) (found : List Finding) → AreFindings text found → AreRows text found
+found_rows text found are = record { each = stands_is text found are; ordered = findings_ascend text found are }
+
+-- a text has rows where its rules can be marked
+pub some_rows : (text : List ℕ) (blocks : List Block) → AreSaid text blocks → (marks : List Bool) → AreUnproductive (rules_of blocks) marks → (rows : List Finding) × AreRows text rows
+some_rows text blocks said marks are =
+    let order = some_order (findings_in marks blocks) in
+    (order.0, found_rows text order.0 (record { blocks = blocks; of_text = said; marks = marks; are_marks = are; ordered = order.1 }))

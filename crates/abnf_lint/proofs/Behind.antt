@@ -10,8 +10,8 @@ use Rattle.abnf_parts.specs.Names.{Name, with_name}
 use Rattle.abnf_names.specs.Said.{Block, name_of}
 use Rattle.abnf_names.specs.Excerpts.{excerpt_of}
 use Rattle.abnf_names.specs.Rules.{adds, defined, head_name}
-use Rattle.abnf_lint.specs.Findings.{based, block_findings, findings_after}
-use Rattle.abnf_lint.specs.Passes.{with_head, with_base, findings_behind}
+use Rattle.abnf_lint.specs.own.Findings.{based, block_findings, findings_after}
+use Rattle.abnf_lint.specs.own.Passes.{with_head, with_base, findings_behind}
 
 names_more : (blocks : List Block) (b : Block) (o : Option Name) → head_name b ≡ o → filter_map head_name (blocks ++ b ∷ []) ≡ filter_map head_name blocks ++ filter_map (λ n. n) (o ∷ [])
 names_more blocks b None e = filter_map-append head_name blocks (b ∷ []) ∙ ap (λ o. filter_map head_name blocks ++ filter_map (λ n. n) (o ∷ [])) e

@@ -3,7 +3,8 @@ use Rattle.std.proofs.Common.{List}
 use Rattle.std.specs.Ordering.{is_lt}
 use Rattle.std.proofs.lemmas.List.Sorted.{ranks_by}
 use Rattle.abnf_lint.specs.declared.finding.Finding.{Finding}
-use Rattle.abnf_lint.specs.Order.{AreOrdered, key, key_cmp}
+use Rattle.abnf_lint.specs.Order.{key, key_cmp}
+use Rattle.abnf_lint.specs.own.Findings.{AreOrdered}
 use Rattle.abnf_lint.proofs.InOrder.{ordered, ordered_all, ordered_sorted, ordered_stable}
 use Rattle.abnf_lint.proofs.OneFinding.{key_total}
 

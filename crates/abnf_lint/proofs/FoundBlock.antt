@@ -18,7 +18,7 @@ use Rattle.abnf_syntax.specs.Faults.{place_of}
 use Rattle.abnf_syntax.specs.Heads.{head_of}
 use Rattle.abnf_parts.specs.Leaf.{repeat_limits, ends_of, number_part}
 use Rattle.abnf_parts.specs.Names.{Name, rule_number}
-use Rattle.abnf_names.specs.Said.{Block, Says, name_of}
+use Rattle.abnf_names.specs.Said.{Block, BlockSays, name_of}
 use Rattle.abnf_names.specs.Places.{Named, named, places_in, uses_after}
 use Rattle.abnf_names.specs.Excerpts.{excerpt_of}
 use Rattle.abnf_names.specs.Shown.{fault_shown}
@@ -27,7 +27,7 @@ use Rattle.abnf_lint.specs.declared.finding.Code.{Code}
 use Rattle.abnf_lint.specs.declared.finding.Code.TheVariants as c
 use Rattle.abnf_lint.specs.declared.finding.Finding.{Finding}
 use Rattle.abnf_lint.specs.Unproductive.{AreUnproductive}
-use Rattle.abnf_lint.specs.Findings.{based, block_findings, body_findings, fault_findings, found_if, has_name, head_findings, is_empty_range, is_empty_repeat, is_marked, number_findings, said_findings, use_findings}
+use Rattle.abnf_lint.specs.own.Findings.{based, block_findings, body_findings, fault_findings, found_if, has_name, head_findings, is_empty_range, is_empty_repeat, is_marked, number_findings, said_findings, use_findings}
 use Rattle.abnf_lint.specs.Rows.{HasHead, HasItem, IsEmptyRange, IsEmptyRepeat, IsIdle, HasNoFault, RowHolds, syntax_place}
 use Rattle.abnf_lint.proofs.FoundItems.{OfNumber, empty_range_is, empty_repeat_is, finding, found_in, in_found, in_items, is_empty_of, is_turned_of, number_found, number_in, use_in, uses_define_nothing}
 use Rattle.abnf_lint.proofs.Heads.{bases_is, defines_is}
@@ -56,7 +56,7 @@ some_or : (o : Option ℕ) → not (is_some o) ≡ true → o ≡ None
 some_or None e = refl
 some_or (Some k) e = absurd (cc e)
 
-module _ (blocks before : List Block) (block : Block) (marks : List Bool) (are : AreUnproductive (rules_of blocks) marks) (says : Says block.items block.said)
+module _ (blocks before : List Block) (block : Block) (marks : List Bool) (are : AreUnproductive (rules_of blocks) marks) (says : BlockSays block.items block.said)
     (in_range : (n : Name) (r : ℕ) → rule_number (names_of blocks) n ≡ Some r → r < length (rules_of blocks)) where
   abbrev names : List Name
   names = names_of blocks
@@ -222,7 +222,7 @@ module _ (blocks before : List Block) (block : Block) (marks : List Bool) (are :
 
   shape : (rule : Rule) → block.said ≡ Ok rule → Shape
   shape rule e =
-      let d : Derives block.items rule = subst (Says block.items) e says in
+      let d : Derives block.items rule = subst (BlockSays block.items) e says in
       record { first = d.head; rest = d.defined ∷ d.body; split = d.split; name = d.named; headed = head_there d.head d.defined d.body rule.adds d.named d.adds }
 
   named_defines : (b : Bool) (item : Item) (n : Named) → b ≡ true → Contains (named b item) n → n.defines ≡ true

@@ -17,7 +17,7 @@ use Rattle.abnf_names.specs.Places.{Named, is_touched, named, use_after, uses_af
 use Rattle.abnf_lint.specs.declared.finding.Code.{Code}
 use Rattle.abnf_lint.specs.declared.finding.Code.TheVariants as c
 use Rattle.abnf_lint.specs.declared.finding.Finding.{Finding}
-use Rattle.abnf_lint.specs.Findings.{found_if, is_empty_range, is_empty_repeat, item_findings, items_findings, number_findings, use_findings}
+use Rattle.abnf_lint.specs.own.Findings.{found_if, is_empty_range, is_empty_repeat, item_findings, items_findings, number_findings, use_findings}
 use Rattle.abnf_lint.specs.Rows.{IsEmptyRange, IsEmptyRepeat}
 use Rattle.abnf_lint.proofs.Member.{first_in, flat_in, in_cons, in_flat, later_in, none_in, one_in}
 

@@ -10,7 +10,7 @@ use Rattle.abnf_parts.specs.Names.{Name, with_name}
 use Rattle.abnf_parts.proofs.NameLaws.{position_any, same_is, same_refl}
 use Rattle.abnf_names.specs.Said.{Block}
 use Rattle.abnf_names.specs.Rules.{adds, defined, head_name}
-use Rattle.abnf_lint.specs.Findings.{based, has_name}
+use Rattle.abnf_lint.specs.own.Findings.{based, has_name}
 use Rattle.abnf_lint.specs.Rows.{AnyBases, AnyDefines}
 use Rattle.abnf_lint.proofs.Member.{filter_in, first_in, given_in, in_cons, in_filter, in_given, later_in, none_in}
 

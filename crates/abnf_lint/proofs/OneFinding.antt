@@ -1,6 +1,6 @@
 -- A text has one list of findings. What is found in a block depends on its bare items and its fault, and these are the same for all
 -- lists of blocks that a text has.
-use Rattle.std.proofs.Common.{◌≡◌, ◌∙◌, ◌<◌, ℕ, Bool, true, false, List, [], ◌∷◌, ◌++◌, length, map, Option, Some, None, option_map, Result, Ok, Err, refl, sym, ap, subst, get_or}
+use Rattle.std.proofs.Common.{◌≡◌, ◌∙◌, ◌<◌, ℕ, Bool, true, false, List, [], ◌∷◌, ◌++◌, length, map, Option, Some, None, option_map, refl, sym, ap, subst, get_or}
 use Rattle.std.specs.Prelude.{if◌then◌else◌}
 use Rattle.std.specs.Option.{option_map_or}
 use Rattle.std.specs.declared.cmp.Ordering.{Ordering}
@@ -9,27 +9,23 @@ use Rattle.std.specs.Cmp.{IsTotalOrder}
 use Rattle.std.proofs.lemmas.Cmp.{nat_cmp_total, then_total}
 use Rattle.std.proofs.lemmas.List.{ext_get_or}
 use Rattle.std.proofs.lemmas.List.Sorted.{ranks_by}
-use Rattle.abnf_token.specs.Classes.{Text}
 use Rattle.abnf_token.specs.declared.token.Kind.{Kind}
 use Rattle.abnf_syntax.specs.declared.block.Head.{Head}
 use Rattle.abnf_syntax.specs.declared.item.Item.{Item}
-use Rattle.abnf_syntax.specs.declared.fault.SyntaxFault.{SyntaxFault}
-use Rattle.abnf_syntax.specs.declared.tree.Rule.{Rule}
 use Rattle.abnf_syntax.specs.Grammar.{kind_of}
 use Rattle.abnf_syntax.specs.Heads.{head_of}
-use Rattle.abnf_syntax.proofs.Bare.{bare, bare_head, head_bare, same_items, same_fault, no_fault}
+use Rattle.abnf_syntax.proofs.Bare.{bare, bare_head, head_bare}
 use Rattle.abnf_parts.specs.Part.{Part}
 use Rattle.abnf_parts.specs.Names.{Name, with_name}
-use Rattle.abnf_names.specs.Said.{Block, Says, IsWithin, AreSaid, name_of}
+use Rattle.abnf_names.specs.Said.{Block, AreSaid, name_of}
 use Rattle.abnf_names.specs.Rules.{Grammar, grammar_of, names_of, rules_of}
 use Rattle.abnf_names.specs.Excerpts.{Excerpt, excerpt_of}
-use Rattle.abnf_names.specs.Shown.{fault_shown}
-use Rattle.abnf_names.proofs.OneGrammar.{one_grammar, same_seen}
+use Rattle.abnf_names.proofs.OneGrammar.{Plain, one_grammar, same_block, same_seen}
 use Rattle.abnf_lint.specs.declared.finding.Finding.{Finding}
 use Rattle.abnf_lint.specs.Unproductive.{AreUnproductive}
-use Rattle.abnf_lint.specs.Order.{AreOrdered, Key, key, key_cmp}
-use Rattle.abnf_lint.specs.Findings.{AreFindings, block_findings, body_findings, findings_in, fault_findings, head_findings, item_findings, items_findings}
-use Rattle.abnf_lint.specs.Passes.{findings_behind, with_base, with_head}
+use Rattle.abnf_lint.specs.Order.{Key, key, key_cmp}
+use Rattle.abnf_lint.specs.own.Findings.{AreFindings, AreOrdered, block_findings, body_findings, findings_in, fault_findings, head_findings, item_findings, items_findings}
+use Rattle.abnf_lint.specs.own.Passes.{findings_behind, with_base, with_head}
 use Rattle.abnf_lint.proofs.Behind.{behind_after}
 use Rattle.abnf_lint.proofs.OneOrder.{one_order}
 
@@ -38,23 +34,15 @@ use Rattle.abnf_lint.proofs.OneOrder.{one_order}
 abbrev bared : Excerpt → Excerpt
 bared o = record { items = map bare o.items; fault = o.fault }
 
-abbrev plain : Block → Excerpt
-plain block = bared (excerpt_of block)
+-- of what a grammar knows of a block its bare items and its fault
+abbrev excerpt_told : Plain → Excerpt
+excerpt_told p = record { items = p.0; fault = p.2 }
 
-same_shown : (xs ys : List Item) (r s : Result Rule SyntaxFault) → map bare xs ≡ map bare ys → Says xs r → Says ys s → fault_shown r ≡ fault_shown s
-same_shown xs ys (Ok r) (Ok s) e p q = refl
-same_shown xs ys (Ok r) (Err b) e p q = no_fault xs ys r b e p q
-same_shown xs ys (Err a) (Ok s) e p q = no_fault ys xs s a (sym e) q p
-same_shown xs ys (Err a) (Err b) e p q = ap Some (same_fault xs ys a b e p q)
+abbrev bare_excerpt : Block → Excerpt
+bare_excerpt block = bared (excerpt_of block)
 
-same_block : (ls : List Text) (at : ℕ × ℕ) (b c : Block) → IsWithin ls at b → IsWithin ls at c → plain b ≡ plain c
-same_block ls at b c p q =
-    let items_are = same_items ls at.0 at.1 b.items c.items p.items q.items in
-    let shown = same_shown b.items c.items b.said c.said items_are p.says q.says in
-    (λ i. record { items = items_are i; fault = shown i })
-
-same_blocks : (text : List ℕ) (bs cs : List Block) → AreSaid text bs → AreSaid text cs → map plain bs ≡ map plain cs
-same_blocks = same_seen plain same_block
+same_excerpts : (text : List ℕ) (bs cs : List Block) → AreSaid text bs → AreSaid text cs → map bare_excerpt bs ≡ map bare_excerpt cs
+same_excerpts = same_seen bare_excerpt (λ ls at b c p q. ap excerpt_told (same_block ls at b c p q))
 
 -- ---- what is found in bare blocks
 
@@ -93,13 +81,13 @@ block_bare marks names heads bases o =
     let head = ap (λ h. option_map_or (head_findings marks names heads bases) h []) (head_bare o.items) ∙ head_by marks names heads bases (head_of o.items) in
     (λ i. said i ++ head i)
 
-behind_bare : (marks : List Bool) (names heads bases : List Name) (blocks : List Block) → findings_behind marks names heads bases (map plain blocks) ≡ findings_behind marks names heads bases (map excerpt_of blocks)
+behind_bare : (marks : List Bool) (names heads bases : List Name) (blocks : List Block) → findings_behind marks names heads bases (map bare_excerpt blocks) ≡ findings_behind marks names heads bases (map excerpt_of blocks)
 behind_bare marks names heads bases [] = refl
 behind_bare marks names heads bases (b ∷ bs) =
-    (λ i. block_bare marks names heads bases (excerpt_of b) i ++ findings_behind marks names (head_added heads (excerpt_of b) i) (base_added bases (excerpt_of b) i) (map plain bs))
+    (λ i. block_bare marks names heads bases (excerpt_of b) i ++ findings_behind marks names (head_added heads (excerpt_of b) i) (base_added bases (excerpt_of b) i) (map bare_excerpt bs))
     ∙ ap (λ l. block_findings marks names heads bases (excerpt_of b) ++ l) (behind_bare marks names (with_head heads (excerpt_of b)) (with_base bases (excerpt_of b)) bs)
 
-in_bare : (marks : List Bool) (blocks : List Block) → findings_in marks blocks ≡ findings_behind marks (names_of blocks) [] [] (map plain blocks)
+in_bare : (marks : List Bool) (blocks : List Block) → findings_in marks blocks ≡ findings_behind marks (names_of blocks) [] [] (map bare_excerpt blocks)
 in_bare marks blocks = sym (behind_after marks (names_of blocks) [] blocks) ∙ sym (behind_bare marks (names_of blocks) [] [] blocks)
 
 -- ---- the marks
@@ -141,8 +129,8 @@ findings_unique text xs ys p q =
     let marks : p.marks ≡ q.marks = same_marks (rules_of q.blocks) p.marks q.marks (subst (λ (rs : List Part). AreUnproductive rs p.marks) (ap (λ (g : Grammar). g.rules) one) p.are_marks) q.are_marks in
     let all : findings_in p.marks p.blocks ≡ findings_in q.marks q.blocks =
     in_bare p.marks p.blocks
-    ∙ (ap (λ marks. findings_behind marks (names_of p.blocks) [] [] (map plain p.blocks)) marks
-    ∙ (ap (λ (ns : List Name). findings_behind q.marks ns [] [] (map plain p.blocks)) (ap (λ (g : Grammar). g.names) one)
-    ∙ (ap (λ (os : List Excerpt). findings_behind q.marks (names_of q.blocks) [] [] os) (same_blocks text p.blocks q.blocks p.of_text q.of_text)
+    ∙ (ap (λ marks. findings_behind marks (names_of p.blocks) [] [] (map bare_excerpt p.blocks)) marks
+    ∙ (ap (λ (ns : List Name). findings_behind q.marks ns [] [] (map bare_excerpt p.blocks)) (ap (λ (g : Grammar). g.names) one)
+    ∙ (ap (λ (os : List Excerpt). findings_behind q.marks (names_of q.blocks) [] [] os) (same_excerpts text p.blocks q.blocks p.of_text q.of_text)
     ∙ sym (in_bare q.marks q.blocks)))) in
     orders_unique (findings_in q.marks q.blocks) xs ys (subst (λ (fs : List Finding). AreOrdered fs xs) all p.ordered) q.ordered

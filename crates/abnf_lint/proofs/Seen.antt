@@ -21,8 +21,8 @@ use Rattle.abnf_names.specs.Rules.{Grammar, IsGrammar, defined, names_of, needed
 use Rattle.abnf_names.specs.Said.{Block, name_of}
 use Rattle.abnf_names.proofs.Within.{rule_within}
 use Rattle.abnf_lint.specs.declared.block.Seen.{Seen}
-use Rattle.abnf_lint.specs.Findings.{has_name, head_findings, is_marked}
-use Rattle.abnf_lint.specs.Passes.{AreSeen, HasMark, HaveRules, head_found, seen_more, seen_of, with_base, with_head}
+use Rattle.abnf_lint.specs.own.Findings.{has_name, head_findings, is_marked}
+use Rattle.abnf_lint.specs.own.Passes.{AreSeen, HasMark, HaveRules, head_found, seen_more, seen_of, with_base, with_head}
 use Rattle.abnf_lint.proofs.Heads.{defines_is, from_has, has_from}
 use Rattle.abnf_lint.proofs.Member.{first_in, later_in}
 

@@ -36,12 +36,12 @@ use Rattle.abnf_names.specs.Excerpts.{Excerpt, HasSections, excerpt, excerpt_of}
 use Rattle.abnf_names.specs.Shown.{fault_shown}
 use Rattle.abnf_names.specs.Places.{is_touched, named}
 use Rattle.abnf_names.specs.Rules.{Grammar, adds, alternatives_said, core_tree, counted, defined, defines, names_of, needed, rule_tree, rules_of, said_alternatives}
-use Rattle.abnf_names.specs.Said.{Block, Says, name_of}
+use Rattle.abnf_names.specs.Said.{Block, BlockSays, name_of}
 use Rattle.abnf_names.proofs.Kept.{each_says}
 use Rattle.abnf_names.proofs.UsersLaws.{cut, next_root}
 use Rattle.abnf_lint.specs.declared.finding.Code.TheVariants as c
-use Rattle.abnf_lint.specs.Findings.{based, found_if, has_name, body_findings, fault_findings, is_empty_range, is_empty_repeat, item_findings, items_findings, number_findings, use_findings}
-use Rattle.abnf_lint.specs.Passes.{AreSoundMarks, AreSoundWhereMarked, IsSoundRule, IsSoundWhereMarked, counts, is_sound, is_sound_part}
+use Rattle.abnf_lint.specs.own.Findings.{based, found_if, has_name, body_findings, fault_findings, is_empty_range, is_empty_repeat, item_findings, items_findings, number_findings, use_findings}
+use Rattle.abnf_lint.specs.own.Passes.{AreSoundMarks, AreSoundWhereMarked, IsSoundRule, IsSoundWhereMarked, counts, is_sound, is_sound_part}
 use Rattle.abnf_lint.proofs.Behind.{bases_more}
 use Rattle.abnf_lint.proofs.Heads.{bases_is, defines_is, from_has}
 use Rattle.abnf_lint.proofs.Member.{filter_in, first_in, flat_in, in_filter, later_in}
@@ -65,18 +65,14 @@ node_sound n (ref name None) node h = ap is_sound h.1
 node_sound n (ref name (Some r)) node h = ap is_sound h.1
 node_sound n opaque node h = ap is_sound h
 
-next_is : (rules : List Part) (r : ℕ) → root_number rules (r + 1) ≡ root_number rules (suc r)
-next_is rules r = ap (root_number rules) (let e : r + 1 ≡ suc r = omega arith in e)
-
 -- the nodes of a rule are its parts
-pub rule_sound : (rules : List Part) (nodes : List Node) → AreNodes rules nodes → (r start end : ℕ) → start ≡ root_number rules r → end ≡ root_number rules (r + 1)
+pub rule_sound : (rules : List Part) (nodes : List Node) → AreNodes rules nodes → (r start end : ℕ) → start ≡ root_number rules r → end ≡ root_number rules (suc r)
     → list_all is_sound (take (end - start) (drop start nodes)) ≡ true → IsSoundRule rules r
-rule_sound rules nodes are r start end at_start at_next e tree is p c =
+rule_sound rules nodes are r start end at_start at_end e tree is p c =
     let front = parts_of (take r rules) in
     let k = c.0 in
     let split = cut rules r tree is in
     let size = next_root rules r tree is in
-    let at_end : end ≡ root_number rules (suc r) = at_next ∙ next_is rules r in
     let at : start + k ≡ length front + k = ap (λ n. n + k) at_start in
     let here : get_or (parts_of rules) (start + k) p ≡ p =
     (λ i. get_or (split.1 i) (at i) p) ∙ (get_or-append-add front (subparts tree ++ split.0) k p ∙ (get_or-append (subparts tree) split.0 p k c.1 ∙ c.2)) in
@@ -97,23 +93,6 @@ rule_sound rules nodes are r start end at_start at_next e tree is p c =
     get_or-take (end - start) (drop start nodes) k one.0 few ∙ (get_or-drop start nodes k one.0 ∙ get_or_from_slice_get nodes (start + k) one.0 one.0 one.1) in
     let none = list_all_at is_sound (take (end - start) (drop start nodes)) k one.0 short (ap is_sound node_is ∙ unsound) in
     never (list_all is_sound (take (end - start) (drop start nodes))) e none)
-
-pub within_nodes : (rules : List Part) (nodes : List Node) → AreNodes rules nodes → (r start end : ℕ) → r < length rules → start ≡ root_number rules r → end ≡ root_number rules (r + 1) → (start ≤ end) × (end ≤ length nodes)
-within_nodes rules nodes are r start end below at_start at_next =
-    let tree = get_or rules r opaque in
-    let is = slice_get-get_or rules r opaque below in
-    let split = cut rules r tree is in
-    let size = next_root rules r tree is in
-    let front = parts_of (take r rules) in
-    let all : length (parts_of rules) ≡ length front + length (subparts tree ++ split.0) = ap length split.1 ∙ length-append front (subparts tree ++ split.0) in
-    let more : length (subparts tree ++ split.0) ≡ length (subparts tree) + length split.0 = length-append (subparts tree) split.0 in
-    let one_each = are.one_each in
-    let at_end : end ≡ root_number rules (suc r) = at_next ∙ next_is rules r in
-    (omega (arith, size, at_start, at_end), omega (arith, size, all, more, one_each, at_end))
-
--- behind the last rule the nodes end
-pub last_root : (rules : List Part) (nodes : List Node) → AreNodes rules nodes → (r : ℕ) → r < length rules → length rules ≤ r + 1 → length nodes ≡ root_number rules (r + 1)
-last_root rules nodes are r below last = are.one_each ∙ ap (λ rs. length (parts_of rs)) (sym (take_all (r + 1) rules last))
 
 -- ---- the marks
 
@@ -253,7 +232,7 @@ counted_there before b after head e h =
 
 -- ---- all blocks
 
-module _ (blocks : List Block) (says : All (λ block. Says block.items block.said) blocks) (marks : List Bool) (sound : AreSoundMarks (rules_of blocks) marks) where
+module _ (blocks : List Block) (says : All (λ block. BlockSays block.items block.said) blocks) (marks : List Bool) (sound : AreSoundMarks (rules_of blocks) marks) where
   abbrev names : List Name
   names = names_of blocks
 
@@ -303,11 +282,11 @@ module _ (blocks : List Block) (says : All (λ block. Says block.items block.sai
       tells_of : (kind : Kind) → kind_of item ≡ kind → is_told kind ≡ true → (x : Part) × TellsBy number kind item x × (is_sound_part x ≡ true)
       tells_of kind e told = subst (λ n. (x : Part) × TellsBy number n item x × (is_sound_part x ≡ true)) e (tells (ap is_told e ∙ told))
 
-  of_said : (b : Block) (name : Name) → Contains (defined blocks) name → (r : ℕ) → number name ≡ Some r → slice_index_or marks r false ≡ true → Contains (counted (filter (defines name) blocks)) b → Says b.items b.said → (r : Result Rule SyntaxFault) → b.said ≡ r → fault_shown r ≡ None
+  of_said : (b : Block) (name : Name) → Contains (defined blocks) name → (r : ℕ) → number name ≡ Some r → slice_index_or marks r false ≡ true → Contains (counted (filter (defines name) blocks)) b → BlockSays b.items b.said → (r : Result Rule SyntaxFault) → b.said ≡ r → fault_shown r ≡ None
       → body_findings names b.items ≡ []
   of_said b name h r of_name marked counts said (Err fault) e shown = absurd (cc shown)
   of_said b name h r of_name marked counts said (Ok rule) e shown =
-      let d : Derives b.items rule = subst (Says b.items) e said in
+      let d : Derives b.items rule = subst (BlockSays b.items) e said in
       subst (λ xs. body_findings names xs ≡ []) (sym d.split)
       (items_silent names (kind_of d.head) (d.defined ∷ d.body) (λ item m.
       by_kind item (λ told.
@@ -322,7 +301,7 @@ module _ (blocks : List Block) (says : All (λ block. Says block.items block.sai
       let has : Contains (defined blocks) name = from_has (defined blocks) name ((defines_is blocks name).1 (b, among, ap (option_map name_of) c.1)) in
       let there : Contains (counted (filter (defines name) blocks)) b = subst (λ bs. Contains (counted (filter (defines name) bs)) b) (sym split) (counted_there before b after c.0 c.1 c.2) in
       ap (λ fault. option_map_or fault_findings fault (body_findings names b.items)) none
-      ∙ of_said b name has r (subst (λ (h : Head). number (name_of h) ≡ Some r) (one_head headed c.0 (sym headed_is ∙ c.1)) of_name) marked there (All-contains (λ block. Says block.items block.said) blocks b says among) b.said refl none
+      ∙ of_said b name has r (subst (λ (h : Head). number (name_of h) ≡ Some r) (one_head headed c.0 (sym headed_is ∙ c.1)) of_name) marked there (All-contains (λ block. BlockSays block.items block.said) blocks b says among) b.said refl none
 
   from_block : (before after : List Block) → blocks ≡ before ++ after → AreSoundWhereMarked marks names (based before) (map excerpt_of after)
   from_block before [] split = tt

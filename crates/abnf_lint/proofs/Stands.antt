@@ -7,15 +7,15 @@ use Rattle.abnf_token.specs.Classes.{Text}
 use Rattle.abnf_syntax.specs.Blocks.{line_texts}
 use Rattle.abnf_parts.specs.Part.{Part}
 use Rattle.abnf_parts.specs.Names.{Name, rule_number}
-use Rattle.abnf_names.specs.Said.{AreSaid, AreWithin, Block, Says}
+use Rattle.abnf_names.specs.Said.{AreSaid, AreWithin, Block, BlockSays}
 use Rattle.abnf_names.specs.Excerpts.{excerpt_of}
 use Rattle.abnf_names.specs.Rules.{Grammar, IsGrammar, defined, grammar_of, names_of, rules_of}
 use Rattle.abnf_names.proofs.OneGrammar.{one_grammar}
 use Rattle.abnf_names.proofs.Within.{rule_within}
 use Rattle.abnf_lint.specs.declared.finding.Finding.{Finding}
 use Rattle.abnf_lint.specs.Unproductive.{AreUnproductive}
-use Rattle.abnf_lint.specs.Findings.{AreFindings, based, block_findings, findings_after, findings_in}
-use Rattle.abnf_lint.specs.Rows.{Stands}
+use Rattle.abnf_lint.specs.own.Findings.{AreFindings, based, block_findings, findings_after, findings_in}
+use Rattle.abnf_lint.specs.Rows.{RowStands}
 use Rattle.abnf_lint.proofs.Exist.{some_order}
 use Rattle.abnf_lint.proofs.FoundBlock.{row_in, row_of}
 use Rattle.abnf_lint.proofs.Member.{none_in}
@@ -55,13 +55,13 @@ found_in_some text found are f =
 
 -- ---- what is known of a text's blocks
 
-within_says : (ls : List Text) (bounds : List (ℕ × ℕ)) (before : List Block) (block : Block) (after : List Block) → AreWithin ls bounds (before ++ block ∷ after) → Says block.items block.said
+within_says : (ls : List Text) (bounds : List (ℕ × ℕ)) (before : List Block) (block : Block) (after : List Block) → AreWithin ls bounds (before ++ block ∷ after) → BlockSays block.items block.said
 within_says ls [] [] block after h = absurd h
 within_says ls (b ∷ bounds) [] block after h = h.0.says
 within_says ls [] (c ∷ before) block after h = absurd h
 within_says ls (b ∷ bounds) (c ∷ before) block after h = within_says ls bounds before block after h.1
 
-said_of : (text : List ℕ) (blocks : List Block) → AreSaid text blocks → (before : List Block) (block : Block) (after : List Block) → blocks ≡ before ++ block ∷ after → Says block.items block.said
+said_of : (text : List ℕ) (blocks : List Block) → AreSaid text blocks → (before : List Block) (block : Block) (after : List Block) → blocks ≡ before ++ block ∷ after → BlockSays block.items block.said
 said_of text blocks are before block after e = within_says (line_texts text) are.bounds before block after (subst (λ bs. AreWithin (line_texts text) are.bounds bs) e are.each)
 
 is_grammar : (text : List ℕ) (blocks : List Block) → AreSaid text blocks → IsGrammar (grammar_of text blocks)
@@ -72,7 +72,7 @@ in_range text blocks are n r e = subst (λ o. IfSome o (λ k. k < length (rules_
 
 -- ---- the rows
 
-row_down : (text : List ℕ) (found : List Finding) (are : AreFindings text found) (f : Finding) → Contains found f → Stands text f
+row_down : (text : List ℕ) (found : List Finding) (are : AreFindings text found) (f : Finding) → Contains found f → RowStands text f
 row_down text found are f h =
     let some = (found_in_some text found are f).0 h in
     record {
@@ -85,7 +85,7 @@ row_down text found are f h =
       holds = row_of are.blocks some.0 some.1 are.marks are.are_marks (said_of text are.blocks are.of_text some.0 some.1 some.2 some.3) (in_range text are.blocks are.of_text) f some.4;
     }
 
-row_up : (text : List ℕ) (found : List Finding) (are : AreFindings text found) (f : Finding) → Stands text f → Contains found f
+row_up : (text : List ℕ) (found : List Finding) (are : AreFindings text found) (f : Finding) → RowStands text f → Contains found f
 row_up text found are f st =
     let one : grammar_of text are.blocks ≡ grammar_of text st.blocks =
     one_grammar (grammar_of text are.blocks) (grammar_of text st.blocks) (is_grammar text are.blocks are.of_text) (is_grammar text st.blocks st.of_text) refl in
@@ -96,5 +96,5 @@ row_up text found are f st =
     row_in st.blocks st.before st.block are.marks marks (said_of text st.blocks st.of_text st.before st.block st.after st.split) (in_range text st.blocks st.of_text) f.code f.place f.name st.holds in
     subst (λ (xs : List Finding). Contains xs f) (sym (findings_unique text found order.0 are other)) ((found_in_some text order.0 other f).1 (st.before, st.block, st.after, st.split, here))
 
-pub stands_is : (text : List ℕ) (found : List Finding) → AreFindings text found → (f : Finding) → Contains found f ↔ Stands text f
+pub stands_is : (text : List ℕ) (found : List Finding) → AreFindings text found → (f : Finding) → Contains found f ↔ RowStands text f
 stands_is text found are f = (row_down text found are f, row_up text found are f)

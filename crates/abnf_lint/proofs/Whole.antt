@@ -7,9 +7,8 @@ use Rattle.abnf_names.specs.Excerpts.{Excerpt, HasSections, excerpt}
 use Rattle.abnf_names.specs.Rules.{Grammar, names_of}
 use Rattle.abnf_lint.specs.declared.finding.Finding.{Finding}
 use Rattle.abnf_lint.specs.Unproductive.{AreUnproductive}
-use Rattle.abnf_lint.specs.Order.{AreOrdered}
-use Rattle.abnf_lint.specs.Findings.{AreFindings, findings_in}
-use Rattle.abnf_lint.specs.Passes.{findings_behind}
+use Rattle.abnf_lint.specs.own.Findings.{AreFindings, AreOrdered, findings_in}
+use Rattle.abnf_lint.specs.own.Passes.{findings_behind}
 use Rattle.abnf_lint.proofs.Behind.{behind_after}
 
 pub whole : (g : Grammar) (sections : List Section) → HasSections g sections → (marks : List Bool) (given found : List Finding) → AreUnproductive g.rules marks →

@@ -3,7 +3,6 @@ use Rattle.std.specs.Prelude.{◌≡◌, ℕ, Bool, true, List, [], ◌∷◌}
 use Rattle.std.specs.declared.cmp.Ordering.{Ordering}
 use Rattle.std.specs.Ordering.{is_lt, nat_cmp, ordering_then}
 use Rattle.std.specs.List.{AllByRecursion}
-use Rattle.std.specs.List.Sorted.{IsPermutation, IsSortedByKey, IsStableByKey}
 use Rattle.abnf_lint.specs.declared.finding.Code.{Code}
 use Rattle.abnf_lint.specs.declared.finding.Code.TheVariants as c
 use Rattle.abnf_lint.specs.declared.finding.Finding.{Finding}
@@ -28,12 +27,6 @@ key f = (f.place.line, f.place.start, code_row f.code)
 
 abbrev pub key_cmp : Key → Key → Ordering
 key_cmp a b = ordering_then (ordering_then (nat_cmp a.0 b.0) (nat_cmp a.1 b.1)) (nat_cmp a.2 b.2)
-
--- These are the given findings by line, start and row; those of one line, start and row stay as they stand.
-pub record AreOrdered (given found : List Finding) : Type 0 where
-  pub all : IsPermutation given found
-  pub sorted : IsSortedByKey key key_cmp found
-  pub stable : IsStableByKey key key_cmp given found
 
 -- the one stands before the other by line, start and row
 abbrev pub finding_before : Finding → Finding → Bool

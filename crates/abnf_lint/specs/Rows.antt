@@ -87,7 +87,7 @@ module _ (blocks before : List Block) (block : Block) where
   RowHolds place name c.Unproductive = (head : Head) × HasHead block place name head × (AnyDefines before (name_of head) → ⊥) × IsIdle blocks (name_of head)
 
 -- A row of the table holds of one of the text's blocks.
-pub record Stands (text : List ℕ) (found : Finding) : Type 0 where
+pub record RowStands (text : List ℕ) (found : Finding) : Type 0 where
   pub blocks : List Block
   pub of_text : AreSaid text blocks
   pub before : List Block
@@ -98,5 +98,5 @@ pub record Stands (text : List ℕ) (found : Finding) : Type 0 where
 
 -- These are the rows of the table that hold of the text, each once, by line, start and row.
 pub record AreRows (text : List ℕ) (rows : List Finding) : Type 0 where
-  pub each : (f : Finding) → Contains rows f ↔ Stands text f
+  pub each : (f : Finding) → Contains rows f ↔ RowStands text f
   pub ordered : FindingsAscend rows

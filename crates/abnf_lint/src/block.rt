@@ -4,8 +4,8 @@ ghost use Rattle.std.specs.Prelude.{◌≡◌, ◌++◌, ◌<◌, List, Some, On
 ghost use Rattle.abnf_parts.specs.Names.{Name, rule_number};
 ghost use Rattle.abnf_names.specs.Said.{name_of};
 ghost use Rattle.abnf_names.specs.Excerpts.{excerpt};
-ghost use Rattle.abnf_lint.specs.Findings as spec;
-ghost use Rattle.abnf_lint.specs.Passes as passes;
+ghost use Rattle.abnf_lint.specs.own.Findings as spec;
+ghost use Rattle.abnf_lint.specs.own.Passes as passes;
 
 use crate::finding::{Code, Finding};
 use crate::item::{push_fault, push_if, push_items};
@@ -88,14 +88,14 @@ fn push_head(
 }
 
 /// Adds what is found of a block's fault, or of its items where it has none. It may be known that there is nothing to be found at these.
-fn push_said<'t>(
+fn push_said_findings<'t>(
     alloc: Global,
     grammar: &Grammar<'t>,
     is_sound: bool,
     section: &Section<'t>,
     found: &mut List<Finding>,
 ) -> Result<(), AllocError>
-    requires { IsTrue is_sound → passes.IsSound grammar.now.names (excerpt section.now) }
+    requires { IsTrue is_sound → passes.IsSoundBlock grammar.now.names (excerpt section.now) }
     ensures { OnOk result (found.new ≡ found.old ++ spec.said_findings grammar.now.names (excerpt section.now)) }
 {
     match section.fault {
@@ -134,7 +134,7 @@ pub(crate) fn push_block<'t>(
             let rule = rule_of_head(grammar, head, guess);
             let before = join_heads(seen, rule, head);
             let counts = head.adds | !before.is_base;
-            push_said(
+            push_said_findings(
                 alloc,
                 grammar,
                 is_marked(sound, rule) & counts,
@@ -143,6 +143,6 @@ pub(crate) fn push_block<'t>(
             )?;
             push_head(alloc, before, is_marked(marks, rule), head, found)
         }
-        None => push_said(alloc, grammar, false, section, found),
+        None => push_said_findings(alloc, grammar, false, section, found),
     }
 }

@@ -1,13 +1,12 @@
 //! What is found in a text.
 
-ghost use Rattle.std.specs.Prelude.{◌≡◌, ◌<◌, ◌≤◌, ◌+◌, [], length, map, slice_range, IfOk, IsTrue};
+ghost use Rattle.std.specs.Prelude.{◌≡◌, ◌<◌, ◌≤◌, [], length, map, slice_range, IfOk, IsTrue};
 ghost use Rattle.std.specs.List.{list_all};
 ghost use Rattle.abnf_cert.specs.Accepted.{IsAccepted};
-ghost use Rattle.abnf_parts.specs.Part.{root_number};
 ghost use Rattle.abnf_names.specs.Excerpts.{HasSections, excerpt};
-ghost use Rattle.abnf_lint.specs.Findings as spec;
-ghost use Rattle.abnf_lint.specs.Passes as passes;
-ghost use Rattle.abnf_lint.specs.Order.{AreOrdered};
+ghost use Rattle.abnf_lint.specs.own.Findings.{AreOrdered};
+ghost use Rattle.abnf_lint.specs.own.Passes as passes;
+ghost use Rattle.abnf_lint.specs.Rows.{AreRows};
 ghost use Rattle.abnf_lint.specs.Unproductive.{AreUnproductive};
 
 use crate::block::{Seen, push_block};
@@ -41,20 +40,6 @@ fn are_sound(nodes: &[Node<'_>]) -> bool
     nodes.iter().all(|node| is_sound(node))
 }
 
-/// The number behind those of a rule's nodes.
-fn end_of(grammar: &Grammar<'_>, rule: usize) -> usize
-    requires { rule < length grammar.now.rules }
-    ensures { result ≡ root_number grammar.now.rules (rule + 1) }
-{
-    let count = grammar.rule_count();
-    let next = rule + 1;
-    if next < count {
-        grammar.root_of(RuleNo::new(next)).get()
-    } else {
-        grammar.nodes().len()
-    }
-}
-
 /// The nodes with these numbers.
 fn nodes_between<'g, 't>(nodes: &'g [Node<'t>], start: usize, end: usize) -> &'g [Node<'t>]
     requires order { start ≤ end }
@@ -69,8 +54,7 @@ fn is_sound_rule(grammar: &Grammar<'_>, rule: usize) -> bool
     requires { rule < length grammar.now.rules }
     ensures { IsTrue result → passes.IsSoundRule grammar.now.rules rule }
 {
-    let start = grammar.root_of(RuleNo::new(rule)).get();
-    let end = end_of(grammar, rule);
+    let (start, end) = grammar.range_of(RuleNo::new(rule));
     are_sound(nodes_between(grammar.nodes(), start, end))
 }
 
@@ -140,8 +124,8 @@ fn in_order(found: List<Finding>) -> Result<List<Finding>, AllocError>
     Ok(List::from_vec(found))
 }
 
-/// What is found in a grammar's text, by line, start and row of the table, where it is marked of each rule whether it is unproductive:
-/// whether it generates no string and leads to no prose and no faulty block.
+/// What is found in a grammar's text: the rows of the table that hold of it, by line, start and row, where it is marked of each rule
+/// whether it is unproductive: whether it generates no string and leads to no prose and no faulty block.
 ///
 /// # Errors
 ///
@@ -152,22 +136,22 @@ pub fn findings_marked(
     marks: &[bool],
 ) -> Result<List<Finding>, AllocError>
     requires { AreUnproductive grammar.now.rules marks.now }
-    ensures { IfOk result (λ found. spec.AreFindings grammar.now.text found) }
+    ensures { IfOk result (λ found. AreRows grammar.now.text found) }
 {
     let found = candidates(alloc, grammar, marks, grammar.sections())?;
     let found = in_order(found)?;
     Ok(found)
 }
 
-/// What is found in a grammar's text, by line, start and row of the table. The certificate must be accepted for the grammar: a rule
-/// is unproductive exactly where it generates no string and leads to no prose and no faulty block.
+/// What is found in a grammar's text: the rows of the table that hold of it, by line, start and row. The certificate must be accepted
+/// for the grammar: a rule is unproductive exactly where it generates no string and leads to no prose and no faulty block.
 ///
 /// # Errors
 ///
 /// Where an allocation is refused.
 pub fn findings(alloc: Global, grammar: &Grammar, cert: &Cert) -> Result<List<Finding>, AllocError>
     requires { IsAccepted grammar.now.rules cert.now }
-    ensures { IfOk result (λ found. spec.AreFindings grammar.now.text found) }
+    ensures { IfOk result (λ found. AreRows grammar.now.text found) }
 {
     let marks = unproductive_rules(alloc, grammar, cert)?;
     findings_marked(alloc, grammar, marks.as_slice())

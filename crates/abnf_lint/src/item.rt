@@ -3,7 +3,7 @@
 ghost use Rattle.std.specs.Prelude.{◌≡◌, ◌++◌, false, flat_map, OnOk};
 ghost use Rattle.abnf_names.specs.Places as places;
 ghost use Rattle.abnf_syntax.specs.Faults as faults;
-ghost use Rattle.abnf_lint.specs.Findings as spec;
+ghost use Rattle.abnf_lint.specs.own.Findings as spec;
 
 use crate::finding::{Code, Finding};
 use abnf_names::{Grammar, is_touched};

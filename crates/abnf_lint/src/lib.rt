@@ -1,6 +1,7 @@
 //! What is wrong or doubtful in a grammar's text.
 //!
-//! [`findings`] gives all that is found in a text, in its order; what counts as a finding is a relation on texts in specs/Findings.
+//! [`findings`] gives all that is found in a text, in its order. What counts as a finding is a relation on texts: a row of the table in
+//! specs/Rows holds.
 //! A [`Finding`] has a place, a [`Code`] and perhaps a name, and tells its message.
 #![tactic(auto)]
 
@@ -14,7 +15,5 @@ mod unproductive;
 
 pub use finding::{Code, Finding};
 pub use findings_of::{findings, findings_marked};
-pub use laws::{
-    findings_are_the_rows, findings_are_unique, findings_ascend, ordered_rows_are_findings,
-};
+pub use laws::findings_are_unique;
 pub use message::Severity;

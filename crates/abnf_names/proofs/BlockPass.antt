@@ -12,7 +12,7 @@ use Rattle.abnf_names.specs.declared.section.Section.{Section}
 use Rattle.abnf_names.specs.Said.{IsWithin, AreWithin}
 use Rattle.abnf_names.specs.Said as said
 use Rattle.abnf_names.specs.Excerpts.{excerpt, excerpt_of}
-use Rattle.abnf_names.specs.Passes.{AreSections}
+use Rattle.abnf_names.specs.own.Passes.{AreSections}
 use Rattle.abnf_names.specs.Shown.{HasFault}
 
 pub record IsPassed (text : List ℕ) (done rest : List Block) (sections : List Section) : Type 0 where

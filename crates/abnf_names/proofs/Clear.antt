@@ -9,7 +9,7 @@ use Rattle.abnf_parts.specs.declared.node.Node.{Node}
 use Rattle.abnf_parts.specs.Part.{Part, opaque, parts_of}
 use Rattle.abnf_parts.specs.Nodes.{AreNodes, AreNumbered, trees_at}
 use Rattle.abnf_parts.specs.Reach.{ReachesBy, AreReaching}
-use Rattle.abnf_names.specs.Users.{is_clear}
+use Rattle.abnf_names.specs.own.Users.{is_clear}
 use Rattle.abnf_names.proofs.UsersLaws.{in_parts}
 
 module _ (trees : List Part) (nodes : List Node) (are : AreNodes trees nodes) (clear : list_all is_clear nodes ≡ true) where

@@ -14,14 +14,14 @@ use Rattle.abnf_syntax.specs.Bounds.{bounds}
 use Rattle.abnf_syntax.specs.Items.{AreItems}
 use Rattle.abnf_syntax.proofs.Whole.{some_answer}
 use Rattle.abnf_syntax.proofs.Exist.{some_blocks}
-use Rattle.abnf_names.specs.Said.{Block, Says, AreWithin, AreSaid}
+use Rattle.abnf_names.specs.Said.{Block, BlockSays, AreWithin, AreSaid}
 use Rattle.abnf_names.specs.Rules.{Grammar, grammar_of, HasPlaces, IsGrammar}
 use Rattle.abnf_names.specs.Places.{Named, places_in, places_of}
 
 abbrev IsWhole : List Text → source.Block → Type 0
 IsWhole ls block = AreItems ls block.first block.end block.items × (0 < length block.items)
 
-said_by : (items : List Item) → ((rule : Rule) × Derives items rule) ⊎ ((fault : SyntaxFault) × Faults items fault) → (r : Result Rule SyntaxFault) × Says items r
+said_by : (items : List Item) → ((rule : Rule) × Derives items rule) ⊎ ((fault : SyntaxFault) × Faults items fault) → (r : Result Rule SyntaxFault) × BlockSays items r
 said_by items (inl p) = (Ok p.0, p.1)
 said_by items (inr p) = (Err p.0, p.1)
 

@@ -3,8 +3,8 @@ use Rattle.std.proofs.Common.{◌≡◌, ℕ, suc, Bool, true, false, List, [], 
 use Rattle.std.specs.Prelude.{position, Option, Some, None, option_map, if◌then◌else◌}
 use Rattle.std.specs.Str.{bytes_eq}
 use Rattle.abnf_parts.specs.Names.{Name}
-use Rattle.abnf_parts.proofs.NameLaws.{never, same_is, same_refl, position-cons}
-use Rattle.abnf_names.specs.Passes.{members_in, if_same}
+use Rattle.abnf_parts.proofs.NameLaws.{never, same_is, same_refl, position_cons}
+use Rattle.abnf_names.specs.own.Passes.{members_in, if_same}
 
 some_is : (j k : ℕ) → Some j ≡ Some k → j ≡ k
 some_is j k g = cc g
@@ -56,7 +56,7 @@ module _ {T : Type 0} (n : Name) (x : T) where
   hit [] members l k d h m = absurd (cc h)
   hit (a ∷ names) [] l k d h m = absurd (omega (arith, l))
   hit (a ∷ names) (list ∷ members) l k d h m =
-      hit_by (bytes_eq n a) a names list members k d refl (sym (position-cons (bytes_eq n) a names) ∙ h) (λ j e. hit names members (omega (arith, l)) j d e) m
+      hit_by (bytes_eq n a) a names list members k d refl (sym (position_cons (bytes_eq n) a names) ∙ h) (λ j e. hit names members (omega (arith, l)) j d e) m
 
   miss_by : (b : Bool) (a : Name) (names : List Name) (list : List T) (members : List (List T)) → bytes_eq n a ≡ b → (if b then Some 0 else option_map suc (position (bytes_eq n) names)) ≡ None → (m : Name) →
       (position (bytes_eq n) names ≡ None → members_in (names ++ n ∷ []) (members ++ (x ∷ []) ∷ []) m ≡ members_in names members m ++ if_same n m x) →
@@ -72,7 +72,7 @@ module _ {T : Type 0} (n : Name) (x : T) where
   miss [] (list ∷ members) l h m = absurd (omega (arith, l))
   miss (a ∷ names) [] l h m = absurd (omega (arith, l))
   miss (a ∷ names) (list ∷ members) l h m =
-      miss_by (bytes_eq n a) a names list members refl (sym (position-cons (bytes_eq n) a names) ∙ h) m (λ e. miss names members (omega (arith, l)) e m)
+      miss_by (bytes_eq n a) a names list members refl (sym (position_cons (bytes_eq n) a names) ∙ h) m (λ e. miss names members (omega (arith, l)) e m)
 
 -- the things under a name, by its place among the names
 module _ {T : Type 0} (n : Name) where
@@ -89,7 +89,7 @@ module _ {T : Type 0} (n : Name) where
   found [] members l k d h = absurd (cc h)
   found (a ∷ names) [] l k d h = absurd (omega (arith, l))
   found (a ∷ names) (list ∷ members) l k d h =
-      found_by (bytes_eq n a) a names list members k d refl (sym (position-cons (bytes_eq n) a names) ∙ h) (λ j e. found names members (omega (arith, l)) j d e)
+      found_by (bytes_eq n a) a names list members k d refl (sym (position_cons (bytes_eq n) a names) ∙ h) (λ j e. found names members (omega (arith, l)) j d e)
 
   lost_by : (b : Bool) (names : List Name) (list : List T) (members : List (List T)) → (if b then Some 0 else option_map suc (position (bytes_eq n) names)) ≡ None →
       (position (bytes_eq n) names ≡ None → members_in names members n ≡ []) → (if b then list else members_in names members n) ≡ []
@@ -99,4 +99,4 @@ module _ {T : Type 0} (n : Name) where
   pub lost : (names : List Name) (members : List (List T)) → position (bytes_eq n) names ≡ None → members_in names members n ≡ []
   lost [] members h = refl
   lost (a ∷ names) [] h = refl
-  lost (a ∷ names) (list ∷ members) h = lost_by (bytes_eq n a) names list members (sym (position-cons (bytes_eq n) a names) ∙ h) (λ e. lost names members e)
+  lost (a ∷ names) (list ∷ members) h = lost_by (bytes_eq n a) names list members (sym (position_cons (bytes_eq n) a names) ∙ h) (λ e. lost names members e)

@@ -9,14 +9,14 @@ use Rattle.abnf_names.specs.declared.grammar.Grammar.TheInside.{Inside}
 use Rattle.abnf_parts.specs.Part.{Part}
 use Rattle.abnf_parts.specs.Core.{core_rules, core_name, is_needed}
 use Rattle.abnf_parts.specs.CoreTable.{core_of}
-use Rattle.abnf_names.specs.Said.{Block, Says, AreWithin, AreSaid}
+use Rattle.abnf_names.specs.Said.{Block, BlockSays, AreWithin, AreSaid}
 use Rattle.abnf_parts.specs.Names.{Name, all_names, names_beside, with_name}
 use Rattle.abnf_names.specs.Places.{Named, named_at, places_of}
 use Rattle.abnf_parts.specs.Nodes.{trees_at, AreNumbered}
 use Rattle.abnf_parts.specs.Reach.{AreReaching}
 use Rattle.abnf_names.specs.Rules.{defined, needed, undefined, names_of, rules_of, faults_of, Grammar}
-use Rattle.abnf_names.specs.Passes.{stated, AreDefined, AreGrouped, AreNamePlaces, AreNames, AreRead, AreRules, AreSections, Grouped}
-use Rattle.abnf_names.specs.declared.own.NamePlaces.{NamePlaces}
+use Rattle.abnf_names.specs.own.Passes.{stated, AreDefined, AreGrouped, AreNamesOfText, AreNames, AreRead, AreRules, AreSections, Grouped}
+use Rattle.abnf_names.specs.declared.own.NamesOfText.{NamesOfText}
 use Rattle.abnf_names.specs.declared.section.Section.{Section}
 use Rattle.abnf_token.specs.Classes.{Text}
 use Rattle.abnf_syntax.specs.Blocks.{line_texts}
@@ -24,7 +24,7 @@ use Rattle.abnf_names.specs.declared.section.Listed.{Listed}
 use Rattle.std.proofs.lemmas.List.Elements.{All-cons, All-nil}
 use Rattle.abnf_names.specs.declared.rules.Rules.{Rules}
 use Rattle.abnf_names.specs.Excerpts.{excerpt, excerpt_of}
-use Rattle.abnf_names.specs.Inside.{IsGrammarInside}
+use Rattle.abnf_names.specs.own.Inside.{IsGrammarInside}
 use Rattle.abnf_parts.specs.Pushed.{AddsTrees}
 use Rattle.abnf_parts.proofs.ApartLaws.{map_both, needed_names}
 use Rattle.abnf_names.proofs.NeededPass.{needed_all}
@@ -47,29 +47,29 @@ pub numbered : (blocks : List Block) (nodes : List Node) (roots : List ℕ) → 
 numbered blocks nodes roots added = (tied (rules_of blocks) nodes roots added (rules_closed blocks)).numbered
 
 -- what is said of the blocks of a text
-pub each_says : (ls : List Text) (bounds : List (ℕ × ℕ)) (blocks : List Block) → AreWithin ls bounds blocks → All (λ block. Says block.items block.said) blocks
-each_says ls [] [] h = All-nil (λ block. Says block.items block.said)
+pub each_says : (ls : List Text) (bounds : List (ℕ × ℕ)) (blocks : List Block) → AreWithin ls bounds blocks → All (λ block. BlockSays block.items block.said) blocks
+each_says ls [] [] h = All-nil (λ block. BlockSays block.items block.said)
 each_says ls [] (block ∷ blocks) h = absurd h
 each_says ls (b ∷ bounds) [] h = absurd h
-each_says ls (b ∷ bounds) (block ∷ blocks) h = All-cons (λ block. Says block.items block.said) block blocks h.0.says (each_says ls bounds blocks h.1)
+each_says ls (b ∷ bounds) (block ∷ blocks) h = All-cons (λ block. BlockSays block.items block.said) block blocks h.0.says (each_says ls bounds blocks h.1)
 
 -- sections in which the names stand at these places
-pub read : (text : List ℕ) (sections given : List Section) (places : NamePlaces) (h : AreSections text sections) → given ≡ sections →
-    ((blocks : List Block) → map excerpt given ≡ map excerpt_of blocks → AreNamePlaces blocks places) → AreRead given places h.blocks
+pub read : (text : List ℕ) (sections given : List Section) (places : NamesOfText) (h : AreSections text sections) → given ≡ sections →
+    ((blocks : List Block) → map excerpt given ≡ map excerpt_of blocks → AreNamesOfText blocks places) → AreRead given places h.blocks
 read text sections given places h same found =
     let excerpts : map excerpt given ≡ map excerpt_of h.blocks = ap (map excerpt) same ∙ h.excerpts in
     record { says = each_says (line_texts text) h.of_text.bounds h.blocks h.of_text.each; excerpts = excerpts; places = found h.blocks excerpts }
 
 -- names that were parted from what stands beside them
-pub defined_parts : (blocks : List Block) (groups : Grouped Listed) (own names : List Name) (members given : List (List Listed)) → All (λ block. Says block.items block.said) blocks → AreGrouped (map excerpt_of blocks) groups →
+pub defined_parts : (blocks : List Block) (groups : Grouped Listed) (own names : List Name) (members given : List (List Listed)) → All (λ block. BlockSays block.items block.said) blocks → AreGrouped (map excerpt_of blocks) groups →
     own ≡ groups.0 → members ≡ groups.1 → length groups.0 ≡ length groups.1 → names ≡ own → given ≡ members → AreDefined blocks names given
 defined_parts blocks groups own names members given says are o m l n g =
     subst (λ ns. AreDefined blocks ns given) (sym (n ∙ o)) (subst (λ ms. AreDefined blocks groups.0 ms) (sym (g ∙ m)) (record { says = says; groups = are; beside = l }))
 
 -- what was pushed by these parts are the rules of the blocks
-pub rules_added : (sections : List Section) (places : NamePlaces) (blocks : List Block) (groups : Grouped Listed) (own : List Name) (members given : List (List Listed)) (names : List Name × List Name) (listed cores : List Core) (nodes : List Node) (roots : List ℕ)
+pub rules_added : (sections : List Section) (places : NamesOfText) (blocks : List Block) (groups : Grouped Listed) (own : List Name) (members given : List (List Listed)) (names : List Name × List Name) (listed cores : List Core) (nodes : List Node) (roots : List ℕ)
     → AreRead sections places blocks → AreGrouped (map excerpt sections) groups → own ≡ groups.0 → members ≡ groups.1 → length groups.0 ≡ length groups.1 → given ≡ members → listed ≡ cores
-    → ((blocks : List Block) → own ≡ defined blocks → AreNamePlaces blocks places → AreNames blocks names × (map core_of cores ≡ needed blocks))
+    → ((blocks : List Block) → own ≡ defined blocks → AreNamesOfText blocks places → AreNames blocks names × (map core_of cores ≡ needed blocks))
     → ((blocks : List Block) → AreDefined blocks names.0 given → AreNames blocks names → map core_of listed ≡ needed blocks → AddsTrees (rules_of blocks) [] nodes [] roots)
     → AreNames blocks names × AddsTrees (rules_of blocks) [] nodes [] roots
 rules_added sections places blocks groups own members given names listed cores nodes roots read grouped o m l g k named adds =

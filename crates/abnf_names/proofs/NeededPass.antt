@@ -8,7 +8,7 @@ use Rattle.abnf_parts.proofs.NeededLaws.{needed_core}
 use Rattle.abnf_names.specs.Said.{Block}
 use Rattle.abnf_names.specs.Places.{Named, places_of}
 use Rattle.abnf_names.specs.Rules.{needed, defined}
-use Rattle.abnf_names.specs.Passes.{stated, with_core_name}
+use Rattle.abnf_names.specs.own.Passes.{stated, with_core_name}
 
 -- names are added where core rules have them, as if those alone were there
 stated_among : (names texts : List Name) → fold with_core_name names texts ≡ fold with_name names (filter is_core_name texts)

@@ -7,7 +7,7 @@ use Rattle.abnf_parts.specs.Names.{Name, with_name}
 use Rattle.abnf_parts.proofs.NameLaws.{never, same_refl, same_sym}
 use Rattle.abnf_names.specs.Said.{Block}
 use Rattle.abnf_names.specs.Rules.{defined, head_name}
-use Rattle.abnf_names.specs.Passes.{members_in}
+use Rattle.abnf_names.specs.own.Passes.{members_in}
 
 abbrev pub IsOnce : List Name → Type 0
 IsOnce [] = Unit {0}

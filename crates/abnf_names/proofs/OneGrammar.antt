@@ -22,26 +22,27 @@ use Rattle.abnf_parts.specs.Tree.{parts}
 use Rattle.abnf_parts.specs.Names.{Name, with_name, rule_number}
 use Rattle.abnf_parts.specs.Core.{CoreRule, core_name, core_rules, is_needed}
 use Rattle.abnf_parts.proofs.Alike.{same_alternatives}
-use Rattle.abnf_names.specs.Said.{Block, Says, IsWithin, AreWithin, AreSaid, name_of}
+use Rattle.abnf_names.specs.Said.{Block, BlockSays, IsWithin, AreWithin, AreSaid, name_of}
 use Rattle.abnf_names.specs.Places.{named, use_after, uses_after, places_in, places_of}
-use Rattle.abnf_names.specs.Rules.{defines, adds, counted, head_name, defined, undefined, needed, names_of, alternatives_said, said_alternatives, rule_tree, core_tree, rules_of, fault_of, block_fault, faults_of, Grammar, grammar_of, IsGrammar}
+use Rattle.abnf_names.specs.Shown.{fault_shown}
+use Rattle.abnf_names.specs.Rules.{defines, adds, counted, head_name, defined, undefined, needed, names_of, alternatives_said, said_alternatives, rule_tree, core_tree, rules_of, fault_of, faults_of, Grammar, grammar_of, IsGrammar}
 
-abbrev Plain : Type 0
-Plain = List Item × ((Name → Option ℕ) → List Part) × Option (Place × SyntaxFault)
+abbrev pub Plain : Type 0
+Plain = List Item × ((Name → Option ℕ) → List Part) × Option SyntaxFault
 
-abbrev plain : Block → Plain
-plain block = (map bare block.items, λ number. said_alternatives number block, block_fault block)
+abbrev pub plain : Block → Plain
+plain block = (map bare block.items, λ number. said_alternatives number block, fault_shown block.said)
 
 -- ---- the blocks of a text
 
-same_said : (xs ys : List Item) (r s : Result Rule SyntaxFault) → map bare xs ≡ map bare ys → Says xs r → Says ys s →
-    ((number : Name → Option ℕ) → alternatives_said number r ≡ alternatives_said number s) × (fault_of r ≡ fault_of s)
+same_said : (xs ys : List Item) (r s : Result Rule SyntaxFault) → map bare xs ≡ map bare ys → BlockSays xs r → BlockSays ys s →
+    ((number : Name → Option ℕ) → alternatives_said number r ≡ alternatives_said number s) × (fault_shown r ≡ fault_shown s)
 same_said xs ys (Ok r) (Ok s) e p q = (same_alternatives xs ys r s e p q, refl)
 same_said xs ys (Ok r) (Err b) e p q = no_fault xs ys r b e p q
 same_said xs ys (Err a) (Ok s) e p q = no_fault ys xs s a (sym e) q p
-same_said xs ys (Err a) (Err b) e p q = (λ number. refl, ap (λ fault. fault_of (Err fault)) (same_fault xs ys a b e p q))
+same_said xs ys (Err a) (Err b) e p q = (λ number. refl, ap Some (same_fault xs ys a b e p q))
 
-same_block : (ls : List Text) (bounds : ℕ × ℕ) (b c : Block) → IsWithin ls bounds b → IsWithin ls bounds c → plain b ≡ plain c
+pub same_block : (ls : List Text) (bounds : ℕ × ℕ) (b c : Block) → IsWithin ls bounds b → IsWithin ls bounds c → plain b ≡ plain c
 same_block ls bounds b c p q =
     let items_are = same_items ls bounds.0 bounds.1 b.items c.items p.items q.items in
     let said = same_said b.items c.items b.said c.said items_are p.says q.says in
@@ -121,9 +122,17 @@ names_plain : (blocks : List Block) → filter_map plain_name (map plain blocks)
 names_plain [] = refl
 names_plain (block ∷ blocks) = (λ i. cons_option (name_is block i) (names_plain blocks i))
 
-faults_plain : (blocks : List Block) → filter_map (λ (p : Plain). p.2) (map plain blocks) ≡ faults_of blocks
+-- the fault with its place
+abbrev plain_fault : Plain → Option (Place × SyntaxFault)
+plain_fault p = option_map_or (λ fault. fault_of (Err fault)) p.2 None
+
+fault_is : (said : Result Rule SyntaxFault) → option_map_or (λ fault. fault_of (Err fault)) (fault_shown said) None ≡ fault_of said
+fault_is (Ok rule) = refl
+fault_is (Err fault) = refl
+
+faults_plain : (blocks : List Block) → filter_map plain_fault (map plain blocks) ≡ faults_of blocks
 faults_plain [] = refl
-faults_plain (block ∷ blocks) = ap (cons_option (block_fault block)) (faults_plain blocks)
+faults_plain (block ∷ blocks) = (λ i. cons_option (fault_is block.said i) (faults_plain blocks i))
 
 tells_plain : (number : Name → Option ℕ) (blocks : List Block) → flat_map (λ (p : Plain). p.1 number) (map plain blocks) ≡ flat_map (said_alternatives number) blocks
 tells_plain number [] = refl
@@ -170,7 +179,7 @@ module _ (bs cs : List Block) (e : map plain bs ≡ map plain cs) where
   places_same = sym (places_plain bs) ∙ (ap (flat_map (λ (p : Plain). places_in p.0)) e ∙ places_plain cs)
 
   faults_same : faults_of bs ≡ faults_of cs
-  faults_same = sym (faults_plain bs) ∙ (ap (filter_map (λ (p : Plain). p.2)) e ∙ faults_plain cs)
+  faults_same = sym (faults_plain bs) ∙ (ap (filter_map plain_fault) e ∙ faults_plain cs)
 
   undefined_same : undefined bs ≡ undefined cs
   undefined_same = (λ i. filter (λ name. not (list_any (bytes_eq name) (defined_same i))) (map (λ place. lowercase place.text) (places_same i)))

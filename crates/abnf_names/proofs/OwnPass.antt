@@ -20,7 +20,7 @@ use Rattle.abnf_syntax.proofs.Cons.{cons_same}
 use Rattle.abnf_names.specs.Said.{Block, name_of}
 use Rattle.abnf_names.specs.Places.{Named, named_at, places_in, places_of}
 use Rattle.abnf_names.specs.Rules.{defined, head_name, fault_of, block_fault, faults_of}
-use Rattle.abnf_names.specs.Passes.{members_of, if_same, Grouped, AreGrouped, names_defined, defines_name, section_fault, stated, with_core_name}
+use Rattle.abnf_names.specs.own.Passes.{members_of, if_same, Grouped, AreGrouped, names_defined, defines_name, section_fault, stated, with_core_name}
 use Rattle.abnf_names.specs.Excerpts.{Excerpt, excerpt, excerpt_of}
 use Rattle.abnf_names.specs.Shown.{fault_shown}
 use Rattle.abnf_names.specs.declared.section.Section.{Section}
@@ -32,8 +32,8 @@ abbrev now_excerpt : Listed → Excerpt
 now_excerpt listed = excerpt listed.section.now
 
 -- one more item that a loop has seen
-pub map_take-next : {X Y : Type 0} (f : X → Y) (xs : List X) (i : ℕ) (x d : X) → i < length xs → x ≡ get_or xs i d → map f (take (i + 1) xs) ≡ map f (take i xs) ++ f x ∷ []
-map_take-next f xs i x d lt is =
+pub map_take_next : {X Y : Type 0} (f : X → Y) (xs : List X) (i : ℕ) (x d : X) → i < length xs → x ≡ get_or xs i d → map f (take (i + 1) xs) ≡ map f (take i xs) ++ f x ∷ []
+map_take_next f xs i x d lt is =
     ap (map f) (ap (λ k. take k xs) (let e : i + 1 ≡ suc i = omega arith in e) ∙ take-suc xs i d lt)
     ∙ (map-append f (take i xs) (get_or xs i d ∷ []) ∙ ap (λ y. map f (take i xs) ++ f y ∷ []) (sym is))
 
@@ -82,7 +82,7 @@ own_same groups listed e seen own = record {
 pub grouped_next : (sections : List Section) (i : ℕ) (listed : Listed) (d : Section) (old new : Grouped Listed) → i < length sections → listed.section.now ≡ get_or sections i d → AreGrouped (map excerpt (take i sections)) old →
     ((seen : List Excerpt) → AreGrouped seen old → AreGrouped (seen ++ excerpt listed.section.now ∷ []) new) → AreGrouped (map excerpt (take (i + 1) sections)) new
 grouped_next sections i listed d old new lt is before more =
-    subst (λ seen. AreGrouped seen new) (sym (map_take-next excerpt sections i listed.section.now d lt is)) (more (map excerpt (take i sections)) before)
+    subst (λ seen. AreGrouped seen new) (sym (map_take_next excerpt sections i listed.section.now d lt is)) (more (map excerpt (take i sections)) before)
 
 names_of_blocks : (blocks : List Block) → filter_map name_in (map excerpt_of blocks) ≡ filter_map head_name blocks
 names_of_blocks [] = refl
@@ -124,7 +124,7 @@ pub stated_next : (spots : List Spot) (i : ℕ) (spot d : Spot) (old new : List 
 stated_next spots i spot d old new lt is before now =
     now
     ∙ (ap (λ names. with_core_name names (folded_text spot.name)) before
-    ∙ sym (ap stated (map_take-next named_at spots i spot d lt is) ∙ stated_more (map named_at (take i spots)) (named_at spot)))
+    ∙ sym (ap stated (map_take_next named_at spots i spot d lt is) ∙ stated_more (map named_at (take i spots)) (named_at spot)))
 
 -- what is known of two clauses together
 pub ok_both : {A E : Type 0} (r : Result A E) (P Q R : A → Type 0) → ((x : A) → P x → Q x → R x) → IfOk r P → IfOk r Q → IfOk r R

@@ -8,7 +8,7 @@ use Rattle.abnf_parts.specs.declared.node.Node.{Node}
 use Rattle.abnf_names.specs.declared.section.Listed.{Listed}
 use Rattle.abnf_parts.specs.Part.{Part, alt, subparts}
 use Rattle.abnf_parts.specs.Tree.{parts}
-use Rattle.abnf_names.specs.Said.{Block, Says}
+use Rattle.abnf_names.specs.Said.{Block, BlockSays}
 use Rattle.abnf_parts.specs.Names.{Name, rule_number, all_names}
 use Rattle.abnf_syntax.specs.declared.fault.SyntaxFault.{SyntaxFault}
 use Rattle.abnf_syntax.specs.declared.fault.SyntaxFault.TheVariants as SyntaxFaults
@@ -17,13 +17,13 @@ use Rattle.abnf_names.specs.Rules.{alternatives_said, counted, adds, defines, na
 use Rattle.abnf_parts.specs.CoreTable.{core_of, number_in}
 use Rattle.abnf_parts.specs.declared.core_rule.Core.{Core}
 use Rattle.abnf_parts.proofs.ApartLaws.{map_both}
-use Rattle.abnf_names.specs.Passes.{alternatives_of, counted_among, definition_of, Definition, defines_name, is_addition, is_adding, IsSaidBy, IsTold, members_in, tree_of, AllTold, AreBeside, AreDefined, AreNames, AreTold}
+use Rattle.abnf_names.specs.own.Passes.{alternatives_of, counted_among, definition_of, Definition, defines_name, is_addition, is_adding, IsSaidBy, IsToldDefinition, members_in, tree_of, AllTold, AreBeside, AreDefined, AreNames, AreTold}
 use Rattle.abnf_names.specs.Excerpts.{Excerpt, excerpt, excerpt_of}
 use Rattle.abnf_names.proofs.OwnPass.{grouped_defined}
 use Rattle.abnf_syntax.proofs.Cons.{cons_same}
 use Rattle.std.proofs.lemmas.List.Elements.{All-head, All-tail, All-cons}
 use Rattle.abnf_names.proofs.Once.{IsOnce, defined_once, members_are, map_same}
-use Rattle.abnf_parts.specs.Pushed.{Adds, AddsTrees}
+use Rattle.abnf_parts.specs.Pushed.{AddsNodes, AddsTrees}
 use Rattle.abnf_parts.proofs.Pushing.{trees_none, trees_both, trees_next}
 
 -- the alternatives of those definitions in front that count, where it is known whether one with `=` was among them
@@ -119,8 +119,8 @@ pub counted_next : (number : Name → Option ℕ) (sections : List Listed) (defi
 counted_next number sections definitions i listed is_defined adding old mid new a b c told lt is adds h pushed =
     let first : Definition = record { adds = adding; said = Err SyntaxFaults.Memory } in
     let d = get_or definitions i first in
-    let tells : IsTold listed.section.now d = subst (λ (it : Listed). IsTold it.section.now d) (sym is) (beside_at (λ listed definition. IsTold listed.section.now definition) sections definitions told i listed first lt) in
-    let within : i < length definitions = subst (λ n. i < n) (beside_length (λ listed definition. IsTold listed.section.now definition) sections definitions told) lt in
+    let tells : IsToldDefinition listed.section.now d = subst (λ (it : Listed). IsToldDefinition it.section.now d) (sym is) (beside_at (λ listed definition. IsToldDefinition listed.section.now definition) sections definitions told i listed first lt) in
+    let within : i < length definitions = subst (λ n. i < n) (beside_length (λ listed definition. IsToldDefinition listed.section.now definition) sections definitions told) lt in
     pushed_more (alternatives_of number) definitions is_defined adding d (drop (i + 1) definitions) old mid new a b c
     (subst (λ (left : List Definition). HasPushed (alternatives_of number) definitions is_defined left old mid a b)
     (drop-cons definitions i first within ∙ ap (λ k. d ∷ drop k definitions) (let one : suc i ≡ i + 1 = omega arith in one)) h)
@@ -129,14 +129,14 @@ counted_next number sections definitions i listed is_defined adding old mid new 
 pub counted_end : (number : Name → Option ℕ) (sections : List Listed) (definitions : List Definition) (i : ℕ) (is_defined : Bool) (old new : List Node) (a c : List ℕ) →
     AreTold sections definitions → length sections ≤ i → HasPushed (alternatives_of number) definitions is_defined (drop i definitions) old new a c → AddsTrees (flat_map (alternatives_of number) (counted_among definitions)) old new a c
 counted_end number sections definitions i is_defined old new a c told end h =
-    let same = beside_length (λ listed definition. IsTold listed.section.now definition) sections definitions told in
+    let same = beside_length (λ listed definition. IsToldDefinition listed.section.now definition) sections definitions told in
     pushed_all (alternatives_of number) definitions is_defined old new a c
     (subst (λ (left : List Definition). HasPushed (alternatives_of number) definitions is_defined left old new a c) (drop_all i definitions (omega (arith, same, end))) h)
 
 -- the next name's rule
 pub own_next : (number : Name → Option ℕ) (own : List (List Listed)) (definitions : List (List Definition)) (i : ℕ) (listed : List Listed) (old mid new : List Node) (a b c : List ℕ) →
     AllTold own definitions → i < length own → listed ≡ get_or own i listed → AddsTrees (map (tree_of number) (take i definitions)) old mid a b → c ≡ b ++ length mid ∷ [] →
-    ((said : List Definition) → AreTold listed said → Adds (subparts (tree_of number said)) mid new) → AddsTrees (map (tree_of number) (take (i + 1) definitions)) old new a c
+    ((said : List Definition) → AreTold listed said → AddsNodes (subparts (tree_of number said)) mid new) → AddsTrees (map (tree_of number) (take (i + 1) definitions)) old new a c
 own_next number own definitions i listed old mid new a b c told lt is h e pushed =
     let within : i < length definitions = subst (λ n. i < n) (beside_length AreTold own definitions told) lt in
     let tells : AreTold listed (get_or definitions i []) = subst (λ (it : List Listed). AreTold it (get_or definitions i [])) (sym is) (beside_at AreTold own definitions told i listed [] lt) in
@@ -163,7 +163,7 @@ beside_map R f g h [] = tt
 beside_map R f g h (x ∷ xs) = (h x, beside_map R f g h xs)
 
 abbrev Says_own : Block → Type 0
-Says_own block = Says block.items block.said
+Says_own block = BlockSays block.items block.said
 
 kept_by : (b : Bool) (block : Block) (blocks kept : List Block) → Says_own block → All Says_own kept → All Says_own (if b then block ∷ kept else kept)
 kept_by true block blocks kept h rest = All-cons Says_own block kept h rest
@@ -183,7 +183,7 @@ told_by (s ∷ sections) (b ∷ blocks) says e =
     let items : s.section.now.block.items ≡ b.items = ap (λ (x : Excerpt). x.items) h.0 in (
       record {
         adds = ap is_addition items;
-        said = record { says = subst (λ items. Says items b.said) (sym items) (All-head Says_own b blocks says); shown = ap (λ (x : Excerpt). x.fault) h.0 };
+        said = record { says = subst (λ items. BlockSays items b.said) (sym items) (All-head Says_own b blocks says); shown = ap (λ (x : Excerpt). x.fault) h.0 };
       },
       told_by sections blocks (All-tail Says_own b blocks says) h.1,
     )

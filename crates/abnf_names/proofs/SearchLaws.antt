@@ -6,7 +6,7 @@ use Rattle.std.proofs.lemmas.Bool.{eq-eqb, eqb-true, or_cases, cases_lt, false�
 use Rattle.std.proofs.lemmas.List.{get_or_past, get_or_default, get_or_append_left, length_push}
 use Rattle.std.proofs.lemmas.List.Elements.{Contains-append_left, Contains-push, Contains-push_cases}
 use Rattle.std.proofs.lemmas.Option.{slice_get_within, get_or_from_slice_get}
-use Rattle.abnf_names.specs.Search.{users_at, LeadsBy, LeadsToLast, with_place, AreMarks, AreMarked}
+use Rattle.abnf_names.specs.own.Search.{users_at, LeadsBy, LeadsToLast, with_place, AreReachMarks, AreMarked}
 
 -- what was found leads to the last place, which was found too; and so were all users of the first places that were found
 pub record IsSearched (users : List (List ℕ)) (found : List ℕ) (first : ℕ) : Type 0 where
@@ -135,7 +135,7 @@ found_by users found first h le (suc steps) place (next, user, rest) =
 
 -- at its end it has found all
 pub searched_all : (users : List (List ℕ)) (found : List ℕ) (first : ℕ) (marks : List Bool) → IsSearched users found first → slice_get found first ≡ None → length marks ≡ length users →
-    ((place : ℕ) → (get_or marks place false ≡ true) ↔ Contains found place) → AreMarks users marks
+    ((place : ℕ) → (get_or marks place false ≡ true) ↔ Contains found place) → AreReachMarks users marks
 searched_all users found first marks h none len on = record {
   one_each = len;
   each = λ place. (

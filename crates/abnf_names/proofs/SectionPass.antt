@@ -2,7 +2,7 @@
 use Rattle.std.proofs.Common.{◌≡◌, false, List, Some, None, Ok, Err, refl, sym, ap, ◌∙◌, ◌⊎◌, inl, inr}
 use Rattle.std.specs.Prelude.{is_some, Option, Result}
 use Rattle.std.proofs.lemmas.Grind.{not_there}
-use Rattle.abnf_names.specs.Said.{Says}
+use Rattle.abnf_names.specs.Said.{BlockSays}
 use Rattle.abnf_syntax.specs.declared.item.Item.{Item}
 use Rattle.abnf_syntax.specs.declared.fault.SyntaxFault.{SyntaxFault}
 use Rattle.abnf_syntax.specs.declared.fault.SyntaxFault.TheVariants.{Memory}
@@ -12,7 +12,7 @@ use Rattle.abnf_syntax.specs.Grammar.{Derives, HasOneRule}
 use Rattle.abnf_syntax.proofs.Exact.{parse_none, some_not_none}
 use Rattle.abnf_syntax.proofs.Whole.{parse_complete}
 use Rattle.abnf_parts.specs.Tree.{alternatives}
-use Rattle.abnf_names.specs.Passes.{AreAlike}
+use Rattle.abnf_names.specs.own.Passes.{AreAlike}
 use Rattle.abnf_names.specs.Shown.{HasFault, fault_shown}
 
 pub none_shown : (items : List Item) (rule : Rule) → Derives items rule → HasFault items None
@@ -31,12 +31,12 @@ derived_shows_none items rule d f faulty =
 pub no_fault : (items : List Item) (fault : Option SyntaxFault) → ∥ HasFault items fault ∥₁ → fault ≡ None → (f : SyntaxFault) → Faults items f → ⊥
 no_fault items fault h none f faulty = not_there h (λ shows. by_said shows.said shows.says shows.shown)
   where
-    by_said : (said : Result Rule SyntaxFault) → Says items said → fault ≡ fault_shown said → ⊥
+    by_said : (said : Result Rule SyntaxFault) → BlockSays items said → fault ≡ fault_shown said → ⊥
     by_said (Err g) says shown = let both : None ≡ Some g = sym none ∙ shown in absurd (cc)
     by_said (Ok rule) says shown = derived_shows_none items rule says f faulty
 
 -- what it says has the alternatives of the rule that was read
-pub alike : (items : List Item) (fault : Option SyntaxFault) → fault ≡ None → (rule : Rule) → Derives items rule → HasOneRule items → (said : Result Rule SyntaxFault) → Says items said → fault ≡ fault_shown said
+pub alike : (items : List Item) (fault : Option SyntaxFault) → fault ≡ None → (rule : Rule) → Derives items rule → HasOneRule items → (said : Result Rule SyntaxFault) → BlockSays items said → fault ≡ fault_shown said
     → AreAlike said (Some rule)
 alike items fault none rule d one (Err g) says shown = let both : None ≡ Some g = sym none ∙ shown in absurd (cc)
 alike items fault none rule d one (Ok other) says shown = λ number. ap (λ (r : Rule). alternatives number r.body) (one rule other d says)

@@ -11,26 +11,26 @@ use Rattle.std.specs.Option.{option_or}
 use Rattle.ls_text.specs.declared.position.Place.{Place}
 use Rattle.abnf_names.specs.declared.place.Spot.{Spot}
 use Rattle.abnf_names.specs.Places.{Named, named_at, name_place, places_among, holds, ends_at, found_at, at_offset, place_and_text}
-use Rattle.abnf_names.specs.Passes.{spot_at}
+use Rattle.abnf_names.specs.own.Passes.{spot_at}
 
-find-map : (test : Named → Bool) (spots : List Spot) → option_map named_at (find (λ spot. test (named_at spot)) spots) ≡ find test (map named_at spots)
-find-map test [] = refl
-find-map test (spot ∷ spots) = by (test (named_at spot)) (find-map test spots)
+find_map : (test : Named → Bool) (spots : List Spot) → option_map named_at (find (λ spot. test (named_at spot)) spots) ≡ find test (map named_at spots)
+find_map test [] = refl
+find_map test (spot ∷ spots) = by (test (named_at spot)) (find_map test spots)
   where
     by : (b : Bool) → option_map named_at (find (λ s. test (named_at s)) spots) ≡ find test (map named_at spots) →
         option_map named_at (if b then Some spot else find (λ s. test (named_at s)) spots) ≡ (if b then Some (named_at spot) else find test (map named_at spots))
     by true rest = refl
     by false rest = rest
 
-or-map : (first second : Option Spot) → option_map named_at (option_or first second) ≡ option_or (option_map named_at first) (option_map named_at second)
-or-map (Some spot) second = refl
-or-map None second = refl
+or_map : (first second : Option Spot) → option_map named_at (option_or first second) ≡ option_or (option_map named_at first) (option_map named_at second)
+or_map (Some spot) second = refl
+or_map None second = refl
 
 -- the spot that is found at a point is the name there
 pub spot_is : (at : Place) (spots : List Spot) → option_map named_at (spot_at at spots) ≡ found_at at (map named_at spots)
 spot_is at spots =
-    or-map (find (λ spot. holds at (named_at spot)) spots) (find (λ spot. ends_at at (named_at spot)) spots)
-    ∙ (λ i. option_or (find-map (holds at) spots i) (find-map (ends_at at) spots i))
+    or_map (find (λ spot. holds at (named_at spot)) spots) (find (λ spot. ends_at at (named_at spot)) spots)
+    ∙ (λ i. option_or (find_map (holds at) spots i) (find_map (ends_at at) spots i))
 
 abbrev seen : Bor Spot → Spot
 seen spot = spot.now

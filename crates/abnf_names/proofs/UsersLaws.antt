@@ -10,8 +10,8 @@ use Rattle.abnf_parts.specs.declared.node.Node.{Node}
 use Rattle.abnf_parts.specs.Part.{Part, quoted, series, span, seq, alt, rep, ref, opaque, subparts, parts_of, root_number}
 use Rattle.abnf_parts.specs.Nodes.{IsNode, AreNodes, AreRoots}
 use Rattle.abnf_parts.specs.Reach.{ReachesOpaque, AreReaching}
-use Rattle.abnf_names.specs.Search.{users_at, LeadsBy, LeadsToLast, AreUsersWithin, AreMarks}
-use Rattle.abnf_names.specs.Users.{place_of_part, place_of_node, LeadsTo, IsRangeOf, nodes_of, with_user, AreUsers}
+use Rattle.abnf_names.specs.own.Search.{users_at, LeadsBy, LeadsToLast, AreUsersWithin, AreReachMarks}
+use Rattle.abnf_names.specs.own.Users.{place_of_part, place_of_node, LeadsTo, IsRangeOf, nodes_of, with_user, AreUsingRules}
 use Rattle.abnf_names.proofs.ReachLaws.{marked, reaches_first, reaches_more}
 
 -- in a list through a function
@@ -29,13 +29,13 @@ module _ {X Y : Type 0} (f : X → Y) where
 
 -- one more user
 module _ (r : ℕ) where
-  length-with_user : (users : List (List ℕ)) (o : Option ℕ) → length (with_user r users o) ≡ length users
-  length-with_user users None = refl
-  length-with_user users (Some place) = length-set users place (users_at users place ++ r ∷ [])
+  length_with_user : (users : List (List ℕ)) (o : Option ℕ) → length (with_user r users o) ≡ length users
+  length_with_user users None = refl
+  length_with_user users (Some place) = length-set users place (users_at users place ++ r ∷ [])
 
-  length-users : (os : List (Option ℕ)) (users : List (List ℕ)) → length (fold (with_user r) users os) ≡ length users
-  length-users [] users = refl
-  length-users (o ∷ os) users = length-users os (with_user r users o) ∙ length-with_user users o
+  length_users : (os : List (Option ℕ)) (users : List (List ℕ)) → length (fold (with_user r) users os) ≡ length users
+  length_users [] users = refl
+  length_users (o ∷ os) users = length_users os (with_user r users o) ∙ length_with_user users o
 
   -- the rule was added to the users of these places
   record AddsUser (old new : List (List ℕ)) (os : List (Option ℕ)) : Type 0 where
@@ -94,7 +94,7 @@ module _ (r : ℕ) where
   all_users (o ∷ os) users within =
       let one : AddsUser users (with_user r users o) (o ∷ []) = one_user users o (λ q e. within q (0, omega arith, e)) in
       let rest : AddsUser (with_user r users o) (fold (with_user r) (with_user r users o) os) os =
-      all_users os (with_user r users o) (λ q c. subst (λ n. q < n) (sym (length-with_user users o)) (within q (tail_of o (Some q) os c))) in
+      all_users os (with_user r users o) (λ q c. subst (λ n. q < n) (sym (length_with_user users o)) (within q (tail_of o (Some q) os c))) in
       record {
         only = λ place x c. ⊎_elim
             (λ (m : Contains (users_at (with_user r users o) place) x). ⊎_elim (λ (u : Contains (users_at users place) x). inl u)
@@ -105,7 +105,7 @@ module _ (r : ℕ) where
       }
 
 pub users_kept : (r : ℕ) (os : List (Option ℕ)) (old new : List (List ℕ)) → new ≡ fold (with_user r) old os → length new ≡ length old
-users_kept r os old new e = ap length e ∙ length-users r os old
+users_kept r os old new e = ap length e ∙ length_users r os old
 
 pub place_in : (last : ℕ) (nodes : List Node) (i : ℕ) (node : Node) (place : ℕ) → i < length nodes → node ≡ get_or nodes i node → place_of_node last node ≡ Some place →
     Contains (map (place_of_node last) nodes) (Some place)
@@ -234,14 +234,14 @@ module _ (trees : List Part) (nodes : List Node) (are : AreNodes trees nodes) (r
   places_within q c = leads_within trees nodes are r q (root, is, subst (λ os. Contains os (Some q)) (rule_places (length trees)) c)
 
   -- one more rule was read
-  pub users_more : (old new : List (List ℕ)) → AreUsers trees r old → new ≡ fold (with_user r) old (map (place_of_node (length trees)) (nodes_of nodes trees r)) → AreUsers trees (r + 1) new
+  pub users_more : (old new : List (List ℕ)) → AreUsingRules trees r old → new ≡ fold (with_user r) old (map (place_of_node (length trees)) (nodes_of nodes trees r)) → AreUsingRules trees (r + 1) new
   users_more old new h e =
       let os = map (place_of_part (length trees)) (subparts root) in
       let made : fold (with_user r) old os ≡ new = ap (fold (with_user r) old) (sym (rule_places (length trees))) ∙ sym e in
       let added : AddsUser r old new os = subst (λ users. AddsUser r old users os) made
       (all_users r os old (λ q c. subst (λ n. q < n) (sym h.one_each) (leads_within trees nodes are r q (root, is, c)))) in
       record {
-        one_each = sym (ap length made) ∙ (length-users r os old ∙ h.one_each);
+        one_each = sym (ap length made) ∙ (length_users r os old ∙ h.one_each);
         right = λ place x c. ⊎_elim (λ (u : Contains (users_at old place) x). h.right place x u)
             (λ (w : (x ≡ r) × Contains os (Some place)). subst (λ y. LeadsTo trees y place) (sym w.0) (root, is, w.1)) (added.only place x c);
         all = λ place x l leads. ⊎_elim (λ (before : x < r). added.more place x (h.all place x before leads))
@@ -268,21 +268,21 @@ is_range trees nodes roots are at r root start end l is s e =
     }
 
 -- no rule was read
-pub users_none : (trees : List Part) (users : List (List ℕ)) → length users ≡ suc (length trees) → ((place : ℕ) → users_at users place ≡ []) → AreUsers trees 0 users
+pub users_none : (trees : List Part) (users : List (List ℕ)) → length users ≡ suc (length trees) → ((place : ℕ) → users_at users place ≡ []) → AreUsingRules trees 0 users
 users_none trees users len none = record {
   one_each = len;
   right = λ place x c. let empty : Contains [] x = subst (λ xs. Contains xs x) (none place) c in absurd (omega (arith, empty.1));
   all = λ place x l leads. absurd (omega arith);
 }
 
-pub users_within : (trees : List Part) (count : ℕ) (users : List (List ℕ)) → AreUsers trees count users → AreUsersWithin users
+pub users_within : (trees : List Part) (count : ℕ) (users : List (List ℕ)) → AreUsingRules trees count users → AreUsersWithin users
 users_within trees count users h place x c =
     let leads : LeadsTo trees x place = h.right place x c in
     let l : x < length trees = slice_get_within trees x leads.0 leads.1 in
     omega (arith, l, h.one_each)
 
 -- what the search finds
-module _ (trees : List Part) (nodes : List Node) (are : AreNodes trees nodes) (users : List (List ℕ)) (h : AreUsers trees (length trees) users) where
+module _ (trees : List Part) (nodes : List Node) (are : AreNodes trees nodes) (users : List (List ℕ)) (h : AreUsingRules trees (length trees) users) where
   reaches_by : (steps r : ℕ) → LeadsBy users steps r → (r ≡ length trees) ⊎ ReachesOpaque trees r
   reaches_by zero r e = inl (let len : length users ≡ suc (length trees) = h.one_each in omega (arith, e, len))
   reaches_by (suc steps) r (q, user, rest) =
@@ -298,7 +298,7 @@ module _ (trees : List Part) (nodes : List Node) (are : AreNodes trees nodes) (u
       (λ r root is has. (1, (length trees, h.all (length trees) r (slice_get_within trees r root is) (root, is, contains_map (place_of_part (length trees)) (subparts root) opaque has), sym h.one_each)))
       (λ r root name q is has steps. (suc steps.0, (q, h.all q r (slice_get_within trees r root is) (root, is, contains_map (place_of_part (length trees)) (subparts root) (ref name (Some q)) has), steps.1)))
 
-  pub reaching : (marks kept last : List Bool) → AreMarks users marks → marks ≡ kept ++ last → length kept ≡ length trees → AreReaching trees kept
+  pub reaching : (marks kept last : List Bool) → AreReachMarks users marks → marks ≡ kept ++ last → length kept ≡ length trees → AreReaching trees kept
   reaching marks kept last on cut len = record {
     one_each = len;
     each = λ r l.

@@ -2,9 +2,5 @@ pub mod Said
 pub mod Shown
 pub mod Places
 pub mod Rules
-pub mod GrammarCode
-pub mod Search
-pub mod Users
-pub mod Passes
 pub mod Excerpts
-pub mod Inside
+pub mod own

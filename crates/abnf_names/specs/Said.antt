@@ -17,14 +17,14 @@ pub record Block : Type 0 where
   pub items : List Item
   pub said : Result Rule SyntaxFault
 
-abbrev pub Says : List Item → Result Rule SyntaxFault → Type 0
-Says items (Ok rule) = Derives items rule
-Says items (Err fault) = Faults items fault
+abbrev pub BlockSays : List Item → Result Rule SyntaxFault → Type 0
+BlockSays items (Ok rule) = Derives items rule
+BlockSays items (Err fault) = Faults items fault
 
 -- the block has the items of these lines, and says what they say
 pub record IsWithin (ls : List Text) (bounds : ℕ × ℕ) (block : Block) : Type 0 where
   pub items : AreItems ls bounds.0 bounds.1 block.items
-  pub says : Says block.items block.said
+  pub says : BlockSays block.items block.said
 
 -- one block for each pair of a first line and an end, in order
 abbrev pub AreWithin : List Text → List (ℕ × ℕ) → List Block → Type 0

@@ -1,7 +1,7 @@
 //! The grammar of a text.
 
-ghost use Rattle.std.specs.Prelude.{◌≡◌, ◌<◌, ◌↔◌, IfOk, IfSome, IsTrue, List, is_some, length, map, option_map};
-ghost use Rattle.abnf_parts.specs.Part.{root_number};
+ghost use Rattle.std.specs.Prelude.{◌≡◌, ◌<◌, ◌≤◌, ◌↔◌, suc, IfOk, IfSome, IsTrue, List, is_some, length, map, option_map};
+ghost use Rattle.abnf_parts.specs.Part.{parts_of, root_number};
 ghost use Rattle.abnf_parts.specs.Nodes.{AreNodes};
 ghost use Rattle.abnf_parts.specs.Names.{folded_text, rule_number};
 ghost use Rattle.abnf_parts.specs.Reach.{ReachesOpaque};
@@ -12,6 +12,7 @@ ghost use Rattle.abnf_names.specs.Excerpts.{HasSections};
 
 use crate::own::{faults_of, name_places};
 use crate::place::{PlacesOfName, Spot, found_at};
+use crate::range::range_of;
 use crate::rules::rules_said;
 use crate::section::Section;
 use crate::sections::sections_of;
@@ -47,13 +48,13 @@ pub struct Grammar<'t> {
 
 impl<'t> Model for Grammar<'t> {
     ghost use Rattle.abnf_names.specs.Rules as rules;
-    ghost use Rattle.abnf_names.specs.GrammarCode.{grammar_code};
+    ghost use Rattle.abnf_names.specs.own.GrammarCode.{grammar_code};
 
     ghost Value = { rules.Grammar };
 
     ghost coded = { grammar_code };
 
-    ghost use Rattle.abnf_names.specs.Inside.{grammar_inside, IsGrammarInside};
+    ghost use Rattle.abnf_names.specs.own.Inside.{grammar_inside, IsGrammarInside};
 
     ghost view = { grammar_inside };
 
@@ -99,6 +100,17 @@ impl<'t> Grammar<'t> {
         ensures { result ≡ root_number self.now.rules rule }
     {
         self.roots[rule.get()]
+    }
+
+    /// The numbers of a rule's parts: that of its root, and that behind its last part. The rule must be one of this grammar.
+    pub fn range_of(&self, rule: RuleNo) -> (usize, usize)
+        requires { rule < length self.now.rules }
+        ensures start { result.0 ≡ root_number self.now.rules rule }
+        ensures end { result.1 ≡ root_number self.now.rules (suc rule) }
+        ensures order { result.0 ≤ result.1 }
+        ensures within { result.1 ≤ length (parts_of self.now.rules) }
+    {
+        range_of(self.nodes.as_slice(), self.roots.as_slice(), rule.get())
     }
 
     /// How many rules there are.

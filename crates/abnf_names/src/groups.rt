@@ -2,7 +2,7 @@
 
 ghost use Rattle.std.specs.Prelude.{◌≡◌, ◌++◌, [], length, IfOk};
 ghost use Rattle.abnf_parts.specs.Names.{Name, with_name, folded_text};
-ghost use Rattle.abnf_names.specs.Passes.{members_of, if_same};
+ghost use Rattle.abnf_names.specs.own.Passes.{members_of, if_same};
 
 use abnf_parts::Names;
 use abnf_token::Folded;

@@ -11,6 +11,7 @@ mod laws;
 mod own;
 mod place;
 mod places;
+mod range;
 mod reach;
 mod rules;
 mod section;

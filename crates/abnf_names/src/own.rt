@@ -5,7 +5,7 @@ ghost use Rattle.abnf_parts.specs.Names.{folded_text};
 ghost use Rattle.abnf_names.specs.Said as said;
 ghost use Rattle.abnf_names.specs.Rules.{defined, needed, fault_place};
 ghost use Rattle.abnf_names.specs.Places.{named_at};
-ghost use Rattle.abnf_names.specs.Passes as spec;
+ghost use Rattle.abnf_names.specs.own.Passes as spec;
 ghost use Rattle.abnf_names.specs.Excerpts as excerpts;
 ghost use Rattle.abnf_parts.specs.CoreTable as table;
 
@@ -96,7 +96,7 @@ fn core_names_stated<'t>(alloc: Global, spots: &[Spot<'t>]) -> Result<Names<'t>,
 
 /// The places of names in a text, in its order, and the names of core rules that stand there.
 #[derive(Drop)]
-pub(crate) struct NamePlaces<'t> {
+pub(crate) struct NamesOfText<'t> {
     pub spots: List<Spot<'t>>,
     pub stated: Names<'t>,
 }
@@ -105,21 +105,21 @@ pub(crate) struct NamePlaces<'t> {
 pub(crate) fn name_places<'t>(
     alloc: Global,
     sections: &[Section<'t>],
-) -> Result<NamePlaces<'t>, AllocError>
-    ensures { IfOk result (λ found. (blocks : List said.Block) → map excerpts.excerpt sections.now ≡ map excerpts.excerpt_of blocks → spec.AreNamePlaces blocks found) }
+) -> Result<NamesOfText<'t>, AllocError>
+    ensures { IfOk result (λ found. (blocks : List said.Block) → map excerpts.excerpt sections.now ≡ map excerpts.excerpt_of blocks → spec.AreNamesOfText blocks found) }
 {
     let spots = places_of(alloc, sections)?;
     let stated = core_names_stated(alloc, spots.as_slice())?;
-    Ok(NamePlaces { spots, stated })
+    Ok(NamesOfText { spots, stated })
 }
 
 /// The names of the rules of the text, which are these, and of the core rules that it needs, and these core rules.
 pub(crate) fn rule_names<'t>(
     alloc: Global,
     own: Names<'t>,
-    places: &NamePlaces<'t>,
+    places: &NamesOfText<'t>,
 ) -> Result<(RuleNames<'t>, List<Core>), AllocError>
-    ensures { IfOk result (λ r. (blocks : List said.Block) → own.entry ≡ defined blocks → spec.AreNamePlaces blocks places.now
+    ensures { IfOk result (λ r. (blocks : List said.Block) → own.entry ≡ defined blocks → spec.AreNamesOfText blocks places.now
         → spec.AreNames blocks r.0 × (map table.core_of r.1 ≡ needed blocks)) }
 {
     let needed = needed_rules(alloc, &own, &places.stated)?;

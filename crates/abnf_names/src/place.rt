@@ -2,7 +2,7 @@
 
 ghost use Rattle.std.specs.Prelude.{◌≡◌, ◌++◌, ◌∷◌, [], drop, map, flat_map, find, option_map, IfOk, MatchOption, OnOk};
 ghost use Rattle.abnf_names.specs.Places as places;
-ghost use Rattle.abnf_names.specs.Passes as spec;
+ghost use Rattle.abnf_names.specs.own.Passes as spec;
 ghost use Rattle.abnf_parts.specs.Names.{folded_text};
 
 use crate::section::Section;

@@ -25,7 +25,7 @@ pub struct Places<'t> {
 impl<'t> Model for Places<'t> {
     ghost use Rattle.std.specs.Prelude.{List, ℕ, map};
     ghost use Rattle.std.specs.Coded.{coded_list, coded×, coded_ℕ};
-    ghost use Rattle.abnf_names.specs.GrammarCode.{named_code};
+    ghost use Rattle.abnf_names.specs.own.GrammarCode.{named_code};
     ghost use Rattle.abnf_names.specs.Places.{Named, named_at};
     ghost use Rattle.abnf_names.specs.Rules.{HasPlaces};
 

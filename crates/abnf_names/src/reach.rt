@@ -3,15 +3,15 @@
 //! The search goes against the direction of uses, from one place that stands for all opaque parts, and takes each rule once. Places
 //! are the numbers of the rules, and behind them the number of rules for the opaque parts.
 
-ghost use Rattle.std.specs.Prelude.{◌≡◌, ℕ, ◌<◌, ◌+◌, suc, map, fold, length, replicate, slice_get, slice_index_or, IfOk, IfSome, OnOk, OnErr, OnSome, IsTrue, ◌↔◌, Contains, Some, [], false};
+ghost use Rattle.std.specs.Prelude.{◌≡◌, ℕ, ◌<◌, ◌+◌, map, fold, length, replicate, slice_get, slice_index_or, IfOk, IfSome, OnOk, OnErr, OnSome, IsTrue, ◌↔◌, Contains, Some, [], false};
 ghost use Rattle.std.specs.List.{list_all};
 ghost use Rattle.std.specs.Option.{ForSome};
-ghost use Rattle.abnf_parts.specs.Part.{root_number};
 ghost use Rattle.abnf_parts.specs.Nodes.{AreNumbered, trees_at};
 ghost use Rattle.abnf_parts.specs.Reach.{AreReaching};
-ghost use Rattle.abnf_names.specs.Search as search;
-ghost use Rattle.abnf_names.specs.Users as spec;
+ghost use Rattle.abnf_names.specs.own.Search as search;
+ghost use Rattle.abnf_names.specs.own.Users as spec;
 
+use crate::range::range_of;
 use abnf_parts::{Node, NodeNo};
 use ls_lists::List;
 use std::alloc::{AllocError, Global};
@@ -31,7 +31,7 @@ impl Model for Found {
 
     ghost view = { λ f. (length f.marks.items, f.places) };
 
-    ghost use Rattle.abnf_names.specs.Search.{AreMarked};
+    ghost use Rattle.abnf_names.specs.own.Search.{AreMarked};
 
     ghost invariant = { λ f. AreMarked f.marks.items f.places };
 }
@@ -94,7 +94,7 @@ fn add_all(places: &[usize], found: &mut Found) -> Result<(), AllocError>
 fn marks_of(alloc: Global, users: &[List<usize>]) -> Result<Vec<bool>, AllocError>
     requires some { 0 < length users.now }
     requires within { search.AreUsersWithin users.now }
-    ensures { IfOk result (λ marks. search.AreMarks users.now marks.items) }
+    ensures { IfOk result (λ marks. search.AreReachMarks users.now marks.items) }
 {
     let count = users.len();
     let mut found = Found::new(alloc, count)?;
@@ -164,27 +164,6 @@ fn no_users(alloc: Global, count: usize) -> Result<Vec<List<usize>>, AllocError>
     Ok(users)
 }
 
-/// Where the nodes of a rule end: at the next root, or with the last node.
-fn end_of(nodes: &[Node<'_>], roots: &[NodeNo], rule: usize) -> usize
-    requires numbered { AreNumbered nodes.now roots.now }
-    requires rule { rule < length roots.now }
-    ensures { result ≡ root_number (trees_at nodes.now roots.now) (suc rule) }
-{
-    match roots.get(rule + 1) {
-        Some(root) => root.get(),
-        None => nodes.len(),
-    }
-}
-
-/// The numbers from which and up to which the nodes are those of a rule.
-fn range_of(nodes: &[Node<'_>], roots: &[NodeNo], rule: usize) -> (usize, usize)
-    requires numbered { AreNumbered nodes.now roots.now }
-    requires rule { rule < length roots.now }
-    ensures { spec.IsRangeOf (trees_at nodes.now roots.now) nodes.now rule result.0 result.1 }
-{
-    (roots[rule].get(), end_of(nodes, roots, rule))
-}
-
 /// The nodes of a rule.
 fn nodes_of<'g, 't>(nodes: &'g [Node<'t>], roots: &[NodeNo], rule: usize) -> &'g [Node<'t>]
     requires numbered { AreNumbered nodes.now roots.now }
@@ -202,7 +181,7 @@ fn users_of(
     roots: &[NodeNo],
 ) -> Result<Vec<List<usize>>, AllocError>
     requires { AreNumbered nodes.now roots.now }
-    ensures { IfOk result (λ users. spec.AreUsers (trees_at nodes.now roots.now) (length roots.now) users.items) }
+    ensures { IfOk result (λ users. spec.AreUsingRules (trees_at nodes.now roots.now) (length roots.now) users.items) }
 {
     let last = roots.len();
     let mut users = no_users(alloc, last + 1)?;

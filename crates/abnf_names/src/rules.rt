@@ -8,11 +8,11 @@ ghost use Rattle.abnf_parts.specs.Tree.{parts};
 ghost use Rattle.abnf_parts.specs.Names.{all_names, rule_number};
 ghost use Rattle.abnf_names.specs.Said as said;
 ghost use Rattle.abnf_names.specs.Rules as rules;
-ghost use Rattle.abnf_names.specs.Passes as spec;
+ghost use Rattle.abnf_names.specs.own.Passes as spec;
 ghost use Rattle.abnf_parts.specs.CoreTable as table;
-ghost use Rattle.abnf_parts.specs.Pushed.{Adds, AddsTrees};
+ghost use Rattle.abnf_parts.specs.Pushed.{AddsNodes, AddsTrees};
 
-use crate::own::{NamePlaces, own_groups, rule_names};
+use crate::own::{NamesOfText, own_groups, rule_names};
 use crate::reach::reaching;
 use crate::section::{Listed, Section};
 use crate::sections::rule_of;
@@ -140,7 +140,7 @@ fn push_rule<'s, 't>(
     nodes: &mut Vec<Node<'t>>,
 ) -> Result<(), AllocError>
     ensures { OnOk result ((definitions : List spec.Definition) → spec.AreTold sections.now definitions
-        → Adds (subparts (spec.tree_of (rule_number (all_names names.now)) definitions)) nodes.old.items nodes.new.items) }
+        → AddsNodes (subparts (spec.tree_of (rule_number (all_names names.now)) definitions)) nodes.old.items nodes.new.items) }
 {
     let at = nodes.len();
     let mut numbers = List::new(alloc);
@@ -218,7 +218,7 @@ pub(crate) struct Rules<'t> {
 pub(crate) fn rules_said<'t>(
     alloc: Global,
     sections: &[Section<'t>],
-    places: &NamePlaces<'t>,
+    places: &NamesOfText<'t>,
 ) -> Result<Rules<'t>, AllocError>
     requires { spec.HasBlocks sections.now places.now }
     ensures { IfOk result (λ r. (blocks : List said.Block) → spec.AreRead sections.now places.now blocks → spec.AreRules blocks r) }

@@ -3,7 +3,7 @@
 ghost use Rattle.std.specs.Prelude.{◌≡◌, ◌<◌, ℕ, length, Option, Result, IfOk};
 ghost use Rattle.abnf_syntax.specs.declared.fault.SyntaxFault.{SyntaxFault};
 ghost use Rattle.abnf_syntax.specs.declared.tree.Rule.{Rule};
-ghost use Rattle.abnf_names.specs.Passes as spec;
+ghost use Rattle.abnf_names.specs.own.Passes as spec;
 ghost use Rattle.abnf_names.specs.Shown.{HasFault};
 
 use crate::section::Section;

@@ -10,17 +10,17 @@ use Rattle.std.specs.Str.{bytes_eq}
 use Rattle.abnf_parts.specs.Names.{Name, with_name}
 
 module _ {X Y : Type 0} (f : X → Y) (test : Y → Bool) where
-  pub list_any-map : (xs : List X) → list_any test (map f xs) ≡ list_any (λ x. test (f x)) xs
-  list_any-map [] = refl
-  list_any-map (x ∷ xs) = ap (λ b. test (f x) || b) (list_any-map xs)
+  pub list_any_map : (xs : List X) → list_any test (map f xs) ≡ list_any (λ x. test (f x)) xs
+  list_any_map [] = refl
+  list_any_map (x ∷ xs) = ap (λ b. test (f x) || b) (list_any_map xs)
 
-  position_or_len-map : (xs : List X) → position_or_len test (map f xs) ≡ position_or_len (λ x. test (f x)) xs
-  position_or_len-map [] = refl
-  position_or_len-map (x ∷ xs) = ap (λ n. cond (not (test (f x))) (1 + n) 0) (position_or_len-map xs)
+  position_or_len_map : (xs : List X) → position_or_len test (map f xs) ≡ position_or_len (λ x. test (f x)) xs
+  position_or_len_map [] = refl
+  position_or_len_map (x ∷ xs) = ap (λ n. cond (not (test (f x))) (1 + n) 0) (position_or_len_map xs)
 
-  pub position-map : (xs : List X) → position test (map f xs) ≡ position (λ x. test (f x)) xs
-  position-map xs =
-      ap (λ n. cond (nat_lt n (length (map f xs))) (Some n) None) (position_or_len-map xs)
+  pub position_map : (xs : List X) → position test (map f xs) ≡ position (λ x. test (f x)) xs
+  position_map xs =
+      ap (λ n. cond (nat_lt n (length (map f xs))) (Some n) None) (position_or_len_map xs)
       ∙ ap (λ n. cond (nat_lt (position_or_len (λ x. test (f x)) xs) n) (Some (position_or_len (λ x. test (f x)) xs)) None) (length-map xs f)
 
 pub map_if : {X Y : Type 0} (f : X → Y) (b : Bool) (xs : List X) (x : X) → map f (if b then xs else xs ++ x ∷ []) ≡ (if b then map f xs else map f xs ++ f x ∷ [])
@@ -41,31 +41,31 @@ module _ {X : Type 0} (test : X → Bool) where
   first_by true n l = ap (λ b. cond b (Some 0) None) (lt-ltb 0 (suc l) (omega arith))
   first_by false n l = next_by (nat_lt n l) n l refl
 
-  pub position-cons : (x : X) (xs : List X) → position test (x ∷ xs) ≡ (if test x then Some 0 else option_map suc (position test xs))
-  position-cons x xs = first_by (test x) (position_or_len test xs) (length xs)
+  pub position_cons : (x : X) (xs : List X) → position test (x ∷ xs) ≡ (if test x then Some 0 else option_map suc (position test xs))
+  position_cons x xs = first_by (test x) (position_or_len test xs) (length xs)
 
   -- of two lists, one behind the other
   abbrev pub behind : ℕ → Option ℕ → Option ℕ → Option ℕ
   behind n (Some i) other = Some i
   behind n None other = option_map (λ i. n + i) other
 
-  behind-suc : (b : Bool) (n : ℕ) (here other : Option ℕ) → (if b then Some 0 else option_map suc (behind n here other)) ≡ behind (suc n) (if b then Some 0 else option_map suc here) other
-  behind-suc true n here other = refl
-  behind-suc false n (Some i) other = refl
-  behind-suc false n None (Some i) = ap Some (let e : suc (n + i) ≡ suc n + i = omega arith in e)
-  behind-suc false n None None = refl
+  behind_suc : (b : Bool) (n : ℕ) (here other : Option ℕ) → (if b then Some 0 else option_map suc (behind n here other)) ≡ behind (suc n) (if b then Some 0 else option_map suc here) other
+  behind_suc true n here other = refl
+  behind_suc false n (Some i) other = refl
+  behind_suc false n None (Some i) = ap Some (let e : suc (n + i) ≡ suc n + i = omega arith in e)
+  behind_suc false n None None = refl
 
-  behind-none : (other : Option ℕ) → other ≡ behind 0 None other
-  behind-none (Some i) = ap Some (let e : i ≡ 0 + i = omega arith in e)
-  behind-none None = refl
+  behind_none : (other : Option ℕ) → other ≡ behind 0 None other
+  behind_none (Some i) = ap Some (let e : i ≡ 0 + i = omega arith in e)
+  behind_none None = refl
 
-  pub position-append : (xs ys : List X) → position test (xs ++ ys) ≡ behind (length xs) (position test xs) (position test ys)
-  position-append [] ys = behind-none (position test ys)
-  position-append (x ∷ xs) ys =
-      position-cons x (xs ++ ys)
-      ∙ (ap (λ o. if test x then Some 0 else option_map suc o) (position-append xs ys)
-      ∙ (behind-suc (test x) (length xs) (position test xs) (position test ys)
-      ∙ ap (λ o. behind (suc (length xs)) o (position test ys)) (sym (position-cons x xs))))
+  pub position_append : (xs ys : List X) → position test (xs ++ ys) ≡ behind (length xs) (position test xs) (position test ys)
+  position_append [] ys = behind_none (position test ys)
+  position_append (x ∷ xs) ys =
+      position_cons x (xs ++ ys)
+      ∙ (ap (λ o. if test x then Some 0 else option_map suc o) (position_append xs ys)
+      ∙ (behind_suc (test x) (length xs) (position test xs) (position test ys)
+      ∙ ap (λ o. behind (suc (length xs)) o (position test ys)) (sym (position_cons x xs))))
 
 -- names that are the same are one
 pub never : {A : Type 0} (b : Bool) → b ≡ true → b ≡ false → A
@@ -94,7 +94,7 @@ same_sym s t = sym_by s t (bytes_eq s t) (bytes_eq t s) refl refl
 -- a name is there where it has a place
 pub position_any : (n : Name) (names : List Name) → list_any (bytes_eq n) names ≡ is_some (position (bytes_eq n) names)
 position_any n [] = refl
-position_any n (a ∷ names) = any_by (bytes_eq n a) (position_any n names) ∙ ap is_some (sym (position-cons (bytes_eq n) a names))
+position_any n (a ∷ names) = any_by (bytes_eq n a) (position_any n names) ∙ ap is_some (sym (position_cons (bytes_eq n) a names))
   where
     some_suc : (o : Option ℕ) → is_some o ≡ is_some (option_map suc o)
     some_suc None = refl

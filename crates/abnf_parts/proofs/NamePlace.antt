@@ -6,7 +6,7 @@ use Rattle.std.specs.Str.{bytes_eq}
 use Rattle.std.proofs.lemmas.Bool.{false_from_ne_true}
 use Rattle.abnf_token.specs.declared.folded.Folded.{Folded}
 use Rattle.abnf_parts.specs.Names.{Name, folded_text, rule_number}
-use Rattle.abnf_parts.proofs.NameLaws.{never, position-cons, same_is, same_refl}
+use Rattle.abnf_parts.proofs.NameLaws.{never, position_cons, same_is, same_refl}
 
 abbrev alike : Folded → Folded → Bool
 alike a b = bytes_eq (folded_text a) (folded_text b)
@@ -32,7 +32,7 @@ unfolding IsDistinct
 place_is [] i x name apart e same = absurd (cc e)
 place_is (k ∷ keys) zero x name apart e same =
     let is : folded_text k ≡ name = ap folded_text (is_there k x e) ∙ same_is (folded_text x) name same in
-    position-cons (bytes_eq name) (folded_text k) (map folded_text keys)
+    position_cons (bytes_eq name) (folded_text k) (map folded_text keys)
     ∙ on (bytes_eq name (folded_text k)) (Some 0) _ (ap (bytes_eq name) is ∙ same_refl name)
 place_is (k ∷ keys) (suc i) x name apart e same =
     let other : alike k x ≡ false = all_at (λ y. alike k y ≡ false) keys i x apart.0 e in
@@ -40,6 +40,6 @@ place_is (k ∷ keys) (suc i) x name apart e same =
     false_from_ne_true (bytes_eq name (folded_text k)) (λ h.
     let first : folded_text k ≡ folded_text x = sym (same_is name (folded_text k) h) ∙ sym (same_is (folded_text x) name same) in
     never (alike k x) (ap (bytes_eq (folded_text k)) (sym first) ∙ same_refl (folded_text k)) other) in
-    position-cons (bytes_eq name) (folded_text k) (map folded_text keys)
+    position_cons (bytes_eq name) (folded_text k) (map folded_text keys)
     ∙ (off (bytes_eq name (folded_text k)) (Some 0) (option_map suc (position (bytes_eq name) (map folded_text keys))) differs
     ∙ ap (option_map suc) (place_is keys i x name apart.1 e same))

@@ -3,7 +3,7 @@ use Rattle.std.proofs.Common.{◌≡◌, ℕ, List, [], ◌∷◌, None, refl, �
 use Rattle.std.specs.Prelude.{◌↔◌}
 use Rattle.std.specs.List.{concat, AllByRecursion}
 use Rattle.abnf_parts.specs.Part.{Part, rep, ref}
-use Rattle.abnf_parts.specs.Generates.{Generates, IsLeastLength, IsValue}
+use Rattle.abnf_parts.specs.Generates.{Generates, IsLeastLength, IsLeastPair}
 
 -- strings that a property rules out join to nothing
 none_join : (Each : List ℕ → Type 0) (strings : List (List ℕ)) → ((s : List ℕ) → Each s → ⊥) → AllByRecursion Each strings → concat strings ≡ []
@@ -16,7 +16,7 @@ repeated_unknown roots name s = (
   λ empty. (0, record { strings = []; enough = omega arith; few = tt; each = tt; joined = empty }),
 )
 
-pub value_length : (roots : List Part) (p : Part) (n k : ℕ) → IsValue roots p n k → IsLeastLength roots p n
+pub value_length : (roots : List Part) (p : Part) (n k : ℕ) → IsLeastPair roots p n k → IsLeastLength roots p n
 value_length roots p n k v = record {
   reached = (v.reached.0, (k, v.reached.1), v.reached.2);
   least = λ s g. elim (v.least s g.0 g.1) [ inl longer ↦ omega (arith, longer) | inr same ↦ omega (arith, same.0) ];

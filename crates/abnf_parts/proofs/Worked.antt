@@ -4,8 +4,8 @@ use Rattle.std.specs.Prelude.{slice_get, codes}
 use Rattle.std.specs.Char.{to_ascii_lowercase}
 use Rattle.std.proofs.lemmas.List.{length-map, length-append}
 use Rattle.abnf_parts.specs.Part.{Part}
-use Rattle.abnf_parts.specs.Generates.{Spells, PartGen, RuleGen, IsValue, Generates}
-use Rattle.abnf_parts.specs.Rows.{a_text, other_or_text, first_rule, other_and_text, text_and_series}
+use Rattle.abnf_parts.specs.Generates.{Spells, PartGen, RuleGen, IsLeastPair, Generates}
+use Rattle.abnf_parts.specs.own.Rows.{a_text, other_or_text, first_rule, other_and_text, text_and_series}
 
 -- a string is as long as the text that it spells
 spelled : (text : List ℕ) (exact : Bool) (s : List ℕ) → Spells text exact s → length s ≡ length text
@@ -19,7 +19,7 @@ root_is p root e = cc
 by_root : {A : Type 0} (roots : List Part) (r k : ℕ) (p : Part) (s : List ℕ) → slice_get roots r ≡ Some p → (PartGen (RuleGen roots k) p s → A) → RuleGen roots (suc k) r s → A
 by_root roots r k p s is then g = then (subst (λ root. PartGen (RuleGen roots k) root s) (sym (root_is p g.0 (sym is ∙ g.1))) g.2)
 
-pub text_value : IsValue (a_text ∷ []) a_text 1 0
+pub text_value : IsLeastPair (a_text ∷ []) a_text 1 0
 text_value = record {
   reached = (codes "x", inl refl, refl);
   least = λ s j g. elim g [ inl e ↦ inr (sym (spelled (codes "x") false s e), omega arith) | inr none ↦ absurd none ];
@@ -45,19 +45,19 @@ some_reference zero s (inl g) = absurd g
 some_reference (suc k) s (inl g) = omega arith
 some_reference k s (inr none) = absurd none
 
-pub first_value : IsValue either other_or_text 1 0
+pub first_value : IsLeastPair either other_or_text 1 0
 first_value = record {
   reached = (codes "x", inr (inl refl), refl);
   least = λ s j g. inr (sym (length_first j s g), omega arith);
 }
 
-pub second_value : IsValue either first_rule 1 1
+pub second_value : IsLeastPair either first_rule 1 1
 second_value = record {
   reached = (codes "x", inl (other_or_text, refl, inr (inl refl)), refl);
   least = λ s j g. inr (sym (length_second j s g), some_reference j s g);
 }
 
-pub series_value : IsValue (text_and_series ∷ []) text_and_series 3 0
+pub series_value : IsLeastPair (text_and_series ∷ []) text_and_series 3 0
 series_value = record {
   reached = (
     0x5C ∷ 0x0D ∷ 0x1F600 ∷ [],

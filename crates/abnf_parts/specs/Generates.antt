@@ -72,6 +72,6 @@ pub record IsLeastLength (roots : List Part) (p : Part) (n : ℕ) : Type 0 where
   pub least : (s : List ℕ) → Generates roots p s → n ≤ length s
 
 -- (n, k) is the least pair of a length and a number of nested references, the length first
-pub record IsValue (roots : List Part) (p : Part) (n k : ℕ) : Type 0 where
+pub record IsLeastPair (roots : List Part) (p : Part) (n k : ℕ) : Type 0 where
   pub reached : (s : List ℕ) × Gen roots k p s × (length s ≡ n)
   pub least : (s : List ℕ) (j : ℕ) → Gen roots j p s → (n < length s) ⊎ ((n ≡ length s) × (k ≤ j))

@@ -9,5 +9,5 @@ pub mod Core
 pub mod Reach
 pub mod Pushed
 pub mod CoreTable
-pub mod Rows
 pub mod Uncut
+pub mod own

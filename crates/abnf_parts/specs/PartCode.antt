@@ -56,22 +56,22 @@ parts_read [] (p ∷ a) b = p
 parts_read (t ∷ ts) a b = sign_read t (parts_read ts) a b
 
 mutual
-  run-post : (p : Part) (ts : List Sign) (a : List Part) (b : List Parts) → parts_read (post p ts) a b ≡ parts_read ts (p ∷ a) b
-  run-post (quoted text exact) ts a b = refl
-  run-post (series characters) ts a b = refl
-  run-post (span low high) ts a b = refl
-  run-post (rep least most p) ts a b = run-post p (inr (inr (inr (inl (least, most)))) ∷ ts) a b
-  run-post (ref name rule) ts a b = refl
-  run-post opaque ts a b = refl
-  run-post (seq ps) ts a b = run-posts ps (mark 1 ∷ ts) a b
-  run-post (alt ps) ts a b = run-posts ps (mark 2 ∷ ts) a b
+  run_post : (p : Part) (ts : List Sign) (a : List Part) (b : List Parts) → parts_read (post p ts) a b ≡ parts_read ts (p ∷ a) b
+  run_post (quoted text exact) ts a b = refl
+  run_post (series characters) ts a b = refl
+  run_post (span low high) ts a b = refl
+  run_post (rep least most p) ts a b = run_post p (inr (inr (inr (inl (least, most)))) ∷ ts) a b
+  run_post (ref name rule) ts a b = refl
+  run_post opaque ts a b = refl
+  run_post (seq ps) ts a b = run_posts ps (mark 1 ∷ ts) a b
+  run_post (alt ps) ts a b = run_posts ps (mark 2 ∷ ts) a b
 
-  run-posts : (ps : Parts) (ts : List Sign) (a : List Part) (b : List Parts) → parts_read (posts ps ts) a b ≡ parts_read ts a (ps ∷ b)
-  run-posts end ts a b = refl
-  run-posts (next p ps) ts a b = run-post p (posts ps (mark 4 ∷ ts)) a b ∙ run-posts ps (mark 4 ∷ ts) (p ∷ a) b
+  run_posts : (ps : Parts) (ts : List Sign) (a : List Part) (b : List Parts) → parts_read (posts ps ts) a b ≡ parts_read ts a (ps ∷ b)
+  run_posts end ts a b = refl
+  run_posts (next p ps) ts a b = run_post p (posts ps (mark 4 ∷ ts)) a b ∙ run_posts ps (mark 4 ∷ ts) (p ∷ a) b
 
 pub part_back : (p : Part) → parts_read (post p []) [] [] ≡ p
-part_back p = run-post p [] [] []
+part_back p = run_post p [] [] []
 
 abbrev pub part_code : Coded Part
 part_code = code_by (List Sign) (coded_list sign_code) (λ p. post p []) (λ ts. parts_read ts [] []) part_back

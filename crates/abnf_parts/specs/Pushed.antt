@@ -12,12 +12,12 @@ AreNodesFrom n (p ∷ ps) (node ∷ nodes) = IsNode n p node × AreNodesFrom (su
 AreNodesFrom n _ _ = ⊥
 
 -- the new nodes are the old ones, and then those of these parts
-pub record Adds (ps : List Part) (old new : List Node) : Type 0 where
+pub record AddsNodes (ps : List Part) (old new : List Node) : Type 0 where
   pub more : List Node
   pub joined : new ≡ old ++ more
   pub are : AreNodesFrom (length old) ps more
 
 -- the same for trees that stand side by side, whose numbers are added to other numbers
 pub record AddsTrees (ps : List Part) (old new : List Node) (before after : List ℕ) : Type 0 where
-  pub nodes : Adds (all_subparts (parts ps)) old new
+  pub nodes : AddsNodes (all_subparts (parts ps)) old new
   pub numbers_are : after ≡ before ++ numbers (length old) (parts ps)

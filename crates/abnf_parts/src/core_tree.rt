@@ -4,7 +4,7 @@ ghost use Rattle.std.specs.Prelude.{◌≡◌, ◌<◌, ◌^◌, ℕ, map, IfOk,
 ghost use Rattle.abnf_parts.specs.Names.{folded_text};
 ghost use Rattle.abnf_parts.specs.Part.{subparts};
 ghost use Rattle.abnf_parts.specs.Nodes.{IsNode};
-ghost use Rattle.abnf_parts.specs.Pushed.{Adds, AddsTrees};
+ghost use Rattle.abnf_parts.specs.Pushed.{AddsNodes, AddsTrees};
 ghost use Rattle.abnf_parts.specs.CoreTable as table;
 
 use crate::core_rule::{Core, Leaf};
@@ -61,7 +61,7 @@ fn push_leaf<'t>(
     nodes: &mut Vec<Node<'t>>,
 ) -> Result<(), AllocError>
     requires { first < 2 ^ 63 }
-    ensures { OnOk result (Adds (subparts (table.leaf_part (table.number_in first names.now) leaf.now)) nodes.old.items nodes.new.items) }
+    ensures { OnOk result (AddsNodes (subparts (table.leaf_part (table.number_in first names.now) leaf.now)) nodes.old.items nodes.new.items) }
 {
     let node = leaf_node(alloc, first, names, *leaf)?;
     nodes.push(node)?;
@@ -96,7 +96,7 @@ fn push_row<'t>(
     nodes: &mut Vec<Node<'t>>,
 ) -> Result<(), AllocError>
     requires { first < 2 ^ 63 }
-    ensures { OnOk result (Adds (subparts (table.row_part (table.number_in first names.now) row.entry)) nodes.old.items nodes.new.items) }
+    ensures { OnOk result (AddsNodes (subparts (table.row_part (table.number_in first names.now) row.entry)) nodes.old.items nodes.new.items) }
 {
     if row.len() == 1 {
         return push_leaf(alloc, first, names, &row[0], nodes);
@@ -137,7 +137,7 @@ fn push_choice<'t>(
     nodes: &mut Vec<Node<'t>>,
 ) -> Result<(), AllocError>
     requires { first < 2 ^ 63 }
-    ensures { OnOk result (Adds (subparts (table.choice (table.number_in first names.now) rows.now)) nodes.old.items nodes.new.items) }
+    ensures { OnOk result (AddsNodes (subparts (table.choice (table.number_in first names.now) rows.now)) nodes.old.items nodes.new.items) }
 {
     let at = nodes.len();
     let mut numbers = List::new(alloc);
@@ -172,7 +172,7 @@ fn push_core<'t>(
     nodes: &mut Vec<Node<'t>>,
 ) -> Result<(), AllocError>
     requires { first < 2 ^ 63 }
-    ensures { OnOk result (Adds (subparts ((table.core_of core).tree (table.number_in first names.now))) nodes.old.items nodes.new.items) }
+    ensures { OnOk result (AddsNodes (subparts ((table.core_of core).tree (table.number_in first names.now))) nodes.old.items nodes.new.items) }
 {
     match core {
         Core::Lwsp => {

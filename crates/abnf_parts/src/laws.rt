@@ -8,9 +8,9 @@ ghost use Rattle.abnf_syntax.specs.Grammar.{Derives, max_nesting};
 ghost use Rattle.abnf_syntax.specs.Items.{AreItems};
 ghost use Rattle.abnf_parts.specs.Part.{Part, quoted, rep, ref, opaque};
 ghost use Rattle.abnf_parts.specs.Tree.{alternatives, concatenation_part, tree_ending};
-ghost use Rattle.abnf_parts.specs.Generates.{Generates, IsLeastLength, IsValue};
+ghost use Rattle.abnf_parts.specs.Generates.{Generates, IsLeastLength, IsLeastPair};
 ghost use Rattle.abnf_parts.specs.Uncut.{IsUncut};
-ghost use Rattle.abnf_parts.specs.Rows as row;
+ghost use Rattle.abnf_parts.specs.own.Rows as row;
 
 /// Quoted texts match in either case, and exact ones as they are written (RFC 7405 section 2.1).
 pub fn texts()
@@ -21,11 +21,11 @@ pub fn texts()
 
 /// The least lengths of what rules generate, and the least numbers of nested references for these.
 pub fn least_values()
-    ensures text { IsValue (row.a_text ∷ []) row.a_text 1 0 }
-    ensures itself { IsValue (row.itself_or_empty ∷ []) row.itself_or_empty 0 0 }
-    ensures other { IsValue (row.other_or_text ∷ row.first_rule ∷ []) row.other_or_text 1 0 }
-    ensures by_other { IsValue (row.other_or_text ∷ row.first_rule ∷ []) row.first_rule 1 1 }
-    ensures series { IsValue (row.text_and_series ∷ []) row.text_and_series 3 0 }
+    ensures text { IsLeastPair (row.a_text ∷ []) row.a_text 1 0 }
+    ensures itself { IsLeastPair (row.itself_or_empty ∷ []) row.itself_or_empty 0 0 }
+    ensures other { IsLeastPair (row.other_or_text ∷ row.first_rule ∷ []) row.other_or_text 1 0 }
+    ensures by_other { IsLeastPair (row.other_or_text ∷ row.first_rule ∷ []) row.first_rule 1 1 }
+    ensures series { IsLeastPair (row.text_and_series ∷ []) row.text_and_series 3 0 }
 {}
 
 /// Rules that generate nothing: those that never end, those without a number of repetitions, and those without a character.
@@ -45,7 +45,7 @@ pub fn unknown_parts()
 
 /// The length of a least value is the least length.
 pub fn least_lengths()
-    ensures { (roots : List Part) (p : Part) (n k : ℕ) → IsValue roots p n k → IsLeastLength roots p n }
+    ensures { (roots : List Part) (p : Part) (n k : ℕ) → IsLeastPair roots p n k → IsLeastLength roots p n }
 {}
 
 /// In a rule that items derive no bracket is reached at which the tree ends, whatever stands there.

@@ -4,7 +4,7 @@ ghost use Rattle.abnf_syntax.specs.declared.tree.Element.{out-Element};
 ghost use Rattle.abnf_parts.specs.Names.{all_names, rule_number};
 ghost use Rattle.abnf_parts.specs.Part.{subparts};
 ghost use Rattle.abnf_parts.specs.Tree.{element_part, repetition_part, concatenation_part, tree_inside};
-ghost use Rattle.abnf_parts.specs.Pushed.{Adds, AddsTrees};
+ghost use Rattle.abnf_parts.specs.Pushed.{AddsNodes, AddsTrees};
 
 use crate::leaf::{number_node, quoted_node, repeat_bounds};
 use crate::names::RuleNames;
@@ -31,7 +31,7 @@ fn push_inside<'t>(
     alternation: &[List<Repetition<'t>>],
     nodes: &mut Vec<Node<'t>>,
 ) -> Result<(), AllocError>
-    ensures { OnOk result (Adds (subparts (tree_inside (rule_number (all_names names.now)) room alternation.now)) nodes.old.items nodes.new.items) }
+    ensures { OnOk result (AddsNodes (subparts (tree_inside (rule_number (all_names names.now)) room alternation.now)) nodes.old.items nodes.new.items) }
 {
     if room == 0 {
         nodes.push(Node::Opaque)?;
@@ -82,7 +82,7 @@ fn push_concatenation<'t>(
     concatenation: &[Repetition<'t>],
     nodes: &mut Vec<Node<'t>>,
 ) -> Result<(), AllocError>
-    ensures { OnOk result (Adds (subparts (concatenation_part (rule_number (all_names names.now)) (tree_inside (rule_number (all_names names.now)) room) concatenation.now)) nodes.old.items nodes.new.items) }
+    ensures { OnOk result (AddsNodes (subparts (concatenation_part (rule_number (all_names names.now)) (tree_inside (rule_number (all_names names.now)) room) concatenation.now)) nodes.old.items nodes.new.items) }
 {
     if concatenation.len() == 1 {
         return push_repetition(alloc, names, room, &concatenation[0], nodes);
@@ -124,7 +124,7 @@ fn push_repetition<'t>(
     repetition: &Repetition<'t>,
     nodes: &mut Vec<Node<'t>>,
 ) -> Result<(), AllocError>
-    ensures { OnOk result (Adds (subparts (repetition_part (rule_number (all_names names.now)) (tree_inside (rule_number (all_names names.now)) room) repetition.now)) nodes.old.items nodes.new.items) }
+    ensures { OnOk result (AddsNodes (subparts (repetition_part (rule_number (all_names names.now)) (tree_inside (rule_number (all_names names.now)) room) repetition.now)) nodes.old.items nodes.new.items) }
 {
     let Some(token) = repetition.repeat else {
         return push_element(alloc, names, room, &repetition.element, nodes);
@@ -143,7 +143,7 @@ fn push_element<'t>(
     element: &Element<'t>,
     nodes: &mut Vec<Node<'t>>,
 ) -> Result<(), AllocError>
-    ensures { OnOk result (Adds (subparts (element_part (rule_number (all_names names.now)) (tree_inside (rule_number (all_names names.now)) room) (out-Element element.now))) nodes.old.items nodes.new.items) }
+    ensures { OnOk result (AddsNodes (subparts (element_part (rule_number (all_names names.now)) (tree_inside (rule_number (all_names names.now)) room) (out-Element element.now))) nodes.old.items nodes.new.items) }
 {
     match element {
         Element::Name(token) => {

@@ -5,7 +5,7 @@ use Rattle.std.proofs.Math.Nat.{eq-or-lt_of_le}
 use Rattle.abnf_parts.specs.Part.{Part, root_number}
 use Rattle.abnf_parts.specs.Generates.{Generates}
 use Rattle.abnf_parts.specs.Reach.{ReachesOpaque}
-use Rattle.abnf_names.specs.Rules.{Grammar, IsGrammar}
+use Rattle.abnf_names.specs.Rules.{Grammar, IsGrammar, rules_of}
 use Rattle.abnf_names.proofs.Exist.{some_grammar}
 use Rattle.abnf_cert.specs.declared.entry.Entry.{Entry}
 use Rattle.abnf_cert.specs.declared.entry.Entry.TheVariants.{Nothing, Least}
@@ -16,10 +16,10 @@ use Rattle.abnf_least.proofs.Exist.{some_certificate}
 use Rattle.abnf_least.proofs.Reaching.{reaches_or_not}
 use Rattle.abnf_least.proofs.Short.{rules_short}
 use Rattle.abnf_lint.specs.declared.finding.Finding.{Finding}
-use Rattle.abnf_lint.specs.Findings.{AreFindings, findings_in}
+use Rattle.abnf_lint.specs.Rows.{AreRows}
 use Rattle.abnf_lint.specs.Unproductive.{AreUnproductive, IsUnproductive}
+use Rattle.abnf_lint.proofs.Ascends.{some_rows}
 use Rattle.abnf_lint.proofs.Marks.{each_more}
-use Rattle.abnf_lint.proofs.Exist.{some_order}
 
 -- ---- the marks
 
@@ -65,18 +65,12 @@ some_marks rules cert accepted range =
 
 -- ---- the findings
 
-pub some_findings : (text : List ℕ) → length text < 2 ^ 62 → (found : List Finding) × AreFindings text found
+pub some_findings : (text : List ℕ) → length text < 2 ^ 62 → (found : List Finding) × AreRows text found
 some_findings text small =
     let g = some_grammar text small in
     let right : IsGrammar g.0 = g.2 in
     let cert = some_certificate g.0.rules (rules_short g.0 right) in
     let marks = some_marks g.0.rules cert.0 cert.1 cert.2 in
-    let order = some_order (findings_in marks.0 right.blocks) in
-    let found : AreFindings g.0.text order.0 = record {
-      blocks = right.blocks;
-      of_text = right.of_text;
-      marks = marks.0;
-      are_marks = subst (λ (rs : List Part). AreUnproductive rs marks.0) (ap (λ (x : Grammar). x.rules) right.is) marks.1;
-      ordered = order.1;
-    } in
-    (order.0, subst (λ t. AreFindings t order.0) g.1 found)
+    let are : AreUnproductive (rules_of right.blocks) marks.0 = subst (λ (rs : List Part). AreUnproductive rs marks.0) (ap (λ (x : Grammar). x.rules) right.is) marks.1 in
+    let rows = some_rows g.0.text right.blocks right.of_text marks.0 are in
+    (rows.0, subst (λ t. AreRows t rows.0) g.1 rows.1)

@@ -1,8 +1,8 @@
 //! Laws of what generates anything, and of findings. The functions do nothing.
 
 ghost use Rattle.std.specs.Prelude.{◌<◌, ◌^◌, List, ℕ, length};
-ghost use Rattle.abnf_lint.specs.Findings.{AreFindings};
 ghost use Rattle.abnf_lint.specs.declared.finding.Finding.{Finding};
+ghost use Rattle.abnf_lint.specs.Rows.{AreRows};
 ghost use Rattle.abnf_productive.specs.Yields.{YieldingIsGenerating};
 
 /// A rule yields something with so many nested references exactly where it generates a string with so many.
@@ -12,5 +12,5 @@ pub fn yielding_is_generating()
 
 /// Each text of fewer than 2^62 characters has its findings, and so each text of a document, which has at most 4,194,304 bytes.
 pub fn findings_exist()
-    ensures { (text : List ℕ) → length text < 2 ^ 62 → (found : List Finding) × AreFindings text found }
+    ensures { (text : List ℕ) → length text < 2 ^ 62 → (found : List Finding) × AreRows text found }
 {}

@@ -99,15 +99,8 @@ fn sweep_rules(grammar: &Grammar, marks: &mut [bool])
     requires { spec.AreSound grammar.now.rules marks.old }
     ensures { spec.AreSound grammar.now.rules marks.new }
 {
-    let count = grammar.rule_count();
-    for rule in 0..count {
-        let start = grammar.root_of(RuleNo::new(rule)).get();
-        let next = rule + 1;
-        let end = if next < count {
-            grammar.root_of(RuleNo::new(next)).get()
-        } else {
-            grammar.nodes().len()
-        };
+    for rule in 0..grammar.rule_count() {
+        let (start, end) = grammar.range_of(RuleNo::new(rule));
         sweep(grammar, marks, start, end);
     }
 }

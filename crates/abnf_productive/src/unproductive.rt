@@ -1,7 +1,7 @@
 //! What is found in a text, by which of its rules generate anything.
 
 ghost use Rattle.std.specs.Prelude.{◌≡◌, ◌<◌, ◌↔◌, IfOk, IsTrue, length};
-ghost use Rattle.abnf_lint.specs.Findings.{AreFindings};
+ghost use Rattle.abnf_lint.specs.Rows.{AreRows};
 ghost use Rattle.abnf_lint.specs.Unproductive.{AreUnproductive, IsUnproductive};
 ghost use Rattle.abnf_productive.specs.Marks.{IsProductive};
 
@@ -33,14 +33,14 @@ fn unproductive_rules(alloc: Global, grammar: &Grammar) -> Result<Vec<bool>, All
     Ok(marks)
 }
 
-/// What is found in a grammar's text, by line, start and row of the table. A rule is unproductive exactly where it generates no
-/// string and leads to no prose and no faulty block.
+/// What is found in a grammar's text: the rows of the table that hold of it, by line, start and row. A rule is unproductive exactly
+/// where it generates no string and leads to no prose and no faulty block.
 ///
 /// # Errors
 ///
 /// Where an allocation is refused.
 pub fn findings_in(alloc: Global, grammar: &Grammar) -> Result<List<Finding>, AllocError>
-    ensures { IfOk result (λ found. AreFindings grammar.now.text found) }
+    ensures { IfOk result (λ found. AreRows grammar.now.text found) }
 {
     let marks = unproductive_rules(alloc, grammar)?;
     findings_marked(alloc, grammar, marks.as_slice())

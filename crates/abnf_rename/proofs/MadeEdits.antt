@@ -9,8 +9,8 @@ use Rattle.ls_text.specs.Cut.{Row, row, line_text, text_of, end_text, AreLines, 
 use Rattle.ls_text.specs.declared.line_end.LineEnd.{LineEnd}
 use Rattle.ls_text.specs.declared.position.Range.{Range}
 use Rattle.ls_text.specs.declared.edit.Edit.{Edit}
-use Rattle.ls_text.proofs.EditLaws.{edited-some}
-use Rattle.ls_text.proofs.HeldLaws.{text_of-append}
+use Rattle.ls_text.proofs.EditLaws.{edited_some}
+use Rattle.ls_text.proofs.HeldLaws.{text_of_append}
 use Rattle.abnf_token.specs.Classes.{Text}
 use Rattle.abnf_rename.specs.Text.{renaming_edit, renaming_edits}
 use Rattle.abnf_rename.proofs.RoundLaws.{offset_behind}
@@ -86,7 +86,7 @@ three : (bs : List Row) (e : LineEnd) (rs : List Row) (front x back : List ℕ) 
     text_of (bs ++ row (front ++ (x ++ back)) e ∷ rs) ≡ (text_of bs ++ front) ++ (x ++ (back ++ (end_text e ++ text_of rs)))
 three bs e rs front x back =
     let rest = end_text e ++ text_of rs in
-    text_of-append bs (row (front ++ (x ++ back)) e ∷ rs)
+    text_of_append bs (row (front ++ (x ++ back)) e ∷ rs)
     ∙ (ap (λ l. text_of bs ++ l) (append_assoc front (x ++ back) rest ∙ ap (λ l. front ++ l) (append_assoc x back rest))
     ∙ sym (append_assoc (text_of bs) front (x ++ (back ++ rest))))
 
@@ -126,7 +126,7 @@ module _ (w : ℕ → ℕ) (some : (c : ℕ) → 1 ≤ w c) (new : Text) (solid 
       let end : offset_of w (text_of ls) (length bs) (sum_by w (front ++ x)) ≡ length (text_of bs ++ front) + length x =
       omega (arith, offset_behind w some ls h (length bs) lt (front ++ x) back (text_behind bs r rs ∙ sym (append_assoc front x back)), before, length-append (text_of bs) front, length-append front x)
       in
-      edited-some w (text_of ls) (renaming_edit new range) range refl
+      edited_some w (text_of ls) (renaming_edit new range) range refl
       ∙ ((λ i. replaced (three bs e rs front x back i) (start i) (end i) (chars new))
       ∙ (replaced_between (text_of bs ++ front) x (back ++ (end_text e ++ text_of rs)) (chars new) ∙ sym (three bs e rs front (chars new) back)))
 

@@ -7,7 +7,7 @@ use Rattle.std.proofs.lemmas.List.{length-map}
 use Rattle.abnf_token.specs.Classes.{Text}
 use Rattle.abnf_token.specs.Folded.{lowercase}
 use Rattle.abnf_parts.specs.Names.{Name, with_name, rule_number}
-use Rattle.abnf_parts.proofs.NameLaws.{list_any-map, position-map, map_if, position-cons, position-append, behind, never, same_is, same_refl, same_sym, position_any}
+use Rattle.abnf_parts.proofs.NameLaws.{list_any_map, position_map, map_if, position_cons, position_append, behind, never, same_is, same_refl, same_sym, position_any}
 use Rattle.abnf_rename.specs.Rules.{name_after}
 
 module _ (old : Name) (new : Text) where
@@ -45,7 +45,7 @@ module _ (old : Name) (new : Text) where
   any_after n (m ∷ names) f g = (λ i. same_after n m f g.0 i || any_after n names f g.1 i)
 
   pub there_after : (n : Name) (names : List Name) → Fresh n → AreFresh names → list_any (bytes_eq (after n)) (map after names) ≡ list_any (bytes_eq n) names
-  there_after n names f g = list_any-map after (bytes_eq (after n)) names ∙ any_after n names f g
+  there_after n names f g = list_any_map after (bytes_eq (after n)) names ∙ any_after n names f g
 
   pub with_after : (names : List Name) (n : Name) → Fresh n → AreFresh names → with_name (map after names) (after n) ≡ map after (with_name names n)
   with_after names n f g =
@@ -99,11 +99,11 @@ module _ (old : Name) (new : Text) where
   position_ext : (n : Name) (names : List Name) → Fresh n → AreFresh names → position (λ m. bytes_eq (after n) (after m)) names ≡ position (bytes_eq n) names
   position_ext n [] f g = refl
   position_ext n (m ∷ names) f g =
-      position-cons (λ m. bytes_eq (after n) (after m)) m names
-      ∙ ((λ i. if same_after n m f g.0 i then Some 0 else option_map suc (position_ext n names f g.1 i)) ∙ sym (position-cons (bytes_eq n) m names))
+      position_cons (λ m. bytes_eq (after n) (after m)) m names
+      ∙ ((λ i. if same_after n m f g.0 i then Some 0 else option_map suc (position_ext n names f g.1 i)) ∙ sym (position_cons (bytes_eq n) m names))
 
   position_after : (n : Name) (names : List Name) → Fresh n → AreFresh names → position (bytes_eq (after n)) (map after names) ≡ position (bytes_eq n) names
-  position_after n names f g = position-map after (bytes_eq (after n)) names ∙ position_ext n names f g
+  position_after n names f g = position_map after (bytes_eq (after n)) names ∙ position_ext n names f g
 
   behind_same : (own core : List Name) (n m : Name) (o : Option ℕ) (l : ℕ) → ((o ≡ None) → m ≡ n) →
       behind (bytes_eq m) l o (position (bytes_eq m) core) ≡ behind (bytes_eq n) l o (position (bytes_eq n) core)
@@ -121,10 +121,10 @@ module _ (old : Name) (new : Text) where
   pub number_after : (own core : List Name) (n : Name) → list_any (bytes_eq old) own ≡ true → Fresh n → AreFresh own →
       rule_number (map after own ++ core) (after n) ≡ rule_number (own ++ core) n
   number_after own core n is f g =
-      position-append (bytes_eq (after n)) (map after own) core
+      position_append (bytes_eq (after n)) (map after own) core
       ∙ ((λ i. behind (bytes_eq (after n)) (length-map own after i) (position_after n own f g i) (position (bytes_eq (after n)) core))
       ∙ (behind_same own core n (after n) (position (bytes_eq n) own) (length own) (λ e. name_stays own n is e)
-      ∙ sym (position-append (bytes_eq n) own core)))
+      ∙ sym (position_append (bytes_eq n) own core)))
 
 -- a name stands where its number says
 get_suc : (names : List Name) (a : Name) (o : Option ℕ) (q : ℕ) (n : Name) → ((k : ℕ) → o ≡ Some k → slice_get names k ≡ Some n) → option_map suc o ≡ Some q → slice_get (a ∷ names) q ≡ Some n
@@ -133,7 +133,7 @@ get_suc names a (Some k) q n h e = subst (λ j. slice_get (a ∷ names) j ≡ So
 
 pub number_get : (n : Name) (names : List Name) (q : ℕ) → position (bytes_eq n) names ≡ Some q → slice_get names q ≡ Some n
 number_get n [] q e = absurd (cc)
-number_get n (a ∷ names) q e = by (λ k f. number_get n names k f) (bytes_eq n a) refl (sym (position-cons (bytes_eq n) a names) ∙ e)
+number_get n (a ∷ names) q e = by (λ k f. number_get n names k f) (bytes_eq n a) refl (sym (position_cons (bytes_eq n) a names) ∙ e)
   where
     by : ((k : ℕ) → position (bytes_eq n) names ≡ Some k → slice_get names k ≡ Some n) → (b : Bool) → bytes_eq n a ≡ b → (if b then Some 0 else option_map suc (position (bytes_eq n) names)) ≡ Some q → slice_get (a ∷ names) q ≡ Some n
     by more true s h = subst (λ j. slice_get (a ∷ names) j ≡ Some n) (let x : 0 ≡ q = cc in x) (ap Some (sym (same_is n a s)))

@@ -8,7 +8,7 @@ use Rattle.std.proofs.lemmas.Option.{slice_get_within}
 use Rattle.abnf_token.specs.Classes.{Text}
 use Rattle.abnf_token.specs.Folded.{lowercase}
 use Rattle.abnf_parts.specs.Names.{Name, rule_number}
-use Rattle.abnf_parts.proofs.NameLaws.{position-cons, position-append, behind, never, same_is, position_any}
+use Rattle.abnf_parts.proofs.NameLaws.{position_cons, position_append, behind, never, same_is, position_any}
 use Rattle.abnf_rename.specs.Rules.{name_after}
 use Rattle.abnf_names.proofs.Once.{IsOnce, or_false}
 use Rattle.abnf_rename.proofs.NameLaws.{number_get}
@@ -33,7 +33,7 @@ own_rule old own core there =
     record {
       rule = p.0;
       own_is = p.1;
-      is = position-append (bytes_eq old) own core ∙ ap (λ o. behind (bytes_eq old) (length own) o (position (bytes_eq old) core)) p.1;
+      is = position_append (bytes_eq old) own core ∙ ap (λ o. behind (bytes_eq old) (length own) o (position (bytes_eq old) core)) p.1;
       within = slice_get_within own p.0 old (number_get old own p.0 p.1);
     }
 
@@ -53,7 +53,7 @@ module _ (old : Name) (new : Text) where
 
   pub one_replaced : (names : List Name) → IsOnce names → (i : ℕ) → position (bytes_eq old) names ≡ Some i → map (name_after old new) names ≡ slice_set names i (lowercase new)
   one_replaced [] o i e = absurd (cc)
-  one_replaced (n ∷ names) o i e = by (λ k f. one_replaced names o.1 k f) (bytes_eq old n) refl (sym (position-cons (bytes_eq old) n names) ∙ e)
+  one_replaced (n ∷ names) o i e = by (λ k f. one_replaced names o.1 k f) (bytes_eq old n) refl (sym (position_cons (bytes_eq old) n names) ∙ e)
     where
       by : ((k : ℕ) → position (bytes_eq old) names ≡ Some k → map (name_after old new) names ≡ slice_set names k (lowercase new)) → (b : Bool) → bytes_eq old n ≡ b → (if b then Some 0 else option_map suc (position (bytes_eq old) names)) ≡ Some i →
           name_after old new n ∷ map (name_after old new) names ≡ slice_set (n ∷ names) i (lowercase new)

@@ -28,9 +28,9 @@ use Rattle.abnf_rename.proofs.WholeText.{whole}
 abbrev pub offsets : (ℕ → ℕ) → List ℕ → Range → ℕ × ℕ
 offsets w text r = (position_offset w text r.start, position_offset w text r.end)
 
-pub with_ranges-is : (w : ℕ → ℕ) (text new : List ℕ) (rs : List Range) → with_ranges w text new rs ≡ put_in text new (map (offsets w text) rs)
-with_ranges-is w text new [] = refl
-with_ranges-is w text new (r ∷ rs) = (λ i. put_in (with_ranges-is w text new rs i) new (offsets w text r ∷ []))
+pub with_ranges_is : (w : ℕ → ℕ) (text new : List ℕ) (rs : List Range) → with_ranges w text new rs ≡ put_in text new (map (offsets w text) rs)
+with_ranges_is w text new [] = refl
+with_ranges_is w text new (r ∷ rs) = (λ i. put_in (with_ranges_is w text new rs i) new (offsets w text r ∷ []))
 
 bytes_sum : (cs : List ℕ) → length (encodes cs) ≡ sum_by len_utf8 cs
 bytes_sum [] = refl

@@ -32,7 +32,7 @@ use Rattle.abnf_rename.proofs.NameTexts.{name_utf8, name_solid, name_plain}
 use Rattle.abnf_rename.proofs.NamesKept.{both_kept}
 use Rattle.abnf_rename.proofs.PieceRows.{Cut, row_cuts, are_pieces, solid_rows}
 use Rattle.abnf_rename.proofs.PlacesLaw.{the_place, lines_places, line_places}
-use Rattle.abnf_rename.proofs.RangeSpots.{offsets, spot, with_ranges-is, all_spots, all_ranges}
+use Rattle.abnf_rename.proofs.RangeSpots.{offsets, spot, with_ranges_is, all_spots, all_ranges}
 use Rattle.abnf_rename.proofs.SegmentLaws.{row_of, spots, put_in, lines_rows}
 use Rattle.abnf_rename.proofs.TextKept.{rows_of, AreLineCuts, text_kept}
 use Rattle.abnf_rename.proofs.TextRows.{each_text}
@@ -102,7 +102,7 @@ module _ (encoding : Encoding) (old : Name) (new : Text) (named : is_name new �
     edited : (blocks : List Block) → AreSaid whole_text blocks →
         text_renamed encoding whole_text new (map (range_in encoding whole_text) (places_of_name old (places_of blocks))) ≡ put_in whole_text (chars new) (spots 0 (whole (rows_of old cuts)))
     edited blocks said =
-        with_ranges-is (units encoding) whole_text (chars new) (map (range_in encoding whole_text) (places_of_name old (places_of blocks)))
+        with_ranges_is (units encoding) whole_text (chars new) (map (range_in encoding whole_text) (places_of_name old (places_of blocks)))
         ∙ ap (put_in whole_text (chars new))
         (ranges_spots (places_of_name old (places_of blocks))
         ∙ (ap (map spot_of) (all_listed old whole_text blocks pieces said are) ∙ all_spots old (units encoding) (units_some encoding) cuts c h))

@@ -8,7 +8,7 @@ use Rattle.ls_text.specs.Lines.{offset_of, fitting, lowered, line_at, units_at}
 use Rattle.ls_text.specs.Positions.{position_of}
 use Rattle.ls_text.specs.Cut.{text_of, AreLines, start_of, text_at}
 use Rattle.ls_text.specs.Cut.{Row}
-use Rattle.ls_text.proofs.OffsetLaws.{at_line, is_apart, start_le, offset_of-line, fits, fitting_le}
+use Rattle.ls_text.proofs.OffsetLaws.{at_line, is_apart, start_le, offset_of_line, fits, fitting_le}
 use Rattle.ls_text.proofs.PlaceLaws.{lowered_at}
 
 module _ (w : ℕ → ℕ) (some : (c : ℕ) → 1 ≤ w c) where
@@ -41,7 +41,7 @@ module _ (w : ℕ → ℕ) (some : (c : ℕ) → 1 ≤ w c) where
     -- the offset behind so many units of a line
     pub offset_behind : offset_of w (text_of ls) m (sum_by w front) ≡ start_of ls m + length front
     offset_behind =
-        offset_of-line w ls h m (sum_by w front) lt
+        offset_of_line w ls h m (sum_by w front) lt
         ∙ ap (λ n. start_of ls m + n) (ap (λ l. fitting w l (sum_by w front)) cut ∙ fitting_sum front back)
 
     -- the position of that offset

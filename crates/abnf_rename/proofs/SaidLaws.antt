@@ -21,7 +21,7 @@ use Rattle.abnf_syntax.proofs.Bare.{no_fault}
 use Rattle.abnf_syntax.proofs.Cons.{cons_same}
 use Rattle.abnf_parts.specs.Names.{Name}
 use Rattle.abnf_parts.specs.Tree.{alternatives}
-use Rattle.abnf_names.specs.Said.{Says}
+use Rattle.abnf_names.specs.Said.{BlockSays}
 use Rattle.abnf_names.specs.Rules.{alternatives_said}
 use Rattle.abnf_rename.specs.Parts.{renamed_part}
 use Rattle.abnf_rename.proofs.ItemShapes.{Shape, shape, renamed_shapes, AreRenamedItems}
@@ -159,7 +159,7 @@ module _ (old new : Text) (Used : Text → Type 0) where
       (r : ℕ) (text : List ℕ) (number numbers : Name → Option ℕ) → Agrees Becomes r text number numbers
       → alternatives_said numbers other ≡ map (renamed_part r text) (alternatives_said number said)
 
-  pub tells : (xs ys : List Item) (said other : Result Rule SyntaxFault) → AreRenamedItems old new xs ys → AreUsed false xs → Says xs said → Says ys other → Tells said other
+  pub tells : (xs ys : List Item) (said other : Result Rule SyntaxFault) → AreRenamedItems old new xs ys → AreUsed false xs → BlockSays xs said → BlockSays ys other → Tells said other
   tells xs ys (Ok rule) (Ok other) e used p q r text number numbers g =
       let d = derives_like Becomes xs ys rule p (alike_becomes xs ys false e (derived_free xs rule p) used) in
       let same : d.0 ≡ other = one_rule ys d.0 other d.1 q in

@@ -10,7 +10,7 @@ use Rattle.ls_text.specs.Edits.{replaced, greater}
 use Rattle.ls_text.specs.Cut.{Row, row, line_text, text_of, end_text, is_end_before, IsPlain, AreLines}
 use Rattle.ls_text.specs.declared.line_end.LineEnd.{LineEnd}
 use Rattle.ls_text.specs.declared.line_end.LineEnd.TheVariants.{Eof, Lf, Cr, CrLf}
-use Rattle.ls_text.proofs.CutLaws.{lines-text_of}
+use Rattle.ls_text.proofs.CutLaws.{lines_text_of}
 
 -- a segment, and whether it is to be replaced
 abbrev pub Segment : Type 0
@@ -47,12 +47,12 @@ replaced_between front x back new =
     ∙ (λ i. take-append_seam front (x ++ back) i ++ (new ++ (drop-append-add front (x ++ back) (length x) ∙ drop-append_seam x back) i))
 
 -- Replaced from the last to the first, each segment is the new one.
-pub put_in-is : (front : List ℕ) (xs : List Segment) (new : List ℕ) → put_in (front ++ plain xs) new (spots (length front) xs) ≡ front ++ changed new xs
-put_in-is front [] new = refl
-put_in-is front (x ∷ xs) new =
+pub put_in_is : (front : List ℕ) (xs : List Segment) (new : List ℕ) → put_in (front ++ plain xs) new (spots (length front) xs) ≡ front ++ changed new xs
+put_in_is front [] new = refl
+put_in_is front (x ∷ xs) new =
     let more : put_in (front ++ (x.1 ++ plain xs)) new (spots (length front + length x.1) xs) ≡ front ++ (x.1 ++ changed new xs) =
     (λ i. put_in (sym (append_assoc front x.1 (plain xs)) i) new (spots (sym (length-append front x.1) i) xs))
-    ∙ (put_in-is (front ++ x.1) xs new ∙ append_assoc front x.1 (changed new xs))
+    ∙ (put_in_is (front ++ x.1) xs new ∙ append_assoc front x.1 (changed new xs))
     in
     by x.0 more
   where
@@ -81,7 +81,7 @@ row_texts [] = refl
 row_texts (r ∷ rows) = ap (λ l. plain r.0 ∷ l) (row_texts rows)
 
 pub lines_rows : (rows : List RowOf) → AreRows rows → lines (rows_text rows) ≡ map (λ (r : RowOf). plain r.0) rows
-lines_rows rows h = lines-text_of (map row_of rows) h ∙ row_texts rows
+lines_rows rows h = lines_text_of (map row_of rows) h ∙ row_texts rows
 
 -- ---- lines after the change
 

@@ -5,7 +5,7 @@ use Rattle.std.specs.List.{AllByRecursion}
 use Rattle.std.proofs.lemmas.List.{map-append}
 use Rattle.std.proofs.lemmas.Option.{slice_get-map}
 use Rattle.abnf_parts.specs.Part.{Part, Parts, quoted, series, span, seq, alt, rep, ref, opaque, end, next, subparts, all_subparts}
-use Rattle.abnf_parts.specs.Generates.{PartGen, EachGen, SomeGen, RuleGen, Gen, IsValue}
+use Rattle.abnf_parts.specs.Generates.{PartGen, EachGen, SomeGen, RuleGen, Gen, IsLeastPair}
 use Rattle.abnf_parts.specs.Reach.{ReachesBy}
 use Rattle.abnf_rename.specs.Parts.{renamed_name, renamed_part, renamed_parts, renamed_rules, KeepsMeaning}
 
@@ -102,10 +102,10 @@ module _ (r : ℕ) (new : List ℕ) where
     gen_from : (k : ℕ) (p : Part) (s : List ℕ) → Gen (renamed_rules r new rules) k (renamed_part r new p) s → Gen rules k p s
     gen_from k p s g = part_from (RuleGen rules k) (RuleGen (renamed_rules r new rules) k) (rule_from k) p s g
 
-    value_to : (p : Part) (n k : ℕ) → IsValue rules p n k → IsValue (renamed_rules r new rules) (renamed_part r new p) n k
+    value_to : (p : Part) (n k : ℕ) → IsLeastPair rules p n k → IsLeastPair (renamed_rules r new rules) (renamed_part r new p) n k
     value_to p n k v = record { reached = (v.reached.0, gen_to k p v.reached.0 v.reached.1, v.reached.2); least = λ s j g. v.least s j (gen_from j p s g) }
 
-    value_from : (p : Part) (n k : ℕ) → IsValue (renamed_rules r new rules) (renamed_part r new p) n k → IsValue rules p n k
+    value_from : (p : Part) (n k : ℕ) → IsLeastPair (renamed_rules r new rules) (renamed_part r new p) n k → IsLeastPair rules p n k
     value_from p n k v = record { reached = (v.reached.0, gen_from k p v.reached.0 v.reached.1, v.reached.2); least = λ s j g. v.least s j (gen_to j p s g) }
 
   -- ---- what rules reach

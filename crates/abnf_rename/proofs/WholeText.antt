@@ -4,7 +4,7 @@ use Rattle.std.specs.Prelude.{if◌then◌else◌}
 use Rattle.std.proofs.lemmas.List.{append-nil}
 use Rattle.ls_text.specs.Lines.{lines}
 use Rattle.ls_text.specs.Cut.{end_text, IsPlain}
-use Rattle.abnf_rename.proofs.SegmentLaws.{Segment, plain, changed, spots, put_in, put_in-is, RowOf, rows_text, AreRows, IsSolid, AreSolidRows, changed_rows, lines_changed}
+use Rattle.abnf_rename.proofs.SegmentLaws.{Segment, plain, changed, spots, put_in, put_in_is, RowOf, rows_text, AreRows, IsSolid, AreSolidRows, changed_rows, lines_changed}
 
 -- the segments of the whole text, line ends among them
 abbrev pub whole : List RowOf → List Segment
@@ -33,7 +33,7 @@ module _ (new : List ℕ) (solid : IsSolid new) (new_plain : IsPlain new) where
 
   -- A text of rows that is changed from its last segment to its first is that of the changed rows.
   pub put_in_whole : (rows : List RowOf) → put_in (rows_text rows) new (spots 0 (whole rows)) ≡ rows_text (changed_rows new solid new_plain rows)
-  put_in_whole rows = ap (λ t. put_in t new (spots 0 (whole rows))) (sym (plain_whole rows)) ∙ (put_in-is [] (whole rows) new ∙ changed_whole rows)
+  put_in_whole rows = ap (λ t. put_in t new (spots 0 (whole rows))) (sym (plain_whole rows)) ∙ (put_in_is [] (whole rows) new ∙ changed_whole rows)
 
   -- The lines of a text that is changed from its last segment to its first are its lines, each changed by itself.
   pub edited_lines : (rows : List RowOf) → AreSolidRows new solid new_plain rows → AreRows rows →

@@ -1,7 +1,7 @@
 -- A rename of the trees of rules (RFC 5234, section 2).
 use Rattle.std.specs.Prelude.{ℕ, ◌↔◌, Option, Some, None, List, map, if◌then◌else◌, nat_eq}
 use Rattle.abnf_parts.specs.Part.{Part, Parts, quoted, series, span, seq, alt, rep, ref, opaque, end, next}
-use Rattle.abnf_parts.specs.Generates.{Gen, RuleGen, IsValue}
+use Rattle.abnf_parts.specs.Generates.{Gen, RuleGen, IsLeastPair}
 use Rattle.abnf_parts.specs.Reach.{ReachesOpaque}
 
 -- The name of a reference to that rule is the new one. It goes by the rule's number and not by the name, since a core rule may use a
@@ -35,5 +35,5 @@ renamed_rules r new rules = map (renamed_part r new) rules
 pub record KeepsMeaning (rules others : List Part) (of_part : Part → Part) : Type 0 where
   pub generates : (k : ℕ) (p : Part) (s : List ℕ) → Gen rules k p s ↔ Gen others k (of_part p) s
   pub rule_generates : (k r : ℕ) (s : List ℕ) → RuleGen rules k r s ↔ RuleGen others k r s
-  pub value : (p : Part) (n k : ℕ) → IsValue rules p n k ↔ IsValue others (of_part p) n k
+  pub value : (p : Part) (n k : ℕ) → IsLeastPair rules p n k ↔ IsLeastPair others (of_part p) n k
   pub reaches : (r : ℕ) → ReachesOpaque rules r ↔ ReachesOpaque others r

@@ -7,18 +7,18 @@ use Rattle.std.specs.Str.{encode_utf8_all}
 use Rattle.std.proofs.lemmas.List.{length-map, map-append, append-nil}
 use Rattle.std.proofs.lemmas.Bool.{cases_lt}
 use Rattle.ls_text.specs.Lines.{lines, line_ends}
-use Rattle.ls_text.proofs.LineLaws.{length-lines}
+use Rattle.ls_text.proofs.LineLaws.{length_lines}
 use Rattle.ls_text.specs.Marks.{AreMarksOf}
 use Rattle.abnf_token.specs.declared.mark.TokenMark.{TokenMark}
 use Rattle.abnf_token.specs.Marks.{AreMarks}
 use Rattle.abnf_token.specs.Classes.{Text}
 use Rattle.abnf_syntax.specs.Blocks.{line_texts, begins_at, NoneBegins, AreBlocks}
-use Rattle.abnf_syntax.specs.Gather.{IsNextBlock}
+use Rattle.abnf_syntax.specs.own.Gather.{IsNextBlock}
 use Rattle.abnf_syntax.specs.Bounds.{bounds}
 use Rattle.abnf_syntax.specs.declared.block.Block.{Block}
 
 pub count_lines : (text : List ℕ) → length (line_texts text) ≡ line_ends text + 1
-count_lines text = length-map (lines text) encode_utf8_all ∙ length-lines text
+count_lines text = length-map (lines text) encode_utf8_all ∙ length_lines text
 
 none_map : (ls : List (List ℕ)) (at : ℕ) → None ≡ option_map encode_utf8_all (slice_get ls at) → slice_index_or (map encode_utf8_all ls) at [] ≡ []
 none_map [] at h = refl
@@ -71,13 +71,13 @@ found_more ls found block new e within begins next all bs are =
 pub all_found : (ls : List Text) (first : ℕ) (found : List Block) → length ls ≤ first → ((bs : List (ℕ × ℕ)) → AreBlocks ls first bs → AreBlocks ls 0 (map bounds found ++ bs)) → AreBlocks ls 0 (map bounds found)
 all_found ls first found none all = subst (AreBlocks ls 0) (append-nil (map bounds found)) (all [] (λ at reached before. absurd (omega arith)))
 
-pub All-none : {A : Type 0} (P : A → Type 0) (xs : List A) → xs ≡ [] → All P xs
-All-none P [] h k d less = absurd (omega arith)
-All-none P (x ∷ xs) h k d less = absurd (cc)
+pub All_none : {A : Type 0} (P : A → Type 0) (xs : List A) → xs ≡ [] → All P xs
+All_none P [] h k d less = absurd (omega arith)
+All_none P (x ∷ xs) h k d less = absurd (cc)
 
-All-one : {A : Type 0} (P : A → Type 0) (x : A) → P x → All P (x ∷ [])
-All-one P x p zero d less = p
-All-one P x p (suc at) d less = absurd (omega arith)
+All_one : {A : Type 0} (P : A → Type 0) (x : A) → P x → All P (x ∷ [])
+All_one P x p zero d less = p
+All_one P x p (suc at) d less = absurd (omega arith)
 
-pub All-snoc : {A : Type 0} (P : A → Type 0) (xs : List A) (x : A) (new : List A) → new ≡ xs ++ x ∷ [] → All P xs → P x → All P new
-All-snoc P xs x new e all p = subst (All P) (sym e) (All-append P xs (x ∷ []) all (All-one P x p))
+pub All_snoc : {A : Type 0} (P : A → Type 0) (xs : List A) (x : A) (new : List A) → new ≡ xs ++ x ∷ [] → All P xs → P x → All P new
+All_snoc P xs x new e all p = subst (All P) (sym e) (All-append P xs (x ∷ []) all (All_one P x p))

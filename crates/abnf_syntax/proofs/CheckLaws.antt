@@ -1,40 +1,19 @@
 -- The check answers with the fault of the parse.
-use Rattle.std.proofs.Common.{◌≡◌, ◌<◌, ◌-◌, List, [], ◌∷◌, length, Option, Some, None, Result, Ok, Err, get_or, sym, refl, ap, ◌∙◌, arith, ◌⊎◌, inl, inr}
-use Rattle.std.specs.Prelude.{IfOk, IfErr, reverse, slice_get}
+use Rattle.std.proofs.Common.{◌≡◌, ◌<◌, List, [], ◌∷◌, length, Option, Some, None, Result, Ok, Err, refl, ap, ◌∙◌, ◌⊎◌, inl, inr}
+use Rattle.std.specs.Prelude.{IfOk, IfErr}
 use Rattle.std.specs.Option.{option_or}
 use Rattle.std.specs.Result.{result_err}
-use Rattle.std.proofs.lemmas.List.{get_or-reverse, length-reverse}
-use Rattle.std.proofs.lemmas.Option.{slice_get_cases}
-use Rattle.abnf_token.specs.declared.token.Token.{Token}
 use Rattle.abnf_syntax.specs.declared.item.Item.{Item}
 use Rattle.abnf_syntax.specs.declared.fault.SyntaxFault.{SyntaxFault}
 use Rattle.abnf_syntax.specs.declared.fault.SyntaxFault.TheVariants.{Memory}
 use Rattle.abnf_syntax.specs.declared.tree.Rule.{Rule}
 use Rattle.abnf_syntax.specs.Grammar.{kind_of, Alternation, Derives}
-use Rattle.abnf_syntax.specs.Faults.{Faults, first_of}
-use Rattle.abnf_syntax.specs.Check.{Shows, fault_behind, first_fault}
+use Rattle.abnf_syntax.specs.Faults.{Faults}
+use Rattle.abnf_syntax.specs.own.Check.{Shows, fault_behind, first_fault}
 use Rattle.abnf_syntax.specs.Machine.{State, brackets, start, shift, fault_at, unless, run, rule_with, parse}
 use Rattle.abnf_syntax.proofs.FaultSide.{shift_brackets, shift_last}
 use Rattle.abnf_syntax.proofs.Whole.{parse_sound, parse_complete, parse_faulty}
 use Rattle.abnf_syntax.proofs.Exact.{parse_none, one_fault, some_not_none}
-
--- the innermost bracket
-first_got : (ts : List Token) (t : Token) → 0 < length ts → first_of ts ≡ Some (get_or ts 0 t)
-first_got [] t some = absurd (omega arith)
-first_got (x ∷ xs) t some = refl
-
-at_last : (ts : List Token) (t : Token) → 0 < length ts → get_or ts (length ts - 1) t ≡ t → Some t ≡ first_of (reverse ts)
-at_last ts t some is =
-    let here : get_or ts (length ts - 1 - 0) t ≡ t = ap (λ i. get_or ts i t) (let e : length ts - 1 - 0 ≡ length ts - 1 = omega arith in e) ∙ is in
-    sym (first_got (reverse ts) t (omega (arith, length-reverse ts)) ∙ ap Some (get_or-reverse ts 0 t some ∙ here))
-
-pub last_is_first : (ts : List Token) → slice_get ts (length ts - 1) ≡ first_of (reverse ts)
-last_is_first [] = refl
-last_is_first (t ∷ ts) =
-    elim (slice_get_cases (t ∷ ts) (length (t ∷ ts) - 1)).1 [
-      | inl p ↦ p.2 ∙ at_last (t ∷ ts) p.0 (omega arith) p.3
-      | inr p ↦ absurd (omega (arith, p.0))
-    ]
 
 err_unless : (o : Option SyntaxFault) (go : Result Alternation SyntaxFault) → result_err (unless o go) ≡ option_or o (result_err go)
 err_unless None go = refl

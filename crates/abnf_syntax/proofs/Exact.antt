@@ -1,19 +1,18 @@
 -- A block that shows a fault is no rule, and shows one fault first.
-use Rattle.std.proofs.Common.{◌≡◌, suc, ◌<◌, true, List, [], ◌∷◌, ◌++◌, length, Option, Some, None, Result, Ok, Err, sym, refl, ap, subst, ◌∙◌, arith, ◌⊎◌, inl, inr}
+use Rattle.std.proofs.Common.{◌≡◌, suc, true, List, [], ◌∷◌, ◌++◌, length, Option, Some, None, Result, Ok, sym, refl, subst, ◌∙◌, arith, inl, inr}
 use Rattle.std.proofs.lemmas.Bool.{cases_order}
 use Rattle.std.proofs.lemmas.List.{append-nil}
 use Rattle.abnf_syntax.specs.declared.item.Item.{Item}
 use Rattle.abnf_syntax.specs.declared.fault.SyntaxFault.{SyntaxFault}
-use Rattle.abnf_syntax.specs.declared.fault.SyntaxFault.TheVariants.{Memory}
 use Rattle.abnf_syntax.specs.declared.tree.Rule.{Rule}
 use Rattle.abnf_syntax.specs.Kinds.{is_name, is_defined_as}
 use Rattle.abnf_syntax.specs.Grammar.{kind_of, Alternation, Derives}
 use Rattle.abnf_syntax.specs.Faults.{shown, Faults}
-use Rattle.abnf_syntax.specs.Machine.{State, start, shift, fault_at, run, parse, GivesRule}
+use Rattle.abnf_syntax.specs.Machine.{State, start, shift, fault_at, run, parse}
 use Rattle.abnf_syntax.proofs.Sound.{unless_ok}
 use Rattle.abnf_syntax.proofs.FaultSide.{Tracks, tracks_more, same_fault, earlier, head_earlier}
 use Rattle.abnf_syntax.proofs.Cons.{cons_same}
-use Rattle.abnf_syntax.proofs.Whole.{chosen_ok, rule_ok, neither, parse_complete, parse_faulty}
+use Rattle.abnf_syntax.proofs.Whole.{chosen_ok, rule_ok, neither, parse_complete}
 
 -- no fault here
 none_here : (head defined : Item) (front rest : List Item) (s : State) → Tracks defined front s → fault_at s rest ≡ None → (ys : List Item) → rest ≡ ys → shown (head ∷ defined ∷ front ++ []) ys ≡ None
@@ -70,18 +69,6 @@ one_fault items x y f g =
         | inr less ↦ some_not_none (shown g.front g.rest) y g.shows (f.first g.front g.rest g.split less)
       ]
     ]
-
-by_parse : (items : List Item) (result : Result Rule SyntaxFault) (fault : SyntaxFault) → 0 < length items → Faults items fault → (parsed : Result Rule SyntaxFault) → parse items ≡ parsed → GivesRule result parsed → (result ≡ Err fault) ⊎ (result ≡ Err Memory)
-by_parse items result fault some f (Ok rule) e gives = some_not_none (shown f.front f.rest) fault f.shows (parse_none items rule e f.front f.rest f.split)
-by_parse items (Ok rule) fault some f (Err other) e gives = absurd (cc)
-by_parse items (Err found) fault some f (Err other) e gives =
-    elim gives [
-      | inl memory ↦ inr (ap Err memory)
-      | inr same ↦ let is : other ≡ found = cc in inl (ap Err (sym is ∙ one_fault items other fault (parse_faulty items other some e) f))
-    ]
-
-pub shown_of_gives : (items : List Item) (result : Result Rule SyntaxFault) → 0 < length items → GivesRule result (parse items) → (fault : SyntaxFault) → Faults items fault → (result ≡ Err fault) ⊎ (result ≡ Err Memory)
-shown_of_gives items result some gives fault f = by_parse items result fault some f (parse items) refl gives
 
 ok_same : (r s : Rule) → ◌≡◌ {A = Result Rule SyntaxFault} (Ok r) (Ok s) → r ≡ s
 ok_same r s h = cc

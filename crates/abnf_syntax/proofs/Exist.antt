@@ -17,7 +17,7 @@ use Rattle.abnf_syntax.specs.Kinds.{is_item}
 use Rattle.abnf_syntax.specs.Blocks.{line_texts, begins_at, NoneBegins, AreBlocks}
 use Rattle.abnf_syntax.specs.Bounds.{bounds}
 use Rattle.abnf_syntax.specs.Items.{with_line_end, items_behind, items_of, AreTokens, AreItems, view}
-use Rattle.abnf_syntax.specs.Gather.{IsNextBlock}
+use Rattle.abnf_syntax.specs.own.Gather.{IsNextBlock}
 use Rattle.abnf_syntax.proofs.BlockLaws.{none_at, none_both, from_next, block_first}
 use Rattle.abnf_syntax.proofs.ContentLaws.{some_items}
 

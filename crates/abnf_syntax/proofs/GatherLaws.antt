@@ -14,16 +14,16 @@ use Rattle.abnf_token.proofs.MarkLaws.{put}
 use Rattle.abnf_syntax.specs.declared.item.Item.{Item}
 use Rattle.abnf_syntax.specs.Kinds.{is_item}
 use Rattle.abnf_syntax.specs.Items.{with_line_end, items_behind, items_of, AreTokens, AreItems, view}
-use Rattle.abnf_syntax.specs.Gather.{Gathering, is_some, with_gap, gathered_on, after_all, nothing_gathered, AddsLine, HasLines}
+use Rattle.abnf_syntax.specs.own.Gather.{Gathering, is_some, with_gap, gathered_on, after_all, nothing_gathered, AddsLine, HasLines}
 
 pub not_empty : (items : List Item) (empty : Bool) → empty ≡ (length items == 0) → not empty ≡ is_some (map view items)
 not_empty [] empty is = ap not is
 not_empty (item ∷ items) true is = absurd (grind (arith, nat_tests, is))
 not_empty (item ∷ items) false is = refl
 
-after_all-append : (s : Gathering) (xs ys : List (Option Token)) → after_all s (xs ++ ys) ≡ after_all (after_all s xs) ys
-after_all-append s [] ys = refl
-after_all-append s (x ∷ xs) ys = after_all-append (gathered_on s x) xs ys
+after_all_append : (s : Gathering) (xs ys : List (Option Token)) → after_all s (xs ++ ys) ≡ after_all (after_all s xs) ys
+after_all_append s [] ys = refl
+after_all_append s (x ∷ xs) ys = after_all_append (gathered_on s x) xs ys
 
 -- the tokens with the first k of a line's marks have come, and those with the others are still to come
 pub record HasMarked (at : ℕ) (line : Text) (marks : List TokenMark) (k : ℕ) (old now : Gathering) : Type 0 where
@@ -33,13 +33,13 @@ pub record HasMarked (at : ℕ) (line : Text) (marks : List TokenMark) (k : ℕ)
   pub marks_are : map mark_of behind ≡ drop k marks
   pub state : now ≡ after_all old (map Some tokens)
 
-after_all-snoc : (s : Gathering) (ts : List Token) (t : Token) → after_all s (map Some (ts ++ t ∷ [])) ≡ gathered_on (after_all s (map Some ts)) (Some t)
-after_all-snoc s [] t = refl
-after_all-snoc s (x ∷ ts) t = after_all-snoc (gathered_on s (Some x)) ts t
+after_all_snoc : (s : Gathering) (ts : List Token) (t : Token) → after_all s (map Some (ts ++ t ∷ [])) ≡ gathered_on (after_all s (map Some ts)) (Some t)
+after_all_snoc s [] t = refl
+after_all_snoc s (x ∷ ts) t = after_all_snoc (gathered_on s (Some x)) ts t
 
-after_all-line_end : (s : Gathering) (ts : List Token) → after_all s (with_line_end ts) ≡ with_gap (after_all s (map Some ts))
-after_all-line_end s [] = refl
-after_all-line_end s (t ∷ ts) = after_all-line_end (gathered_on s (Some t)) ts
+after_all_line_end : (s : Gathering) (ts : List Token) → after_all s (with_line_end ts) ≡ with_gap (after_all s (map Some ts))
+after_all_line_end s [] = refl
+after_all_line_end s (t ∷ ts) = after_all_line_end (gathered_on s (Some t)) ts
 
 pub none_marked : (at : ℕ) (line : Text) (marks : List TokenMark) (old : Gathering) → AreMarks line marks → HasMarked at line marks 0 old old
 none_marked at line marks old are = record { tokens = []; behind = (are at).0; whole = (are at).1; marks_are = (are at).2; state = refl }
@@ -58,14 +58,14 @@ token_more {at = at} {line = line} {marks = marks} {k = k} {old = old} {now = no
           behind = ts;
           whole = subst (TokensOf at 0 line) (sym (append_assoc h.tokens (u ∷ []) ts)) (put at line h.tokens t u ts mark (head ∙ sym item) u_is line_is text_is whole);
           marks_are = rest;
-          state = e ∙ ap (λ s. gathered_on s (Some u)) h.state ∙ sym (after_all-snoc old h.tokens u);
+          state = e ∙ ap (λ s. gathered_on s (Some u)) h.state ∙ sym (after_all_snoc old h.tokens u);
         }
 
 pub line_done : {at : ℕ} {line : Text} {marks : List TokenMark} {k : ℕ} {old now next : Gathering} → length marks ≤ k → HasMarked at line marks k old now → next ≡ with_gap now → AddsLine at line old next
 line_done {at = at} {line = line} {marks = marks} {k = k} {old = old} le h e = record {
   tokens = h.tokens;
   tokens_are = subst (TokensOf at 0 line) (ap (λ ts. h.tokens ++ ts) (none h.behind (omega (arith, ap length h.marks_are, length-map h.behind mark_of, length-drop k marks))) ∙ append-nil h.tokens) h.whole;
-  state = e ∙ ap with_gap h.state ∙ sym (after_all-line_end old h.tokens);
+  state = e ∙ ap with_gap h.state ∙ sym (after_all_line_end old h.tokens);
 }
   where
     none : (ts : List Token) → length ts ≡ 0 → ts ≡ []
@@ -84,7 +84,7 @@ line_more ls first at old new h line = record {
   tokens_are = tokens_more ls first h.tokens line.tokens h.tokens_are (subst (λ n. TokensOf n 0 (slice_index_or ls n []) line.tokens) (sym h.all) line.tokens_are);
   state =
       line.state ∙ ap (λ s. after_all s (with_line_end line.tokens)) h.state
-      ∙ sym (after_all-append nothing_gathered (flat_map with_line_end h.tokens) (with_line_end line.tokens))
+      ∙ sym (after_all_append nothing_gathered (flat_map with_line_end h.tokens) (with_line_end line.tokens))
       ∙ ap (after_all nothing_gathered) (ap (λ x. flat_map with_line_end h.tokens ++ x) (sym (append-nil (with_line_end line.tokens))) ∙ sym (flat_map-append with_line_end h.tokens (line.tokens ∷ [])));
 }
 

@@ -4,7 +4,6 @@ pub mod Opened
 pub mod Sound
 pub mod Complete
 pub mod FaultSide
-pub mod Stack
 pub mod Whole
 pub mod NumberLaws
 pub mod BlockLaws

@@ -10,7 +10,7 @@ use Rattle.abnf_syntax.specs.Numbers.{numbers_fit}
 use Rattle.abnf_syntax.specs.Grammar.{kind_of, max_nesting}
 use Rattle.abnf_syntax.specs.declared.fault.SyntaxFault.{SyntaxFault}
 use Rattle.abnf_syntax.specs.Faults.{FaultRow, rows_of, least, is_followed, is_empty, is_other}
-use Rattle.abnf_syntax.specs.Check.{fault_behind, shows_none}
+use Rattle.abnf_syntax.specs.own.Check.{fault_behind, shows_none}
 use Rattle.abnf_syntax.proofs.Rows.{never}
 
 needs_no_end : (last : Kind) → needs_element last ≡ true → ends_element last ≡ false

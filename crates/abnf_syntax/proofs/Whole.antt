@@ -1,6 +1,5 @@
 -- The laws of the whole parse.
 use Rattle.std.proofs.Common.{◌≡◌, ◌<◌, Bool, true, false, List, [], ◌∷◌, ◌++◌, length, Option, Some, None, Result, Ok, Err, sym, refl, ap, subst, ◌∙◌, arith, ◌⊎◌, inl, inr, if◌then◌else◌}
-use Rattle.std.specs.Prelude.{IfOk, IfErr}
 use Rattle.abnf_token.specs.declared.token.Kind.{Kind}
 use Rattle.abnf_token.specs.declared.token.Kind.TheVariants as k
 use Rattle.abnf_syntax.specs.declared.item.Item.{Item}
@@ -10,7 +9,7 @@ use Rattle.abnf_syntax.specs.declared.tree.Rule.{Rule}
 use Rattle.abnf_syntax.specs.Kinds.{is_name, is_adds, is_defined_as, needs_element, ends_element}
 use Rattle.abnf_syntax.specs.Grammar.{kind_of, Alternation, Derives, IsAlternation, max_nesting, defined_as}
 use Rattle.abnf_syntax.specs.Faults.{Faults, shown, place_of, place_after}
-use Rattle.abnf_syntax.specs.Machine.{start, run, parse, parse_body, rule_with, GivesRule}
+use Rattle.abnf_syntax.specs.Machine.{start, run, parse, parse_body, rule_with}
 use Rattle.abnf_syntax.proofs.Front.{ready_at_start}
 use Rattle.abnf_syntax.proofs.Front.Phase.{is_ready}
 use Rattle.abnf_syntax.proofs.Rows.{never}
@@ -129,21 +128,6 @@ parse_faulty (head ∷ defined ∷ body) fault some h =
       | inl p ↦ behind_head head defined body fault p.0 (chosen_err (is_defined_as (kind_of defined)) (rule_with head defined (run (start defined) body)) (f.NoDefinedAs (place_of defined.token)) fault p.1)
       | inr p ↦ subst (Faults (head ∷ defined ∷ body)) p.1 (no_first head (defined ∷ body) p.0)
     ]
-
-pub ok_of_gives : (items : List Item) (r : Result Rule SyntaxFault) → GivesRule r (parse items) → IfOk r (λ rule. Derives items rule)
-ok_of_gives items (Ok rule) h = parse_sound items rule h
-ok_of_gives items (Err fault) h = tt
-
-pub err_not_ok : {A : Type 0} (x : Result Rule SyntaxFault) (rule : Rule) (fault : SyntaxFault) → x ≡ Ok rule → x ≡ Err fault → A
-err_not_ok x rule fault a b = absurd (cc)
-
-pub only_of_gives : (items : List Item) (r : Result Rule SyntaxFault) → GivesRule r (parse items) → (rule : Rule) → Derives items rule → (r ≡ Ok rule) ⊎ (r ≡ Err f.Memory)
-only_of_gives items (Ok found) h rule d = inl (sym h ∙ parse_complete items rule d)
-only_of_gives items (Err fault) h rule d = elim h [ inl m ↦ inr (ap Err m) | inr e ↦ err_not_ok (parse items) rule fault (parse_complete items rule d) e ]
-
-pub fault_of_gives : (items : List Item) (r : Result Rule SyntaxFault) → 0 < length items → GivesRule r (parse items) → IfErr r (λ fault. (fault ≡ f.Memory) ⊎ Faults items fault)
-fault_of_gives items (Ok found) some h = tt
-fault_of_gives items (Err fault) some h = elim h [ inl m ↦ inl m | inr e ↦ inr (parse_faulty items fault some e) ]
 
 answer_by : (items : List Item) → 0 < length items → (r : Result Rule SyntaxFault) → parse items ≡ r → ((rule : Rule) × Derives items rule) ⊎ ((fault : SyntaxFault) × Faults items fault)
 answer_by items some (Ok rule) h = inl (rule, parse_sound items rule h)

@@ -2,11 +2,10 @@ pub mod Kinds
 pub mod Numbers
 pub mod Grammar
 pub mod Faults
-pub mod Check
 pub mod Machine
 pub mod Fitting
 pub mod Blocks
 pub mod Items
-pub mod Gather
 pub mod Bounds
 pub mod Heads
+pub mod own

@@ -1,5 +1,5 @@
 -- The parser's steps, over lists. No public contract speaks of it.
-use Rattle.std.specs.Prelude.{◌⊎◌, ◌≡◌, List, [], ◌∷◌, ◌++◌, reverse, map, Option, Some, None, Result, Ok, Err, if◌then◌else◌}
+use Rattle.std.specs.Prelude.{List, [], ◌∷◌, ◌++◌, reverse, map, Option, Some, None, Result, Ok, Err, if◌then◌else◌}
 use Rattle.abnf_token.specs.declared.token.Kind.{Kind}
 use Rattle.abnf_token.specs.declared.token.Kind.TheVariants.{Name, Slash, Repeat, ParenL, ParenR, BracketL, BracketR, Quoted, Number, Prose}
 use Rattle.abnf_token.specs.declared.token.Token.{Token}
@@ -85,16 +85,6 @@ run s (item ∷ items) = unless (fault_at s (item ∷ items)) (run (shift s item
 -- where the body begins
 abbrev pub start : Item → State
 start defined = record { outer = []; level = empty; last = defined }
-
--- What a function returned is what the steps give, unless memory ran out.
-abbrev pub Gives : Result Alternation SyntaxFault → Result Alternation SyntaxFault → Type 0
-Gives (Ok a) steps = steps ≡ Ok a
-Gives (Err fault) steps = (fault ≡ Memory) ⊎ (steps ≡ Err fault)
-
--- the same of a rule
-abbrev pub GivesRule : Result Rule SyntaxFault → Result Rule SyntaxFault → Type 0
-GivesRule (Ok rule) steps = steps ≡ Ok rule
-GivesRule (Err fault) steps = (fault ≡ Memory) ⊎ (steps ≡ Err fault)
 
 abbrev pub rule_with : Item → Item → Result Alternation SyntaxFault → Result Rule SyntaxFault
 rule_with head defined (Ok a) = Ok (record { name = head.token; adds = is_adds (kind_of defined); body = a })

@@ -5,7 +5,7 @@ ghost use Rattle.abnf_token.specs.Marks.{AreMarks};
 ghost use Rattle.abnf_syntax.specs.Blocks.{line_texts, indent, is_content, base_indent, begins_at, AreBlocks, HasBlock};
 ghost use Rattle.abnf_syntax.specs.Items.{AreItems};
 ghost use Rattle.abnf_syntax.specs.Bounds.{bounds};
-ghost use Rattle.abnf_syntax.specs.Gather as spec;
+ghost use Rattle.abnf_syntax.specs.own.Gather as spec;
 
 use crate::item::Item;
 use crate::kinds::{is_adds, is_defined_as, is_item, is_name};
@@ -145,7 +145,7 @@ fn next_block(snapshot: &Snapshot, base: usize, from: usize) -> usize
 }
 
 impl<'t> Gathered<'t> {
-    ghost use Rattle.abnf_syntax.specs.Gather as spec;
+    ghost use Rattle.abnf_syntax.specs.own.Gather as spec;
 
     /// A blank, a comment or a line end comes.
     fn add_gap(&mut self)

@@ -5,7 +5,7 @@ ghost use Rattle.std.specs.Result.{result_err};
 ghost use Rattle.abnf_syntax.specs.Grammar.{Derives, kind_of};
 ghost use Rattle.abnf_syntax.specs.Kinds.{opens};
 ghost use Rattle.abnf_syntax.specs.Faults.{Faults, first_of, open_after};
-ghost use Rattle.abnf_syntax.specs.Check.{Shows, first_fault, fault_behind};
+ghost use Rattle.abnf_syntax.specs.own.Check.{Shows, first_fault, fault_behind};
 ghost use Rattle.abnf_syntax.specs.Machine.{parse, early};
 ghost use Rattle.abnf_syntax.specs.declared.tree.Rule.{Rule};
 

@@ -1,36 +1,21 @@
 //! The parse of a block.
 
-ghost use Rattle.std.specs.Prelude.{◌≡◌, ◌⊎◌, ◌<◌, length, IfOk, IfErr, IsOk, Some, Ok, Err};
+ghost use Rattle.std.specs.Prelude.{◌≡◌, ◌⊎◌, ◌<◌, length, IfOk, IfErr, IsOk, Ok, Err};
 ghost use Rattle.abnf_syntax.specs.Grammar.{Derives, HasOneRule};
 ghost use Rattle.abnf_syntax.specs.Faults.{Faults};
 ghost use Rattle.abnf_syntax.specs.Machine as spec;
 ghost use Rattle.abnf_syntax.specs.declared.tree.Rule.{Rule};
 
 use crate::block::Block;
+use crate::check::check_block;
 use crate::fault::SyntaxFault;
 use crate::heading::Heading;
 use crate::item::Item;
 use crate::kinds::is_adds;
-use crate::parser::{body_of, sound_body_of};
+use crate::parser::sound_body_of;
 use crate::spare::Spare;
 use crate::tree::Rule;
 use std::alloc::{AllocError, Global};
-
-/// The rule that these items say.
-fn parsed<'t>(alloc: Global, items: &[Item<'t>]) -> Result<Rule<'t>, SyntaxFault>
-    requires { 0 < length items.now }
-    ensures gives { spec.GivesRule result (spec.parse items.now) }
-    ensures early { (fault : SyntaxFault) → spec.early items.now ≡ Some fault → result ≡ Err fault }
-{
-    let heading = Heading::of(items)?;
-    let mut spare = Spare::new(alloc);
-    let body = body_of(alloc, &mut spare, heading.defined, heading.body)?;
-    Ok(Rule {
-        name: heading.head.token,
-        adds: is_adds(heading.defined.token.kind),
-        body,
-    })
-}
 
 /// The rule that a block says (`rule`; RFC 5234 section 4, with the strings of RFC 7405 section 2.2).
 ///
@@ -58,7 +43,10 @@ pub fn parse_block<'t>(alloc: Global, block: &Block<'t>) -> Result<Rule<'t>, Syn
     // A fault before which fewer than three items stand needs no memory.
     ensures early { (fault : SyntaxFault) (shows : Faults block.now.items fault) → length shows.front < 3 → result ≡ Err fault }
 {
-    parsed(alloc, block.items.as_slice())
+    match check_block(alloc, block) {
+        Err(fault) => Err(fault),
+        Ok(()) => Ok(read_block(alloc, &mut Spare::new(alloc), block)?),
+    }
 }
 
 /// The rule that these items say.

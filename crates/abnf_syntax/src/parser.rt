@@ -1,13 +1,10 @@
 //! The parser: a stack of the brackets that are open, which takes one item after another.
 
-ghost use Rattle.std.specs.Prelude.{◌≡◌, ◌⊎◌, ◌∷◌, [], reverse, length, Some, IfOk, IfErr, IsOk, OnOk, Ok, Err};
-ghost use Rattle.abnf_syntax.specs.Faults.{first_of};
+ghost use Rattle.std.specs.Prelude.{◌≡◌, ◌∷◌, [], reverse, Some, IfOk, IsOk, OnOk, Ok};
 ghost use Rattle.abnf_syntax.specs.Machine as spec;
 
-use crate::fault::SyntaxFault;
 use crate::item::Item;
 use crate::spare::Spare;
-use crate::table::{Front, shows_none};
 use crate::tree::{Alternation, Concatenation, Element, Repetition};
 use abnf_token::{Kind, Token};
 use ls_lists::List;
@@ -103,26 +100,6 @@ impl<'t> Level<'t> {
     }
 }
 
-/// The innermost bracket that is open.
-fn innermost<'t>(outer: &List<Opened<'t>>) -> Option<Token<'t>>
-    ensures { result ≡ first_of (spec.brackets (reverse outer.now)) }
-{
-    if outer.is_empty() {
-        return None;
-    }
-    match outer.get(outer.len() - 1) {
-        None => None,
-        Some(opened) => Some(opened.bracket),
-    }
-}
-
-/// How many brackets are open.
-fn depth<'t>(outer: &List<Opened<'t>>) -> usize
-    ensures { result ≡ length (spec.brackets (reverse outer.now)) }
-{
-    outer.len()
-}
-
 impl<'t> Parser<'t> {
     ghost use Rattle.abnf_syntax.specs.Machine as spec;
 
@@ -182,88 +159,9 @@ impl<'t> Parser<'t> {
             Kind::Defines | Kind::Adds | Kind::Comment | Kind::Blank | Kind::Bad => Ok(()),
         }
     }
-
-    /// What the table of faults looks at.
-    fn front(&self) -> Front<'t>
-        ensures { result ≡ record {
-          inner = first_of (spec.brackets (reverse self.now.outer));
-          depth = length (spec.brackets (reverse self.now.outer));
-          last = self.now.last;
-        } }
-    {
-        Front {
-            inner: innermost(&self.outer),
-            depth: depth(&self.outer),
-            last: self.last,
-        }
-    }
-
-    /// The fault that the end shows.
-    fn end_fault(&self) -> Option<SyntaxFault>
-        ensures { result ≡ spec.fault_at (spec.state_of self.now) [] }
-    {
-        self.front().end_fault()
-    }
-
-    /// The fault that the next item shows, with what follows it.
-    fn item_fault(&self, item: &Item<'t>, rest: &[Item<'t>]) -> Option<SyntaxFault>
-        ensures { result ≡ spec.fault_at (spec.state_of self.now) (item.now ∷ rest.now) }
-    {
-        self.front().item_fault(item, rest)
-    }
-
-    /// Takes the next item.
-    #[tactic(auto, unfolding(crate::specs::Machine::fault_at))]
-    fn step(
-        &mut self,
-        spare: &mut Spare<'t>,
-        item: &Item<'t>,
-        rest: &[Item<'t>],
-    ) -> Result<(), SyntaxFault>
-        ensures ok { OnOk result (
-            spec.run (spec.state_of self.old) (item.now ∷ rest.now) ≡ spec.run (spec.state_of self.new) rest.now) }
-        ensures err { IfErr result (λ fault. (fault ≡ SyntaxFault.Memory)
-            ⊎ (spec.run (spec.state_of self.old) (item.now ∷ rest.now) ≡ Err fault)) }
-        ensures shown { (fault : SyntaxFault) → spec.fault_at (spec.state_of self.old) (item.now ∷ rest.now) ≡ Some fault
-            → result ≡ Err fault }
-    {
-        match self.item_fault(item, rest) {
-            Some(fault) => Err(fault),
-            None => Ok(self.shift(spare, item)?),
-        }
-    }
-
-    /// The alternation of the whole body.
-    fn finish(self) -> Result<Alternation<'t>, SyntaxFault>
-        ensures gives { spec.Gives result (spec.run (spec.state_of self.entry) []) }
-        ensures shown { (fault : SyntaxFault) → spec.fault_at (spec.state_of self.entry) [] ≡ Some fault
-            → result ≡ Err fault }
-    {
-        match self.end_fault() {
-            Some(fault) => Err(fault),
-            None => Ok(self.level.finish()?),
-        }
-    }
 }
 
-/// The alternation behind `=` or `=/`, up to the end of the block.
-pub(crate) fn body_of<'t>(
-    alloc: Global,
-    spare: &mut Spare<'t>,
-    defined: Item<'t>,
-    items: &[Item<'t>],
-) -> Result<Alternation<'t>, SyntaxFault>
-    ensures gives { spec.Gives result (spec.run (spec.start defined.entry) items.now) }
-    ensures shown { (fault : SyntaxFault) → spec.fault_at (spec.start defined.entry) items.now ≡ Some fault → result ≡ Err fault }
-{
-    let mut parser = Parser::new(alloc, spare, defined);
-    for i in 0..items.len() {
-        parser.step(spare, &items[i], &items[i + 1..])?;
-    }
-    parser.finish()
-}
-
-/// The same where none of these items and not their end shows a fault.
+/// The alternation behind `=` or `=/`, up to the end of the block, where none of these items and not their end shows a fault.
 pub(crate) fn sound_body_of<'t>(
     alloc: Global,
     spare: &mut Spare<'t>,

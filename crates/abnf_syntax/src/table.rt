@@ -3,7 +3,7 @@
 ghost use Rattle.std.specs.Prelude.{◌≡◌, List, [], ◌∷◌, length};
 ghost use Rattle.abnf_token.specs.declared.token.Token.{Token};
 ghost use Rattle.abnf_syntax.specs.Faults.{place_of, place_after, first_of, is_followed};
-ghost use Rattle.abnf_syntax.specs.Check.{fault_behind, shows_none};
+ghost use Rattle.abnf_syntax.specs.own.Check.{fault_behind, shows_none};
 
 use crate::fault::SyntaxFault;
 use crate::item::Item;
@@ -72,7 +72,7 @@ pub(crate) fn shows_none(last: Kind, kind: Kind) -> bool
 
 impl<'t> Front<'t> {
     /// The fault that the end shows.
-    #[tactic(auto, unfolding(crate::specs::Check::fault_behind))]
+    #[tactic(auto, unfolding(crate::specs::own::Check::fault_behind))]
     pub(crate) fn end_fault(&self) -> Option<SyntaxFault>
         ensures { (brackets : List Token) → self.now.inner ≡ first_of brackets → self.now.depth ≡ length brackets
             → result ≡ fault_behind self.now.last brackets [] }
@@ -90,7 +90,7 @@ impl<'t> Front<'t> {
     }
 
     /// The fault that the next item shows, with what follows it.
-    #[tactic(auto, unfolding(crate::specs::Check::fault_behind))]
+    #[tactic(auto, unfolding(crate::specs::own::Check::fault_behind))]
     pub(crate) fn item_fault(&self, item: &Item<'t>, rest: &[Item<'t>]) -> Option<SyntaxFault>
         ensures { (brackets : List Token) → self.now.inner ≡ first_of brackets → self.now.depth ≡ length brackets
             → result ≡ fault_behind self.now.last brackets (item.now ∷ rest.now) }

@@ -10,7 +10,7 @@ use Rattle.abnf_token.specs.declared.token.Kind.TheVariants as k
 use Rattle.abnf_token.specs.declared.machine.State.{State}
 use Rattle.abnf_token.specs.declared.machine.State.TheVariants as s
 use Rattle.abnf_token.specs.Classes.{Text, is_name, is_name_byte, is_blank_byte, is_quotable, is_case_letter, base_of, is_digit}
-use Rattle.abnf_token.specs.Machine.{begin, step, accepted, run}
+use Rattle.abnf_token.specs.own.Machine.{begin, step, accepted, run}
 use Rattle.abnf_token.proofs.Cuts.{never}
 use Rattle.abnf_token.proofs.Language.{and_false}
 

@@ -8,7 +8,7 @@ use Rattle.abnf_token.specs.declared.machine.State.TheVariants as s
 use Rattle.abnf_token.specs.Classes.{Text, is_prose_rest}
 use Rattle.abnf_token.specs.Rest.{HasNoClose}
 use Rattle.abnf_token.specs.Tokens.{NoLonger, IsNext, Fits}
-use Rattle.abnf_token.specs.Machine.{munch}
+use Rattle.abnf_token.specs.own.Machine.{munch}
 
 pub no_close_drop : (n : ℕ) (t : Text) → HasNoClose t → HasNoClose (drop n t)
 no_close_drop zero t none = none

@@ -13,7 +13,7 @@ use Rattle.abnf_token.specs.declared.machine.State.{State}
 use Rattle.abnf_token.specs.declared.machine.State.TheVariants as s
 use Rattle.abnf_token.specs.Classes.{Text, is_in, is_character, is_quotable, is_case_letter, base_of}
 use Rattle.abnf_token.specs.Tokens.{NoLonger, IsNext, Fits}
-use Rattle.abnf_token.specs.Machine.{begin, step, run}
+use Rattle.abnf_token.specs.own.Machine.{begin, step, run}
 use Rattle.abnf_token.proofs.Language.{same, accepts, class_is}
 use Rattle.abnf_token.proofs.Longest.{IsLongest}
 

@@ -11,7 +11,7 @@ use Rattle.abnf_token.specs.declared.token.Token.{Token}
 use Rattle.abnf_token.specs.declared.machine.State.TheVariants as s
 use Rattle.abnf_token.specs.Classes.{Text, is_in}
 use Rattle.abnf_token.specs.Tokens.{NoLonger, IsNext, TokensOf}
-use Rattle.abnf_token.specs.Machine.{munch}
+use Rattle.abnf_token.specs.own.Machine.{munch}
 use Rattle.abnf_token.proofs.Language.{same, class_is}
 use Rattle.abnf_token.proofs.Longest.{IsLongest, longest}
 use Rattle.abnf_token.proofs.Cuts.{last_ascii, comment_end, found_next, lead, char_len, bad_next_by}

@@ -10,7 +10,7 @@ use Rattle.abnf_token.specs.declared.token.Kind.TheVariants as k
 use Rattle.abnf_token.specs.declared.machine.State.{State}
 use Rattle.abnf_token.specs.declared.machine.State.TheVariants as s
 use Rattle.abnf_token.specs.Classes.{Text, is_in, is_text, is_name_byte, is_blank_byte, is_quotable, is_prose_rest, is_repeat_rest, is_quoted_rest, is_quotation, is_case_letter, is_case_quotation, base_of, is_digit, is_digits, is_series, is_number_rest, is_based}
-use Rattle.abnf_token.specs.Machine.{begin, accepted, run}
+use Rattle.abnf_token.specs.own.Machine.{begin, accepted, run}
 
 abbrev pub tag : Kind → ℕ
 tag k.Name = 0

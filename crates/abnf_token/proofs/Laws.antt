@@ -10,7 +10,7 @@ use Rattle.abnf_token.specs.declared.token.Kind.TheVariants as k
 use Rattle.abnf_token.specs.declared.machine.State.TheVariants as s
 use Rattle.abnf_token.specs.Classes.{Text, is_in, is_character}
 use Rattle.abnf_token.specs.Tokens.{NoLonger, IsNext, Fits, TokensOf, AreApart, HasOneAnswer, AreSlices, HasSlices, joined_tokens, HasJoin, GivesToken, GivesTokensOf, view}
-use Rattle.abnf_token.specs.Machine.{accepted, run}
+use Rattle.abnf_token.specs.own.Machine.{accepted, run}
 use Rattle.abnf_token.specs.Rest.{Rest}
 use Rattle.std.specs.Iterator.{Yields}
 use Rattle.abnf_token.proofs.Language.{tag, same, is_kind, class_is}

@@ -13,7 +13,7 @@ use Rattle.abnf_token.specs.declared.machine.State.{State}
 use Rattle.abnf_token.specs.declared.machine.State.TheVariants as s
 use Rattle.abnf_token.specs.Classes.{Text, is_in, is_name, is_name_byte, is_blank_byte, is_character, is_comment}
 use Rattle.abnf_token.specs.Tokens.{NoLonger, Fits, IsNext, TokensOf}
-use Rattle.abnf_token.specs.Machine.{begin, step, accepted, run}
+use Rattle.abnf_token.specs.own.Machine.{begin, step, accepted, run}
 use Rattle.abnf_token.specs.Renamed.{Piece, piece, joined, AreCut, touches, is_at_place, renamed, KeepsCut, KeepsTokens}
 use Rattle.abnf_token.proofs.Language.{is_kind, accepts, class_is, same}
 use Rattle.abnf_token.proofs.Longest.{same_self}

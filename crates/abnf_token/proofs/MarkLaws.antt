@@ -22,9 +22,9 @@ renumbered line n start left [] p = p
 renumbered line n start left (t ∷ ts) p =
     (record { next = p.0.next; line = refl; start = p.0.start }, renumbered line n (start + length t.text.now) (drop (length t.text.now) left) ts p.1)
 
-marks-renumbered : (n : ℕ) (ts : List Token) → map mark_of (map (renumber n) ts) ≡ map mark_of ts
-marks-renumbered n [] = refl
-marks-renumbered n (t ∷ ts) = ap (λ ms. mark_of t ∷ ms) (marks-renumbered n ts)
+marks_renumbered : (n : ℕ) (ts : List Token) → map mark_of (map (renumber n) ts) ≡ map mark_of ts
+marks_renumbered n [] = refl
+marks_renumbered n (t ∷ ts) = ap (λ ms. mark_of t ∷ ms) (marks_renumbered n ts)
 
 -- the marks of a front of a line have come to the end of some marks
 pub record HasMarks (text : Text) (rest : Rest) (old marks : List TokenMark) : Type 0 where
@@ -47,7 +47,7 @@ marks_more {text = text} {rest = rest} {behind = behind} {old = old} t h gives p
 pub marks_done : {text : Text} {rest behind : Rest} {old marks : List TokenMark} → HasMarks text rest old marks → GivesToken rest None behind → AreMarksOnto text old marks
 marks_done {text = text} h gives =
     let are : TokensOf 0 0 text h.tokens = rw append-nil at (h.whole [] gives.0) in
-    (map mark_of h.tokens, (λ line. (map (renumber line) h.tokens, renumbered 0 line 0 text h.tokens are, marks-renumbered line h.tokens)), sym h.marks_are)
+    (map mark_of h.tokens, (λ line. (map (renumber line) h.tokens, renumbered 0 line 0 text h.tokens are, marks_renumbered line h.tokens)), sym h.marks_are)
 
 -- a token that comes ends within the line
 pub end_within : {text : Text} {rest behind : Rest} {old marks : List TokenMark} (t : Token) → HasMarks text rest old marks → GivesToken rest (Some t) behind → t.start + length t.text.now ≤ length text

@@ -7,7 +7,7 @@ use Rattle.abnf_token.specs.declared.machine.State.{State}
 use Rattle.abnf_token.specs.declared.machine.State.TheVariants.{Start, Name, Blank, Quote, Done, Dead}
 use Rattle.abnf_token.specs.declared.token.Kind.TheVariants as k
 use Rattle.abnf_token.specs.Classes.{Text, is_name_byte, is_blank_byte, is_quotable}
-use Rattle.abnf_token.specs.Machine.{begin, step, munch, latest, accepted}
+use Rattle.abnf_token.specs.own.Machine.{begin, step, munch, latest, accepted}
 use Rattle.abnf_token.proofs.Longest.{munch_dead}
 
 -- the first byte

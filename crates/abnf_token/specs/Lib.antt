@@ -1,8 +1,8 @@
 pub mod Classes
 pub mod Rest
-pub mod Machine
 pub mod Tokens
 pub mod Numbers
 pub mod Folded
 pub mod Marks
 pub mod Renamed
+pub mod own

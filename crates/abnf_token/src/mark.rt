@@ -1,14 +1,11 @@
 //! Where the tokens of a line stand.
 
-ghost use Rattle.std.specs.Prelude.{◌≡◌, ◌+◌, ◌<◌, ◌^◌, OnOk, IfOk, length, slice_range};
-ghost use Rattle.abnf_token.specs.Marks.{AreMarks, AreMarksOnto, IsMarkOf, mark_of};
+ghost use Rattle.std.specs.Prelude.{◌≡◌, ◌+◌, ◌<◌, ◌^◌, OnOk, length, slice_range};
+ghost use Rattle.abnf_token.specs.Marks.{AreMarksOnto, IsMarkOf, mark_of};
 
 use crate::scan::tokens;
 use crate::token::{Kind, Token};
-use std::alloc::{AllocError, Global};
-
-/// How many bytes most tokens have, so that a line's marks need one allocation.
-const BYTES_A_TOKEN: usize = 4;
+use std::alloc::AllocError;
 
 /// The class of a token, and where its text stands in its line, in bytes.
 ///
@@ -34,15 +31,6 @@ fn mark_of(token: &Token) -> TokenMark
     }
 }
 
-/// Gives back the room of marks that have more than one to spare.
-fn trim(marks: &mut Vec<TokenMark>)
-    ensures { marks.new.items ≡ marks.old.items }
-{
-    if marks.capacity() > marks.len().saturating_add(1) {
-        marks.shrink_to_fit();
-    }
-}
-
 /// Adds the marks of the tokens of a line, from left to right. The line has less than 4 GiB.
 pub fn push_marks(marks: &mut Vec<TokenMark>, text: &str) -> Result<(), AllocError>
     requires { length text.now < 2 ^ 32 }
@@ -52,17 +40,6 @@ pub fn push_marks(marks: &mut Vec<TokenMark>, text: &str) -> Result<(), AllocErr
         marks.push(mark_of(&token))?;
     }
     Ok(())
-}
-
-/// The marks of the tokens of a line, from left to right. The line has less than 4 GiB.
-pub fn marks_of(alloc: Global, text: &str) -> Result<Vec<TokenMark>, AllocError>
-    requires { length text.now < 2 ^ 32 }
-    ensures { IfOk result (λ marks. AreMarks text.now marks.items) }
-{
-    let mut marks = Vec::with_capacity(alloc, text.len().div_ceil(BYTES_A_TOKEN))?;
-    push_marks(&mut marks, text)?;
-    trim(&mut marks);
-    Ok(marks)
 }
 
 /// The token of a line that has this mark, which is one of that line's. It carries the line's number.

@@ -4,7 +4,7 @@ ghost use Rattle.std.specs.Prelude.{◌≡◌, ◌∷◌, ◌<◌, ◌≤◌, �
 ghost use Rattle.std.specs.Str.{IsCharBoundary, continuation_len};
 ghost use Rattle.abnf_token.specs.Rest.{HasNoClose};
 ghost use Rattle.abnf_token.specs.Tokens.{IsNext, HasOneAnswer, HasSlices, HasJoin, AreApart, GivesTokensOf};
-ghost use Rattle.abnf_token.specs.Machine.{begin, munch};
+ghost use Rattle.abnf_token.specs.own.Machine.{begin, munch};
 
 use crate::machine::{State, accepted, begin, is_blank_byte, is_name_byte, is_quotable, step};
 use crate::token::{Kind, Token};

@@ -192,7 +192,10 @@ fn a_reply(rt: HostRuntime) -> Result<(), Fail> {
 #[test]
 fn a_body_that_is_said(rt: HostRuntime) -> Result<(), Fail> {
     let alloc = rt.alloc();
-    let said = body_for(alloc, Out::Said(List::from_slice(alloc, b"{}")?))?;
+    let said = body_for(
+        alloc,
+        Out::Said(List::from_vec(Vec::from_slice(alloc, b"{}")?)),
+    )?;
     assert!(rt; said.as_slice() == b"{}".as_slice());
     Ok(())
 }

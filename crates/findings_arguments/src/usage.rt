@@ -1,7 +1,7 @@
 //! How the program is used.
 
 ghost use Rattle.std.specs.Prelude.{◌≡◌, IfOk, OnOk, map, string_bytes};
-ghost use Rattle.findings_arguments.specs.Help as spec;
+ghost use Rattle.findings_arguments.specs.own.Help as spec;
 
 use findings_files::Ending;
 use ls_lists::Text;

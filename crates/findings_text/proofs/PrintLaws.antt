@@ -4,7 +4,7 @@ use Rattle.std.specs.Prelude.{Result, Ok, Err, IfOk, flat_map}
 use Rattle.abnf_names.proofs.Exist.{some_grammar}
 use Rattle.abnf_names.proofs.OneGrammar.{one_grammar}
 use Rattle.abnf_lint.specs.declared.finding.Finding.{Finding}
-use Rattle.abnf_lint.proofs.OneFinding.{findings_unique}
+use Rattle.abnf_lint.proofs.Ascends.{rows_unique}
 use Rattle.findings_text.specs.declared.print.Printed.{Printed}
 use Rattle.findings_text.specs.Hints.{AreKnown, compared, known_names}
 use Rattle.findings_text.specs.Outcomes.{outcome_of}
@@ -56,7 +56,7 @@ pub one_known : (text : List ℕ) (a b : List (List ℕ)) → AreKnown text a �
 one_known text a b p q = p.are ∙ (ap known_names (one_grammar p.grammar q.grammar p.right q.right (p.of_text ∙ sym q.of_text)) ∙ sym q.are)
 
 one_found : (text : List ℕ) (a b : List Finding) (x y : List (List ℕ)) → AreFoundWith text a x → AreFoundWith text b y → a ≡ b
-one_found text a b x y p q = findings_unique text a b p.of_text q.of_text
+one_found text a b x y p q = rows_unique text a b p.of_text q.of_text
 
 one_names : (text : List ℕ) (a b : List Finding) (x y : List (List ℕ)) → AreFoundWith text a x → AreFoundWith text b y → x ≡ y
 one_names text a b x y p q =

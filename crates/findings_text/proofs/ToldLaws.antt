@@ -8,7 +8,7 @@ use Rattle.abnf_names.specs.Rules.{Grammar, IsGrammar}
 use Rattle.abnf_names.proofs.Exist.{some_grammar}
 use Rattle.abnf_names.proofs.OneGrammar.{one_grammar}
 use Rattle.abnf_lint.specs.declared.finding.Finding.{Finding}
-use Rattle.abnf_lint.proofs.OneFinding.{findings_unique}
+use Rattle.abnf_lint.proofs.Ascends.{rows_unique}
 use Rattle.abnf_productive.proofs.Exist.{some_findings}
 use Rattle.findings_text.specs.declared.print.Printed.{Printed}
 use Rattle.findings_text.specs.Hints.{compared}
@@ -44,7 +44,7 @@ printed_told told locate file text found names are shown known shown_is known_is
 }
 
 one_told : (told text : List ℕ) (a b : List Finding) (x y : List (List ℕ)) → AreToldWith told text a x → AreToldWith told text b y → a ≡ b
-one_told told text a b x y p q = p.found_are ∙ (ap (told_findings told) (findings_unique text p.all q.all p.of_text q.of_text) ∙ sym q.found_are)
+one_told told text a b x y p q = p.found_are ∙ (ap (told_findings told) (rows_unique text p.all q.all p.of_text q.of_text) ∙ sym q.found_are)
 
 one_told_names : (told text : List ℕ) (a b : List Finding) (x y : List (List ℕ)) → AreToldWith told text a x → AreToldWith told text b y → x ≡ y
 one_told_names told text a b x y p q =

@@ -8,8 +8,8 @@ use Rattle.ls_text.specs.declared.position.Position.{Position}
 use Rattle.abnf_lint.specs.declared.finding.Finding.{Finding}
 use Rattle.abnf_lint.specs.declared.message.Severity.{Severity}
 use Rattle.abnf_lint.specs.declared.message.Severity.TheVariants.{Error, Warning}
-use Rattle.abnf_lint.specs.Findings.{AreFindings}
 use Rattle.abnf_lint.specs.Messages.{code_text, severity_of}
+use Rattle.abnf_lint.specs.Rows.{AreRows}
 use Rattle.findings_text.specs.declared.print.Printed.{Printed}
 use Rattle.findings_text.specs.Hints.{AreKnown, compared, message}
 use Rattle.findings_text.specs.Outcomes.{outcome_of}
@@ -46,7 +46,7 @@ finding_line locate known file text finding = line_of_finding known file (locate
 
 -- These are the findings of a text, and the names with which theirs are compared.
 pub record AreFoundWith (text : List ℕ) (found : List Finding) (names : List (List ℕ)) : Type 0 where
-  pub of_text : AreFindings text found
+  pub of_text : AreRows text found
   pub known : List (List ℕ)
   pub are_known : AreKnown text known
   pub names_are : names ≡ compared found known

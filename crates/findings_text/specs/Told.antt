@@ -5,7 +5,7 @@ use Rattle.ls_text.specs.declared.position.Place.{Place}
 use Rattle.abnf_names.specs.Places.{Named}
 use Rattle.abnf_names.specs.Rules.{Grammar, IsGrammar}
 use Rattle.abnf_lint.specs.declared.finding.Finding.{Finding}
-use Rattle.abnf_lint.specs.Findings.{AreFindings}
+use Rattle.abnf_lint.specs.Rows.{AreRows}
 use Rattle.findings_text.specs.declared.print.Printed.{Printed}
 use Rattle.findings_text.specs.Hints.{AreKnown, compared}
 use Rattle.findings_text.specs.Outcomes.{outcome_of}
@@ -25,7 +25,7 @@ told_findings told found = filter (λ finding. stands_in told finding.place) fou
 -- order, and then the core rules: so of names that are as near one of the grammar at the front is told.
 pub record AreToldWith (told text : List ℕ) (found : List Finding) (names : List (List ℕ)) : Type 0 where
   pub all : List Finding
-  pub of_text : AreFindings text all
+  pub of_text : AreRows text all
   pub found_are : found ≡ told_findings told all
   pub known : List (List ℕ)
   pub are_known : AreKnown text known

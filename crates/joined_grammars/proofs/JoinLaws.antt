@@ -17,7 +17,7 @@ use Rattle.abnf_syntax.specs.Items.{AreItems}
 use Rattle.abnf_syntax.proofs.Bare.{bare, bare_head, head_bare, one_list, same_items}
 use Rattle.abnf_syntax.proofs.Exist.{some_blocks}
 use Rattle.abnf_parts.specs.Names.{Name, rule_number, with_name}
-use Rattle.joined_grammars.specs.Passes.{HasJoined, Joins, Joining}
+use Rattle.joined_grammars.specs.own.Passes.{HasJoined, JoinsBlocks, Joining}
 use Rattle.joined_grammars.specs.Joined.{AreBlocksOf, Follows, IsJoined, block_text, with_break, head_name, is_new, new_text, with_head_name, with_heads}
 
 -- ---- there is one
@@ -53,7 +53,7 @@ some_joined told others small all_small =
 
 -- another text was joined
 pub joined_next : (all : List (List ℕ)) (i : ℕ) (old was now : Joining) (other : List ℕ) → i < length all → other ≡ get_or all i other
-    → HasJoined all (drop i all) old was → Joins other was now → HasJoined all (drop (i + 1) all) old now
+    → HasJoined all (drop i all) old was → JoinsBlocks other was now → HasJoined all (drop (i + 1) all) old now
 joined_next all i old was now other less at before joins = record {
   behind = before.behind ++ new_text was.names other joins.blocks;
   text = joins.text ∙ (ap (λ t. t ++ new_text was.names other joins.blocks) before.text ∙ append_assoc old.text before.behind (new_text was.names other joins.blocks));

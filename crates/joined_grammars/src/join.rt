@@ -7,7 +7,7 @@ ghost use Rattle.std.specs.Str.{chars};
 ghost use Rattle.ls_text.specs.Lines.{lines};
 ghost use Rattle.abnf_parts.specs.Names.{folded_text};
 ghost use Rattle.joined_grammars.specs.Joined as spec;
-ghost use Rattle.joined_grammars.specs.Passes.{Joins, state};
+ghost use Rattle.joined_grammars.specs.own.Passes.{JoinsBlocks, state};
 
 use abnf_parts::Names;
 use abnf_syntax::{Block, blocks};
@@ -134,7 +134,7 @@ fn push_other<'t>(
     names: &mut Names<'t>,
     other: &'t Snapshot,
 ) -> Result<(), Memory>
-    ensures { OnOk result (Joins other.entry.now (state names.old (chars (string_bytes joined.old))) (state names.new (chars (string_bytes joined.new)))) }
+    ensures { OnOk result (JoinsBlocks other.entry.now (state names.old (chars (string_bytes joined.old))) (state names.new (chars (string_bytes joined.new)))) }
 {
     let found = blocks(alloc, other)?;
     push_new(joined, names, other, found.as_slice())?;

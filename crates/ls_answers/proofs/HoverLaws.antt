@@ -16,11 +16,11 @@ use Rattle.ls_answers.proofs.Definitions.{found, none}
 
 module _ (encoding : Encoding) where
   -- with a name there
-  pub hover-some : (g : Grammar) (at : Position) (text : List ℕ) (offset : ℕ) (s : Place × List ℕ) (range : Range) (hover : HoverText)
+  pub hover_some : (g : Grammar) (at : Position) (text : List ℕ) (offset : ℕ) (s : Place × List ℕ) (range : Range) (hover : HoverText)
       → IsGrammar g → text ≡ g.text → offset ≡ offset_of (units encoding) text at.line at.character
       → Some s ≡ option_map place_and_text (at_offset g.text g.places offset) → range ≡ place_range (units encoding) text s.0
       → IsHoverOfName g range (lowercase s.1) hover → IsHover encoding g.text at (Some hover)
-  hover-some g at text offset s range hover right of_text is_offset_there is_found is_range h =
+  hover_some g at text offset s range hover right of_text is_offset_there is_found is_range h =
       let is_offset = is_offset_there ∙ ap (λ t. offset_of (units encoding) t at.line at.character) of_text in
       let n = found (at_offset g.text g.places offset) s is_found in
       let here : name_at encoding g at ≡ Some n.0 = ap (λ o. at_offset g.text g.places o) (sym is_offset) ∙ n.1 in
@@ -30,9 +30,9 @@ module _ (encoding : Encoding) where
       record { grammar = g; of_text = refl; right = right; shown = subst (λ o. IsHoverAt encoding g o (Some hover)) (sym here) shown }
 
   -- without one
-  pub hover-none : (g : Grammar) (at : Position) (text : List ℕ) (offset : ℕ) → IsGrammar g → text ≡ g.text
+  pub hover_none : (g : Grammar) (at : Position) (text : List ℕ) (offset : ℕ) → IsGrammar g → text ≡ g.text
       → offset ≡ offset_of (units encoding) text at.line at.character → None ≡ option_map place_and_text (at_offset g.text g.places offset) → IsHover encoding g.text at None
-  hover-none g at text offset right of_text is_offset_there is_none =
+  hover_none g at text offset right of_text is_offset_there is_none =
       let is_offset = is_offset_there ∙ ap (λ t. offset_of (units encoding) t at.line at.character) of_text in
       let here : name_at encoding g at ≡ None = ap (λ o. at_offset g.text g.places o) (sym is_offset) ∙ none (at_offset g.text g.places offset) is_none in
       record { grammar = g; of_text = refl; right = right; shown = subst (λ o. IsHoverAt encoding g o None) (sym here) refl }

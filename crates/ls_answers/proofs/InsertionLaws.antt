@@ -42,43 +42,43 @@ module _ (encoding : Encoding) where
   of_none g None rule e = refl
   of_none g (Some n) rule e = absurd (cc)
 
-  pub by-none : (g : Grammar) (name : Name) (spots : List Spot) (rule : Option ℕ) → map named_at spots ≡ g.places → None ≡ find (is_head_of name) spots → IsInsertionBy encoding g (first_head g name) rule None
-  by-none g name spots rule same e = of_none g (first_head g name) rule (first_is g name spots None same e)
+  pub by_none : (g : Grammar) (name : Name) (spots : List Spot) (rule : Option ℕ) → map named_at spots ≡ g.places → None ≡ find (is_head_of name) spots → IsInsertionBy encoding g (first_head g name) rule None
+  by_none g name spots rule same e = of_none g (first_head g name) rule (first_is g name spots None same e)
 
-  pub by-no-rule : (g : Grammar) (head : Option Named) (rule : Option ℕ) → None ≡ rule → IsInsertionBy encoding g head rule None
-  by-no-rule g None rule e = refl
-  by-no-rule g (Some n) rule e = subst (λ rule. IsInsertionBy encoding g (Some n) rule None) e refl
+  pub by_no_rule : (g : Grammar) (head : Option Named) (rule : Option ℕ) → None ≡ rule → IsInsertionBy encoding g head rule None
+  by_no_rule g None rule e = refl
+  by_no_rule g (Some n) rule e = subst (λ rule. IsInsertionBy encoding g (Some n) rule None) e refl
 
   of_head : (g : Grammar) (head : Option Named) (rule : Option ℕ) (r line : ℕ) (n : Named) (insertion : Option Insertion) → Some n ≡ head → Some r ≡ rule
       → line ≡ (place_range (units encoding) g.text n.place).start.line → IsInsertionOfRule g.rules line r insertion → IsInsertionBy encoding g head rule insertion
   of_head g head rule r line n insertion e f at is =
       subst (λ head. IsInsertionBy encoding g head rule insertion) e (subst (λ rule. IsInsertionBy encoding g (Some n) rule insertion) f (subst (λ line. IsInsertionOfRule g.rules line r insertion) at is))
 
-  pub by-some : {E : Type 0} (g : Grammar) (name : Name) (spots : List Spot) (rule : Option ℕ) (r line : ℕ) (s : Spot) (given : Result (Option Insertion) E) → map named_at spots ≡ g.places
+  pub by_some : {E : Type 0} (g : Grammar) (name : Name) (spots : List Spot) (rule : Option ℕ) (r line : ℕ) (s : Spot) (given : Result (Option Insertion) E) → map named_at spots ≡ g.places
       → Some s ≡ find (is_head_of name) spots → Some r ≡ rule → line ≡ (place_range (units encoding) g.text s.place).start.line
       → IfOk given (λ insertion. IsInsertionOfRule g.rules line r insertion) → IfOk given (λ insertion. IsInsertionBy encoding g (first_head g name) rule insertion)
-  by-some g name spots rule r line s (Ok insertion) same e h l is = of_head g (first_head g name) rule r line (named_at s) insertion (first_is g name spots (Some s) same e) h l is
-  by-some g name spots rule r line s (Err x) same e h l is = is
+  by_some g name spots rule r line s (Ok insertion) same e h l is = of_head g (first_head g name) rule r line (named_at s) insertion (first_is g name spots (Some s) same e) h l is
+  by_some g name spots rule r line s (Err x) same e h l is = is
 
   -- ---- the name that is found
 
   abbrev start_in : List ℕ → Range → ℕ
   start_in text range = min (position_offset (units encoding) text range.start) (position_offset (units encoding) text range.end)
 
-  pub at-some : {E : Type 0} (g : Grammar) (range : Range) (text : List ℕ) (offset : ℕ) (s : Place × List ℕ) (given : Result (Option Insertion) E) → IsGrammar g → text ≡ g.text → offset ≡ start_in text range
+  pub at_some : {E : Type 0} (g : Grammar) (range : Range) (text : List ℕ) (offset : ℕ) (s : Place × List ℕ) (given : Result (Option Insertion) E) → IsGrammar g → text ≡ g.text → offset ≡ start_in text range
       → Some s ≡ option_map place_and_text (at_offset g.text g.places offset)
       → IfOk given (λ insertion. IsInsertionBy encoding g (first_head g (lowercase s.1)) (rule_number g.names (lowercase s.1)) insertion) → IfOk given (λ insertion. IsInsertion encoding g.text range insertion)
-  at-some g range text offset s (Ok insertion) right of_text is_offset_there is_found is =
+  at_some g range text offset s (Ok insertion) right of_text is_offset_there is_found is =
       let is_offset = is_offset_there ∙ ap (λ t. start_in t range) of_text in
       let n = found (at_offset g.text g.places offset) s is_found in
       let here : name_at_start encoding g range ≡ Some n.0 = ap (λ o. at_offset g.text g.places o) (sym is_offset) ∙ n.1 in
       let there : IsInsertionThere encoding g (Some n.0) insertion = subst (λ t. IsInsertionBy encoding g (first_head g (lowercase t)) (rule_number g.names (lowercase t)) insertion) (sym n.2) is in
       record { grammar = g; of_text = refl; right = right; inserted = subst (λ o. IsInsertionThere encoding g o insertion) (sym here) there }
-  at-some g range text offset s (Err x) right of_text is_offset_there is_found is = is
+  at_some g range text offset s (Err x) right of_text is_offset_there is_found is = is
 
-  pub at-none : (g : Grammar) (range : Range) (text : List ℕ) (offset : ℕ) → IsGrammar g → text ≡ g.text → offset ≡ start_in text range
+  pub at_none : (g : Grammar) (range : Range) (text : List ℕ) (offset : ℕ) → IsGrammar g → text ≡ g.text → offset ≡ start_in text range
       → None ≡ option_map place_and_text (at_offset g.text g.places offset) → IsInsertion encoding g.text range None
-  at-none g range text offset right of_text is_offset_there is_none =
+  at_none g range text offset right of_text is_offset_there is_none =
       let is_offset = is_offset_there ∙ ap (λ t. start_in t range) of_text in
       let here : name_at_start encoding g range ≡ None = ap (λ o. at_offset g.text g.places o) (sym is_offset) ∙ none (at_offset g.text g.places offset) is_none in
       record { grammar = g; of_text = refl; right = right; inserted = subst (λ o. IsInsertionThere encoding g o None) (sym here) refl }

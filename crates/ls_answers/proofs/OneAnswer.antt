@@ -29,7 +29,7 @@ use Rattle.abnf_cert.specs.declared.entry.Entry.{Entry}
 use Rattle.abnf_least.specs.declared.shortest.Shortest.{Shortest}
 use Rattle.abnf_least.specs.declared.shortest.Shortest.TheVariants.{Shown, Long, Huge, Nothing, NotKnown}
 use Rattle.abnf_least.proofs.OneShown.{one_shown}
-use Rattle.abnf_lint.proofs.OneFinding.{findings_unique}
+use Rattle.abnf_lint.proofs.Ascends.{rows_unique}
 use Rattle.ls_answers.specs.declared.answer.Diagnostic.{Diagnostic}
 use Rattle.ls_answers.specs.declared.answer.HoverText.{HoverText}
 use Rattle.ls_answers.specs.Diagnostics.{AreDiagnostics, diagnostic_of}
@@ -194,7 +194,7 @@ module _ (encoding : Encoding) where
 
   one_list_of_findings : (text : List ℕ) (xs ys : List Diagnostic) → AreDiagnostics encoding text xs → AreDiagnostics encoding text ys → xs ≡ ys
   one_list_of_findings text xs ys p q =
-      p.diagnostics_are ∙ (ap (map (diagnostic_of encoding text)) (findings_unique text p.findings q.findings p.of_text q.of_text) ∙ sym q.diagnostics_are)
+      p.diagnostics_are ∙ (ap (map (diagnostic_of encoding text)) (rows_unique text p.findings q.findings p.of_text q.of_text) ∙ sym q.diagnostics_are)
 
   -- ---- the answers to each kind of question
 

@@ -22,9 +22,9 @@ module _ (encoding : Encoding) where
   one text block (Some symbol) e = rw e refl
 
   -- the next block's symbol comes behind
-  pub outline-next : (text : List ℕ) (blocks : List Block) (i : ℕ) (block : Block) → i < length blocks → block ≡ get_or blocks i block
+  pub outline_next : (text : List ℕ) (blocks : List Block) (i : ℕ) (block : Block) → i < length blocks → block ≡ get_or blocks i block
       → outline text (take (i + 1) blocks) ≡ outline text (take i blocks) ++ symbols_in encoding text block
-  outline-next text blocks i block within is =
+  outline_next text blocks i block within is =
       ap (outline text) (take_more blocks i block within)
       ∙ (filter_map-append (λ (block : Block). symbol_of encoding text block.items) (take i blocks) (get_or blocks i block ∷ [])
       ∙ (ap (λ b. outline text (take i blocks) ++ outline text (b ∷ [])) (sym is)

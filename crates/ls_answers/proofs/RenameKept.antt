@@ -27,10 +27,10 @@ use Rattle.ls_answers.specs.declared.ask.Ask.TheVariants as ask
 
 -- ---- no fault is a grant
 
-defined-unused : (defined used : Bool) → (if not defined then Some NothingToRename else (if used then Some NameInUse else None)) ≡ None → (defined ≡ true) × (used ≡ false)
-defined-unused true false e = (refl, refl)
-defined-unused true true e = absurd (cc (e))
-defined-unused false used e = absurd (cc (e))
+defined_unused : (defined used : Bool) → (if not defined then Some NothingToRename else (if used then Some NameInUse else None)) ≡ None → (defined ≡ true) × (used ≡ false)
+defined_unused true false e = (refl, refl)
+defined_unused true true e = absurd (cc (e))
+defined_unused false used e = absurd (cc (e))
 
 module _ (encoding : Encoding) where
   pub record GrantedAt (g : Grammar) (at : Position) (new : List ℕ) : Type 0 where
@@ -42,7 +42,7 @@ module _ (encoding : Encoding) where
   granted_there g at new None found name e = absurd (cc (e))
   granted_there g at new (Some n) found name e =
       let old = lowercase n.text in
-      let h = defined-unused (is_defined g.places old) (not (bytes_eq (lowercase new) old) && is_in_use g (lowercase new)) e in
+      let h = defined_unused (is_defined g.places old) (not (bytes_eq (lowercase new) old) && is_in_use g (lowercase new)) e in
       record { named = n; found = found; granted = record { named = name; defined = h.0; unused = h.1 } }
 
   granted_at : (g : Grammar) (at : Position) (new : List ℕ) → rename_fault encoding g at new ≡ None → GrantedAt g at new

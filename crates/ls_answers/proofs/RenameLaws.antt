@@ -1,6 +1,6 @@
 -- What is answered to a rename.
-use Rattle.std.proofs.Common.{◌≡◌, ◌||◌, ℕ, Bool, true, List, [], ◌∷◌, map, Option, Some, None, option_map, refl, sym, ap, ◌∙◌}
-use Rattle.std.specs.Prelude.{filter}
+use Rattle.std.proofs.Common.{◌≡◌, ◌||◌, ℕ, Bool, true, List, [], ◌∷◌, map, Option, Some, None, option_map, Result, Ok, Err, IfOk, refl, sym, ap, ◌∙◌}
+use Rattle.std.specs.Prelude.{filter, not, if◌then◌else◌}
 use Rattle.std.specs.List.{list_any}
 use Rattle.std.specs.Str.{bytes_eq}
 use Rattle.abnf_token.specs.Classes.{is_name}
@@ -8,55 +8,73 @@ use Rattle.abnf_token.specs.Folded.{lowercase}
 use Rattle.ls_text.specs.Lines.{offset_of, units}
 use Rattle.ls_text.specs.declared.position.Place.{Place}
 use Rattle.ls_text.specs.declared.position.Position.{Position}
-use Rattle.ls_text.specs.declared.position.Range.{Range}
 use Rattle.ls_text.specs.declared.position.Encoding.{Encoding}
 use Rattle.abnf_parts.specs.Names.{Name, folded_text}
-use Rattle.abnf_names.specs.Places.{Named, at_offset, named_at, place_and_text}
+use Rattle.abnf_names.specs.Places.{Named, at_offset, named_at, place_and_text, places_of_name}
 use Rattle.abnf_names.specs.Rules.{Grammar, IsGrammar}
 use Rattle.abnf_names.specs.declared.place.Spot.{Spot}
-use Rattle.abnf_names.proofs.OneGrammar.{one_grammar}
-use Rattle.ls_answers.specs.Places.{ArePlaces, is_wanted, name_at, name_range, places_alike}
-use Rattle.ls_answers.specs.Renames.{IsRename, fault_of_name, fault_there, rename_fault, rename_answer}
+use Rattle.ls_answers.specs.Places.{is_wanted, name_at, name_range, places_alike, ranges_of}
+use Rattle.ls_answers.specs.Renames.{IsRename, fault_of_name, fault_there, rename_answer}
+use Rattle.ls_answers.specs.own.Renamed.{answer_for_name}
+use Rattle.ls_answers.specs.declared.answer.Answer.{Answer}
 use Rattle.ls_answers.specs.declared.answer.Answer.TheVariants as answer
 use Rattle.ls_answers.specs.declared.answer.RenameFault.{RenameFault}
+use Rattle.ls_answers.specs.declared.answer.RenameFault.TheVariants.{NotAName, NothingToRename}
 use Rattle.ls_answers.specs.declared.places.Wanted.TheVariants.{Both}
-use Rattle.ls_answers.proofs.Definitions.{found}
+use Rattle.ls_answers.proofs.Definitions.{found, none}
 
 module _ (encoding : Encoding) where
-  pub refused : (g : Grammar) (at : Position) (new : List ℕ) (fault : RenameFault) → IsGrammar g → Some fault ≡ rename_fault encoding g at new → IsRename encoding g.text at new (answer.Refused fault)
-  refused g at new fault right e = record { grammar = g; of_text = refl; right = right; answer_is = ap (rename_answer encoding g at new) e }
-
   all_wanted : (ns : List Named) → filter (λ (n : Named). is_wanted Both n.defines) ns ≡ ns
   all_wanted [] = refl
   all_wanted (n ∷ ns) = ap (λ l. n ∷ l) (all_wanted ns)
 
-  abbrev all_places : Grammar → Position → List ℕ → List Range
-  all_places g at text = map (name_range encoding text) (places_alike g (name_at encoding g at))
+  -- all places are wanted
+  pub all_ranges : (text : List ℕ) (name : Name) (places : List Named) → ranges_of encoding Both text name places ≡ map (name_range encoding text) (places_of_name name places)
+  all_ranges text name places = ap (map (name_range encoding text)) (all_wanted (places_of_name name places))
 
-  pub granted : (g : Grammar) (at : Position) (new copy : List ℕ) (ranges : List Range) → IsGrammar g → None ≡ rename_fault encoding g at new → ArePlaces encoding Both g.text at ranges → copy ≡ new
-      → IsRename encoding g.text at new (answer.Edits ranges copy)
-  granted g at new copy ranges right e p is =
-      let same = one_grammar p.grammar g p.right right p.of_text in
-      let places : ranges ≡ all_places g at g.text =
-      p.ranges_are ∙ (ap (map (name_range encoding g.text)) (all_wanted (places_alike p.grammar (name_at encoding p.grammar at))) ∙ ap (λ (h : Grammar). all_places h at g.text) same) in
-      record { grammar = g; of_text = refl; right = right; answer_is = (λ i. answer.Edits (places i) (is i)) ∙ ap (rename_answer encoding g at new) e }
+  module _ (g : Grammar) (at : Position) (new : List ℕ) (right : IsGrammar g) (named : is_name new ≡ true) where
+    abbrev answer_there : Option Named → Answer
+    answer_there there = rename_answer encoding g at new (fault_there g there new)
 
-  -- ---- the name that is found
+    -- what is found at the position settles the answer
+    by_place : (there : Option Named) (given : Answer) → name_at encoding g at ≡ there → given ≡ answer_there there → IsRename encoding g.text at new given
+    by_place there given here is = record {
+      grammar = g;
+      of_text = refl;
+      right = right;
+      answer_is = is
+          ∙ (ap answer_there (sym here)
+          ∙ ap (λ b. rename_answer encoding g at new (if not b then Some NotAName else fault_there g (name_at encoding g at) new)) (sym named));
+    }
 
-  fault-there : (g : Grammar) (at : Position) (new text : List ℕ) (offset : ℕ) (s : Place × List ℕ) (fault : Option RenameFault) → text ≡ g.text → offset ≡ offset_of (units encoding) text at.line at.character
-      → Some s ≡ option_map place_and_text (at_offset g.text g.places offset) → fault ≡ fault_of_name g (lowercase s.1) new → fault ≡ fault_there g (name_at encoding g at) new
-  fault-there g at new text offset s fault of_text is_offset_there is_found is =
-      let is_offset = is_offset_there ∙ ap (λ t. offset_of (units encoding) t at.line at.character) of_text in
-      let n = found (at_offset g.text g.places offset) s is_found in
-      let here : name_at encoding g at ≡ Some n.0 = ap (λ o. at_offset g.text g.places o) (sym is_offset) ∙ n.1 in
-      is ∙ (ap (λ t. fault_of_name g (lowercase t) new) (sym n.2) ∙ ap (λ o. fault_there g o new) (sym here))
+    there_is : (text : List ℕ) (offset : ℕ) → text ≡ g.text → offset ≡ offset_of (units encoding) text at.line at.character → name_at encoding g at ≡ at_offset g.text g.places offset
+    there_is text offset of_text is_offset = ap (at_offset g.text g.places) (sym (is_offset ∙ ap (λ t. offset_of (units encoding) t at.line at.character) of_text))
 
-  pub fault-some : (g : Grammar) (at : Position) (new text : List ℕ) (offset : ℕ) (s : Place × List ℕ) (fault : Option RenameFault) (name : Bool) → name ≡ is_name new → name ≡ true → text ≡ g.text
-      → offset ≡ offset_of (units encoding) text at.line at.character → Some s ≡ option_map place_and_text (at_offset g.text g.places offset) → fault ≡ fault_of_name g (lowercase s.1) new
-      → fault ≡ rename_fault encoding g at new
-  fault-some g at new text offset s fault name is_name_is true_is of_text is_offset is_found is =
-      let named = sym is_name_is ∙ true_is in
-      rw named (fault-there g at new text offset s fault of_text is_offset is_found is)
+    -- no name stands there
+    pub nothing_there : (text : List ℕ) (offset : ℕ) → text ≡ g.text → offset ≡ offset_of (units encoding) text at.line at.character → None ≡ option_map place_and_text (at_offset g.text g.places offset)
+        → IsRename encoding g.text at new (answer.Refused NothingToRename)
+    nothing_there text offset of_text is_offset is_none = by_place None (answer.Refused NothingToRename) (there_is text offset of_text is_offset ∙ none (at_offset g.text g.places offset) is_none) refl
+
+    for_name : (n : Named) (fault : Option RenameFault) → name_at encoding g at ≡ Some n → answer_for_name encoding g (lowercase n.text) new fault ≡ rename_answer encoding g at new fault
+    for_name n (Some fault) here = refl
+    for_name n None here = ap (λ (o : Option Named). answer.Edits (map (name_range encoding g.text) (places_alike g o)) new) (sym here)
+
+    -- a name stands there
+    name_there : (text : List ℕ) (offset : ℕ) (s : Place × List ℕ) (given : Answer) → text ≡ g.text → offset ≡ offset_of (units encoding) text at.line at.character
+        → Some s ≡ option_map place_and_text (at_offset g.text g.places offset) → given ≡ answer_for_name encoding g (lowercase s.1) new (fault_of_name g (lowercase s.1) new) → IsRename encoding g.text at new given
+    name_there text offset s given of_text is_offset is_found is =
+        let n = found (at_offset g.text g.places offset) s is_found in
+        let here : name_at encoding g at ≡ Some n.0 = there_is text offset of_text is_offset ∙ n.1 in
+        by_place (Some n.0) given here
+        (is
+        ∙ (ap (λ t. answer_for_name encoding g (lowercase t) new (fault_of_name g (lowercase t) new)) (sym n.2)
+        ∙ for_name n.0 (fault_of_name g (lowercase n.0.text) new) here))
+
+    pub name_answered : {E : Type 0} (text : List ℕ) (offset : ℕ) (s : Place × List ℕ) (given : Result Answer E) → text ≡ g.text → offset ≡ offset_of (units encoding) text at.line at.character
+        → Some s ≡ option_map place_and_text (at_offset g.text g.places offset) → IfOk given (λ a. a ≡ answer_for_name encoding g (lowercase s.1) new (fault_of_name g (lowercase s.1) new))
+        → IfOk given (λ a. IsRename encoding g.text at new a)
+    name_answered text offset s (Ok a) of_text is_offset is_found is = name_there text offset s a of_text is_offset is_found is
+    name_answered text offset s (Err e) of_text is_offset is_found is = is
 
 -- ---- names in use
 

@@ -18,7 +18,7 @@ use Rattle.abnf_names.specs.Rules.{Grammar, IsGrammar}
 use Rattle.abnf_names.proofs.Ascending.{places_ascend}
 use Rattle.ls_answers.specs.SemanticTokens.{AreSemanticTokens, origin, relative, stands_at, told, told_of}
 use Rattle.ls_answers.specs.Outline.{as_list}
-use Rattle.ls_answers.specs.Walk.{AreLineMarks, AreToldTokens, HasWalked, first_at, from_point, left_behind, left_behind_all, told_in_line, told_in_lines}
+use Rattle.ls_answers.specs.own.Walk.{AreLineMarks, AreToldTokens, HasWalked, first_at, from_point, left_behind, left_behind_all, told_in_line, told_in_lines}
 use Rattle.ls_answers.specs.declared.semantic_tokens.SemanticToken.{SemanticToken}
 
 -- ---- points

@@ -4,8 +4,8 @@ use Rattle.ls_text.specs.Lines.{units}
 use Rattle.ls_text.specs.Positions.{place_range}
 use Rattle.ls_text.specs.declared.position.Encoding.{Encoding}
 use Rattle.abnf_lint.specs.declared.finding.Finding.{Finding}
-use Rattle.abnf_lint.specs.Findings.{AreFindings}
 use Rattle.abnf_lint.specs.Messages.{message_of}
+use Rattle.abnf_lint.specs.Rows.{AreRows}
 use Rattle.ls_answers.specs.declared.answer.Diagnostic.{Diagnostic}
 
 -- a finding with the range of its place and its message
@@ -15,5 +15,5 @@ diagnostic_of encoding text finding = record { range = place_range (units encodi
 -- These are the findings of the text, in its order.
 pub record AreDiagnostics (encoding : Encoding) (text : List ℕ) (diagnostics : List Diagnostic) : Type 0 where
   pub findings : List Finding
-  pub of_text : AreFindings text findings
+  pub of_text : AreRows text findings
   pub diagnostics_are : diagnostics ≡ map (diagnostic_of encoding text) findings

@@ -2,13 +2,12 @@ pub mod Outline
 pub mod Places
 pub mod Hovers
 pub mod Asks
-pub mod Asked
 pub mod Renames
 pub mod RenameKeeps
 pub mod Insertions
 pub mod SemanticTokens
-pub mod Walk
 pub mod Diagnostics
 pub mod Answers
 pub mod Told
 pub mod Hover
+pub mod own

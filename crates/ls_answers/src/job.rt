@@ -4,7 +4,7 @@ ghost use Rattle.std.specs.Arc.{arc_value};
 ghost use Rattle.abnf_token.specs.Classes as classes;
 ghost use Rattle.ls_answers.specs.Answers.{IsAnswer};
 ghost use Rattle.ls_answers.specs.Asks.{IsToNoName};
-ghost use Rattle.ls_answers.specs.Asked.{asked};
+ghost use Rattle.ls_answers.specs.own.Asked.{IsToAName, asked};
 ghost use Rattle.ls_answers.specs.RenameKeeps.{KeepsIfRenamed};
 
 use crate::answer::{Answer, RenameFault};
@@ -164,13 +164,14 @@ fn not_a_name(snapshot: &Snapshot) -> Answer
     Answer::Refused(RenameFault::NotAName)
 }
 
-/// The answer by the grammar of the text, which is made once and let go here.
+/// The answer by the grammar of the text, which is made once and let go here. A rename must be to a name.
 fn by_grammar(
     alloc: Global,
     snapshot: &Snapshot,
     encoding: Encoding,
     ask: GrammarAsk<'_>,
 ) -> Result<Answer, Memory>
+    requires { IsToAName ask }
     ensures { IfOk result (λ answer. IsAnswer encoding snapshot.now (asked ask.entry) answer) }
 {
     let grammar = Grammar::of(alloc, snapshot)?;
@@ -179,13 +180,14 @@ fn by_grammar(
     answer
 }
 
-/// The answer to a question about the text of a grammar.
+/// The answer to a question about the text of a grammar. A rename must be to a name.
 fn answer_in(
     alloc: Global,
     grammar: &Grammar,
     encoding: Encoding,
     ask: GrammarAsk<'_>,
 ) -> Result<Answer, Memory>
+    requires { IsToAName ask }
     ensures { IfOk result (λ answer. IsAnswer encoding grammar.now.text (asked ask.entry) answer) }
 {
     match ask {

@@ -4,7 +4,7 @@ ghost use Rattle.abnf_names.specs.Places.{named_at, place_and_name};
 ghost use Rattle.abnf_parts.specs.Names.{folded_text};
 ghost use Rattle.ls_answers.specs.Places.{AreDefinitions, ArePlaces, AreReferences, is_wanted, ranges_alike, ranges_of, wanted_with};
 
-use abnf_names::{Grammar, Places, Spot};
+use abnf_names::{Places, Spot};
 use abnf_token::Folded;
 use ls_lists::List;
 use ls_text::{Encoding, Place, Position, Range, Ruler, Snapshot};
@@ -105,27 +105,6 @@ fn ranges_among(
     ranges_alike(alloc, snapshot, encoding, places.spots(), found, wanted)
 }
 
-/// All places of the name at a position, in the order of the text, where its grammar is known. None where no name stands there.
-pub fn ranges_in(
-    alloc: Global,
-    grammar: &Grammar,
-    at: Position,
-    encoding: Encoding,
-) -> Result<List<Range>, Memory>
-    ensures { IfOk result (λ ranges. ArePlaces encoding Wanted.Both grammar.now.text at ranges) }
-{
-    let snapshot = grammar.source();
-    let found = grammar.name_at(snapshot.offset_of(at, encoding));
-    ranges_alike(
-        alloc,
-        snapshot,
-        encoding,
-        grammar.spots(),
-        found,
-        Wanted::Both,
-    )
-}
-
 /// The ranges of the wanted places of a name, if there is one.
 fn ranges_alike(
     alloc: Global,
@@ -144,7 +123,7 @@ fn ranges_alike(
 }
 
 /// The ranges of the wanted places of a name.
-fn ranges_of(
+pub fn ranges_of(
     alloc: Global,
     snapshot: &Snapshot,
     encoding: Encoding,

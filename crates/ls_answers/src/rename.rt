@@ -1,25 +1,27 @@
 //! What gives a name another text.
-ghost use Rattle.std.specs.Prelude.{◌≡◌, IfOk};
+ghost use Rattle.std.specs.Prelude.{◌≡◌, IfOk, IsTrue, map};
 ghost use Rattle.std.specs.List.{list_all, list_any};
 ghost use Rattle.std.specs.Str.{bytes_eq};
-ghost use Rattle.abnf_names.specs.Rules.{IsGrammar};
+ghost use Rattle.abnf_names.specs.Places.{places_of_name};
 ghost use Rattle.abnf_parts.specs.Names.{folded_text};
 ghost use Rattle.abnf_rename.specs.Rules as granting;
 ghost use Rattle.abnf_token.specs.Classes as classes;
 ghost use Rattle.abnf_token.specs.Folded.{lowercase};
+ghost use Rattle.ls_answers.specs.Places.{name_range};
 ghost use Rattle.ls_answers.specs.Renames as spec;
+ghost use Rattle.ls_answers.specs.own.Renamed as own;
 
 use crate::answer::{Answer, RenameFault};
-use crate::places::ranges_in;
+use crate::places::{Wanted, ranges_of};
 use abnf_names::{Grammar, Spot};
 use abnf_parts::is_core_name;
 use abnf_token::Folded;
-use ls_lists::Text;
-use ls_text::{Encoding, Position};
+use ls_lists::{List, Text};
+use ls_text::{Encoding, Position, Range};
 use std::alloc::{AllocError as Memory, Global};
 
-/// What gives the name at a position another text: the ranges of all its places, in the order of the text, or why it isn't granted,
-/// which is the first of [`RenameFault`] that holds. The same text, or the same name in another case, is granted.
+/// What gives the name at a position another text, which must be a name: the ranges of all its places, in the order of the text, or why
+/// it isn't granted, which is the first of [`RenameFault`] that holds. The same text, or the same name in another case, is granted.
 ///
 /// `Memory` says that an allocation was refused.
 pub fn rename(
@@ -29,35 +31,52 @@ pub fn rename(
     encoding: Encoding,
     new: &Text,
 ) -> Result<Answer, Memory>
+    requires { IsTrue (classes.is_name new.now) }
     ensures { IfOk result (λ answer. spec.IsRename encoding grammar.now.text at new.now answer) }
 {
-    match rename_fault(grammar, at, encoding, new.as_str()) {
+    let snapshot = grammar.source();
+    match grammar.name_at(snapshot.offset_of(at, encoding)) {
+        Some((_, old)) => answer_for_name(alloc, grammar, old, encoding, new),
+        None => Ok(Answer::Refused(RenameFault::NothingToRename)),
+    }
+}
+
+/// What gives a name another text, or why it isn't granted.
+fn answer_for_name(
+    alloc: Global,
+    grammar: &Grammar,
+    old: Folded,
+    encoding: Encoding,
+    new: &Text,
+) -> Result<Answer, Memory>
+    ensures { IfOk result (λ answer. answer ≡ own.answer_for_name encoding grammar.now (folded_text old.entry) new.now (spec.fault_of_name grammar.now (folded_text old.entry) new.now)) }
+{
+    match fault_of_name(grammar, old, new.as_str()) {
         Some(fault) => Ok(Answer::Refused(fault)),
         None => {
-            let ranges = ranges_in(alloc, grammar, at, encoding)?;
+            let ranges = all_ranges(alloc, grammar, old, encoding)?;
             Ok(Answer::Edits(ranges, new.copy()?))
         }
     }
 }
 
-/// Why the name at a position isn't given this new text.
-fn rename_fault(
+/// The ranges of all places of a name, in the order of the text.
+fn all_ranges(
+    alloc: Global,
     grammar: &Grammar,
-    at: Position,
+    name: Folded,
     encoding: Encoding,
-    new: &str,
-) -> Option<RenameFault>
-    ensures fault { result ≡ spec.rename_fault encoding grammar.now at new.now }
-    ensures grammar { IsGrammar grammar.now }
+) -> Result<List<Range>, Memory>
+    ensures { IfOk result (λ ranges. ranges ≡ map (name_range encoding grammar.now.text) (places_of_name (folded_text name.entry) grammar.now.places)) }
 {
-    let snapshot = grammar.source();
-    if !is_name(new) {
-        return Some(RenameFault::NotAName);
-    }
-    match grammar.name_at(snapshot.offset_of(at, encoding)) {
-        Some((_, old)) => fault_of_name(grammar, old, new),
-        None => Some(RenameFault::NothingToRename),
-    }
+    ranges_of(
+        alloc,
+        grammar.source(),
+        encoding,
+        grammar.spots(),
+        name,
+        Wanted::Both,
+    )
 }
 
 /// Why a name isn't given this new text.

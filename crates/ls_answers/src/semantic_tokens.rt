@@ -6,7 +6,7 @@ ghost use Rattle.abnf_parts.specs.Names.{folded_text};
 ghost use Rattle.abnf_syntax.specs.Blocks.{line_texts};
 ghost use Rattle.abnf_token.specs.Marks.{AreMarks};
 ghost use Rattle.ls_answers.specs.SemanticTokens as spec;
-ghost use Rattle.ls_answers.specs.Walk as walk;
+ghost use Rattle.ls_answers.specs.own.Walk as walk;
 
 use abnf_names::{Grammar, Spot};
 use abnf_token::{Folded, Kind, TokenMark};

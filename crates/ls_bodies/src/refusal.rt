@@ -1,7 +1,7 @@
 //! The errors that are answered, and their bodies.
 ghost use Rattle.std.specs.Prelude.{◌≡◌, IfOk};
 ghost use Rattle.std.specs.Option.{option_copied};
-ghost use Rattle.ls_bodies.specs.Refusal.{code_of, text_of, error_body, refusal_of_code, refusal_of_failure, refusal_of_rename};
+ghost use Rattle.ls_bodies.specs.Refusal.{code_of, refusal_text, error_body, refusal_of_code, refusal_of_failure, refusal_of_rename};
 
 use ls_answers::RenameFault;
 use ls_rpc::{INVALID_REQUEST, Id, PARSE_ERROR, error_text};
@@ -64,7 +64,7 @@ impl Refusal {
 
     /// The message of the error.
     pub fn text(self) -> &'static str
-        ensures { result.now ≡ text_of self }
+        ensures { result.now ≡ refusal_text self }
     {
         match self {
             Refusal::ParseError => "parse error",

@@ -28,39 +28,39 @@ opens old new uri label text encoding version a =
     record { accepts = subst P a.enters.possible.3 a; answer_is = ap (λ (v : ℕ). Some (Opened uri label (chars text) encoding v)) a.enters.possible.3 }
 
 -- a text that isn't too large is refused as if it were made already
-same-fault : (d : Seen) (uri text : List ℕ) → is_too_large text ≡ false → open_shared_fault d uri ≡ open_fault d uri (encode_utf8_all text)
-same-fault d uri text small =
+same_fault : (d : Seen) (uri text : List ℕ) → is_too_large text ≡ false → open_shared_fault d uri ≡ open_fault d uri (encode_utf8_all text)
+same_fault d uri text small =
     ap (λ (b : Bool). or_else (is_open uri (state_of d).documents) AlreadyOpen
     (or_else (nat_le 256 (length (state_of d).documents)) TooManyDocuments (or_else b TooLarge (full_fault d 1)))) (sym small)
 
-pub opens-made : (old new : Seen) (uri : List ℕ) (label : ℤ) (text : List ℕ) (encoding : Encoding) (version : ℕ) (made : List ℕ)
+pub opens_made : (old new : Seen) (uri : List ℕ) (label : ℤ) (text : List ℕ) (encoding : Encoding) (version : ℕ) (made : List ℕ)
     → (made ≡ chars text) × (is_too_large made ≡ false)
     → Accepts (open_shared_fault old uri) old new (Opened uri label made encoding version)
     → Admits (client.DidOpen uri label text encoding) (answer.Version version) old new
-opens-made old new uri label text encoding version made is a =
+opens_made old new uri label text encoding version made is a =
     let P : List ℕ → Type 0 = λ t. Accepts (open_shared_fault old uri) old new (Opened uri label t encoding version) in
     let Q : Option DeskFault → Type 0 = λ f. Accepts f old new (Opened uri label (chars text) encoding version) in
     let small : is_too_large (chars text) ≡ false = subst (λ (t : List ℕ). is_too_large t ≡ false) is.0 is.1 in
-    opens old new uri label text encoding version (subst Q (same-fault old uri (chars text) small) (subst P is.0 a))
+    opens old new uri label text encoding version (subst Q (same_fault old uri (chars text) small) (subst P is.0 a))
 
-changes-to : (old new : Seen) (uri : List ℕ) (label : ℤ) (edits : List Edit) (version : Option ℕ) (told : ClientAnswer)
+changes_to : (old new : Seen) (uri : List ℕ) (label : ℤ) (edits : List Edit) (version : Option ℕ) (told : ClientAnswer)
     → entry_of (client.DidChange uri label edits) told ≡ Some (Changed uri label edits version)
     → Accepts (end_fault old uri) old new (Changed uri label edits version)
     → Admits (client.DidChange uri label edits) told old new
 unfolding IsPossible
-changes-to old new uri label edits version told is a =
+changes_to old new uri label edits version told is a =
     let P : Option ℕ → Type 0 = λ v. Accepts (end_fault old uri) old new (Changed uri label edits v) in
     record { accepts = subst P a.enters.possible.1 a; answer_is = is ∙ ap (λ (v : Option ℕ). Some (Changed uri label edits v)) a.enters.possible.1 }
 
 pub changes : (old new : Seen) (uri : List ℕ) (label : ℤ) (edits : List Edit) (version : ℕ)
     → Accepts (end_fault old uri) old new (Changed uri label edits (Some version))
     → Admits (client.DidChange uri label edits) (answer.Version version) old new
-changes old new uri label edits version = changes-to old new uri label edits (Some version) (answer.Version version) refl
+changes old new uri label edits version = changes_to old new uri label edits (Some version) (answer.Version version) refl
 
 pub closes : (old new : Seen) (uri : List ℕ) (label : ℤ) (edits : List Edit)
     → Accepts (end_fault old uri) old new (Changed uri label edits None)
     → Admits (client.DidChange uri label edits) answer.Closed old new
-closes old new uri label edits = changes-to old new uri label edits None answer.Closed refl
+closes old new uri label edits = changes_to old new uri label edits None answer.Closed refl
 
 pub asks : (old new : Seen) (id : Id) (uri : List ℕ) (ask : Ask) (links : Bool) (ticket : ℕ)
     → Accepts (request_fault old id uri) old new (Asked id uri ask links ticket)

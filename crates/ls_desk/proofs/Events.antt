@@ -2,7 +2,7 @@
 use Rattle.std.proofs.Common.{◌≡◌, ℕ, ◌+◌, ◌≤◌, ◌<◌, Bool, true, false, List, [], ◌∷◌, ◌++◌, length, refl, sym, ap, ◌∙◌, subst, arith}
 use Rattle.std.specs.Prelude.{ℤ, Option, Some, None, find, is_some, is_none, IfSome, ◌&&◌, ◌==◌, cond}
 use Rattle.std.specs.Option.{option_map}
-use Rattle.std.proofs.lemmas.Bool.{eqb-true}
+use Rattle.std.proofs.lemmas.Bool.{and_parts, eqb-true}
 use Rattle.ls_text.specs.Edits.{is_too_large}
 use Rattle.ls_text.specs.Positions.{Measured}
 use Rattle.ls_text.specs.declared.position.Encoding.{Encoding}
@@ -22,14 +22,14 @@ use Rattle.ls_answers.specs.declared.answer.Answer.{Answer}
 use Rattle.ls_answers.specs.Told.{Told}
 use Rattle.ls_answers.specs.Answers.{IsAnswer}
 use Rattle.ls_machine.specs.declared.state.State.{State}
-use Rattle.ls_machine.specs.Machine.{step, IsPossible, is_open, document_of, edited_at, measured, others, going_on, ends, version_if, put_text, close_text, asked, ask_at, requests, id_waits, asks_with, request_cancelled, internal_error, told_at, told_end, left_at, left_by, is_held, is_queued, on_first, with_taken, without_first}
+use Rattle.ls_machine.specs.Machine.{step, IsPossible, is_open, document_of, edited_at, measured, others, going_on, ends, version_if, put_text, close_text, asked, ask_at, requests, id_waits, asks_with, request_cancelled, internal_error, told_if_found, told_end, left_at, left_by, is_held, is_queued, on_first, with_taken, without_first_job}
 use Rattle.ls_desk.specs.declared.present.Present.{Present}
 use Rattle.ls_desk.specs.Stands.{AreOutsFor, IsOutFor, failures, failed, finished, out_of}
 use Rattle.ls_machine.specs.Same.{is_for}
-use Rattle.ls_desk.specs.Puts.{next_of, documents_of, jobs_of, count_of}
-use Rattle.ls_desk.proofs.Grows.{Holds, Stepped, outs-append, outs-length, failures-outs, failed-outs}
-use Rattle.ls_machine.proofs.Places.{found-passes}
-use Rattle.ls_machine.proofs.Same.{run-of}
+use Rattle.ls_desk.specs.own.Puts.{next_of, documents_of, jobs_of, count_of}
+use Rattle.ls_desk.proofs.Grows.{Holds, Stepped, outs_append, outs_length, failures_outs, failed_outs}
+use Rattle.ls_machine.proofs.Places.{found_passes}
+use Rattle.ls_machine.proofs.Same.{run_of}
 
 -- ---- a new text
 
@@ -44,17 +44,17 @@ puts : (s : State) (uri : List ℕ) (label : ℤ) (x : Option Measured) → Puts
 puts s uri label None = record { documents = append-nil s.documents; waiting = append-nil s.waiting; version = omega arith; ticket = omega arith; unsent = refl }
 puts s uri label (Some m) = record { documents = refl; waiting = refl; version = refl; ticket = refl; unsent = refl }
 
-count-le : (n : Option Next) → count_of n ≤ 1
-count-le None = omega arith
-count-le (Some n) = omega arith
+count_le : (n : Option Next) → count_of n ≤ 1
+count_le None = omega arith
+count_le (Some n) = omega arith
 
-version-same : (n v t : ℕ) (uri : List ℕ) (label : ℤ) (x : Option Measured) → version_if n (next_of v t uri label x) ≡ version_if n x
-version-same n v t uri label None = refl
-version-same n v t uri label (Some m) = refl
+version_same : (n v t : ℕ) (uri : List ℕ) (label : ℤ) (x : Option Measured) → version_if n (next_of v t uri label x) ≡ version_if n x
+version_same n v t uri label None = refl
+version_same n v t uri label (Some m) = refl
 
-change-possible : (s : State) (uri : List ℕ) (label : ℤ) (edits : List Edit) (version : Option ℕ) → is_open uri s.documents ≡ true → version ≡ version_if s.next_version (edited_at (document_of uri s.documents) edits) → IsPossible s (Changed uri label edits version)
+change_possible : (s : State) (uri : List ℕ) (label : ℤ) (edits : List Edit) (version : Option ℕ) → is_open uri s.documents ≡ true → version ≡ version_if s.next_version (edited_at (document_of uri s.documents) edits) → IsPossible s (Changed uri label edits version)
 unfolding IsPossible
-change-possible s uri label edits version there is = (there, is)
+change_possible s uri label edits version there is = (there, is)
 
 pub changed : (s : State) (N : Present) (O : List Out) (uri : List ℕ) (label : ℤ) (edits : List Edit) (next : Option Next)
     (N' : Present) (O' : List Out)
@@ -71,25 +71,25 @@ unfolding step
 changed s N O uri label edits next N' O' kept there is_next is_d is_w is_v is_t is_o =
     let x = edited_at (document_of uri s.documents) edits in
     let p = puts (close_text s uri) uri label x in
-    let one = count-le next in
+    let one = count_le next in
     let P : List Out → Type 0 = λ os. AreOutsFor (s.unsent ++ ends uri s.waiting) os in
     let Q : List Entry → Type 0 = λ es. AreOutsFor es O' in
     record {
-      possible = (change-possible s uri label edits _ there ((λ i. version_if (kept.version_is i) (is_next i)) ∙ version-same s.next_version s.next_version s.next_ticket uri label x));
+      possible = (change_possible s uri label edits _ there ((λ i. version_if (kept.version_is i) (is_next i)) ∙ version_same s.next_version s.next_version s.next_ticket uri label x));
       holds = record {
         documents_are = is_d ∙ ((λ i. others uri (kept.documents_are i) ++ documents_of (is_next i)) ∙ p.documents);
         waiting_are = is_w ∙ ((λ i. going_on uri (kept.waiting_are i) ++ jobs_of (is_next i)) ∙ p.waiting);
         version_is = is_v ∙ ((λ i. kept.version_is i + count_of (is_next i)) ∙ p.version);
         ticket_is = is_t ∙ ((λ i. kept.ticket_is i + count_of (is_next i)) ∙ p.ticket);
-        outs = subst Q p.unsent (subst P (sym is_o) (outs-append s.unsent (ends uri s.waiting) O (failures uri s.waiting) kept.outs (failures-outs uri s.waiting)));
+        outs = subst Q p.unsent (subst P (sym is_o) (outs_append s.unsent (ends uri s.waiting) O (failures uri s.waiting) kept.outs (failures_outs uri s.waiting)));
       };
       versions = omega arith;
       tickets = omega arith;
     }
 
-close-possible : (s : State) (uri : List ℕ) → is_open uri s.documents ≡ true → IsPossible s (Closed uri)
+close_possible : (s : State) (uri : List ℕ) → is_open uri s.documents ≡ true → IsPossible s (Closed uri)
 unfolding IsPossible
-close-possible s uri there = there
+close_possible s uri there = there
 
 pub closed : (s : State) (N : Present) (O : List Out) (uri : List ℕ)
     (N' : Present) (O' : List Out)
@@ -105,13 +105,13 @@ unfolding step
 closed s N O uri N' O' kept there is_d is_w is_v is_t is_o =
     let P : List Out → Type 0 = λ os. AreOutsFor (s.unsent ++ ends uri s.waiting) os in
     record {
-      possible = (close-possible s uri there);
+      possible = (close_possible s uri there);
       holds = record {
         documents_are = is_d ∙ (λ i. others uri (kept.documents_are i));
         waiting_are = is_w ∙ (λ i. going_on uri (kept.waiting_are i));
         version_is = is_v ∙ kept.version_is;
         ticket_is = is_t ∙ kept.ticket_is;
-        outs = subst P (sym is_o) (outs-append s.unsent (ends uri s.waiting) O (failures uri s.waiting) kept.outs (failures-outs uri s.waiting));
+        outs = subst P (sym is_o) (outs_append s.unsent (ends uri s.waiting) O (failures uri s.waiting) kept.outs (failures_outs uri s.waiting));
       };
       versions = omega arith;
       tickets = omega arith;
@@ -119,20 +119,9 @@ closed s N O uri N' O' kept there is_d is_w is_v is_t is_o =
 
 -- ---- requests
 
-and-first : (a b : Bool) → (a && b) ≡ true → a ≡ true
-and-first true b h = refl
-and-first false b h = h
-
-and-second : (a b : Bool) → (a && b) ≡ true → b ≡ true
-and-second true b h = h
-and-second false b h = absurd (cc)
-
-some-true : {A : Type 0} (o : Option A) (x : A) → o ≡ Some x → is_some o ≡ true
-some-true o x h = ap is_some h
-
-ask-possible : (s : State) (id : Id) (uri : List ℕ) (question : Ask) (links : Bool) (ticket : ℕ) → is_open uri s.documents ≡ true → requests s.waiting < 1024 → id_waits id s.waiting ≡ false → ticket ≡ s.next_ticket → IsPossible s (Asked id uri question links ticket)
+ask_possible : (s : State) (id : Id) (uri : List ℕ) (question : Ask) (links : Bool) (ticket : ℕ) → is_open uri s.documents ≡ true → requests s.waiting < 1024 → id_waits id s.waiting ≡ false → ticket ≡ s.next_ticket → IsPossible s (Asked id uri question links ticket)
 unfolding IsPossible
-ask-possible s id uri question links ticket there few new is = (there, few, new, is)
+ask_possible s id uri question links ticket there few new is = (there, few, new, is)
 
 record Asks (s : State) (id : Id) (d : Option Document) (question : Ask) (links : Bool) (job : Waiting) : Type 0 where
   pub open_is : is_some d ≡ true
@@ -173,7 +162,7 @@ requested s N O id uri question links job N' kept is_job few new is_d is_w is_v 
     let p = asks s id d question links job is_job in
     let P : List Entry → Type 0 = λ es. AreOutsFor es O in
     record {
-      possible = (ask-possible s id uri question links N.next_ticket p.open_is few new kept.ticket_is);
+      possible = (ask_possible s id uri question links N.next_ticket p.open_is few new kept.ticket_is);
       holds = record {
         documents_are = is_d ∙ (kept.documents_are ∙ p.documents);
         waiting_are = is_w ∙ (ap (λ (ws : List Waiting). ws ++ job ∷ []) kept.waiting_are ∙ p.waiting);
@@ -187,9 +176,9 @@ requested s N O id uri question links job N' kept is_job few new is_d is_w is_v 
 
 -- ---- jobs
 
-took-possible : (s : State) (worker : ℕ) (w : Waiting) → find is_queued s.waiting ≡ Some w → IsPossible s (Took worker)
+took_possible : (s : State) (worker : ℕ) (w : Waiting) → find is_queued s.waiting ≡ Some w → IsPossible s (Took worker)
 unfolding IsPossible
-took-possible s worker w h = ap is_some h
+took_possible s worker w h = ap is_some h
 
 pub taken : (s : State) (N : Present) (O : List Out) (worker : ℕ) (w : Waiting)
     (N' : Present)
@@ -203,7 +192,7 @@ pub taken : (s : State) (N : Present) (O : List Out) (worker : ℕ) (w : Waiting
 unfolding step
 taken s N O worker w N' kept there is_d is_w is_v is_t =
     record {
-      possible = (took-possible s worker w there);
+      possible = (took_possible s worker w there);
       holds = record {
         documents_are = is_d ∙ kept.documents_are;
         waiting_are = is_w ∙ ap (on_first is_queued (with_taken true)) kept.waiting_are;
@@ -215,9 +204,9 @@ taken s N O worker w N' kept there is_d is_w is_v is_t =
       tickets = omega arith;
     }
 
-returned-possible : (s : State) (ticket : ℕ) → is_some (find (is_held ticket) s.waiting) ≡ true → IsPossible s (Returned ticket)
+returned_possible : (s : State) (ticket : ℕ) → is_some (find (is_held ticket) s.waiting) ≡ true → IsPossible s (Returned ticket)
 unfolding IsPossible
-returned-possible s ticket h = h
+returned_possible s ticket h = h
 
 pub returned : (s : State) (N : Present) (O : List Out) (ticket : ℕ)
     (N' : Present)
@@ -231,7 +220,7 @@ pub returned : (s : State) (N : Present) (O : List Out) (ticket : ℕ)
 unfolding step
 returned s N O ticket N' kept there is_d is_w is_v is_t =
     record {
-      possible = (returned-possible s ticket there);
+      possible = (returned_possible s ticket there);
       holds = record {
         documents_are = is_d ∙ kept.documents_are;
         waiting_are = is_w ∙ ap (on_first (is_held ticket) (with_taken false)) kept.waiting_are;
@@ -245,26 +234,26 @@ returned s N O ticket N' kept there is_d is_w is_v is_t =
 
 -- ---- what a job leaves
 
-finished-outs : (w : Waiting) (done : Told) (a : Option Answer) → done.answer ≡ a → done.ticket ≡ w.ticket → done.text ≡ w.text → done.encoding ≡ w.encoding → done.ask ≡ w.ask → IfSome a (λ x. IsAnswer done.encoding done.text done.ask x)
+finished_outs : (w : Waiting) (done : Told) (a : Option Answer) → done.answer ≡ a → done.ticket ≡ w.ticket → done.text ≡ w.text → done.encoding ≡ w.encoding → done.ask ≡ w.ask → IfSome a (λ x. IsAnswer done.encoding done.text done.ask x)
     → AreOutsFor (left_by (is_none a) w) (cond (is_none a) (failed internal_error w) (out_of w w.request done ∷ []))
 unfolding AreOutsFor IsOutFor
-finished-outs w done None is ticket text encoding question right = failed-outs w.ticket internal_error w.request
-finished-outs w done (Some x) is ticket text encoding question right =
+finished_outs w done None is ticket text encoding question right = failed_outs w.ticket internal_error w.request
+finished_outs w done (Some x) is ticket text encoding question right =
     let P : List ℕ → Type 0 = λ y. IsAnswer done.encoding y done.ask x in
     let R : Encoding → Type 0 = λ y. IsAnswer y w.text done.ask x in
     let Q : Ask → Type 0 = λ y. IsAnswer w.encoding w.text y x in
     ((done, refl, record { ticket = ticket; text = text; encoding = encoding; ask = question; right = (x, is, subst Q question (subst R encoding (subst P text right))) }), tt)
 
-finish-possible : (s : State) (ticket : ℕ) (failed : Bool) (w : Waiting) → find (is_held ticket) s.waiting ≡ Some w → IsPossible s (Finished ticket failed)
+finish_possible : (s : State) (ticket : ℕ) (failed : Bool) (w : Waiting) → find (is_held ticket) s.waiting ≡ Some w → IsPossible s (Finished ticket failed)
 unfolding IsPossible
-finish-possible s ticket failed w h = ap is_some h
+finish_possible s ticket failed w h = ap is_some h
 
 finished_length : (b : Bool) (w : Waiting) (done : Told) → length (cond b (failed internal_error w) (out_of w w.request done ∷ [])) ≡ length (left_by b w)
-finished_length true w done = outs-length (told_end internal_error w) (failed internal_error w) (failed-outs w.ticket internal_error w.request)
+finished_length true w done = outs_length (told_end internal_error w) (failed internal_error w) (failed_outs w.ticket internal_error w.request)
 finished_length false w done = refl
 
-pub finished-length : (w : Waiting) (done : Told) → length (finished w done) ≡ length (left_by (is_none done.answer) w)
-finished-length w done = finished_length (is_none done.answer) w done
+pub finished_length_holds : (w : Waiting) (done : Told) → length (finished w done) ≡ length (left_by (is_none done.answer) w)
+finished_length_holds w done = finished_length (is_none done.answer) w done
 
 pub finish : (s : State) (N : Present) (O : List Out) (done : Told) (w : Waiting)
     (N' : Present) (O' : List Out)
@@ -273,44 +262,44 @@ pub finish : (s : State) (N : Present) (O : List Out) (done : Told) (w : Waiting
     → is_for (Some w) done ≡ true
     → IfSome done.answer (λ x. IsAnswer done.encoding done.text done.ask x)
     → N'.documents.items ≡ N.documents.items
-    → N'.waiting.items ≡ without_first (is_held done.ticket) N.waiting.items
+    → N'.waiting.items ≡ without_first_job (is_held done.ticket) N.waiting.items
     → N'.next_version ≡ N.next_version
     → N'.next_ticket ≡ N.next_ticket
     → O' ≡ O ++ finished w done
     → Stepped s (Finished done.ticket (is_none done.answer)) N N' O'
 unfolding step
 finish s N O done w N' O' kept there fits right is_d is_w is_v is_t is_o =
-    let held = found-passes (is_held done.ticket) s.waiting w there in
-    let ticket : w.ticket ≡ done.ticket = eqb-true _ _ (and-first (w.ticket == done.ticket) w.taken held) in
-    let run = (run-of w done).0 fits in
+    let held = found_passes (is_held done.ticket) s.waiting w there in
+    let ticket : w.ticket ≡ done.ticket = eqb-true _ _ (and_parts (w.ticket == done.ticket) w.taken held).0 in
+    let run = (run_of w done).0 fits in
     let P : List Out → Type 0 = λ os. AreOutsFor (s.unsent ++ left_by (is_none done.answer) w) os in
     let Q : Option Waiting → Type 0 = λ found. AreOutsFor (s.unsent ++ left_at (is_none done.answer) found) O' in
     record {
-      possible = (finish-possible s done.ticket (is_none done.answer) w there);
+      possible = (finish_possible s done.ticket (is_none done.answer) w there);
       holds = record {
         documents_are = is_d ∙ kept.documents_are;
-        waiting_are = is_w ∙ ap (without_first (is_held done.ticket)) kept.waiting_are;
+        waiting_are = is_w ∙ ap (without_first_job (is_held done.ticket)) kept.waiting_are;
         version_is = is_v ∙ kept.version_is;
         ticket_is = is_t ∙ kept.ticket_is;
-        outs = subst Q (sym there) (subst P (sym is_o) (outs-append s.unsent (left_by (is_none done.answer) w) O (finished w done) kept.outs
-            (finished-outs w done done.answer refl (sym ticket) (sym run.text) (sym run.encoding) (sym run.ask) right)));
+        outs = subst Q (sym there) (subst P (sym is_o) (outs_append s.unsent (left_by (is_none done.answer) w) O (finished w done) kept.outs
+            (finished_outs w done done.answer refl (sym ticket) (sym run.text) (sym run.encoding) (sym run.ask) right)));
       };
       versions = omega arith;
       tickets = omega arith;
     }
 
-cancel-possible : (s : State) (id : Id) (found : Bool) → found ≡ id_waits id s.waiting → IsPossible s (Cancelled id found)
+cancel_possible : (s : State) (id : Id) (found : Bool) → found ≡ id_waits id s.waiting → IsPossible s (Cancelled id found)
 unfolding IsPossible
-cancel-possible s id found is = is
+cancel_possible s id found is = is
 
 -- a cancel without a request that waits
 without_by : (b : Bool) (w : Waiting) (o : Option Waiting) (ws xs : List Waiting) → (o ≡ None → xs ≡ ws) → cond b (Some w) o ≡ None → cond b ws (w ∷ xs) ≡ w ∷ ws
 without_by true w o ws xs later g = absurd (cc)
 without_by false w o ws xs later g = ap (λ (ys : List Waiting). w ∷ ys) (later g)
 
-without-same : (p : Waiting → Bool) (ws : List Waiting) → find p ws ≡ None → without_first p ws ≡ ws
-without-same p [] h = refl
-without-same p (w ∷ ws) h = without_by (p w) w (find p ws) ws (without_first p ws) (without-same p ws) h
+without_same : (p : Waiting → Bool) (ws : List Waiting) → find p ws ≡ None → without_first_job p ws ≡ ws
+without_same p [] h = refl
+without_same p (w ∷ ws) h = without_by (p w) w (find p ws) ws (without_first_job p ws) (without_same p ws) h
 
 pub uncancelled : (s : State) (N : Present) (O : List Out) (id : Id)
     → Holds s N O
@@ -318,13 +307,13 @@ pub uncancelled : (s : State) (N : Present) (O : List Out) (id : Id)
     → Stepped s (Cancelled id false) N N O
 unfolding step
 uncancelled s N O id kept there =
-    let Q : Option Waiting → Type 0 = λ found. AreOutsFor (s.unsent ++ told_at request_cancelled found) O in
+    let Q : Option Waiting → Type 0 = λ found. AreOutsFor (s.unsent ++ told_if_found request_cancelled found) O in
     let P : List Entry → Type 0 = λ es. AreOutsFor es O in
     record {
-      possible = (cancel-possible s id false (sym (ap is_some there)));
+      possible = (cancel_possible s id false (sym (ap is_some there)));
       holds = record {
         documents_are = kept.documents_are;
-        waiting_are = kept.waiting_are ∙ sym (without-same (asks_with id) s.waiting there);
+        waiting_are = kept.waiting_are ∙ sym (without_same (asks_with id) s.waiting there);
         version_is = kept.version_is;
         ticket_is = kept.ticket_is;
         outs = subst Q (sym there) (subst P (sym (append-nil s.unsent)) kept.outs);
@@ -338,7 +327,7 @@ pub cancelled : (s : State) (N : Present) (O : List Out) (id : Id) (w : Waiting)
     → Holds s N O
     → find (asks_with id) s.waiting ≡ Some w
     → N'.documents.items ≡ N.documents.items
-    → N'.waiting.items ≡ without_first (asks_with id) N.waiting.items
+    → N'.waiting.items ≡ without_first_job (asks_with id) N.waiting.items
     → N'.next_version ≡ N.next_version
     → N'.next_ticket ≡ N.next_ticket
     → O' ≡ O ++ failed request_cancelled w
@@ -346,15 +335,15 @@ pub cancelled : (s : State) (N : Present) (O : List Out) (id : Id) (w : Waiting)
 unfolding step
 cancelled s N O id w N' O' kept there is_d is_w is_v is_t is_o =
     let P : List Out → Type 0 = λ os. AreOutsFor (s.unsent ++ told_end request_cancelled w) os in
-    let Q : Option Waiting → Type 0 = λ found. AreOutsFor (s.unsent ++ told_at request_cancelled found) O' in
+    let Q : Option Waiting → Type 0 = λ found. AreOutsFor (s.unsent ++ told_if_found request_cancelled found) O' in
     record {
-      possible = (cancel-possible s id true (sym (ap is_some there)));
+      possible = (cancel_possible s id true (sym (ap is_some there)));
       holds = record {
         documents_are = is_d ∙ kept.documents_are;
-        waiting_are = is_w ∙ ap (without_first (asks_with id)) kept.waiting_are;
+        waiting_are = is_w ∙ ap (without_first_job (asks_with id)) kept.waiting_are;
         version_is = is_v ∙ kept.version_is;
         ticket_is = is_t ∙ kept.ticket_is;
-        outs = subst Q (sym there) (subst P (sym is_o) (outs-append s.unsent (told_end request_cancelled w) O (failed request_cancelled w) kept.outs (failed-outs w.ticket request_cancelled w.request)));
+        outs = subst Q (sym there) (subst P (sym is_o) (outs_append s.unsent (told_end request_cancelled w) O (failed request_cancelled w) kept.outs (failed_outs w.ticket request_cancelled w.request)));
       };
       versions = omega arith;
       tickets = omega arith;
@@ -362,13 +351,13 @@ cancelled s N O id w N' O' kept there is_d is_w is_v is_t is_o =
 
 -- ---- bodies, and what is sent
 
-said-possible : (s : State) (body : List ℕ) → IsPossible s (Said body)
+said_possible : (s : State) (body : List ℕ) → IsPossible s (Said body)
 unfolding IsPossible
-said-possible s body = tt
+said_possible s body = tt
 
-one-out : (body : List ℕ) → AreOutsFor (Body body ∷ []) (out.Said body ∷ [])
+one_out : (body : List ℕ) → AreOutsFor (Body body ∷ []) (out.Said body ∷ [])
 unfolding AreOutsFor IsOutFor
-one-out body = (refl, tt)
+one_out body = (refl, tt)
 
 pub said : (s : State) (N : Present) (O : List Out) (body : List ℕ)
     (O' : List Out)
@@ -379,21 +368,21 @@ unfolding step
 said s N O body O' kept is_o =
     let P : List Out → Type 0 = λ os. AreOutsFor (s.unsent ++ Body body ∷ []) os in
     record {
-      possible = (said-possible s body);
+      possible = (said_possible s body);
       holds = record {
         documents_are = kept.documents_are;
         waiting_are = kept.waiting_are;
         version_is = kept.version_is;
         ticket_is = kept.ticket_is;
-        outs = subst P (sym is_o) (outs-append s.unsent (Body body ∷ []) O (out.Said body ∷ []) kept.outs (one-out body));
+        outs = subst P (sym is_o) (outs_append s.unsent (Body body ∷ []) O (out.Said body ∷ []) kept.outs (one_out body));
       };
       versions = omega arith;
       tickets = omega arith;
     }
 
-open-possible : (s : State) (uri : List ℕ) (label : ℤ) (text : List ℕ) (encoding : Encoding) (version : ℕ) → is_open uri s.documents ≡ false → length s.documents < 256 → is_too_large text ≡ false → version ≡ s.next_version → IsPossible s (Opened uri label text encoding version)
+open_possible : (s : State) (uri : List ℕ) (label : ℤ) (text : List ℕ) (encoding : Encoding) (version : ℕ) → is_open uri s.documents ≡ false → length s.documents < 256 → is_too_large text ≡ false → version ≡ s.next_version → IsPossible s (Opened uri label text encoding version)
 unfolding IsPossible
-open-possible s uri label text encoding version closed few fits is = (closed, few, fits, is)
+open_possible s uri label text encoding version closed few fits is = (closed, few, fits, is)
 
 pub opened : (s : State) (N : Present) (O : List Out) (uri : List ℕ) (label : ℤ) (text : List ℕ) (encoding : Encoding) (next : Next)
     (N' : Present)
@@ -410,7 +399,7 @@ pub opened : (s : State) (N : Present) (O : List Out) (uri : List ℕ) (label : 
 unfolding step
 opened s N O uri label text encoding next N' kept closed few fits is_next is_d is_w is_v is_t =
     record {
-      possible = (open-possible s uri label text encoding N.next_version closed few fits kept.version_is);
+      possible = (open_possible s uri label text encoding N.next_version closed few fits kept.version_is);
       holds = record {
         documents_are = is_d ∙ (λ i. kept.documents_are i ++ documents_of (is_next i));
         waiting_are = is_w ∙ (λ i. kept.waiting_are i ++ jobs_of (is_next i));

@@ -15,50 +15,50 @@ use Rattle.ls_machine.specs.declared.state.Entry.TheVariants.{Body, Failure, Out
 use Rattle.ls_machine.specs.Machine.{step, IsPossible, told_to, end_of, ends, is_ended, content_modified}
 use Rattle.ls_machine.specs.Counts.{count_one, counted, is_client, total}
 use Rattle.ls_machine.specs.Journal.{replay_from, IsLegalFrom, IsCutAt, IsPast}
-use Rattle.ls_machine.proofs.Replays.{counted-push, cut-push, legal-push, past-more, past-state, replay-push, total-counted, total-one}
-use Rattle.ls_machine.proofs.Taken.{WereTaken, taken-all}
+use Rattle.ls_machine.proofs.Replays.{counted_push, cut_push, legal_push, past_more, past_state, replay_one, replay_push, total_counted, total_one}
+use Rattle.ls_machine.proofs.Taken.{WereTaken, taken_all}
 use Rattle.ls_machine.specs.Outs.{entry_for}
 use Rattle.ls_desk.specs.Anew.{base_after, journal_after}
 use Rattle.ls_desk.specs.Stands.{Seen, Answers, IsOutFor, AreOutsFor, Enters, failed_to, failed_by, failures, fresh, fresh_for, out_of}
 use Rattle.ls_desk.specs.declared.present.Present.{Present}
-use Rattle.ls_desk.specs.Kept.{IsKept}
+use Rattle.ls_desk.specs.own.Kept.{IsKept}
 
-pub outs-length : (es : List Entry) (os : List Out) → AreOutsFor es os → length os ≡ length es
+pub outs_length : (es : List Entry) (os : List Out) → AreOutsFor es os → length os ≡ length es
 unfolding AreOutsFor
-outs-length [] [] h = refl
-outs-length [] (o ∷ os) h = absurd h
-outs-length (e ∷ es) [] h = absurd h
-outs-length (e ∷ es) (o ∷ os) h = let t = outs-length es os h.1 in omega arith
+outs_length [] [] h = refl
+outs_length [] (o ∷ os) h = absurd h
+outs_length (e ∷ es) [] h = absurd h
+outs_length (e ∷ es) (o ∷ os) h = let t = outs_length es os h.1 in omega arith
 
-pub outs-append : (es fs : List Entry) (os ps : List Out) → AreOutsFor es os → AreOutsFor fs ps → AreOutsFor (es ++ fs) (os ++ ps)
+pub outs_append : (es fs : List Entry) (os ps : List Out) → AreOutsFor es os → AreOutsFor fs ps → AreOutsFor (es ++ fs) (os ++ ps)
 unfolding AreOutsFor
-outs-append [] fs [] ps h g = g
-outs-append [] fs (o ∷ os) ps h g = absurd h
-outs-append (e ∷ es) fs [] ps h g = absurd h
-outs-append (e ∷ es) fs (o ∷ os) ps h g = (h.0, outs-append es fs os ps h.1 g)
+outs_append [] fs [] ps h g = g
+outs_append [] fs (o ∷ os) ps h g = absurd h
+outs_append (e ∷ es) fs [] ps h g = absurd h
+outs_append (e ∷ es) fs (o ∷ os) ps h g = (h.0, outs_append es fs os ps h.1 g)
 
-pub failed-outs : (ticket : ℕ) (code : ℤ) (r : Option Request) → AreOutsFor (told_to ticket code r) (failed_to ticket code r)
+pub failed_outs : (ticket : ℕ) (code : ℤ) (r : Option Request) → AreOutsFor (told_to ticket code r) (failed_to ticket code r)
 unfolding AreOutsFor IsOutFor
-failed-outs ticket code None = tt
-failed-outs ticket code (Some r) = (refl, tt)
+failed_outs ticket code None = tt
+failed_outs ticket code (Some r) = (refl, tt)
 
-pub no-outs : AreOutsFor [] []
+no_outs : AreOutsFor [] []
 unfolding AreOutsFor
-no-outs = tt
+no_outs = tt
 
-by-outs : (b : Bool) (es : List Entry) (os : List Out) → AreOutsFor es os → AreOutsFor (cond b es []) (cond b os [])
-by-outs true es os h = h
-by-outs false es os h = no-outs
+by_outs : (b : Bool) (es : List Entry) (os : List Out) → AreOutsFor es os → AreOutsFor (cond b es []) (cond b os [])
+by_outs true es os h = h
+by_outs false es os h = no_outs
 
-pub failures-outs : (uri : List ℕ) (ws : List Waiting) → AreOutsFor (ends uri ws) (failures uri ws)
-failures-outs uri [] = no-outs
-failures-outs uri (w ∷ ws) =
-    outs-append (end_of uri w) (ends uri ws) (failed_by uri w) (failures uri ws)
-    (by-outs (is_ended uri w) _ _ (failed-outs w.ticket content_modified w.request))
-    (failures-outs uri ws)
+pub failures_outs : (uri : List ℕ) (ws : List Waiting) → AreOutsFor (ends uri ws) (failures uri ws)
+failures_outs uri [] = no_outs
+failures_outs uri (w ∷ ws) =
+    outs_append (end_of uri w) (ends uri ws) (failed_by uri w) (failures uri ws)
+    (by_outs (is_ended uri w) _ _ (failed_outs w.ticket content_modified w.request))
+    (failures_outs uri ws)
 
-pub failures-length : (uri : List ℕ) (ws : List Waiting) → length (failures uri ws) ≡ length (ends uri ws)
-failures-length uri ws = outs-length (ends uri ws) (failures uri ws) (failures-outs uri ws)
+pub failures_length : (uri : List ℕ) (ws : List Waiting) → length (failures uri ws) ≡ length (ends uri ws)
+failures_length uri ws = outs_length (ends uri ws) (failures uri ws) (failures_outs uri ws)
 
 -- what a desk holds is what a state has
 pub record Holds (s : State) (present : Present) (outbox : List Out) : Type 0 where
@@ -97,15 +97,15 @@ pub record Goes (B : Base) (J : List Event) (C : Counts) (x : Option State) (e :
   pub counts : C' ≡ count_one C e
   pub kept : IsKept B' J' C' N' O' longest most room'
 
-is-le : (a b : ℕ) → nat_le a b ≡ true → a ≤ b
-is-le a b h = grind (arith, nat_tests)
+is_le : (a b : ℕ) → nat_le a b ≡ true → a ≤ b
+is_le a b h = grind (arith, nat_tests)
 
-is-gt : (a b : ℕ) → nat_le a b ≡ false → b < a
-is-gt a b h = grind (arith, nat_tests)
+is_gt : (a b : ℕ) → nat_le a b ≡ false → b < a
+is_gt a b h = grind (arith, nat_tests)
 
-push-some : (es : List Event) (e : Event) → es ++ e ∷ [] ≡ [] → ⊥
-push-some [] e h = cc
-push-some (x ∷ es) e h = cc
+push_some : (es : List Event) (e : Event) → es ++ e ∷ [] ≡ [] → ⊥
+push_some [] e h = cc
+push_some (x ∷ es) e h = cc
 
 -- the journal goes on
 on : (B : Base) (J : List Event) (C : Counts) (N : Present) (O : List Out) (longest most room : ℕ) (e : Event)
@@ -118,11 +118,11 @@ on : (B : Base) (J : List Event) (C : Counts) (N : Present) (O : List Out) (long
     → Goes B J C None e B (J ++ e ∷ []) (count_one C e) N' O' longest most room'
 on B J C N O longest most room e N' O' room' kept late stepped used reserved =
     let s = replay_from B.state J in
-    let now : replay_from B.state (J ++ e ∷ []) ≡ step s e = replay-push B.state J e in
+    let now : replay_from B.state (J ++ e ∷ []) ≡ step s e = replay_push B.state J e in
     let len : length (J ++ e ∷ []) ≡ length J + 1 = omega (arith, length-append J (e ∷ [])) in
-    let outs : length O' ≡ length (step s e).unsent = outs-length (step s e).unsent O' stepped.holds.outs in
-    let one = total-one C e in
-    let all : total C ≡ total B.counts + length J = ap total kept.counts_are ∙ total-counted B.counts J in
+    let outs : length O' ≡ length (step s e).unsent = outs_length (step s e).unsent O' stepped.holds.outs in
+    let one = total_one C e in
+    let all : total C ≡ total B.counts + length J = ap total kept.counts_are ∙ total_counted B.counts J in
     let P : State → Type 0 = λ x. AreOutsFor x.unsent O' in
     record {
       possible = stepped.possible;
@@ -137,15 +137,15 @@ on B J C N O longest most room e N' O' room' kept late stepped used reserved =
         ticket_is = stepped.holds.ticket_is ∙ ap (λ x. x.next_ticket) (sym now);
         outs = subst P (sym now) stepped.holds.outs;
         past = kept.past;
-        legal = legal-push most (total B.counts) B.state J e kept.legal stepped.possible (omega arith);
-        cut = cut-push longest J e kept.cut late;
-        counts_are = ap (λ (c : Counts). count_one c e) kept.counts_are ∙ sym (counted-push B.counts J e);
+        legal = legal_push most (total B.counts) B.state J e kept.legal stepped.possible (omega arith);
+        cut = cut_push longest J e kept.cut late;
+        counts_are = ap (λ (c : Counts). count_one c e) kept.counts_are ∙ sym (counted_push B.counts J e);
         versions = let a = kept.versions in let b = stepped.versions in omega arith;
         tickets = let a = kept.tickets in let b = stepped.tickets in omega arith;
         checkpoints = kept.checkpoints;
         earlier = let a = kept.earlier in omega arith;
         first_is = kept.first_is;
-        begun = λ h. absurd (push-some J e h);
+        begun = λ h. absurd (push_some J e h);
         least = kept.least;
         most = kept.most;
         used = omega arith;
@@ -153,22 +153,18 @@ on B J C N O longest most room e N' O' room' kept late stepped used reserved =
       };
     }
 
-legal-one : (most n : ℕ) (s : State) (e : Event) → IsPossible s e → n + 1 + length (step s e).unsent ≤ most → IsLegalFrom most n s (e ∷ [])
+legal_one : (most n : ℕ) (s : State) (e : Event) → IsPossible s e → n + 1 + length (step s e).unsent ≤ most → IsLegalFrom most n s (e ∷ [])
 unfolding IsLegalFrom
-legal-one most n s e possible fits = (possible, fits, tt)
+legal_one most n s e possible fits = (possible, fits, tt)
 
-cut-one : (longest : ℕ) (e : Event) → 0 < longest → IsCutAt longest (e ∷ [])
+cut_one : (longest : ℕ) (e : Event) → 0 < longest → IsCutAt longest (e ∷ [])
 unfolding IsCutAt
-cut-one zero e h = absurd (omega arith)
-cut-one (suc longest) e h = tt
+cut_one zero e h = absurd (omega arith)
+cut_one (suc longest) e h = tt
 
-counted-one : (C : Counts) (e : Event) → counted C (e ∷ []) ≡ count_one C e
+counted_one : (C : Counts) (e : Event) → counted C (e ∷ []) ≡ count_one C e
 unfolding counted
-counted-one C e = refl
-
-replay-one : (s : State) (e : Event) → replay_from s (e ∷ []) ≡ step s e
-unfolding replay_from
-replay-one s e = refl
+counted_one C e = refl
 
 -- the journal begins anew
 anew : (B : Base) (J : List Event) (C : Counts) (N : Present) (O : List Out) (longest most room : ℕ) (e : Event)
@@ -181,10 +177,10 @@ anew : (B : Base) (J : List Event) (C : Counts) (N : Present) (O : List Out) (lo
     → Goes B J C (Some (replay_from B.state J)) e (record { state = replay_from B.state J; counts = C; checkpoints = B.checkpoints + 1 }) (e ∷ []) (count_one C e) N' O' longest most room'
 anew B J C N O longest most room e N' O' room' kept long stepped used reserved =
     let s = replay_from B.state J in
-    let now : replay_from s (e ∷ []) ≡ step s e = replay-one s e in
-    let outs : length O' ≡ length (step s e).unsent = outs-length (step s e).unsent O' stepped.holds.outs in
-    let one = total-one C e in
-    let all : total C ≡ total B.counts + length J = ap total kept.counts_are ∙ total-counted B.counts J in
+    let now : replay_from s (e ∷ []) ≡ step s e = replay_one s e in
+    let outs : length O' ≡ length (step s e).unsent = outs_length (step s e).unsent O' stepped.holds.outs in
+    let one = total_one C e in
+    let all : total C ≡ total B.counts + length J = ap total kept.counts_are ∙ total_counted B.counts J in
     let P : State → Type 0 = λ x. AreOutsFor x.unsent O' in
     let Q : Counts → Type 0 = λ c. IsPast most (record { state = s; counts = c; checkpoints = B.checkpoints + 1 }) (kept.past.0 ++ J) in
     record {
@@ -199,16 +195,16 @@ anew B J C N O longest most room e N' O' room' kept long stepped used reserved =
         version_is = stepped.holds.version_is ∙ ap (λ x. x.next_version) (sym now);
         ticket_is = stepped.holds.ticket_is ∙ ap (λ x. x.next_ticket) (sym now);
         outs = subst P (sym now) stepped.holds.outs;
-        past = (kept.past.0 ++ J, subst Q (sym kept.counts_are) (past-more most B kept.past.0 J (B.checkpoints + 1) kept.past.1 kept.legal));
-        legal = legal-one most (total C) s e stepped.possible (omega arith);
-        cut = cut-one longest e kept.least;
-        counts_are = sym (counted-one C e);
+        past = (kept.past.0 ++ J, subst Q (sym kept.counts_are) (past_more most B kept.past.0 J (B.checkpoints + 1) kept.past.1 kept.legal));
+        legal = legal_one most (total C) s e stepped.possible (omega arith);
+        cut = cut_one longest e kept.least;
+        counts_are = sym (counted_one C e);
         versions = let a = kept.versions in let b = stepped.versions in omega arith;
         tickets = let a = kept.tickets in let b = stepped.tickets in omega arith;
         checkpoints = let a = kept.checkpoints in let b = kept.least in omega arith;
         earlier = omega arith;
         first_is = λ h. absurd (omega (arith, h));
-        begun = λ h. absurd (push-some [] e h);
+        begun = λ h. absurd (push_some [] e h);
         least = kept.least;
         most = kept.most;
         used = omega arith;
@@ -227,18 +223,18 @@ written B J C x e B1 J1 C1 B' J' C' N' O' longest most room' is_b is_j is_c goes
     let R : Counts → Type 0 = λ c. Goes B J C x e B1 J1 c N' O' longest most room' in
     subst P (sym is_b) (subst Q (sym is_j) (subst R (sym is_c) goes))
 
-late-none : (b c : Bool) (n m : ℕ) (s : State) (q : Bool) → q ≡ b → nat_le n m ≡ c → None ≡ cond b (cond c (Some s) None) None → n ≤ m → q ≡ false
-late-none false c n m s q client long is h = client
-late-none true true n m s q client long is h = absurd (cc)
-late-none true false n m s q client long is h = let g = is-gt n m long in absurd (omega arith)
+late_none : (b c : Bool) (n m : ℕ) (s : State) (q : Bool) → q ≡ b → nat_le n m ≡ c → None ≡ cond b (cond c (Some s) None) None → n ≤ m → q ≡ false
+late_none false c n m s q client long is h = client
+late_none true true n m s q client long is h = absurd (cc)
+late_none true false n m s q client long is h = let g = is_gt n m long in absurd (omega arith)
 
-same-state : (s z : State) → Some z ≡ Some s → z ≡ s
-same-state s z h = cc
+same_state : (s z : State) → Some z ≡ Some s → z ≡ s
+same_state s z h = cc
 
-long-some : (b c : Bool) (n m : ℕ) (s z : State) → nat_le n m ≡ c → Some z ≡ cond b (cond c (Some s) None) None → (n ≤ m) × (z ≡ s)
-long-some false c n m s z long is = absurd (cc)
-long-some true false n m s z long is = absurd (cc)
-long-some true true n m s z long is = (is-le n m long, same-state s z is)
+long_some : (b c : Bool) (n m : ℕ) (s z : State) → nat_le n m ≡ c → Some z ≡ cond b (cond c (Some s) None) None → (n ≤ m) × (z ≡ s)
+long_some false c n m s z long is = absurd (cc)
+long_some true false n m s z long is = absurd (cc)
+long_some true true n m s z long is = (is_le n m long, same_state s z is)
 
 pub goes : (B : Base) (J : List Event) (C : Counts) (N : Present) (O : List Out) (longest most room : ℕ) (x : Option State) (e : Event)
     (B' : Base) (J' : List Event) (C' : Counts) (N' : Present) (O' : List Out) (room' : ℕ)
@@ -254,10 +250,10 @@ pub goes : (B : Base) (J : List Event) (C : Counts) (N : Present) (O : List Out)
 goes B J C N O longest most room None e B' J' C' N' O' room' kept is_x stepped is_b is_j is_c used reserved =
     written B J C None e B (J ++ e ∷ []) (count_one C e) B' J' C' N' O' longest most room' is_b is_j is_c
     (on B J C N O longest most room e N' O' room' kept
-    (late-none (is_client e) (nat_le longest (length J)) longest (length J) (replay_from B.state J) (is_client e) refl refl is_x) stepped used reserved)
+    (late_none (is_client e) (nat_le longest (length J)) longest (length J) (replay_from B.state J) (is_client e) refl refl is_x) stepped used reserved)
 goes B J C N O longest most room (Some z) e B' J' C' N' O' room' kept is_x stepped is_b is_j is_c used reserved =
     let s = replay_from B.state J in
-    let f = long-some (is_client e) (nat_le longest (length J)) longest (length J) s z refl is_x in
+    let f = long_some (is_client e) (nat_le longest (length J)) longest (length J) s z refl is_x in
     let P : State → Type 0 = λ y. Goes B J C (Some y) e B' J' C' N' O' longest most room' in
     let base : State → Base = λ y. record { state = y; counts = C; checkpoints = B.checkpoints + 1 } in
     subst P (sym f.1)
@@ -282,12 +278,12 @@ enters B J C N O longest most room x e B' J' C' N' O' room' kept is_x g = record
 }
 
 -- nothing has changed, but there is room
-pub kept-room : (B : Base) (J : List Event) (C : Counts) (N : Present) (O : List Out) (longest most room : ℕ)
+pub kept_room : (B : Base) (J : List Event) (C : Counts) (N : Present) (O : List Out) (longest most room : ℕ)
     (J' : List Event) (N' : Present) (O' : List Out) (room' : ℕ)
     → IsKept B J C N O longest most room
     → N'.documents.items ≡ N.documents.items → N'.waiting.items ≡ N.waiting.items → N'.next_version ≡ N.next_version → N'.next_ticket ≡ N.next_ticket
     → O' ≡ O → J' ≡ J → room ≤ room' → IsKept B J' C N' O' longest most room'
-kept-room B J C N O longest most room J' N' O' room' kept same_d same_w same_v same_t same_o same_j more =
+kept_room B J C N O longest most room J' N' O' room' kept same_d same_w same_v same_t same_o same_j more =
     let P : List Event → Type 0 = λ js. IsKept B js C N' O' longest most room' in
     let Q : List Out → Type 0 = λ os. IsKept B J C N' os longest most room' in
     subst P (sym same_j) (subst Q (sym same_o) (record {
@@ -314,47 +310,47 @@ kept-room B J C N O longest most room J' N' O' room' kept same_d same_w same_v s
 
 -- ---- the present state, from what a desk holds
 
-entry-is : (e : Entry) (o : Out) → IsOutFor e o → WereTaken (e ∷ []) → entry_for o ≡ e
+entry_is : (e : Entry) (o : Out) → IsOutFor e o → WereTaken (e ∷ []) → entry_for o ≡ e
 unfolding IsOutFor WereTaken
-entry-is (Body body) o is taken = ap entry_for is
-entry-is (Failure ticket id code) o is taken = ap entry_for is
-entry-is (Outcome w) o is taken = ap entry_for is.1 ∙ by w w.request is.0 refl is.2 taken.0
+entry_is (Body body) o is taken = ap entry_for is
+entry_is (Failure ticket id code) o is taken = ap entry_for is
+entry_is (Outcome w) o is taken = ap entry_for is.1 ∙ by w w.request is.0 refl is.2 taken.0
   where
     by : (w : Waiting) (r : Option Request) (done : Told) → w.request ≡ r → Answers w done → w.taken ≡ true → entry_for (out_of w r done) ≡ Outcome w
     by w None done r a taken = λ i. Outcome (record { ticket = a.ticket i; ask = a.ask i; uri = w.uri; version = w.version; label = w.label; text = a.text i; encoding = a.encoding i; request = sym r i; taken = sym taken i })
     by w (Some q) done r a taken = λ i. Outcome (record { ticket = a.ticket i; ask = a.ask i; uri = w.uri; version = w.version; label = w.label; text = a.text i; encoding = a.encoding i; request = sym r i; taken = sym taken i })
 
-first-taken : (e : Entry) (es : List Entry) → WereTaken (e ∷ es) → WereTaken (e ∷ [])
+first_taken : (e : Entry) (es : List Entry) → WereTaken (e ∷ es) → WereTaken (e ∷ [])
 unfolding WereTaken
-first-taken (Body body) es h = tt
-first-taken (Failure ticket id code) es h = tt
-first-taken (Outcome w) es h = (h.0, tt)
+first_taken (Body body) es h = tt
+first_taken (Failure ticket id code) es h = tt
+first_taken (Outcome w) es h = (h.0, tt)
 
-later-taken : (e : Entry) (es : List Entry) → WereTaken (e ∷ es) → WereTaken es
+later_taken : (e : Entry) (es : List Entry) → WereTaken (e ∷ es) → WereTaken es
 unfolding WereTaken
-later-taken (Body body) es h = h
-later-taken (Failure ticket id code) es h = h
-later-taken (Outcome w) es h = h.1
+later_taken (Body body) es h = h
+later_taken (Failure ticket id code) es h = h
+later_taken (Outcome w) es h = h.1
 
-entries-are : (es : List Entry) (os : List Out) → AreOutsFor es os → WereTaken es → map entry_for os ≡ es
+entries_are : (es : List Entry) (os : List Out) → AreOutsFor es os → WereTaken es → map entry_for os ≡ es
 unfolding AreOutsFor
-entries-are [] [] h taken = refl
-entries-are [] (o ∷ os) h taken = absurd h
-entries-are (e ∷ es) [] h taken = absurd h
-entries-are (e ∷ es) (o ∷ os) h taken = λ i. entry-is e o h.0 (first-taken e es taken) i ∷ entries-are es os h.1 (later-taken e es taken) i
+entries_are [] [] h taken = refl
+entries_are [] (o ∷ os) h taken = absurd h
+entries_are (e ∷ es) [] h taken = absurd h
+entries_are (e ∷ es) (o ∷ os) h taken = λ i. entry_is e o h.0 (first_taken e es taken) i ∷ entries_are es os h.1 (later_taken e es taken) i
 
-state-taken : (B : Base) (J : List Event) (past : List Event) (most : ℕ) → IsPast most B past → WereTaken (replay_from B.state J).unsent
-state-taken B J past most is = let P : State → Type 0 = λ s. WereTaken s.unsent in subst P (past-state most B past J is) (taken-all (past ++ J))
+state_taken : (B : Base) (J : List Event) (past : List Event) (most : ℕ) → IsPast most B past → WereTaken (replay_from B.state J).unsent
+state_taken B J past most is = let P : State → Type 0 = λ s. WereTaken s.unsent in subst P (past_state most B past J is) (taken_all (past ++ J))
 
-pub state-is : (B : Base) (J : List Event) (C : Counts) (N : Present) (O : List Out) (longest most room : ℕ)
+pub state_is : (B : Base) (J : List Event) (C : Counts) (N : Present) (O : List Out) (longest most room : ℕ)
     → IsKept B J C N O longest most room
     → record { documents = N.documents.items; waiting = N.waiting.items; unsent = map entry_for O; next_version = N.next_version; next_ticket = N.next_ticket } ≡ replay_from B.state J
-state-is B J C N O longest most room kept =
-    let es = entries-are (replay_from B.state J).unsent O kept.outs (state-taken B J kept.past.0 most kept.past.1) in
+state_is B J C N O longest most room kept =
+    let es = entries_are (replay_from B.state J).unsent O kept.outs (state_taken B J kept.past.0 most kept.past.1) in
     λ i. record { documents = kept.documents_are i; waiting = kept.waiting_are i; unsent = es i; next_version = kept.version_is i; next_ticket = kept.ticket_is i }
 
-long-is : (n m k : ℕ) → n ≡ k → m ≤ n → nat_le m k ≡ true
-long-is n m k same h = grind (arith, nat_tests)
+long_is : (n m k : ℕ) → n ≡ k → m ≤ n → nat_le m k ≡ true
+long_is n m k same h = grind (arith, nat_tests)
 
-pub fresh-is : (B : Base) (J : List Event) (O : List Out) (longest most n : ℕ) (z : State) → z ≡ replay_from B.state J → n ≡ length J → longest ≤ n → Some z ≡ fresh (seen B J O longest most)
-fresh-is B J O longest most n z is len long = ap Some is ∙ sym (λ i. cond (long-is n longest (length J) len long i) (Some (replay_from B.state J)) None)
+pub fresh_is : (B : Base) (J : List Event) (O : List Out) (longest most n : ℕ) (z : State) → z ≡ replay_from B.state J → n ≡ length J → longest ≤ n → Some z ≡ fresh (seen B J O longest most)
+fresh_is B J O longest most n z is len long = ap Some is ∙ sym (λ i. cond (long_is n longest (length J) len long i) (Some (replay_from B.state J)) None)

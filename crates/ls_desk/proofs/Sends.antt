@@ -19,17 +19,17 @@ use Rattle.ls_machine.specs.Counts.{first, no_events, total}
 use Rattle.ls_machine.specs.Journal.{replay_from, IsLegalFrom, IsPast}
 use Rattle.ls_desk.specs.Stands.{Enters, IsOutFor, AreOutsFor, Seen, Sends, StandsAt, Answers, out_of, ticket_of_out}
 use Rattle.ls_desk.specs.declared.present.Present.{Present}
-use Rattle.ls_desk.specs.Kept.{IsKept}
+use Rattle.ls_desk.specs.own.Kept.{IsKept}
 use Rattle.ls_machine.specs.Laws.{WasEntryCurrent, WereEntriesCurrent}
 use Rattle.ls_desk.proofs.Grows.{Stepped, Holds, seen}
 use Rattle.ls_machine.proofs.Ordered.{ordered}
-use Rattle.ls_machine.proofs.Replays.{counted-none, cut-none, legal-none, past-first, past-legal, past-state}
+use Rattle.ls_machine.proofs.Replays.{counted_none, cut_none, legal_none, past_first, past_legal, past_state}
 
-pub ticket-same : (e : Entry) (o : Out) → IsOutFor e o → ticket_of e ≡ ticket_of_out o
+ticket_same : (e : Entry) (o : Out) → IsOutFor e o → ticket_of e ≡ ticket_of_out o
 unfolding IsOutFor
-ticket-same (Body body) o is = rw is refl
-ticket-same (Failure ticket id code) o is = rw is refl
-ticket-same (Outcome w) o is = rw is.1 (by_request w w.request is.0 is.2)
+ticket_same (Body body) o is = rw is refl
+ticket_same (Failure ticket id code) o is = rw is refl
+ticket_same (Outcome w) o is = rw is.1 (by_request w w.request is.0 is.2)
   where
     by_request : (w : Waiting) (r : Option Request) (done : Told) → Answers w done → w.ticket ≡ ticket_of_out (out_of w r done)
     by_request w None done a = sym a.ticket
@@ -48,9 +48,9 @@ unfolding AreOutsFor
 front [] o os h = absurd h
 front (e ∷ es) o os h = record { entry = e; others = es; is = refl; for = h.0; outs = h.1 }
 
-send-possible : (s : State) (o : Out) (os : List Out) → Front s.unsent o os → IsPossible s (Sent (ticket_of_out o))
+send_possible : (s : State) (o : Out) (os : List Out) → Front s.unsent o os → IsPossible s (Sent (ticket_of_out o))
 unfolding IsPossible
-send-possible s o os f = ap first_ticket f.is ∙ ap Some (ticket-same f.entry o f.for)
+send_possible s o os f = ap first_ticket f.is ∙ ap Some (ticket_same f.entry o f.for)
 
 pub sent : (s : State) (N : Present) (O : List Out) (o : Out) (os : List Out)
     → Holds s N O
@@ -60,7 +60,7 @@ unfolding step
 sent s N O o os kept f =
     let P : List Entry → Type 0 = λ es. AreOutsFor (rest es) os in
     record {
-      possible = send-possible s o os f;
+      possible = send_possible s o os f;
       holds = record {
         documents_are = kept.documents_are;
         waiting_are = kept.waiting_are;
@@ -72,22 +72,22 @@ sent s N O o os kept f =
       tickets = omega arith;
     }
 
-pub kept-same : (B : Base) (J : List Event) (C : Counts) (N : Present) (O os : List Out) (longest most room : ℕ)
+pub kept_same : (B : Base) (J : List Event) (C : Counts) (N : Present) (O os : List Out) (longest most room : ℕ)
     → IsKept B J C N O longest most room → O ≡ os → IsKept B J C N os longest most room
-kept-same B J C N O os longest most room kept same = let P : List Out → Type 0 = λ x. IsKept B J C N x longest most room in subst P same kept
+kept_same B J C N O os longest most room kept same = let P : List Out → Type 0 = λ x. IsKept B J C N x longest most room in subst P same kept
 
-pub front-of : (es : List Entry) (O : List Out) (o : Out) (os : List Out) → AreOutsFor es O → O ≡ o ∷ os → Front es o os
-front-of es O o os outs is = let P : List Out → Type 0 = λ x. AreOutsFor es x in front es o os (subst P is outs)
+pub front_of : (es : List Entry) (O : List Out) (o : Out) (os : List Out) → AreOutsFor es O → O ≡ o ∷ os → Front es o os
+front_of es O o os outs is = let P : List Out → Type 0 = λ x. AreOutsFor es x in front es o os (subst P is outs)
 
-first-current : (js : List Event) (es : List Entry) (e : Entry) (fs : List Entry) → WereEntriesCurrent js es → es ≡ e ∷ fs → WasEntryCurrent js e
+first_current : (js : List Event) (es : List Entry) (e : Entry) (fs : List Entry) → WereEntriesCurrent js es → es ≡ e ∷ fs → WasEntryCurrent js e
 unfolding WereEntriesCurrent
-first-current js es e fs h is = let P : List Entry → Type 0 = λ xs. WereEntriesCurrent js xs in (subst P is h).0
+first_current js es e fs h is = let P : List Entry → Type 0 = λ xs. WereEntriesCurrent js xs in (subst P is h).0
 
 -- what was current in the events that led to a desk
-current-in : (B : Base) (J : List Event) (most : ℕ) (past : List Event) → IsPast most B past → IsLegalFrom most (total B.counts) B.state J → WereEntriesCurrent (past ++ J) (replay_from B.state J).unsent
-current-in B J most past is legal =
+current_in : (B : Base) (J : List Event) (most : ℕ) (past : List Event) → IsPast most B past → IsLegalFrom most (total B.counts) B.state J → WereEntriesCurrent (past ++ J) (replay_from B.state J).unsent
+current_in B J most past is legal =
     let P : State → Type 0 = λ s. WereEntriesCurrent (past ++ J) s.unsent in
-    subst P (past-state most B past J is) (ordered most (past ++ J) (past-legal most B past J is legal)).unsent
+    subst P (past_state most B past J is) (ordered most (past ++ J) (past_legal most B past J is legal)).unsent
 
 pub sends : (B : Base) (J : List Event) (C : Counts) (N : Present) (O : List Out) (longest most room : ℕ) (new : Seen) (o : Out) (os : List Out)
     → IsKept B J C N O longest most room
@@ -99,40 +99,40 @@ pub sends : (B : Base) (J : List Event) (C : Counts) (N : Present) (O : List Out
 sends B J C N O longest most room new o os kept f is same went = record {
   enters = went;
   first = is ∙ ap (λ (xs : List Out). o ∷ xs) (sym same);
-  is_for = (f.entry, f.others, f.is, f.for);
-  was_current = (kept.past.0, kept.past.1, first-current (kept.past.0 ++ J) (replay_from B.state J).unsent f.entry f.others (current-in B J most kept.past.0 kept.past.1 kept.legal) f.is);
+  stands_for = (f.entry, f.others, f.is, f.for);
+  was_current = (kept.past.0, kept.past.1, first_current (kept.past.0 ++ J) (replay_from B.state J).unsent f.entry f.others (current_in B J most kept.past.0 kept.past.1 kept.legal) f.is);
 }
 
 -- ---- the unsent entries by their numbers
 
-at-entry : (es : List Entry) (os : List Out) (i : ℕ) (o : Out) → AreOutsFor es os → slice_get os i ≡ Some o → (e : Entry) × (slice_get es i ≡ Some e) × IsOutFor e o
+at_entry : (es : List Entry) (os : List Out) (i : ℕ) (o : Out) → AreOutsFor es os → slice_get os i ≡ Some o → (e : Entry) × (slice_get es i ≡ Some e) × IsOutFor e o
 unfolding AreOutsFor
-at-entry [] [] i o h is = absurd (cc)
-at-entry [] (p ∷ ps) i o h is = absurd h
-at-entry (e ∷ es) [] i o h is = absurd h
-at-entry (e ∷ es) (p ∷ ps) zero o h is = let P : Out → Type 0 = λ x. IsOutFor e x in (e, refl, subst P (same_Some p o is) h.0)
-at-entry (e ∷ es) (p ∷ ps) (suc i) o h is = at-entry es ps i o h.1 is
+at_entry [] [] i o h is = absurd (cc)
+at_entry [] (p ∷ ps) i o h is = absurd h
+at_entry (e ∷ es) [] i o h is = absurd h
+at_entry (e ∷ es) (p ∷ ps) zero o h is = let P : Out → Type 0 = λ x. IsOutFor e x in (e, refl, subst P (same_Some p o is) h.0)
+at_entry (e ∷ es) (p ∷ ps) (suc i) o h is = at_entry es ps i o h.1 is
 
-entry-at : (js : List Event) (es : List Entry) (i : ℕ) (e : Entry) → WereEntriesCurrent js es → slice_get es i ≡ Some e → WasEntryCurrent js e
+entry_at : (js : List Event) (es : List Entry) (i : ℕ) (e : Entry) → WereEntriesCurrent js es → slice_get es i ≡ Some e → WasEntryCurrent js e
 unfolding WereEntriesCurrent
-entry-at js [] i e h is = absurd (cc)
-entry-at js (x ∷ es) zero e h is = let P : Entry → Type 0 = λ y. WasEntryCurrent js y in subst P (same_Some x e is) h.0
-entry-at js (x ∷ es) (suc i) e h is = entry-at js es i e h.1 is
+entry_at js [] i e h is = absurd (cc)
+entry_at js (x ∷ es) zero e h is = let P : Entry → Type 0 = λ y. WasEntryCurrent js y in subst P (same_Some x e is) h.0
+entry_at js (x ∷ es) (suc i) e h is = entry_at js es i e h.1 is
 
-pub stands-at : {A : Type 0} (f : A → Out) (r : Option A) (B : Base) (J : List Event) (C : Counts) (N : Present) (O : List Out) (longest most room : ℕ) (i : ℕ)
+pub stands_at : {A : Type 0} (f : A → Out) (r : Option A) (B : Base) (J : List Event) (C : Counts) (N : Present) (O : List Out) (longest most room : ℕ) (i : ℕ)
     → IsKept B J C N O longest most room
     → is_some r ≡ ltb i (length O) → IfSome r (λ x. f x ≡ get_or O i (f x)) → IfSome r (λ x. StandsAt (seen B J O longest most) i (f x))
-stands-at f None B J C N O longest most room i kept some is = tt
-stands-at f (Some x) B J C N O longest most room i kept some is =
+stands_at f None B J C N O longest most room i kept some is = tt
+stands_at f (Some x) B J C N O longest most room i kept some is =
     let found = slice_get_read O (length O) i (f x) refl (ltb-true i (length O) (sym some)) is in
-    let e = at-entry (replay_from B.state J).unsent O i (f x) kept.outs found in
-    (e.0, e.1, e.2, (kept.past.0, kept.past.1, entry-at (kept.past.0 ++ J) (replay_from B.state J).unsent i e.0 (current-in B J most kept.past.0 kept.past.1 kept.legal) e.1))
+    let e = at_entry (replay_from B.state J).unsent O i (f x) kept.outs found in
+    (e.0, e.1, e.2, (kept.past.0, kept.past.1, entry_at (kept.past.0 ++ J) (replay_from B.state J).unsent i e.0 (current_in B J most kept.past.0 kept.past.1 kept.legal) e.1))
 
 -- a new desk
-pub kept-start : (B : Base) (J : List Event) (C : Counts) (N : Present) (O : List Out) (longest most room : ℕ)
+pub kept_start : (B : Base) (J : List Event) (C : Counts) (N : Present) (O : List Out) (longest most room : ℕ)
     → B ≡ first → J ≡ [] → C ≡ no_events → N.documents.items ≡ [] → N.waiting.items ≡ [] → N.next_version ≡ 1 → N.next_ticket ≡ 1 → O ≡ [] → 0 < longest → 0 < most → most < 18446744073709551615 → IsKept B J C N O longest most room
 unfolding AreOutsFor replay_from
-kept-start B J C N O longest most room b j c d w v t o least some few =
+kept_start B J C N O longest most room b j c d w v t o least some few =
     let P : Base → Type 0 = λ x. IsKept x J C N O longest most room in
     let Q : List Event → Type 0 = λ x. IsKept first x C N O longest most room in
     let R : Counts → Type 0 = λ x. IsKept first [] x N O longest most room in
@@ -143,10 +143,10 @@ kept-start B J C N O longest most room b j c d w v t o least some few =
       version_is = v;
       ticket_is = t;
       outs = tt;
-      past = ([], past-first most);
-      legal = legal-none most _ _;
-      cut = cut-none longest;
-      counts_are = sym (counted-none no_events);
+      past = ([], past_first most);
+      legal = legal_none most _ _;
+      cut = cut_none longest;
+      counts_are = sym (counted_none no_events);
       versions = omega arith;
       tickets = omega arith;
       checkpoints = omega arith;

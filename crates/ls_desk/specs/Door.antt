@@ -24,13 +24,13 @@ client_fault d (Cancel id) = cancel_fault d id
 client_fault d (Say body) = full_fault d 2
 
 -- what is entered, where the desk doesn't refuse it
-abbrev pub entry_at : State → ClientEvent → Event
-entry_at s (DidOpen uri label text encoding) = Opened uri label (chars text) encoding s.next_version
-entry_at s (DidChange uri label edits) = Changed uri label edits (version_if s.next_version (edited_at (document_of uri s.documents) edits))
-entry_at s (DidClose uri) = Closed uri
-entry_at s (Request id uri ask links) = Asked id uri ask links s.next_ticket
-entry_at s (Cancel id) = Cancelled id (id_waits id s.waiting)
-entry_at s (Say body) = Said body
+abbrev pub entered_at : State → ClientEvent → Event
+entered_at s (DidOpen uri label text encoding) = Opened uri label (chars text) encoding s.next_version
+entered_at s (DidChange uri label edits) = Changed uri label edits (version_if s.next_version (edited_at (document_of uri s.documents) edits))
+entered_at s (DidClose uri) = Closed uri
+entered_at s (Request id uri ask links) = Asked id uri ask links s.next_ticket
+entered_at s (Cancel id) = Cancelled id (id_waits id s.waiting)
+entered_at s (Say body) = Said body
 
 -- the text that the event opens, which isn't too large; any other event opens none
 abbrev pub IsTextOf : ClientEvent → List ℕ → Type 0
@@ -39,5 +39,5 @@ IsTextOf event made = Unit {0}
 
 -- nothing stood against the event, the journal has its entry at its end, and the answer is the entry's
 pub record Admits (event : ClientEvent) (answer : ClientAnswer) (old new : Seen) : Type 0 where
-  pub accepts : Accepts (client_fault old event) old new (entry_at (state_of old) event)
-  pub answer_is : entry_of event answer ≡ Some (entry_at (state_of old) event)
+  pub accepts : Accepts (client_fault old event) old new (entered_at (state_of old) event)
+  pub answer_is : entry_of event answer ≡ Some (entered_at (state_of old) event)

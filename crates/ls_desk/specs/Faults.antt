@@ -4,6 +4,7 @@ use Rattle.std.specs.Arc.{arc_value}
 use Rattle.ls_answers.specs.Told.{Told}
 use Rattle.ls_answers.specs.declared.job.Job.{Job}
 use Rattle.ls_rpc.specs.declared.message.Id.{Id}
+use Rattle.ls_text.specs.Lines.{max_bytes}
 use Rattle.ls_machine.specs.Same.{is_for}
 use Rattle.ls_machine.specs.Counts.{total}
 use Rattle.ls_machine.specs.declared.state.Waiting.{Waiting}
@@ -12,7 +13,7 @@ use Rattle.ls_machine.specs.declared.event.Kept.{Kept}
 use Rattle.ls_machine.specs.declared.event.Kept.TheVariants as kept
 use Rattle.ls_machine.specs.declared.event.DeskFault.{DeskFault}
 use Rattle.ls_machine.specs.declared.event.DeskFault.TheVariants.{NotOpen, AlreadyOpen, TooManyDocuments, TooManyWaiting, IdInUse, TooLarge, UnknownTicket, OtherText, SessionFull, Memory}
-use Rattle.ls_machine.specs.Machine.{is_open, requests, id_waits, is_held, is_queued, left_at, told_at, ends, asks_with, request_cancelled}
+use Rattle.ls_machine.specs.Machine.{is_open, requests, id_waits, is_held, is_queued, left_at, told_if_found, ends, asks_with, request_cancelled}
 use Rattle.ls_machine.specs.declared.event.Event.{Event}
 use Rattle.ls_machine.specs.declared.event.Event.TheVariants.{Took}
 use Rattle.ls_desk.specs.Stands.{Seen, counts_of, state_of, Enters}
@@ -34,11 +35,15 @@ open_shared_fault d uri =
     or_else (is_open uri (state_of d).documents) AlreadyOpen
     (or_else (nat_le 256 (length (state_of d).documents)) TooManyDocuments (full_fault d 1))
 
-abbrev pub open_fault : Seen → List ℕ → List ℕ → Option DeskFault
-open_fault d uri text =
+-- of an open whose text has so many bytes
+abbrev pub sized_open_fault : Seen → List ℕ → ℕ → Option DeskFault
+sized_open_fault d uri bytes =
     or_else (is_open uri (state_of d).documents) AlreadyOpen
     (or_else (nat_le 256 (length (state_of d).documents)) TooManyDocuments
-    (or_else (nat_lt 4194304 (length text)) TooLarge (full_fault d 1)))
+    (or_else (nat_lt max_bytes bytes) TooLarge (full_fault d 1)))
+
+abbrev pub open_fault : Seen → List ℕ → List ℕ → Option DeskFault
+open_fault d uri text = sized_open_fault d uri (length text)
 
 -- of did_change and did_close
 abbrev pub end_fault : Seen → List ℕ → Option DeskFault
@@ -53,7 +58,7 @@ request_fault d id uri =
     (or_else (id_waits id (state_of d).waiting) IdInUse (full_fault d 1)))
 
 abbrev pub cancel_fault : Seen → Id → Option DeskFault
-cancel_fault d id = full_fault d (1 + length (told_at request_cancelled (find (asks_with id) (state_of d).waiting)))
+cancel_fault d id = full_fault d (1 + length (told_if_found request_cancelled (find (asks_with id) (state_of d).waiting)))
 
 -- a take needs room only where there is a job to take
 abbrev pub take_fault : Seen → Option DeskFault
@@ -82,12 +87,12 @@ abbrev pub kept_of : Seen → Told → Kept
 kept_of d done = kept_at (is_none done.answer) (find (is_held done.ticket) (state_of d).waiting)
 
 -- the first whose cause holds, or want of memory where none does
-abbrev pub IsFirst : Option DeskFault → DeskFault → Type 0
-IsFirst first fault = (first ≡ Some fault) ⊎ ((first ≡ None) × (fault ≡ Memory))
+abbrev pub IsFirstFault : Option DeskFault → DeskFault → Type 0
+IsFirstFault first fault = (first ≡ Some fault) ⊎ ((first ≡ None) × (fault ≡ Memory))
 
 -- a refusal is the first whose cause holds, or for want of memory where none does, and nothing has changed
 pub record Refuses (first : Option DeskFault) (old new : Seen) (fault : DeskFault) : Type 0 where
-  pub cause : IsFirst first fault
+  pub cause : IsFirstFault first fault
   pub same : new ≡ old
 
 -- nothing stood against the call, the event is possible, and the journal has it at its end

@@ -145,6 +145,6 @@ pub record Enters (old new : Seen) (e : Event) : Type 0 where
 pub record Sends (old new : Seen) (out : Out) : Type 0 where
   pub enters : Enters old new (Sent (ticket_of_out out))
   pub first : old.outbox ≡ out ∷ new.outbox
-  pub is_for : (e : Entry) × (es : List Entry) × ((state_of old).unsent ≡ e ∷ es) × IsOutFor e out
+  pub stands_for : (e : Entry) × (es : List Entry) × ((state_of old).unsent ≡ e ∷ es) × IsOutFor e out
   -- the text of an outcome was current when it was asked
-  pub was_current : WasCurrentAt old is_for.0
+  pub was_current : WasCurrentAt old stands_for.0

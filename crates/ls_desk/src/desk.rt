@@ -6,12 +6,13 @@ ghost use Rattle.std.specs.Prelude.{◌≢◌, is_some, slice_get, false, is_non
 ghost use Rattle.std.specs.Option.{option_map};
 ghost use Rattle.std.specs.Str.{chars};
 ghost use Rattle.ls_text.specs.Edits.{is_too_large};
-ghost use Rattle.ls_machine.specs.Machine.{is_open, document_of, edited_at, measured, is_held, is_queued, left_at, asked, asks_with, requests, id_waits, told_at, request_cancelled, waits};
+ghost use Rattle.ls_text.specs.Lines.{max_bytes};
+ghost use Rattle.ls_machine.specs.Machine.{is_open, document_of, edited_at, measured, is_held, is_queued, left_at, asked, asks_with, requests, id_waits, told_if_found, request_cancelled, waits};
 ghost use Rattle.ls_machine.specs.Counts.{first, no_events};
 ghost use Rattle.ls_machine.specs.Same.{is_for};
-ghost use Rattle.ls_desk.specs.Stands.{Sends, IsSound, StandsAt, counts_of, failures, fresh, state_of, used};
-ghost use Rattle.ls_desk.specs.Faults.{Accepts, open_fault, open_shared_fault, Refuses, end_fault, is_full, finish_fault, request_fault, take_fault, give_back_fault, cancel_fault, full_fault, kept_of, IsFirst, IsJobOf, Takes};
-ghost use Rattle.ls_desk.specs.Puts.{next_of};
+ghost use Rattle.ls_desk.specs.Stands.{Enters, Sends, IsSound, StandsAt, counts_of, failures, fresh, state_of, used};
+ghost use Rattle.ls_desk.specs.Faults.{Accepts, open_fault, open_shared_fault, sized_open_fault, Refuses, end_fault, is_full, finish_fault, request_fault, take_fault, give_back_fault, cancel_fault, full_fault, kept_of, IsFirstFault, IsJobOf, Takes};
+ghost use Rattle.ls_desk.specs.own.Puts.{next_of};
 
 use crate::history::History;
 use crate::job::{asked, has_failed, job_of, kept_for};
@@ -22,7 +23,7 @@ use crate::present::Present;
 use crate::room::{
     put_change, put_replies, room_for_event, room_for_job, room_for_replies, room_for_text,
 };
-use crate::texts::{Next, Opening, shared_text};
+use crate::texts::{Next, snapshot_of_text};
 use ls_answers::{Ask, Done, Job};
 use ls_lists::{List, Text};
 use ls_machine::{
@@ -34,10 +35,10 @@ use std::alloc::{AllocError, Global};
 use std::collections::VecDeque;
 use std::marker::Model;
 
-// The most documents that are open at once.
+/// The most documents that are open at once.
 const MOST_DOCUMENTS: usize = 256;
 
-// The most requests that wait at once.
+/// The most requests that wait at once.
 const MOST_REQUESTS: usize = 1_024;
 
 /// The open documents, the waiting jobs, the unsent replies and the journal of a session.
@@ -56,7 +57,7 @@ pub struct Desk {
 impl Model for Desk {
     ghost use Rattle.std.specs.Prelude.{vec_capacity};
     ghost use Rattle.ls_desk.specs.Stands.{Seen};
-    ghost use Rattle.ls_desk.specs.Kept.{IsKept};
+    ghost use Rattle.ls_desk.specs.own.Kept.{IsKept};
 
     ghost Value = { Seen };
 
@@ -128,7 +129,7 @@ impl Desk {
         self.outbox.len()
     }
 
-    // There is no room for an event and these replies.
+    /// There is no room for an event and these replies.
     fn is_full(&self, replies: usize) -> bool
         ensures full { result ≡ is_full self.now (1 + replies) }
         ensures room { result ≡ false → used self.now + (1 + replies) ≤ self.now.max_events }
@@ -136,7 +137,7 @@ impl Desk {
         self.max_events - (self.history.counts.total() + self.outbox.len() as u64) <= replies as u64
     }
 
-    // The state that becomes the base, where a client's event that comes now finds the journal as long as it may be.
+    /// The state that becomes the base, where a client's event that comes now finds the journal as long as it may be.
     fn fresh(&self) -> Result<Option<State>, AllocError>
         ensures { IfOk result (λ state. state ≡ fresh self.now) }
     {
@@ -154,14 +155,14 @@ impl Desk {
         Ok(Some(state))
     }
 
-    // What the end of a document's text tells, or the refusal that comes first.
+    /// What the end of a document's text tells, or the refusal that comes first.
     #[tactic(auto, using(crate::proofs::Rules::desk_rules))]
     fn ends(&self, uri: &Text) -> Result<VecDeque<Out>, DeskFault>
         ensures replies { IfOk result (λ replies. replies.items ≡ failures uri.now (state_of self.now).waiting) }
         ensures none { OnOk result (end_fault self.now uri.now ≡ None) }
         ensures open { OnOk result (is_open uri.now (state_of self.now).documents ≡ true) }
         ensures room { IfOk result (λ replies. used self.now + (1 + length replies.items) ≤ self.now.max_events) }
-        ensures err { IfErr result (λ fault. IsFirst (end_fault self.now uri.now) fault) }
+        ensures err { IfErr result (λ fault. IsFirstFault (end_fault self.now uri.now) fault) }
     {
         if find::document_of(self.present.documents.as_slice(), uri).is_none() {
             return Err(DeskFault::NotOpen);
@@ -172,7 +173,7 @@ impl Desk {
         Ok(failures(self.alloc, uri, self.present.waiting.as_slice())?)
     }
 
-    // The text of a document after edits.
+    /// The text of a document after edits.
     fn changed(&self, uri: &Text, label: i64, edits: &[Edit]) -> Result<Option<Next>, DeskFault>
         ensures next { IfOk result (λ next. next ≡ next_of (state_of self.now).next_version (state_of self.now).next_ticket uri.now label (edited_at (document_of uri.now (state_of self.now).documents) edits.now)) }
         ensures err { IfErr result (λ fault. fault ≡ DeskFault.Memory) }
@@ -228,7 +229,7 @@ impl Desk {
         Ok(())
     }
 
-    // Where the job stands that was run there and how many replies it leaves, or the refusal that comes first.
+    /// Where the job stands that was run there and how many replies it leaves, or the refusal that comes first.
     fn check_finish(&self, done: &Done, failed: bool) -> Result<(usize, usize), DeskFault>
         requires { failed ≡ is_none done.now.answer }
         ensures none { OnOk result (finish_fault self.now done.now ≡ None) }
@@ -275,13 +276,13 @@ impl Desk {
         Ok(kept)
     }
 
-    // The job that a request makes, or the refusal that comes first.
+    /// The job that a request makes, or the refusal that comes first.
     fn asked(&self, id: &Id, uri: &Text, question: &Ask, links: bool) -> Result<Waiting, DeskFault>
         ensures job { IfOk result (λ job. option_map (asked (state_of self.now).next_ticket id.now question.now links) (document_of uri.now (state_of self.now).documents) ≡ Some job) }
         ensures none { OnOk result (request_fault self.now id.now uri.now ≡ None) }
         ensures possible { OnOk result ((requests (state_of self.now).waiting < 1024) × (id_waits id.now (state_of self.now).waiting ≡ false)) }
         ensures room { OnOk result (used self.now + 1 ≤ self.now.max_events) }
-        ensures err { IfErr result (λ fault. IsFirst (request_fault self.now id.now uri.now) fault) }
+        ensures err { IfErr result (λ fault. IsFirstFault (request_fault self.now id.now uri.now) fault) }
     {
         let Some(document) = find::document_of(self.present.documents.as_slice(), uri) else {
             return Err(DeskFault::NotOpen);
@@ -332,7 +333,7 @@ impl Desk {
         Ok(ticket)
     }
 
-    // The first queued job and where it stands, or the refusal that comes first.
+    /// The first queued job and where it stands, or the refusal that comes first.
     fn next_job(&self) -> Result<Option<(usize, Job)>, DeskFault>
         ensures none { IfOk result (λ next. IfNone next (find is_queued (state_of self.now).waiting ≡ None)) }
         ensures free { OnOk result (take_fault self.now ≡ None) }
@@ -340,7 +341,7 @@ impl Desk {
         ensures within { IfOk result (λ next. IfSome next (λ n. n.0 < length (state_of self.now).waiting)) }
         ensures job { IfOk result (λ next. IfSome next (λ n. IfSome (find is_queued (state_of self.now).waiting) (λ w. IsJobOf w n.1))) }
         ensures room { IfOk result (λ next. IfSome next (λ _. used self.now + 1 ≤ self.now.max_events)) }
-        ensures err { IfErr result (λ fault. IsFirst (take_fault self.now) fault) }
+        ensures err { IfErr result (λ fault. IsFirstFault (take_fault self.now) fault) }
         ensures queued { OnErr result (is_some (find is_queued (state_of self.now).waiting) ≡ true) }
     {
         let Some((at, job)) = find::queued(self.present.waiting.as_slice()) else {
@@ -367,7 +368,7 @@ impl Desk {
         Ok(Some(job))
     }
 
-    // Where the taken job with a ticket stands, or the refusal that comes first.
+    /// Where the taken job with a ticket stands, or the refusal that comes first.
     fn held(&self, ticket: u64) -> Result<usize, DeskFault>
         ensures at { IfOk result (λ at. position (is_held ticket) (state_of self.now).waiting ≡ Some at) }
         ensures none { OnOk result (give_back_fault self.now ticket ≡ None) }
@@ -397,13 +398,13 @@ impl Desk {
         Ok(())
     }
 
-    // Where the request with an id stands, or the refusal that comes first.
+    /// Where the request with an id stands, or the refusal that comes first.
     fn waiting_at(&self, id: &Id) -> Result<Option<usize>, DeskFault>
         ensures none { IfOk result (λ at. IfNone at (find (asks_with id.now) (state_of self.now).waiting ≡ None)) }
         ensures free { OnOk result (cancel_fault self.now id.now ≡ None) }
         ensures at { IfOk result (λ at. IfSome at (λ i. position (asks_with id.now) (state_of self.now).waiting ≡ Some i)) }
         ensures within { IfOk result (λ at. IfSome at (λ i. i < length (state_of self.now).waiting)) }
-        ensures room { OnOk result (used self.now + (1 + length (told_at request_cancelled (find (asks_with id.now) (state_of self.now).waiting))) ≤ self.now.max_events) }
+        ensures room { OnOk result (used self.now + (1 + length (told_if_found request_cancelled (find (asks_with id.now) (state_of self.now).waiting))) ≤ self.now.max_events) }
         ensures err { IfErr result (λ fault. cancel_fault self.now id.now ≡ Some fault) }
     {
         match find::asked(self.present.waiting.as_slice(), id) {
@@ -448,12 +449,12 @@ impl Desk {
         }
     }
 
-    // A copy of a body that is to be said, or the refusal that comes first.
+    /// A copy of a body that is to be said, or the refusal that comes first.
     fn copied(&self, body: &List<u8>) -> Result<List<u8>, DeskFault>
         ensures copy { IfOk result (λ copy. copy ≡ body.now) }
         ensures none { OnOk result (full_fault self.now 2 ≡ None) }
         ensures room { OnOk result (used self.now + 2 ≤ self.now.max_events) }
-        ensures err { IfErr result (λ fault. IsFirst (full_fault self.now 2) fault) }
+        ensures err { IfErr result (λ fault. IsFirstFault (full_fault self.now 2) fault) }
     {
         if self.is_full(1) {
             return Err(DeskFault::SessionFull);
@@ -505,12 +506,13 @@ impl Desk {
         self.outbox.get(at)
     }
 
-    // The text of a document that is to be opened, or the refusal that comes first.
-    fn made(&self, uri: &Text, text: Text) -> Result<SharedSnapshot, DeskFault>
-        ensures text { IfOk result (λ made. made ≡ chars text) }
-        ensures none { OnOk result (open_fault self.now uri.now text ≡ None) }
-        ensures fits { IfOk result (λ made. is_too_large made ≡ false) }
-        ensures err { IfErr result (λ fault. IsFirst (open_fault self.now uri.now text) fault) }
+    /// The refusal that comes first of a document that is to be opened with a text of so many bytes. 0: its text is made already.
+    fn check_open(&self, uri: &Text, bytes: usize) -> Result<(), DeskFault>
+        ensures none { OnOk result (sized_open_fault self.now uri.now bytes ≡ None) }
+        ensures possible { OnOk result ((is_open uri.now (state_of self.now).documents ≡ false) × (length (state_of self.now).documents < 256)) }
+        ensures fits { OnOk result (bytes ≤ max_bytes) }
+        ensures room { OnOk result (used self.now + 1 ≤ self.now.max_events) }
+        ensures err { IfErr result (λ fault. sized_open_fault self.now uri.now bytes ≡ Some fault) }
     {
         if find::document_of(self.present.documents.as_slice(), uri).is_some() {
             return Err(DeskFault::AlreadyOpen);
@@ -518,48 +520,49 @@ impl Desk {
         if self.present.documents.len() >= MOST_DOCUMENTS {
             return Err(DeskFault::TooManyDocuments);
         }
-        if text.len() > MAX_BYTES {
+        if bytes > MAX_BYTES {
             return Err(DeskFault::TooLarge);
         }
         if self.is_full(0) {
             return Err(DeskFault::SessionFull);
         }
-        Ok(shared_text(self.alloc, text)?)
+        Ok(())
     }
 
-    // What opening a document puts down, or the refusal that comes first.
-    fn opening(
-        &self,
-        uri: &Text,
+    /// Opens a document against which nothing stands.
+    fn put_open(
+        &mut self,
+        uri: Text,
         label: i64,
         text: SharedSnapshot,
         encoding: Encoding,
-    ) -> Result<Opening, DeskFault>
-        requires { is_too_large text ≡ false }
-        ensures text { IfOk result (λ opening. opening.text ≡ text) }
-        ensures encoding { IfOk result (λ opening. opening.encoding ≡ encoding) }
-        ensures none { OnOk result (open_shared_fault self.now uri.now ≡ None) }
-        ensures fits { IfOk result (λ opening. is_too_large opening.text ≡ false) }
-        ensures next { IfOk result (λ opening. Some opening.next ≡ next_of (state_of self.now).next_version (state_of self.now).next_ticket uri.now label (Some (measured opening.encoding opening.text))) }
-        ensures possible { OnOk result ((is_open uri.now (state_of self.now).documents ≡ false) × (length (state_of self.now).documents < 256)) }
-        ensures room { OnOk result (used self.now + 1 ≤ self.now.max_events) }
-        ensures err { IfErr result (λ fault. IsFirst (open_shared_fault self.now uri.now) fault) }
+    ) -> Result<u64, AllocError>
+        requires fits { is_too_large text ≡ false }
+        requires possible { (is_open uri (state_of self.old).documents ≡ false) × (length (state_of self.old).documents < 256) }
+        requires room { used self.old + 1 ≤ self.old.max_events }
+        ensures ok { IfOk result (λ version. Enters self.old self.new (Event.Opened uri label text encoding version)) }
+        ensures err { OnErr result (self.new ≡ self.old) }
     {
-        if find::document_of(self.present.documents.as_slice(), uri).is_some() {
-            return Err(DeskFault::AlreadyOpen);
-        }
-        if self.present.documents.len() >= MOST_DOCUMENTS {
-            return Err(DeskFault::TooManyDocuments);
-        }
-        if self.is_full(0) {
-            return Err(DeskFault::SessionFull);
-        }
-        let next = self.present.next_text(uri, label, &text, encoding)?;
-        Ok(Opening {
-            text,
-            encoding,
-            next,
-        })
+        let next = self.present.next_text(&uri, label, &text, encoding)?;
+        let state = self.fresh()?;
+        room_for_text(
+            &mut self.present,
+            &mut self.history.events,
+            &state,
+            self.outbox.len(),
+        )?;
+        let version = self.present.open(next);
+        self.history.enter(
+            state,
+            Event::Opened {
+                uri,
+                label,
+                text,
+                encoding,
+                version,
+            },
+        );
+        Ok(version)
     }
 
     /// Opens a document whose text is made already. It isn't copied, so this takes no longer for a large text. The positions in its texts
@@ -575,31 +578,8 @@ impl Desk {
         ensures ok { IfOk result (λ version. Accepts (open_shared_fault self.old uri) self.old self.new (Event.Opened uri label text encoding version)) }
         ensures err { IfErr result (λ fault. Refuses (open_shared_fault self.old uri) self.old self.new fault) }
     {
-        let opening = self.opening(&uri, label, text, encoding)?;
-        let state = self.fresh()?;
-        room_for_text(
-            &mut self.present,
-            &mut self.history.events,
-            &state,
-            self.outbox.len(),
-        )?;
-        let Opening {
-            text,
-            encoding,
-            next,
-        } = opening;
-        let version = self.present.open(next);
-        self.history.enter(
-            state,
-            Event::Opened {
-                uri,
-                label,
-                text,
-                encoding,
-                version,
-            },
-        );
-        Ok(version)
+        self.check_open(&uri, 0)?;
+        Ok(self.put_open(uri, label, text, encoding)?)
     }
 
     /// Opens a document, in whose texts positions count these units from now on.
@@ -613,8 +593,9 @@ impl Desk {
         ensures ok { IfOk result (λ version. Accepts (open_fault self.old uri text) self.old self.new (Event.Opened uri label (chars text) encoding version)) }
         ensures err { IfErr result (λ fault. Refuses (open_fault self.old uri text) self.old self.new fault) }
     {
-        let text = self.made(&uri, text)?;
-        self.open_shared(uri, label, text, encoding)
+        self.check_open(&uri, text.len())?;
+        let text = snapshot_of_text(self.alloc, text)?;
+        Ok(self.put_open(uri, label, text, encoding)?)
     }
 
     /// The oldest reply, which leaves the outbox. It is what the first unsent entry stands for. Takes no memory.

@@ -1,7 +1,7 @@
 //! The door for a client's event, whichever it is.
 ghost use Rattle.std.specs.Prelude.{◌≡◌, ◌≢◌, IfOk, IfErr, IfSome, OnOk, false};
 ghost use Rattle.std.specs.Str.{chars, encode_utf8_all};
-ghost use Rattle.ls_machine.specs.Client.{IsAllowed, is_too_long};
+ghost use Rattle.ls_machine.specs.Client.{IsAllowed, opens_too_large};
 ghost use Rattle.ls_desk.specs.Door.{Admits, IsTextOf, client_fault};
 ghost use Rattle.ls_desk.specs.Faults.{Refuses};
 
@@ -20,7 +20,7 @@ fn is_spelled(text: &Text)
 }
 
 impl Desk {
-    // Opens a document, by its text where that is made already.
+    /// Opens a document, by its text where that is made already.
     fn open(
         &mut self,
         uri: Text,
@@ -31,7 +31,7 @@ impl Desk {
     ) -> Result<ClientAnswer, DeskFault>
         requires { IfSome made (λ shared. IsTextOf (ClientEvent.DidOpen uri label text encoding) shared) }
         ensures ok { IfOk result (λ answer. Admits (ClientEvent.DidOpen uri label text encoding) answer self.old self.new) }
-        ensures fits { OnOk result (is_too_long (ClientEvent.DidOpen uri label text encoding) ≡ false) }
+        ensures fits { OnOk result (opens_too_large (ClientEvent.DidOpen uri label text encoding) ≡ false) }
         ensures err { IfErr result (λ fault. Refuses (client_fault self.old (ClientEvent.DidOpen uri label text encoding)) self.old self.new fault) }
     {
         is_spelled(&text);
@@ -42,7 +42,7 @@ impl Desk {
         Ok(ClientAnswer::Version(version))
     }
 
-    // Changes a document.
+    /// Changes a document.
     fn change(
         &mut self,
         uri: Text,
@@ -58,7 +58,7 @@ impl Desk {
         }
     }
 
-    // A request waits.
+    /// A request waits.
     fn ask(
         &mut self,
         id: Id,
@@ -74,7 +74,7 @@ impl Desk {
         Ok(ClientAnswer::Ticket(ticket))
     }
 
-    // Cancels a request.
+    /// Cancels a request.
     fn end_request(&mut self, id: &Id) -> Result<ClientAnswer, DeskFault>
         ensures ok { IfOk result (λ answer. Admits (ClientEvent.Cancel id.now) answer self.old self.new) }
         ensures err { IfErr result (λ fault. Refuses (client_fault self.old (ClientEvent.Cancel id.now)) self.old self.new fault) }
@@ -93,7 +93,7 @@ impl Desk {
         requires allowed { IsAllowed event }
         requires made { IfSome made (λ shared. IsTextOf event shared) }
         ensures ok { IfOk result (λ answer. Admits event answer self.old self.new) }
-        ensures fits { OnOk result (is_too_long event ≡ false) }
+        ensures fits { OnOk result (opens_too_large event ≡ false) }
         ensures err { IfErr result (λ fault. Refuses (client_fault self.old event) self.old self.new fault) }
     {
         match event {

@@ -14,7 +14,7 @@ pub struct History {
 }
 
 impl History {
-    ghost use Rattle.ls_desk.specs.Writes.{HasRoom, Writes};
+    ghost use Rattle.ls_desk.specs.own.Writes.{HasRoom, Writes};
 
     /// Nothing has happened. Takes no memory.
     pub fn new(alloc: Global) -> History

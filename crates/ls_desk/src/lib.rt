@@ -28,8 +28,7 @@ mod texts;
 
 pub use desk::Desk;
 pub use ls_machine::{
-    Base, Counts, DeskFault, Document, Entry, Event, Kept, Out, Request, SharedSnapshot, State,
-    Waiting, legal_journals_are_ordered,
+    Counts, DeskFault, Document, Entry, Event, Kept, Out, Request, SharedSnapshot, Waiting,
 };
 pub use outs::ticket_of;
-pub use texts::shared_text;
+pub use texts::snapshot_of_text;

@@ -18,7 +18,7 @@ pub const REQUEST_CANCELLED: i32 = -32800;
 
 const INTERNAL_ERROR: i32 = -32603;
 
-// Adds what is told to the client of a job that a change of its text ends.
+/// Adds what is told to the client of a job that a change of its text ends.
 fn push_failure(
     replies: &mut VecDeque<Out>,
     uri: &Text,

@@ -1,8 +1,8 @@
 //! What the journal has led to, but for the replies.
 ghost use Rattle.std.specs.Prelude.{◌≡◌, ◌+◌, ◌<◌, ◌≤◌, ◌^◌, ◌++◌, ◌∷◌, [], Bool, IfOk, Some, true, false, length, find, position, vec_len, vec_capacity};
 ghost use Rattle.ls_machine.specs.declared.state.Waiting.{Waiting};
-ghost use Rattle.ls_machine.specs.Machine.{is_open, going_on, others, without_first, on_first, with_taken, document_of, edited_at, measured, version_if};
-ghost use Rattle.ls_desk.specs.Puts.{next_of, documents_of, jobs_of, count_of};
+ghost use Rattle.ls_machine.specs.Machine.{is_open, going_on, others, without_first_job, on_first, with_taken, document_of, edited_at, measured, version_if};
+ghost use Rattle.ls_desk.specs.own.Puts.{next_of, documents_of, jobs_of, count_of};
 
 use crate::texts::Next;
 use ls_answers::Ask;
@@ -12,7 +12,7 @@ use ls_machine::{Document, SharedSnapshot, Waiting};
 use ls_text::{Edit, Encoding, TextFault};
 use std::alloc::{AllocError, Global};
 
-// The jobs that the end of a text ends go.
+/// The jobs that the end of a text ends go.
 fn end_jobs(waiting: &mut Vec<Waiting>, uri: &Text)
     ensures items { waiting.new.items ≡ going_on uri.now waiting.old.items }
     ensures fewer { vec_len waiting.new ≤ vec_len waiting.old }
@@ -21,7 +21,7 @@ fn end_jobs(waiting: &mut Vec<Waiting>, uri: &Text)
     waiting.retain(|job| !is_ended(uri, job));
 }
 
-// The document of this name goes.
+/// The document of this name goes.
 fn close_document(documents: &mut Vec<Document>, uri: &Text)
     ensures items { documents.new.items ≡ others uri.now documents.old.items }
     ensures capacity { vec_capacity documents.new ≡ vec_capacity documents.old }
@@ -30,7 +30,7 @@ fn close_document(documents: &mut Vec<Document>, uri: &Text)
     documents.retain(|document| document.uri.as_str() != uri.as_str());
 }
 
-// The version that a change puts down, which is the one given.
+/// The version that a change puts down, which is the one given.
 fn version_of(next: &Option<Next>, version: u64) -> Option<u64>
     ensures { result ≡ version_if version next.now }
 {
@@ -119,7 +119,7 @@ impl Present {
         }
     }
 
-    // Puts a text down.
+    /// Puts a text down.
     fn put_text(&mut self, next: Option<Next>)
         requires documents { vec_len self.old.documents + count_of next ≤ vec_capacity self.old.documents }
         requires waiting { vec_len self.old.waiting + count_of next ≤ vec_capacity self.old.waiting }
@@ -201,7 +201,7 @@ impl Present {
         ticket
     }
 
-    // Marks the job at a place as taken or not.
+    /// Marks the job at a place as taken or not.
     fn mark_at(&mut self, at: usize, taken: bool)
         requires { at < vec_len self.old.waiting }
         ensures documents { self.new.documents.items ≡ self.old.documents.items }
@@ -242,7 +242,7 @@ impl Present {
         requires { at < vec_len self.old.waiting }
         ensures documents { self.new.documents.items ≡ self.old.documents.items }
         ensures waiting { (p : Waiting → Bool) → position p self.old.waiting.items ≡ Some at
-            → (find p self.old.waiting.items ≡ Some result) × (self.new.waiting.items ≡ without_first p self.old.waiting.items) }
+            → (find p self.old.waiting.items ≡ Some result) × (self.new.waiting.items ≡ without_first_job p self.old.waiting.items) }
         ensures version { self.new.next_version ≡ self.old.next_version }
         ensures ticket { self.new.next_ticket ≡ self.old.next_ticket }
     {

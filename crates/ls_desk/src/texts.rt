@@ -2,10 +2,11 @@
 ghost use Rattle.std.specs.Prelude.{◌≡◌, ◌≤◌, IfOk, false, length};
 ghost use Rattle.std.specs.Str.{chars};
 ghost use Rattle.ls_text.specs.Edits.{is_too_large};
+ghost use Rattle.ls_text.specs.Lines.{max_bytes};
 
 use ls_lists::Text;
 use ls_machine::{Document, SharedSnapshot, Waiting};
-use ls_text::{Encoding, Snapshot, TextFault};
+use ls_text::{Snapshot, TextFault};
 use std::alloc::{AllocError, Global};
 
 /// A text that is to stand at a desk, and the job to diagnose it.
@@ -15,19 +16,11 @@ pub struct Next {
     pub waiting: Waiting,
 }
 
-/// A text that is to be opened, and what it puts down.
-#[derive(Drop)]
-pub struct Opening {
-    pub text: SharedSnapshot,
-    pub encoding: Encoding,
-    pub next: Next,
-}
-
 /// The text of a document that is to be opened, which isn't too large, as the desk keeps it.
 ///
 /// The error says that an allocation was refused.
-pub fn shared_text(alloc: Global, text: Text) -> Result<SharedSnapshot, AllocError>
-    requires { length text ≤ 4194304 }
+pub fn snapshot_of_text(alloc: Global, text: Text) -> Result<SharedSnapshot, AllocError>
+    requires { length text ≤ max_bytes }
     ensures text { IfOk result (λ shared. shared ≡ chars text) }
     ensures fits { IfOk result (λ shared. is_too_large shared ≡ false) }
 {

@@ -1,2 +1,3 @@
-pub mod Known
 pub mod Input
+pub mod Known
+pub mod Pieces

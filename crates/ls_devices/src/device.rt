@@ -5,7 +5,7 @@ ghost use Rattle.ls_devices.specs.Devices.{is_failed, took_bytes};
 ghost use Rattle.std.specs.IoError.{error_kind};
 
 use std::io;
-use std::io::{ErrorKind, Read, Write};
+use std::io::ErrorKind;
 use thiserror::Error;
 
 /// Why a call on a device gave nothing.
@@ -78,110 +78,4 @@ pub trait Sink {
         ensures bytes { Keeps (contents self.old) (contents self.new) }
         ensures failed { failed self.new ≡ (failed self.old || is_failed result) }
         ensures unflushed { unflushed self.new ≡ (is_failed result && unflushed self.old) };
-}
-
-/// A source over a reader of std.
-#[derive(Drop)]
-pub struct ReadFrom<R> {
-    pub reader: R,
-    /// How many reads it has answered.
-    pub reads: u64,
-    /// Whether it has answered `Failed`.
-    pub failed: bool,
-}
-
-impl<R: Read> ReadFrom<R> {
-    /// A source that has answered no read.
-    pub fn new(reader: R) -> Self
-        ensures reads { result.reads ≡ 0 }
-        ensures failed { result.failed ≡ false }
-        ensures reader { result.reader ≡ reader }
-    {
-        ReadFrom {
-            reader,
-            reads: 0,
-            failed: false,
-        }
-    }
-}
-
-impl<R: Read> Source for ReadFrom<R> {
-    ghost remaining = { λ s. R.remaining s.reader };
-
-    ghost reads = { λ s. s.reads };
-
-    ghost failed = { λ s. s.failed };
-
-    fn read(&mut self, buf: &mut [u8]) -> Result<usize, DeviceFault> {
-        self.reads += 1;
-        match self.reader.read(buf) {
-            Ok(count) => Ok(count),
-            Err(error) => match DeviceFault::of(&error) {
-                DeviceFault::Interrupted => Err(DeviceFault::Interrupted),
-                DeviceFault::Failed => {
-                    self.failed = true;
-                    Err(DeviceFault::Failed)
-                }
-            },
-        }
-    }
-}
-
-/// A sink over a writer of std. A write that takes no byte has failed, and so has one that was interrupted.
-#[derive(Drop)]
-pub struct WriteTo<W> {
-    pub writer: W,
-    /// Whether it has answered `Failed`.
-    pub failed: bool,
-    /// Whether it has taken bytes since its writer was last flushed.
-    pub unflushed: bool,
-}
-
-impl<W: Write> WriteTo<W> {
-    /// A sink that hasn't failed and has taken no bytes.
-    pub fn new(writer: W) -> Self
-        ensures failed { result.failed ≡ false }
-        ensures unflushed { result.unflushed ≡ false }
-        ensures writer { result.writer ≡ writer }
-    {
-        WriteTo {
-            writer,
-            failed: false,
-            unflushed: false,
-        }
-    }
-}
-
-impl<W: Write> Sink for WriteTo<W> {
-    ghost contents = { λ s. W.contents s.writer };
-
-    ghost failed = { λ s. s.failed };
-
-    ghost unflushed = { λ s. s.unflushed };
-
-    fn write(&mut self, buf: &[u8]) -> Result<usize, DeviceFault> {
-        match self.writer.write(buf) {
-            Ok(count) if count > 0 || buf.is_empty() => {
-                self.unflushed |= count > 0;
-                Ok(count)
-            }
-            _ => {
-                self.failed = true;
-                Err(DeviceFault::Failed)
-            }
-        }
-    }
-
-    fn flush(&mut self) -> Result<(), DeviceFault> {
-        match self.writer.flush() {
-            Ok(()) => {
-                self.unflushed = false;
-                Ok(())
-            }
-            Err(_) => {
-                self.failed = true;
-                Err(DeviceFault::Failed)
-            }
-        }
-    }
 }

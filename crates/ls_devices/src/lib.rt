@@ -7,8 +7,10 @@
 
 mod device;
 mod fault;
+mod streams;
 mod write;
 
-pub use device::{DeviceFault, ReadFrom, Sink, Source, WriteTo};
+pub use device::{DeviceFault, Sink, Source};
 pub use fault::{READ_MOST, READS_END, ServeFault};
+pub use streams::{ReadFrom, WriteTo};
 pub use write::write_all;

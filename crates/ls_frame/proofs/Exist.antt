@@ -2,8 +2,8 @@
 use Rattle.std.proofs.Common.{◌≡◌, ℕ, zero, suc, ◌<◌, ◌≤◌, Bool, true, false, ◌==◌, List, [], ◌∷◌, ◌++◌, length, take, drop, filter, ◌⊎◌, inl, inr, ⊎_elim, refl, sym, ◌∙◌, ap, subst, arith, append_assoc, length-append, length-take-le, take-append-drop}
 use Rattle.std.proofs.lemmas.Bool.{eqb-true, cases_lt, both_ways}
 use Rattle.ls_frame.specs.Frames.{crlf, field_lines, header_part, is_field, is_length, has_number, number_told, AreFields, IsHeader, IsFrame, HasNoFrame, Stream}
-use Rattle.ls_frame.proofs.Unique.{HasNoCr, field-no_cr, first-cr, regroup, tail-same, head-same, headers-same}
-use Rattle.ls_frame.proofs.Wholes.{behind, short-no_frame}
+use Rattle.ls_frame.proofs.Unique.{HasNoCr, field_no_cr, first_cr_holds, regroup, tail_same, head_same, headers_same}
+use Rattle.ls_frame.proofs.Wholes.{behind, short_no_frame}
 
 -- ---- the first CR
 
@@ -44,9 +44,9 @@ without_cr bytes h (b ∷ fields) rest q e = cr_in b (10 ∷ (header_part fields
 
 no_by : (line later bytes : List ℕ) → HasNoCr line → bytes ≡ line ++ 13 ∷ later → ((rest : List ℕ) → line ≡ [] → later ≡ 10 ∷ rest → ⊥)
     → ((those : List (List ℕ)) (rest : List ℕ) → is_field line ≡ true → AreFields those → later ≡ 10 ∷ (header_part those ++ rest) → ⊥) → NoHeader bytes
-no_by line later bytes h is ends goes [] rest q e = let p = first-cr line [] later (10 ∷ rest) h tt (sym is ∙ e) in ends rest p.0 p.1
+no_by line later bytes h is ends goes [] rest q e = let p = first_cr_holds line [] later (10 ∷ rest) h tt (sym is ∙ e) in ends rest p.0 p.1
 no_by line later bytes h is ends goes (b ∷ those) rest q e =
-    let p = first-cr line b later (10 ∷ (header_part those ++ rest)) h (field-no_cr b q.0) (sym is ∙ (e ∙ regroup b (field_lines those) rest)) in
+    let p = first_cr_holds line b later (10 ∷ (header_part those ++ rest)) h (field_no_cr b q.0) (sym is ∙ (e ∙ regroup b (field_lines those) rest)) in
     goes those rest (ap is_field p.0 ∙ q.0) q.1 p.1
 
 not_lf : (c : ℕ) → (c == 10) ≡ false → c ≡ 10 → ⊥
@@ -68,11 +68,11 @@ by_field bytes x xs v h is true e (inl d) = inl (record {
   is = is ∙ (ap (λ l. (x ∷ xs) ++ 13 ∷ 10 ∷ l) d.is ∙ sym (regroup (x ∷ xs) (field_lines d.fields) d.rest));
 })
 by_field bytes x xs v h is true e (inr none) =
-    inr (no_by (x ∷ xs) (10 ∷ v) bytes h is (λ rest p f. not_nil x xs p) (λ those rest g q f. none those rest q (tail-same 10 10 v (header_part those ++ rest) f)))
+    inr (no_by (x ∷ xs) (10 ∷ v) bytes h is (λ rest p f. not_nil x xs p) (λ those rest g q f. none those rest q (tail_same 10 10 v (header_part those ++ rest) f)))
 
 by_byte : (bytes line : List ℕ) (c : ℕ) (v : List ℕ) → HasNoCr line → bytes ≡ line ++ 13 ∷ c ∷ v → (b : Bool) → (c == 10) ≡ b → Decided v → Decided bytes
 by_byte bytes line c v h is false e d =
-    inr (no_by line (c ∷ v) bytes h is (λ rest p f. not_lf c e (head-same c 10 v rest f)) (λ those rest g q f. not_lf c e (head-same c 10 v (header_part those ++ rest) f)))
+    inr (no_by line (c ∷ v) bytes h is (λ rest p f. not_lf c e (head_same c 10 v rest f)) (λ those rest g q f. not_lf c e (head_same c 10 v (header_part those ++ rest) f)))
 by_byte bytes [] c v h is true e d = inl (record { fields = []; rest = v; each = tt; is = is ∙ ap (λ y. 13 ∷ y ∷ v) (eqb-true c 10 e) })
 by_byte bytes (x ∷ xs) c v h is true e d =
     by_field bytes x xs v h (is ∙ ap (λ y. (x ∷ xs) ++ 13 ∷ y ∷ v) (eqb-true c 10 e)) (is_field (x ∷ xs)) refl d
@@ -136,9 +136,9 @@ whole_front bytes h n header le = record {
 
 front_by : (bytes : List ℕ) (h : Header bytes) → Given h.fields → Front bytes ⊎ HasNoFrame bytes
 front_by bytes h (inl g) =
-    ⊎_elim (λ less. inr (short-no_frame h.fields g.0 bytes h.rest g.1 h.is less)) (λ ge. inl (whole_front bytes h g.0 g.1 ge)) (cases_lt (length h.rest) g.0)
+    ⊎_elim (λ less. inr (short_no_frame h.fields g.0 bytes h.rest g.1 h.is less)) (λ ge. inl (whole_front bytes h g.0 g.1 ge)) (cases_lt (length h.rest) g.0)
 front_by bytes h (inr none) = inr (λ frame tail content f is.
-    let same = headers-same h.fields f.fields h.rest (content ++ tail) h.each f.header.each (sym h.is ∙ behind f.fields frame content tail bytes is f.spelled) in
+    let same = headers_same h.fields f.fields h.rest (content ++ tail) h.each f.header.each (sym h.is ∙ behind f.fields frame content tail bytes is f.spelled) in
     none (length content) (subst (λ fs. IsHeader fs (length content)) (sym same.0) f.header))
 
 front_of : (bytes : List ℕ) → Decided bytes → Front bytes ⊎ HasNoFrame bytes

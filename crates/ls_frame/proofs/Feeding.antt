@@ -5,41 +5,41 @@ use Rattle.std.proofs.lemmas.List.{append-nil, take-append-drop, take_at}
 use Rattle.ls_frame.specs.Frames.{HasNoFrame, Stream}
 use Rattle.ls_frame.specs.Faults.{least_of, shown, or_first, first_shown, fault_of}
 use Rattle.ls_frame.specs.Feeds.{FeedIs, SoFar, GoesOn}
-use Rattle.ls_frame.specs.Rests.{IsQuiet, IsQuietBelow, RestIs, SplitIs, TakenIs}
+use Rattle.ls_frame.specs.own.Rests.{IsQuiet, IsQuietBelow, RestIs, SplitIs, TakenIs}
 use Rattle.ls_frame.specs.declared.fault.FrameFault.{FrameFault}
 use Rattle.ls_frame.specs.declared.fault.FrameFault.TheVariants.{HeaderTooLong, BadHeader, NoLength, TwoLengths, BadLength, TooLarge, Truncated, Memory}
 use Rattle.ls_frame.specs.declared.front.Taken.{Taken}
 use Rattle.ls_frame.specs.declared.front.Rest.{Rest}
 use Rattle.ls_frame.specs.declared.front.Rest.TheVariants.{Open, Faulty}
-use Rattle.ls_frame.proofs.Streams.{stream-append, fault-sticks}
-use Rattle.ls_frame.proofs.Wholes.{fault-no_frame}
+use Rattle.ls_frame.proofs.Streams.{stream_append, fault_sticks}
+use Rattle.ls_frame.proofs.Wholes.{fault_no_frame}
 
 -- bytes never show want of memory
-least-memory : (long bad none two wrong large : Bool) → least_of long bad none two wrong large ≡ Some Memory → ⊥
-least-memory true bad none two wrong large e = cc
-least-memory false true none two wrong large e = cc
-least-memory false false true two wrong large e = cc
-least-memory false false false true wrong large e = cc
-least-memory false false false false true large e = cc
-least-memory false false false false false true e = cc
-least-memory false false false false false false e = cc
+least_memory : (long bad none two wrong large : Bool) → least_of long bad none two wrong large ≡ Some Memory → ⊥
+least_memory true bad none two wrong large e = cc
+least_memory false true none two wrong large e = cc
+least_memory false false true two wrong large e = cc
+least_memory false false false true wrong large e = cc
+least_memory false false false false true large e = cc
+least_memory false false false false false true e = cc
+least_memory false false false false false false e = cc
 
-or-memory : (o later : Option FrameFault) → (o ≡ Some Memory → ⊥) → (later ≡ Some Memory → ⊥) → or_first o later ≡ Some Memory → ⊥
-or-memory None later p q e = q e
-or-memory (Some fault) later p q e = p e
+or_memory : (o later : Option FrameFault) → (o ≡ Some Memory → ⊥) → (later ≡ Some Memory → ⊥) → or_first o later ≡ Some Memory → ⊥
+or_memory None later p q e = q e
+or_memory (Some fault) later p q e = p e
 
-shown-memory : (front : List ℕ) → shown front ≡ Some Memory → ⊥
+shown_memory : (front : List ℕ) → shown front ≡ Some Memory → ⊥
 unfolding shown
-shown-memory front e = least-memory _ _ _ _ _ _ e
+shown_memory front e = least_memory _ _ _ _ _ _ e
 
-first-memory : (front bytes : List ℕ) → first_shown front bytes ≡ Some Memory → ⊥
+first_memory : (front bytes : List ℕ) → first_shown front bytes ≡ Some Memory → ⊥
 unfolding first_shown
-first-memory front [] e = shown-memory front e
-first-memory front (b ∷ bytes) e = or-memory (shown front) (first_shown (front ++ b ∷ []) bytes) (shown-memory front) (first-memory (front ++ b ∷ []) bytes) e
+first_memory front [] e = shown_memory front e
+first_memory front (b ∷ bytes) e = or_memory (shown front) (first_shown (front ++ b ∷ []) bytes) (shown_memory front) (first_memory (front ++ b ∷ []) bytes) e
 
-pub never-memory : (bytes : List ℕ) → fault_of bytes ≡ Some Memory → ⊥
+pub never_memory : (bytes : List ℕ) → fault_of bytes ≡ Some Memory → ⊥
 unfolding fault_of
-never-memory bytes e = first-memory [] bytes e
+never_memory bytes e = first_memory [] bytes e
 
 -- what a growth leaves, where it is done and where it is refused
 pub grown : {A : Type 0} (old more new : List A) (ok : Bool) → new ≡ (if ok then old ++ more else old) → ok ≡ true → new ≡ old ++ more
@@ -51,8 +51,8 @@ refused old more new true e f = absurd (cc)
 refused old more new false e f = e
 
 -- a growth taken back
-pub cut-back : (old more bytes new : List ℕ) (had : ℕ) (ok : Bool) → bytes ≡ (if ok then old ++ more else old) → ok ≡ true → had ≡ length old → new ≡ take had bytes → new ≡ old
-cut-back old more bytes new had ok e f g h = h ∙ (ap (take had) (grown old more bytes ok e f) ∙ take_at old more had (sym g))
+pub cut_back : (old more bytes new : List ℕ) (had : ℕ) (ok : Bool) → bytes ≡ (if ok then old ++ more else old) → ok ≡ true → had ≡ length old → new ≡ take had bytes → new ≡ old
+cut_back old more bytes new had ok e f g h = h ∙ (ap (take had) (grown old more bytes ok e f) ∙ take_at old more had (sym g))
 
 -- what is known of a rest, by another name
 pub kept : (bytes now : List ℕ) (rest other : Rest) → RestIs bytes rest → rest ≡ other → bytes ≡ now → RestIs now other
@@ -61,24 +61,24 @@ kept bytes now rest other r e f =
     let Q : List ℕ → Type 0 = λ l. RestIs l other in
     subst Q f (subst P e r)
 
-pub rest-no_frame : (bytes : List ℕ) (rest : Rest) → RestIs bytes rest → HasNoFrame bytes
-rest-no_frame bytes (Open wanted) r = r.0.1
-rest-no_frame bytes (Faulty fault) r = r.1
+pub rest_no_frame : (bytes : List ℕ) (rest : Rest) → RestIs bytes rest → HasNoFrame bytes
+rest_no_frame bytes (Open wanted) r = r.0.1
+rest_no_frame bytes (Faulty fault) r = r.1
 
 -- a stream of one rest
-pub alone-stream : (bytes : List ℕ) → HasNoFrame bytes → Stream bytes [] bytes
-alone-stream bytes n = record { frames = []; whole = refl; bytes_are = refl; partial = n }
+pub alone_stream : (bytes : List ℕ) → HasNoFrame bytes → Stream bytes [] bytes
+alone_stream bytes n = record { frames = []; whole = refl; bytes_are = refl; partial = n }
 
 -- a fault has been shown
-pub feed-stuck : (old piece : List ℕ) (before : List (List ℕ)) (fault : FrameFault) → fault_of old ≡ Some fault → FeedIs old piece before (Err fault) old before
-feed-stuck old piece before HeaderTooLong e = inl (e, refl, refl)
-feed-stuck old piece before BadHeader e = inl (e, refl, refl)
-feed-stuck old piece before NoLength e = inl (e, refl, refl)
-feed-stuck old piece before TwoLengths e = inl (e, refl, refl)
-feed-stuck old piece before BadLength e = inl (e, refl, refl)
-feed-stuck old piece before TooLarge e = inl (e, refl, refl)
-feed-stuck old piece before Truncated e = inl (e, refl, refl)
-feed-stuck old piece before Memory e = absurd (never-memory old e)
+pub feed_stuck : (old piece : List ℕ) (before : List (List ℕ)) (fault : FrameFault) → fault_of old ≡ Some fault → FeedIs old piece before (Err fault) old before
+feed_stuck old piece before HeaderTooLong e = inl (e, refl, refl)
+feed_stuck old piece before BadHeader e = inl (e, refl, refl)
+feed_stuck old piece before NoLength e = inl (e, refl, refl)
+feed_stuck old piece before TwoLengths e = inl (e, refl, refl)
+feed_stuck old piece before BadLength e = inl (e, refl, refl)
+feed_stuck old piece before TooLarge e = inl (e, refl, refl)
+feed_stuck old piece before Truncated e = inl (e, refl, refl)
+feed_stuck old piece before Memory e = absurd (never_memory old e)
 
 -- A framer that shows no fault has a piece behind its rest.
 pub record Longer (old piece bytes : List ℕ) (wanted : ℕ) : Type 0 where
@@ -93,107 +93,107 @@ longer pending old piece bytes rest wanted ok r e same growth done = record {
 }
 
 -- the frame isn't whole yet
-pub feed-waits : (old piece new : List ℕ) (before : List (List ℕ)) (wanted : ℕ) → Longer old piece new wanted → length new < wanted → FeedIs old piece before (Ok 0) new before
-feed-waits old piece new before wanted l less =
+pub feed_waits : (old piece new : List ℕ) (before : List (List ℕ)) (wanted : ℕ) → Longer old piece new wanted → length new < wanted → FeedIs old piece before (Ok 0) new before
+feed_waits old piece new before wanted l less =
     let quiet : IsQuiet (old ++ piece) = l.known.1 piece (omega (arith, less, ap length l.bytes_are)) in
     let P : List ℕ → Type 0 = λ x. Stream (old ++ piece) [] x in
-    (l.known.0.0, ap fault_of l.bytes_are ∙ quiet.0, ([], refl, sym (append-nil before), subst P (sym l.bytes_are) (alone-stream (old ++ piece) quiet.1)))
+    (l.known.0.0, ap fault_of l.bytes_are ∙ quiet.0, ([], refl, sym (append-nil before), subst P (sym l.bytes_are) (alone_stream (old ++ piece) quiet.1)))
 
-pub rest-waits : (old piece new : List ℕ) (rest : Rest) (wanted : ℕ) → Longer old piece new wanted → length new < wanted → rest ≡ Open wanted → RestIs new rest
-rest-waits old piece new rest wanted l less is =
+pub rest_waits : (old piece new : List ℕ) (rest : Rest) (wanted : ℕ) → Longer old piece new wanted → length new < wanted → rest ≡ Open wanted → RestIs new rest
+rest_waits old piece new rest wanted l less is =
     let below : IsQuietBelow (old ++ piece) wanted = λ more short.
     let same : old ++ (piece ++ more) ≡ (old ++ piece) ++ more = sym (append_assoc old piece more) in
     subst IsQuiet same (l.known.1 (piece ++ more) (omega (arith, short, ap length same))) in
     kept (old ++ piece) new (Open wanted) rest (l.known.1 piece (omega (arith, less, ap length l.bytes_are)), below) (sym is) (sym l.bytes_are)
 
 -- the rest behind the frames that have been taken
-pub rest-behind : (bytes whole new : List ℕ) (before after : List (List ℕ)) (taken : Taken) → whole ≡ bytes → TakenIs whole before (Ok taken) after → new ≡ drop taken.used bytes
+pub rest_behind : (bytes whole new : List ℕ) (before after : List (List ℕ)) (taken : Taken) → whole ≡ bytes → TakenIs whole before (Ok taken) after → new ≡ drop taken.used bytes
     → RestIs new taken.rest
-rest-behind bytes whole new before after taken same t is =
+rest_behind bytes whole new before after taken same t is =
     kept (drop taken.used whole) new taken.rest taken.rest t.3.2 refl (ap (drop taken.used) same ∙ sym is)
 
-behind-stream : (old piece bytes whole new : List ℕ) (contents : List (List ℕ)) (wanted used : ℕ) (rest : Rest) → Longer old piece bytes wanted → whole ≡ bytes
+behind_stream : (old piece bytes whole new : List ℕ) (contents : List (List ℕ)) (wanted used : ℕ) (rest : Rest) → Longer old piece bytes wanted → whole ≡ bytes
     → SplitIs whole contents used rest → new ≡ drop used bytes → Stream (old ++ piece) contents new
-behind-stream old piece bytes whole new contents wanted used rest l same s is =
+behind_stream old piece bytes whole new contents wanted used rest l same s is =
     let P : List ℕ → Type 0 = λ x. Stream x contents (drop used whole) in
     let Q : List ℕ → Type 0 = λ x. Stream (old ++ piece) contents x in
     let split : Stream whole contents (drop used whole) = record {
       frames = _;
       whole = s.1;
       bytes_are = sym (take-append-drop used whole);
-      partial = rest-no_frame (drop used whole) rest s.2;
+      partial = rest_no_frame (drop used whole) rest s.2;
     } in
     subst Q (ap (drop used) same ∙ sym is) (subst P (same ∙ l.bytes_are) split)
 
 -- frames are whole, and the rest shows no fault
-pub feed-open : (old piece bytes whole new : List ℕ) (before after : List (List ℕ)) (wanted later : ℕ) (taken : Taken) → Longer old piece bytes wanted → whole ≡ bytes
+pub feed_open : (old piece bytes whole new : List ℕ) (before after : List (List ℕ)) (wanted later : ℕ) (taken : Taken) → Longer old piece bytes wanted → whole ≡ bytes
     → TakenIs whole before (Ok taken) after → taken.rest ≡ Open later → new ≡ drop taken.used bytes → FeedIs old piece before (Ok taken.count) new after
-feed-open old piece bytes whole new before after wanted later taken l same t open_rest is =
-    let rest : RestIs new (Open later) = kept new new taken.rest (Open later) (rest-behind bytes whole new before after taken same t is) open_rest refl in
-    (l.known.0.0, rest.0.0, (t.0, t.1, t.2, behind-stream old piece bytes whole new t.0 wanted taken.used taken.rest l same t.3 is))
+feed_open old piece bytes whole new before after wanted later taken l same t open_rest is =
+    let rest : RestIs new (Open later) = kept new new taken.rest (Open later) (rest_behind bytes whole new before after taken same t is) open_rest refl in
+    (l.known.0.0, rest.0.0, (t.0, t.1, t.2, behind_stream old piece bytes whole new t.0 wanted taken.used taken.rest l same t.3 is))
 
-feed-shows : (old piece new : List ℕ) (before after contents : List (List ℕ)) (fault : FrameFault) → fault_of old ≡ None → fault_of new ≡ Some fault
+feed_shows : (old piece new : List ℕ) (before after contents : List (List ℕ)) (fault : FrameFault) → fault_of old ≡ None → fault_of new ≡ Some fault
     → after ≡ before ++ contents → Stream (old ++ piece) contents new → FeedIs old piece before (Err fault) new after
-feed-shows old piece new before after contents HeaderTooLong none some given s = inr (none, some, (contents, given, s))
-feed-shows old piece new before after contents BadHeader none some given s = inr (none, some, (contents, given, s))
-feed-shows old piece new before after contents NoLength none some given s = inr (none, some, (contents, given, s))
-feed-shows old piece new before after contents TwoLengths none some given s = inr (none, some, (contents, given, s))
-feed-shows old piece new before after contents BadLength none some given s = inr (none, some, (contents, given, s))
-feed-shows old piece new before after contents TooLarge none some given s = inr (none, some, (contents, given, s))
-feed-shows old piece new before after contents Truncated none some given s = inr (none, some, (contents, given, s))
-feed-shows old piece new before after contents Memory none some given s = absurd (never-memory new some)
+feed_shows old piece new before after contents HeaderTooLong none some given s = inr (none, some, (contents, given, s))
+feed_shows old piece new before after contents BadHeader none some given s = inr (none, some, (contents, given, s))
+feed_shows old piece new before after contents NoLength none some given s = inr (none, some, (contents, given, s))
+feed_shows old piece new before after contents TwoLengths none some given s = inr (none, some, (contents, given, s))
+feed_shows old piece new before after contents BadLength none some given s = inr (none, some, (contents, given, s))
+feed_shows old piece new before after contents TooLarge none some given s = inr (none, some, (contents, given, s))
+feed_shows old piece new before after contents Truncated none some given s = inr (none, some, (contents, given, s))
+feed_shows old piece new before after contents Memory none some given s = absurd (never_memory new some)
 
 -- frames are whole, and the rest shows a fault
-pub feed-faulty : (old piece bytes whole new : List ℕ) (before after : List (List ℕ)) (wanted : ℕ) (fault : FrameFault) (taken : Taken) → Longer old piece bytes wanted → whole ≡ bytes
+pub feed_faulty : (old piece bytes whole new : List ℕ) (before after : List (List ℕ)) (wanted : ℕ) (fault : FrameFault) (taken : Taken) → Longer old piece bytes wanted → whole ≡ bytes
     → TakenIs whole before (Ok taken) after → taken.rest ≡ Faulty fault → new ≡ drop taken.used bytes → FeedIs old piece before (Err fault) new after
-feed-faulty old piece bytes whole new before after wanted fault taken l same t faulty is =
-    let rest : RestIs new (Faulty fault) = kept new new taken.rest (Faulty fault) (rest-behind bytes whole new before after taken same t is) faulty refl in
-    feed-shows old piece new before after t.0 fault l.known.0.0 rest.0 t.2 (behind-stream old piece bytes whole new t.0 wanted taken.used taken.rest l same t.3 is)
+feed_faulty old piece bytes whole new before after wanted fault taken l same t faulty is =
+    let rest : RestIs new (Faulty fault) = kept new new taken.rest (Faulty fault) (rest_behind bytes whole new before after taken same t is) faulty refl in
+    feed_shows old piece new before after t.0 fault l.known.0.0 rest.0 t.2 (behind_stream old piece bytes whole new t.0 wanted taken.used taken.rest l same t.3 is)
 
 -- a stream is what has been seen, where nothing was taken behind a fault
-pub stream-so_far : (seen kept : List ℕ) (given : List (List ℕ)) → Stream seen given kept → SoFar seen given kept
-stream-so_far seen kept given s = record { rest = kept; stream = s; fault = refl; keeps = λ e. refl }
+pub stream_so_far : (seen kept : List ℕ) (given : List (List ℕ)) → Stream seen given kept → SoFar seen given kept
+stream_so_far seen kept given s = record { rest = kept; stream = s; fault = refl; keeps = λ e. refl }
 
-next-seen : (seen old piece new : List ℕ) (given contents : List (List ℕ)) → SoFar seen given old → fault_of old ≡ None → Stream (old ++ piece) contents new
+next_seen : (seen old piece new : List ℕ) (given contents : List (List ℕ)) → SoFar seen given old → fault_of old ≡ None → Stream (old ++ piece) contents new
     → SoFar (seen ++ piece) (given ++ contents) new
-next-seen seen old piece new given contents s none t =
+next_seen seen old piece new given contents s none t =
     let P : List ℕ → Type 0 = λ l. Stream (l ++ piece) contents new in
     record {
       rest = new;
-      stream = stream-append seen piece s.rest new given contents s.stream (subst P (s.keeps none) t);
+      stream = stream_append seen piece s.rest new given contents s.stream (subst P (s.keeps none) t);
       fault = refl;
       keeps = λ e. refl;
     }
 
-stuck-seen : (seen old piece : List ℕ) (given : List (List ℕ)) (fault : FrameFault) → SoFar seen given old → fault_of old ≡ Some fault → SoFar (seen ++ piece) (given ++ []) old
-stuck-seen seen old piece given fault s some =
-    let stays : fault_of (s.rest ++ piece) ≡ Some fault = fault-sticks s.rest piece fault (sym s.fault ∙ some) in
+stuck_seen : (seen old piece : List ℕ) (given : List (List ℕ)) (fault : FrameFault) → SoFar seen given old → fault_of old ≡ Some fault → SoFar (seen ++ piece) (given ++ []) old
+stuck_seen seen old piece given fault s some =
+    let stays : fault_of (s.rest ++ piece) ≡ Some fault = fault_sticks s.rest piece fault (sym s.fault ∙ some) in
     record {
       rest = s.rest ++ piece;
-      stream = stream-append seen piece s.rest (s.rest ++ piece) given [] s.stream (alone-stream (s.rest ++ piece) (fault-no_frame (s.rest ++ piece) fault stays));
+      stream = stream_append seen piece s.rest (s.rest ++ piece) given [] s.stream (alone_stream (s.rest ++ piece) (fault_no_frame (s.rest ++ piece) fault stays));
       fault = some ∙ sym stays;
       keeps = λ none. let both : Some fault ≡ None = sym some ∙ none in absurd (cc);
     }
 
-fault-goes : (seen old piece new : List ℕ) (given before after : List (List ℕ)) (fault : FrameFault) → SoFar seen given old
+fault_goes : (seen old piece new : List ℕ) (given before after : List (List ℕ)) (fault : FrameFault) → SoFar seen given old
     → ((fault_of old ≡ Some fault) × (new ≡ old) × (after ≡ before))
     ⊎ ((fault_of old ≡ None) × (fault_of new ≡ Some fault) × ((contents : List (List ℕ)) × (after ≡ before ++ contents) × Stream (old ++ piece) contents new))
     → (contents : List (List ℕ)) × (after ≡ before ++ contents) × SoFar (seen ++ piece) (given ++ contents) new
-fault-goes seen old piece new given before after fault s (inl (some, same, out)) =
+fault_goes seen old piece new given before after fault s (inl (some, same, out)) =
     let P : List ℕ → Type 0 = λ l. SoFar (seen ++ piece) (given ++ []) l in
-    ([], out ∙ sym (append-nil before), subst P (sym same) (stuck-seen seen old piece given fault s some))
-fault-goes seen old piece new given before after fault s (inr (none, some, (contents, out, t))) =
-    (contents, out, next-seen seen old piece new given contents s none t)
+    ([], out ∙ sym (append-nil before), subst P (sym same) (stuck_seen seen old piece given fault s some))
+fault_goes seen old piece new given before after fault s (inr (none, some, (contents, out, t))) =
+    (contents, out, next_seen seen old piece new given contents s none t)
 
 -- over all pieces
-pub feed-stream : (seen old piece new : List ℕ) (given before after : List (List ℕ)) (result : Result ℕ FrameFault) → SoFar seen given old
+pub feed_stream : (seen old piece new : List ℕ) (given before after : List (List ℕ)) (result : Result ℕ FrameFault) → SoFar seen given old
     → FeedIs old piece before result new after → GoesOn seen given piece before result new after
-feed-stream seen old piece new given before after (Ok n) s (none, still, (contents, count, out, t)) = (contents, out, next-seen seen old piece new given contents s none t)
-feed-stream seen old piece new given before after (Err HeaderTooLong) s f = fault-goes seen old piece new given before after HeaderTooLong s f
-feed-stream seen old piece new given before after (Err BadHeader) s f = fault-goes seen old piece new given before after BadHeader s f
-feed-stream seen old piece new given before after (Err NoLength) s f = fault-goes seen old piece new given before after NoLength s f
-feed-stream seen old piece new given before after (Err TwoLengths) s f = fault-goes seen old piece new given before after TwoLengths s f
-feed-stream seen old piece new given before after (Err BadLength) s f = fault-goes seen old piece new given before after BadLength s f
-feed-stream seen old piece new given before after (Err TooLarge) s f = fault-goes seen old piece new given before after TooLarge s f
-feed-stream seen old piece new given before after (Err Truncated) s f = fault-goes seen old piece new given before after Truncated s f
-feed-stream seen old piece new given before after (Err Memory) s (none, same, out) = let P : List ℕ → Type 0 = λ l. SoFar seen given l in (subst P (sym same) s, out)
+feed_stream seen old piece new given before after (Ok n) s (none, still, (contents, count, out, t)) = (contents, out, next_seen seen old piece new given contents s none t)
+feed_stream seen old piece new given before after (Err HeaderTooLong) s f = fault_goes seen old piece new given before after HeaderTooLong s f
+feed_stream seen old piece new given before after (Err BadHeader) s f = fault_goes seen old piece new given before after BadHeader s f
+feed_stream seen old piece new given before after (Err NoLength) s f = fault_goes seen old piece new given before after NoLength s f
+feed_stream seen old piece new given before after (Err TwoLengths) s f = fault_goes seen old piece new given before after TwoLengths s f
+feed_stream seen old piece new given before after (Err BadLength) s f = fault_goes seen old piece new given before after BadLength s f
+feed_stream seen old piece new given before after (Err TooLarge) s f = fault_goes seen old piece new given before after TooLarge s f
+feed_stream seen old piece new given before after (Err Truncated) s f = fault_goes seen old piece new given before after Truncated s f
+feed_stream seen old piece new given before after (Err Memory) s (none, same, out) = let P : List ℕ → Type 0 = λ l. SoFar seen given l in (subst P (sym same) s, out)

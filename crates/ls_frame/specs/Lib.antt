@@ -1,6 +1,4 @@
 pub mod Frames
 pub mod Faults
 pub mod Feeds
-pub mod Rests
-pub mod Lines
-pub mod Heads
+pub mod own

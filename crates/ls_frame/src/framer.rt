@@ -23,7 +23,7 @@ pub struct Framer {
 
 impl Model for Framer {
     ghost use Rattle.std.specs.Prelude.{List, ℕ};
-    ghost use Rattle.ls_frame.specs.Rests.{RestIs};
+    ghost use Rattle.ls_frame.specs.own.Rests.{RestIs};
 
     ghost Value = { List ℕ };
 

@@ -1,7 +1,7 @@
 //! The whole frames that a list of bytes begins with.
 ghost use Rattle.std.specs.Prelude.{◌≡◌, [], IfOk};
 ghost use Rattle.ls_frame.specs.Feeds.{contents_of};
-ghost use Rattle.ls_frame.specs.Rests.{FrontIs, SplitIs, TakenIs};
+ghost use Rattle.ls_frame.specs.own.Rests.{FrontIs, SplitIs, TakenIs};
 
 use super::header::{Head, head_of};
 use crate::fault::FrameFault;

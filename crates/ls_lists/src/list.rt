@@ -1,6 +1,6 @@
 //! Growing lists.
 
-ghost use Rattle.std.specs.Prelude.{◌≡◌, [], ◌∷◌, ◌++◌, ◌<◌, ◌↔◌, length, slice_get, slice_set, remove, IsTrue, IfOk, MatchOption, OnOk, OnErr, OnSome};
+ghost use Rattle.std.specs.Prelude.{◌≡◌, [], ◌∷◌, ◌++◌, ◌<◌, ◌↔◌, length, slice_get, IsTrue, IfOk, MatchOption, OnOk, OnErr, OnSome};
 ghost use Rattle.std.specs.Option.{option_copied};
 
 use std::alloc::{AllocError, Global};
@@ -92,23 +92,6 @@ impl<T> List<T> {
 }
 
 impl<T: Drop> List<T> {
-    /// Takes the item at a place away.
-    pub fn remove(&mut self, at: usize) -> T
-        requires { at < length self.old }
-        ensures item { slice_get self.old at ≡ Some result }
-        ensures rest { self.new ≡ remove self.old at }
-    {
-        self.vec.remove(at)
-    }
-
-    /// Puts an item in the place of another.
-    pub fn set(&mut self, at: usize, item: T)
-        requires { at < length self.old }
-        ensures { self.new ≡ slice_set self.old at item }
-    {
-        self.vec[at] = item;
-    }
-
     /// Makes room for so many more items, and for none beyond them. The items stay as they are.
     pub fn reserve(&mut self, more: usize) -> Result<(), AllocError>
         ensures { self.new ≡ self.old }
@@ -130,15 +113,6 @@ impl<T: Drop> List<T> {
 }
 
 impl<T: Copy> List<T> {
-    /// A list of its own with the items of a slice.
-    pub fn from_slice(alloc: Global, items: &[T]) -> Result<List<T>, AllocError>
-        ensures { IfOk result (λ list. list ≡ items.now) }
-    {
-        Ok(List {
-            vec: Vec::from_slice(alloc, items)?,
-        })
-    }
-
     /// A list of its own with the same items.
     pub fn copy(&self) -> Result<List<T>, AllocError>
         ensures { IfOk result (λ list. list ≡ self.now) }

@@ -1,6 +1,7 @@
 -- A job that has run was taken.
 use Rattle.std.proofs.Common.{◌≡◌, ℕ, Bool, true, false, List, [], ◌∷◌, ◌++◌, refl}
 use Rattle.std.specs.Prelude.{ℤ, Option, Some, None, find, ◌&&◌, ◌==◌, cond}
+use Rattle.std.proofs.lemmas.Bool.{and_parts}
 use Rattle.ls_rpc.specs.declared.message.Id.{Id}
 use Rattle.ls_text.specs.Positions.{Measured}
 use Rattle.ls_answers.specs.declared.ask.Ask.{Ask}
@@ -12,9 +13,9 @@ use Rattle.ls_machine.specs.declared.state.Waiting.{Waiting}
 use Rattle.ls_machine.specs.declared.state.Request.{Request}
 use Rattle.ls_machine.specs.declared.state.Entry.{Entry}
 use Rattle.ls_machine.specs.declared.state.Entry.TheVariants.{Body, Failure, Outcome}
-use Rattle.ls_machine.specs.Machine.{start, step, is_held, is_ended, asks_with, content_modified, request_cancelled, internal_error, document_of, edited_at, told_to, told_end, told_at, end_of, ends, left_by, left_at, rest, put_text, close_text, ask_at}
+use Rattle.ls_machine.specs.Machine.{start, step, is_held, is_ended, asks_with, content_modified, request_cancelled, internal_error, document_of, edited_at, told_to, told_end, told_if_found, end_of, ends, left_by, left_at, rest, put_text, close_text, ask_at}
 use Rattle.ls_machine.specs.Journal.{replay_from}
-use Rattle.ls_machine.proofs.Places.{found-passes}
+use Rattle.ls_machine.proofs.Places.{found_passes}
 
 -- each outcome's job was taken
 unfoldable pub WereTaken : List Entry → Type 0
@@ -23,87 +24,83 @@ WereTaken (Body body ∷ es) = WereTaken es
 WereTaken (Failure ticket id code ∷ es) = WereTaken es
 WereTaken (Outcome w ∷ es) = (w.taken ≡ true) × WereTaken es
 
-taken-append : (es fs : List Entry) → WereTaken es → WereTaken fs → WereTaken (es ++ fs)
+taken_append : (es fs : List Entry) → WereTaken es → WereTaken fs → WereTaken (es ++ fs)
 unfolding WereTaken
-taken-append [] fs h k = k
-taken-append (Body body ∷ es) fs h k = taken-append es fs h k
-taken-append (Failure ticket id code ∷ es) fs h k = taken-append es fs h k
-taken-append (Outcome w ∷ es) fs h k = (h.0, taken-append es fs h.1 k)
+taken_append [] fs h k = k
+taken_append (Body body ∷ es) fs h k = taken_append es fs h k
+taken_append (Failure ticket id code ∷ es) fs h k = taken_append es fs h k
+taken_append (Outcome w ∷ es) fs h k = (h.0, taken_append es fs h.1 k)
 
-taken-rest : (es : List Entry) → WereTaken es → WereTaken (rest es)
+taken_rest : (es : List Entry) → WereTaken es → WereTaken (rest es)
 unfolding WereTaken
-taken-rest [] h = tt
-taken-rest (Body body ∷ es) h = h
-taken-rest (Failure ticket id code ∷ es) h = h
-taken-rest (Outcome w ∷ es) h = h.1
+taken_rest [] h = tt
+taken_rest (Body body ∷ es) h = h
+taken_rest (Failure ticket id code ∷ es) h = h
+taken_rest (Outcome w ∷ es) h = h.1
 
-taken-body : (body : List ℕ) → WereTaken (Body body ∷ [])
+taken_body : (body : List ℕ) → WereTaken (Body body ∷ [])
 unfolding WereTaken
-taken-body body = tt
+taken_body body = tt
 
-taken-told : (ticket : ℕ) (code : ℤ) (r : Option Request) → WereTaken (told_to ticket code r)
+taken_told : (ticket : ℕ) (code : ℤ) (r : Option Request) → WereTaken (told_to ticket code r)
 unfolding WereTaken
-taken-told ticket code None = tt
-taken-told ticket code (Some r) = tt
+taken_told ticket code None = tt
+taken_told ticket code (Some r) = tt
 
-taken-at : (code : ℤ) (o : Option Waiting) → WereTaken (told_at code o)
+taken_at : (code : ℤ) (o : Option Waiting) → WereTaken (told_if_found code o)
 unfolding WereTaken
-taken-at code None = tt
-taken-at code (Some w) = taken-told w.ticket code w.request
+taken_at code None = tt
+taken_at code (Some w) = taken_told w.ticket code w.request
 
-taken-if : (b : Bool) (es : List Entry) → WereTaken es → WereTaken (cond b es [])
+taken_if : (b : Bool) (es : List Entry) → WereTaken es → WereTaken (cond b es [])
 unfolding WereTaken
-taken-if true es h = h
-taken-if false es h = tt
+taken_if true es h = h
+taken_if false es h = tt
 
-taken-ends : (uri : List ℕ) (ws : List Waiting) → WereTaken (ends uri ws)
+taken_ends : (uri : List ℕ) (ws : List Waiting) → WereTaken (ends uri ws)
 unfolding WereTaken
-taken-ends uri [] = tt
-taken-ends uri (w ∷ ws) = taken-append (end_of uri w) (ends uri ws) (taken-if (is_ended uri w) (told_end content_modified w) (taken-told w.ticket content_modified w.request)) (taken-ends uri ws)
+taken_ends uri [] = tt
+taken_ends uri (w ∷ ws) = taken_append (end_of uri w) (ends uri ws) (taken_if (is_ended uri w) (told_end content_modified w) (taken_told w.ticket content_modified w.request)) (taken_ends uri ws)
 
-taken-left : (failed : Bool) (w : Waiting) → w.taken ≡ true → WereTaken (left_by failed w)
+taken_left : (failed : Bool) (w : Waiting) → w.taken ≡ true → WereTaken (left_by failed w)
 unfolding WereTaken
-taken-left true w h = taken-told w.ticket internal_error w.request
-taken-left false w h = (h, tt)
+taken_left true w h = taken_told w.ticket internal_error w.request
+taken_left false w h = (h, tt)
 
-taken-left-at : (failed : Bool) (o : Option Waiting) → ((w : Waiting) → o ≡ Some w → w.taken ≡ true) → WereTaken (left_at failed o)
+taken_left_at : (failed : Bool) (o : Option Waiting) → ((w : Waiting) → o ≡ Some w → w.taken ≡ true) → WereTaken (left_at failed o)
 unfolding WereTaken
-taken-left-at failed None f = tt
-taken-left-at failed (Some w) f = taken-left failed w (f w refl)
+taken_left_at failed None f = tt
+taken_left_at failed (Some w) f = taken_left failed w (f w refl)
 
-taken-put : (s : State) (uri : List ℕ) (label : ℤ) (x : Option Measured) → WereTaken s.unsent → WereTaken (put_text s uri label x).unsent
-taken-put s uri label None h = h
-taken-put s uri label (Some text) h = h
+taken_put : (s : State) (uri : List ℕ) (label : ℤ) (x : Option Measured) → WereTaken s.unsent → WereTaken (put_text s uri label x).unsent
+taken_put s uri label None h = h
+taken_put s uri label (Some text) h = h
 
-taken-ask : (s : State) (id : Id) (o : Option Document) (question : Ask) (links : Bool) → WereTaken s.unsent → WereTaken (ask_at s id o question links).unsent
-taken-ask s id None question links h = h
-taken-ask s id (Some d) question links h = h
+taken_ask : (s : State) (id : Id) (o : Option Document) (question : Ask) (links : Bool) → WereTaken s.unsent → WereTaken (ask_at s id o question links).unsent
+taken_ask s id None question links h = h
+taken_ask s id (Some d) question links h = h
 
-second : (a b : Bool) → (a && b) ≡ true → b ≡ true
-second true b h = h
-second false b h = absurd (cc)
-
-taken-step : (s : State) (e : Event) → WereTaken s.unsent → WereTaken (step s e).unsent
+taken_step : (s : State) (e : Event) → WereTaken s.unsent → WereTaken (step s e).unsent
 unfolding step
-taken-step s (Opened uri label text encoding version) h = h
-taken-step s (Changed uri label edits version) h =
-    taken-put (close_text s uri) uri label (edited_at (document_of uri s.documents) edits) (taken-append s.unsent (ends uri s.waiting) h (taken-ends uri s.waiting))
-taken-step s (Closed uri) h = taken-append s.unsent (ends uri s.waiting) h (taken-ends uri s.waiting)
-taken-step s (Asked id uri question links ticket) h = taken-ask s id (document_of uri s.documents) question links h
-taken-step s (Cancelled id found) h = taken-append s.unsent _ h (taken-at request_cancelled (find (asks_with id) s.waiting))
-taken-step s (Said body) h = taken-append s.unsent (Body body ∷ []) h (taken-body body)
-taken-step s (Took worker) h = h
-taken-step s (Returned ticket) h = h
-taken-step s (Finished ticket failed) h =
-    taken-append s.unsent _ h (taken-left-at failed (find (is_held ticket) s.waiting) (λ w f. second (w.ticket == ticket) w.taken (found-passes (is_held ticket) s.waiting w f)))
-taken-step s (Sent ticket) h = taken-rest s.unsent h
+taken_step s (Opened uri label text encoding version) h = h
+taken_step s (Changed uri label edits version) h =
+    taken_put (close_text s uri) uri label (edited_at (document_of uri s.documents) edits) (taken_append s.unsent (ends uri s.waiting) h (taken_ends uri s.waiting))
+taken_step s (Closed uri) h = taken_append s.unsent (ends uri s.waiting) h (taken_ends uri s.waiting)
+taken_step s (Asked id uri question links ticket) h = taken_ask s id (document_of uri s.documents) question links h
+taken_step s (Cancelled id found) h = taken_append s.unsent _ h (taken_at request_cancelled (find (asks_with id) s.waiting))
+taken_step s (Said body) h = taken_append s.unsent (Body body ∷ []) h (taken_body body)
+taken_step s (Took worker) h = h
+taken_step s (Returned ticket) h = h
+taken_step s (Finished ticket failed) h =
+    taken_append s.unsent _ h (taken_left_at failed (find (is_held ticket) s.waiting) (λ w f. (and_parts (w.ticket == ticket) w.taken (found_passes (is_held ticket) s.waiting w f)).1))
+taken_step s (Sent ticket) h = taken_rest s.unsent h
 
-taken-from : (s : State) (es : List Event) → WereTaken s.unsent → WereTaken (replay_from s es).unsent
+taken_from : (s : State) (es : List Event) → WereTaken s.unsent → WereTaken (replay_from s es).unsent
 unfolding replay_from
-taken-from s [] h = h
-taken-from s (e ∷ es) h = taken-from (step s e) es (taken-step s e h)
+taken_from s [] h = h
+taken_from s (e ∷ es) h = taken_from (step s e) es (taken_step s e h)
 
 -- where events lead to from the start, every outcome's job was taken
-pub taken-all : (es : List Event) → WereTaken (replay_from start es).unsent
+pub taken_all : (es : List Event) → WereTaken (replay_from start es).unsent
 unfolding WereTaken
-taken-all es = taken-from start es tt
+taken_all es = taken_from start es tt

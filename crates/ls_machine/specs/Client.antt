@@ -3,6 +3,7 @@ use Rattle.ls_answers.specs.declared.ask.Ask.TheVariants.{Diagnose}
 use Rattle.std.specs.Prelude.{◌≡◌, ◌≢◌, ◌++◌, ◌∷◌, [], ℕ, List, Option, Some, None, Bool, false, nat_lt, length, filter_map}
 use Rattle.std.specs.Str.{chars}
 use Rattle.ls_text.specs.Edits.{is_too_large}
+use Rattle.ls_text.specs.Lines.{max_bytes}
 use Rattle.ls_rpc.specs.Message.{IsText}
 use Rattle.ls_rpc.specs.declared.message.Id.{Id}
 use Rattle.ls_machine.specs.declared.event.Event.{Event}
@@ -87,7 +88,7 @@ abbrev pub HasSmallText : Event → Type 0
 HasSmallText (event.Opened uri label text encoding version) = is_too_large text ≡ false
 HasSmallText entry = Unit {0}
 
--- a text that is too large for any desk
-abbrev pub is_too_long : ClientEvent → Bool
-is_too_long (DidOpen uri label text encoding) = nat_lt 4194304 (length text)
-is_too_long _ = false
+-- it opens a text that is too large for any desk
+abbrev pub opens_too_large : ClientEvent → Bool
+opens_too_large (DidOpen uri label text encoding) = nat_lt max_bytes (length text)
+opens_too_large _ = false

@@ -46,9 +46,9 @@ IsAlone (Some r) waiting = find (asks_with r.id) waiting ≡ None
 
 -- Each job's ticket is at least `low` and greater than those before it, and all are below `high`. None behind it has the same id. Its text
 -- was that of its document when it was asked.
-unfoldable pub AreOrdered : List Event → ℕ → List Waiting → ℕ → Type 0
-AreOrdered journal low [] high = low ≤ high
-AreOrdered journal low (w ∷ ws) high = (low ≤ w.ticket) × IsAlone w.request ws × WasCurrent journal w × AreOrdered journal (w.ticket + 1) ws high
+unfoldable pub AreInOrder : List Event → ℕ → List Waiting → ℕ → Type 0
+AreInOrder journal low [] high = low ≤ high
+AreInOrder journal low (w ∷ ws) high = (low ≤ w.ticket) × IsAlone w.request ws × WasCurrent journal w × AreInOrder journal (w.ticket + 1) ws high
 
 -- one of the events of a journal is the request with this id that got this ticket
 pub record WasAsked (journal : List Event) (ticket : ℕ) (id : Id) : Type 0 where
@@ -70,7 +70,7 @@ WereEntriesCurrent journal [] = Unit {0}
 WereEntriesCurrent journal (e ∷ es) = WasEntryCurrent journal e × WereEntriesCurrent journal es
 
 pub record IsOrdered (journal : List Event) : Type 0 where
-  pub waiting : AreOrdered journal 1 (replay journal).waiting (replay journal).next_ticket
+  pub waiting : AreInOrder journal 1 (replay journal).waiting (replay journal).next_ticket
   pub unsent : WereEntriesCurrent journal (replay journal).unsent
 
 abbrev pub LegalJournalsAreOrdered : Type 0

@@ -1,5 +1,5 @@
 -- The desk's machine: a state, the events, where each is possible, and what it does.
-use Rattle.std.specs.Prelude.{◌≡◌, ◌<◌, ◌+◌, ℕ, ℤ, negsuc, List, [], ◌∷◌, ◌++◌, length, filter, Bool, true, false, not, ◌&&◌, ◌==◌, bytes_eq, is_some, Option, Some, None, find, count_by, if◌then◌else◌}
+use Rattle.std.specs.Prelude.{◌≡◌, ◌<◌, ◌+◌, ℕ, ℤ, pos, neg_ℤ, List, [], ◌∷◌, ◌++◌, length, filter, Bool, true, false, not, ◌&&◌, ◌==◌, bytes_eq, is_some, Option, Some, None, find, count_by, if◌then◌else◌}
 use Rattle.std.specs.List.{flat_map, list_any}
 use Rattle.std.specs.Option.{option_map}
 use Rattle.ls_text.specs.Edits.{edited_all, is_too_large}
@@ -76,9 +76,9 @@ abbrev pub on_first : (Waiting → Bool) → (Waiting → Waiting) → List Wait
 on_first p f [] = []
 on_first p f (w ∷ ws) = if p w then f w ∷ ws else w ∷ on_first p f ws
 
-abbrev pub without_first : (Waiting → Bool) → List Waiting → List Waiting
-without_first p [] = []
-without_first p (w ∷ ws) = if p w then ws else w ∷ without_first p ws
+abbrev pub without_first_job : (Waiting → Bool) → List Waiting → List Waiting
+without_first_job p [] = []
+without_first_job p (w ∷ ws) = if p w then ws else w ∷ without_first_job p ws
 
 abbrev pub with_taken : Bool → Waiting → Waiting
 with_taken taken w = record w { taken = taken }
@@ -120,13 +120,13 @@ abbrev pub told_end : ℤ → Waiting → List Entry
 told_end code w = told_to w.ticket code w.request
 
 abbrev pub content_modified : ℤ
-content_modified = negsuc 32800
+content_modified = neg_ℤ (pos 32801)
 
 abbrev pub request_cancelled : ℤ
-request_cancelled = negsuc 32799
+request_cancelled = neg_ℤ (pos 32800)
 
 abbrev pub internal_error : ℤ
-internal_error = negsuc 32602
+internal_error = neg_ℤ (pos 32603)
 
 -- A change of the text ends these questions, whose answers would be edits of a text that is gone, or are asked anew. The others go on for the
 -- text that they were asked about.
@@ -157,9 +157,10 @@ abbrev pub left_at : Bool → Option Waiting → List Entry
 left_at failed None = []
 left_at failed (Some w) = left_by failed w
 
-abbrev pub told_at : ℤ → Option Waiting → List Entry
-told_at code None = []
-told_at code (Some w) = told_end code w
+-- what the end of the job that was found tells
+abbrev pub told_if_found : ℤ → Option Waiting → List Entry
+told_if_found code None = []
+told_if_found code (Some w) = told_end code w
 
 abbrev pub rest : List Entry → List Entry
 rest [] = []
@@ -199,14 +200,14 @@ step s (Changed uri label edits version) = put_text (close_text s uri) uri label
 step s (Closed uri) = close_text s uri
 step s (Asked id uri ask links ticket) = ask_at s id (document_of uri s.documents) ask links
 step s (Cancelled id found) = record s {
-  waiting = without_first (asks_with id) s.waiting;
-  unsent = s.unsent ++ told_at request_cancelled (find (asks_with id) s.waiting);
+  waiting = without_first_job (asks_with id) s.waiting;
+  unsent = s.unsent ++ told_if_found request_cancelled (find (asks_with id) s.waiting);
 }
 step s (Said body) = record s { unsent = s.unsent ++ Body body ∷ [] }
 step s (Took worker) = record s { waiting = on_first is_queued (with_taken true) s.waiting }
 step s (Returned ticket) = record s { waiting = on_first (is_held ticket) (with_taken false) s.waiting }
 step s (Finished ticket failed) = record s {
-  waiting = without_first (is_held ticket) s.waiting;
+  waiting = without_first_job (is_held ticket) s.waiting;
   unsent = s.unsent ++ left_at failed (find (is_held ticket) s.waiting);
 }
 step s (Sent ticket) = record s { unsent = rest s.unsent }

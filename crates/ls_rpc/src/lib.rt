@@ -9,4 +9,4 @@ mod message;
 mod reply;
 
 pub use message::{INVALID_REQUEST, Id, Message, PARSE_ERROR, read_id, read_message};
-pub use reply::{error_text, json_text, notice_text, open_notice, open_reply, result_text};
+pub use reply::{error_text, notice_text, open_notice, open_reply, result_text};

@@ -3,19 +3,19 @@ use Rattle.std.proofs.Common.{◌≡◌, ℕ, List, [], ◌++◌, Option, Some, 
 use Rattle.std.specs.Prelude.{Result, Ok, Err}
 use Rattle.ls_frame.specs.Frames.{Stream}
 use Rattle.ls_frame.proofs.Exist.{some_stream}
-use Rattle.ls_frame.proofs.Unique.{stream-front, rest-alone}
+use Rattle.ls_frame.proofs.Unique.{stream_front, rest_alone}
 use Rattle.ls_session.specs.declared.turn.Status.{Status}
 use Rattle.ls_steps.specs.Runs.{Going, begun}
 use Rattle.ls_steps.specs.Plain.{Says}
 use Rattle.ls_steps.proofs.OneSession.{one_session}
 use Rattle.ls_steps.proofs.SomeSession.{some_session}
-use Rattle.ls_steps.proofs.Settled.{goes-on, says-more, weaker}
+use Rattle.ls_steps.proofs.Settled.{goes_on, says_more, weaker}
 use Rattle.ls_server.specs.Runs.{IsOutput, RunIs, ServedIs, last_status}
 use Rattle.ls_devices.specs.Devices.{AppendsFront}
 use Rattle.ls_devices.specs.declared.fault.ServeFault.{ServeFault}
 use Rattle.ls_devices.specs.declared.fault.ServeFault.TheVariants.{Read, Write, Strayed, Memory}
 use Rattle.std.proofs.lemmas.List.{append-nil}
-use Rattle.ls_server.proofs.Whole.{RunsOn, whole-told}
+use Rattle.ls_server.proofs.Whole.{RunsOn, whole_told}
 
 pub some_output : (input : List ℕ) → (status : Status) × (bytes : List ℕ) × IsOutput false input status bytes
 some_output input =
@@ -25,8 +25,8 @@ some_output input =
 
 one_stream : (input rest last : List ℕ) (xs ys : List (List ℕ)) → Stream input xs rest → Stream input ys last → (xs ≡ ys) × (rest ≡ last)
 one_stream input rest last xs ys s t =
-    let f = stream-front input [] rest last xs ys s (subst (λ l. Stream l ys last) (sym (append-nil input)) t) in
-    let a = rest-alone rest last f.0 s.partial (subst (λ l. Stream l f.0 last) (append-nil rest) f.2) in
+    let f = stream_front input [] rest last xs ys s (subst (λ l. Stream l ys last) (sym (append-nil input)) t) in
+    let a = rest_alone rest last f.0 s.partial (subst (λ l. Stream l f.0 last) (append-nil rest) f.2) in
     (sym (f.1 ∙ (ap (λ l. xs ++ l) a.0 ∙ append-nil xs)), sym a.1)
 
 pub one_output : (input : List ℕ) (status other : Status) (a b : List ℕ) → IsOutput false input status a → IsOutput false input other b → (status ≡ other) × (a ≡ b)
@@ -45,11 +45,11 @@ record Completed (contents : List (List ℕ)) (bytes : List ℕ) : Type 0 where
 
 completed : (answered left contents : List (List ℕ)) (after : Going) (bytes : List ℕ) → contents ≡ answered ++ left → Says true begun answered after bytes → Completed contents bytes
 completed answered left contents after bytes e s =
-    let rest = goes-on true after answered left bytes s in
+    let rest = goes_on true after answered left bytes s in
     record {
       after = rest.0;
       later = rest.1;
-      said = subst (λ l. Says true begun l rest.0 (bytes ++ rest.1)) (sym e) (says-more true begun after rest.0 answered left bytes rest.1 s (weaker after rest.0 left rest.1 rest.2));
+      said = subst (λ l. Says true begun l rest.0 (bytes ++ rest.1)) (sym e) (says_more true begun after rest.0 answered left bytes rest.1 s (weaker after rest.0 left rest.1 rest.2));
     }
 
 -- what is written of a front is a front of the whole
@@ -84,4 +84,4 @@ pub run_told : (told left : Option (List ℕ)) (spent failed : Type 0) (old : Op
     → (input : List ℕ) → told ≡ Some input → (status : Status) × (bytes : List ℕ) × IsOutput true input status bytes × RunIs input status bytes left old r new
 run_told told left spent failed old r new h input e =
     let s = some_stream input in
-    run_by input s.1 s.0 left old r new s.2 (whole-told told left spent failed old r new h input s.1 s.0 e s.2)
+    run_by input s.1 s.0 left old r new s.2 (whole_told told left spent failed old r new h input s.1 s.0 e s.2)

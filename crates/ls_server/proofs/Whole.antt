@@ -3,20 +3,20 @@ use Rattle.std.proofs.Common.{◌≡◌, ℕ, ◌⊎◌, inl, inr, List, [], ◌
 use Rattle.std.specs.Io.KnownBytes.{Consumes, IsAtEnd}
 use Rattle.ls_frame.specs.Frames.{HasNoFrame, Stream}
 use Rattle.ls_frame.specs.Faults.{fault_of}
-use Rattle.ls_frame.proofs.Streams.{fault-sticks}
-use Rattle.ls_frame.proofs.Unique.{stream-front, rest-alone}
-use Rattle.ls_frame.proofs.Wholes.{fault-no_frame}
+use Rattle.ls_frame.proofs.Streams.{fault_sticks}
+use Rattle.ls_frame.proofs.Unique.{stream_front, rest_alone}
+use Rattle.ls_frame.proofs.Wholes.{fault_no_frame}
 use Rattle.ls_frame.specs.declared.fault.FrameFault.{FrameFault}
 use Rattle.ls_steps.specs.Runs.{Going, begun}
-use Rattle.ls_steps.proofs.Settled.{settled-begun}
+use Rattle.ls_steps.proofs.Settled.{settled_begun}
 use Rattle.ls_devices.specs.Ends.{end_status, status_or}
-use Rattle.ls_server.specs.Runs.{Written, WrittenFront, GoesOn, Ends, Stops, ReadsToEnd, ServedIs, last_status}
+use Rattle.ls_server.specs.Runs.{Written, WrittenFront, RunGoesOn, Ends, Stops, ReadsToEnd, ServedIs, last_status}
 use Rattle.ls_devices.specs.declared.fault.ServeFault.{ServeFault}
 use Rattle.ls_devices.specs.declared.fault.ServeFault.TheVariants.{Read, Write, Strayed, Memory}
 use Rattle.ls_session.specs.declared.turn.Status.{Status}
 use Rattle.ls_session.specs.declared.turn.Status.TheVariants.{BadFrame}
 use Rattle.std.proofs.lemmas.List.{append-nil}
-use Rattle.ls_server.proofs.Writing.{written-stays, front-longer}
+use Rattle.ls_server.proofs.Writing.{written_stays, front_longer}
 
 -- A run on a whole input that is a stream with these contents and this rest: what is left of it, and what is written.
 abbrev pub RunsOn : List ℕ → List (List ℕ) → List ℕ → Option (List ℕ) → Option (List ℕ) → Result Status ServeFault → Option (List ℕ) → Type 0
@@ -31,8 +31,8 @@ consumed : (input read : List ℕ) (left : Option (List ℕ)) → Consumes (Some
 consumed input read None c = absurd c
 consumed input read (Some unread) c = (unread, refl, c)
 
-some-same : (x y : Status) → Some x ≡ Some y → x ≡ y
-some-same x y e = cc
+some_same : (x y : Status) → Some x ≡ Some y → x ≡ y
+some_same x y e = cc
 
 none-some : (x : Status) → None ≡ Some x → ⊥
 none-some x e = cc
@@ -42,91 +42,86 @@ abbrev EndsIs : List (List ℕ) → List ℕ → Option (List ℕ) → Status �
 EndsIs contents rest old status new = (after : Going) × ((status ≡ last_status after rest) × Written begun contents after old new)
 
 -- nothing stands behind what has been read
-at-last : (contents known zs : List (List ℕ)) (rest last : List ℕ) (after : Going) (status : Status) (old new : Option (List ℕ)) → contents ≡ known ++ zs → zs ≡ []
+at_last : (contents known zs : List (List ℕ)) (rest last : List ℕ) (after : Going) (status : Status) (old new : Option (List ℕ)) → contents ≡ known ++ zs → zs ≡ []
     → after.status ≡ None → status ≡ end_status (fault_of rest) rest → Written begun known after old new → EndsIs contents rest old status new
-at-last contents known zs rest last after status old new e none x s w =
+at_last contents known zs rest last after status old new e none x s w =
     let same : contents ≡ known = e ∙ (ap (λ l. known ++ l) none ∙ append-nil known) in
     let P : List (List ℕ) → Type 0 = λ l. EndsIs l rest old status new in
     subst P (sym same) (after, (rw x s, w))
 
-by-fault : (contents known zs : List (List ℕ)) (rest last more : List ℕ) (after : Going) (o : Option FrameFault) (status : Status) (old new : Option (List ℕ)) → contents ≡ known ++ zs
+by_fault : (contents known zs : List (List ℕ)) (rest last more : List ℕ) (after : Going) (o : Option FrameFault) (status : Status) (old new : Option (List ℕ)) → contents ≡ known ++ zs
     → Stream (last ++ more) zs rest → after.status ≡ None → fault_of last ≡ o → status_or None o ≡ Some status → Written begun known after old new → EndsIs contents rest old status new
-by-fault contents known zs rest last more after None status old new e s x f h w = absurd (none-some status h)
-by-fault contents known zs rest last more after (Some fault) status old new e s x f h w =
-    let sticks : fault_of (last ++ more) ≡ Some fault = fault-sticks last more fault f in
-    let alone : (zs ≡ []) × (rest ≡ last ++ more) = rest-alone (last ++ more) rest zs (fault-no_frame (last ++ more) fault sticks) s in
+by_fault contents known zs rest last more after None status old new e s x f h w = absurd (none-some status h)
+by_fault contents known zs rest last more after (Some fault) status old new e s x f h w =
+    let sticks : fault_of (last ++ more) ≡ Some fault = fault_sticks last more fault f in
+    let alone : (zs ≡ []) × (rest ≡ last ++ more) = rest_alone (last ++ more) rest zs (fault_no_frame (last ++ more) fault sticks) s in
     let here : fault_of rest ≡ Some fault = ap fault_of alone.1 ∙ sticks in
-    at-last contents known zs rest last after status old new e alone.0 x (sym (some-same (BadFrame fault) status h) ∙ sym (ap (λ o. end_status o rest) here)) w
+    at_last contents known zs rest last after status old new e alone.0 x (sym (some_same (BadFrame fault) status h) ∙ sym (ap (λ o. end_status o rest) here)) w
 
-by-exit : (contents known zs : List (List ℕ)) (rest last more : List ℕ) (after : Going) (o : Option Status) (status : Status) (old new : Option (List ℕ)) → contents ≡ known ++ zs
+by_exit : (contents known zs : List (List ℕ)) (rest last more : List ℕ) (after : Going) (o : Option Status) (status : Status) (old new : Option (List ℕ)) → contents ≡ known ++ zs
     → Stream (last ++ more) zs rest → after.status ≡ o → status_or o (fault_of last) ≡ Some status → Written begun known after old new → EndsIs contents rest old status new
-by-exit contents known zs rest last more after None status old new e s x h w = by-fault contents known zs rest last more after (fault_of last) status old new e s x refl h w
-by-exit contents known zs rest last more after (Some other) status old new e s x h w =
+by_exit contents known zs rest last more after None status old new e s x h w = by_fault contents known zs rest last more after (fault_of last) status old new e s x refl h w
+by_exit contents known zs rest last more after (Some other) status old new e s x h w =
     let P : List (List ℕ) → Type 0 = λ l. EndsIs l rest old status new in
-    subst P (sym e) (after, (rw x (sym (some-same other status h)), written-stays begun after known zs other old new settled-begun x w))
+    subst P (sym e) (after, (rw x (sym (some_same other status h)), written_stays begun after known zs other old new settled_begun x w))
 
 behind : (input read more rest last : List ℕ) (contents known : List (List ℕ)) → Stream input contents rest → input ≡ read ++ more → Stream read known last
     → (zs : List (List ℕ)) × (contents ≡ known ++ zs) × Stream (last ++ more) zs rest
 behind input read more rest last contents known s e k =
-    let P : List ℕ → Type 0 = λ l. Stream l contents rest in stream-front read more last rest known contents k (subst P e s)
+    let P : List ℕ → Type 0 = λ l. Stream l contents rest in stream_front read more last rest known contents k (subst P e s)
 
-or-none : (o : Option Status) (f : Option FrameFault) → status_or o f ≡ None → (o ≡ None) × (f ≡ None)
-or-none None None e = (refl, refl)
-or-none None (Some fault) e = absurd (cc)
-or-none (Some status) f e = absurd (cc)
-
-by-end : (input : List ℕ) (contents : List (List ℕ)) (rest read more : List ℕ) (status : Status) (old new : Option (List ℕ)) → Stream input contents rest → input ≡ read ++ more → more ≡ []
+by_end : (input : List ℕ) (contents : List (List ℕ)) (rest read more : List ℕ) (status : Status) (old new : Option (List ℕ)) → Stream input contents rest → input ≡ read ++ more → more ≡ []
     → ReadsToEnd read old status new → EndsIs contents rest old status new
-by-end input contents rest read more status old new s e none f =
-    let parts : (zs : List (List ℕ)) × (contents ≡ f.contents ++ zs) × Stream (f.last ++ more) zs rest = behind input read more rest f.last contents f.contents s e f.stream in
-    let last : f.last ++ more ≡ f.last = ap (λ l. f.last ++ l) none ∙ append-nil f.last in
+by_end input contents rest read more status old new s e none f =
+    let g : RunGoesOn [] read begun old f.0 f.1 new = f.2 in
+    let parts : (zs : List (List ℕ)) × (contents ≡ g.contents ++ zs) × Stream (f.0 ++ more) zs rest = behind input read more rest f.0 contents g.contents s e g.stream in
+    let last : f.0 ++ more ≡ f.0 = ap (λ l. f.0 ++ l) none ∙ append-nil f.0 in
     let P : List ℕ → Type 0 = λ l. HasNoFrame l in
-    let alone : (parts.0 ≡ []) × (rest ≡ f.last ++ more) = rest-alone (f.last ++ more) rest parts.0 (subst P (sym last) f.stream.partial) parts.2 in
-    let same : rest ≡ f.last = alone.1 ∙ last in
-    let runs : (f.after.status ≡ None) × (fault_of f.last ≡ None) = or-none f.after.status (fault_of f.last) f.runs in
-    let status_is : status ≡ end_status (fault_of f.last) f.last = f.status ∙ sym (ap (λ o. end_status o f.last) runs.1) in
-    at-last contents f.contents parts.0 rest f.last f.after status old new parts.1 alone.0 runs.0 (status_is ∙ sym (ap (λ l. end_status (fault_of l) l) same)) f.written
+    let alone : (parts.0 ≡ []) × (rest ≡ f.0 ++ more) = rest_alone (f.0 ++ more) rest parts.0 (subst P (sym last) g.stream.partial) parts.2 in
+    let same : rest ≡ f.0 = alone.1 ∙ last in
+    let status_is : status ≡ end_status (fault_of f.0) f.0 = f.3 ∙ sym (ap (λ o. end_status o f.0) g.fault) in
+    at_last contents g.contents parts.0 rest f.0 f.1 status old new parts.1 alone.0 g.made.0 (status_is ∙ sym (ap (λ l. end_status (fault_of l) l) same)) g.made.1
 
 -- a front of what all the contents ask for
-by-stop : (input rest read more : List ℕ) (contents : List (List ℕ)) (old new : Option (List ℕ)) → Stream input contents rest → input ≡ read ++ more → Stops [] read begun old new
+by_stop : (input rest read more : List ℕ) (contents : List (List ℕ)) (old new : Option (List ℕ)) → Stream input contents rest → input ≡ read ++ more → Stops [] read begun old new
     → WrittenFront begun contents old new
-by-stop input rest read more contents old new s e t =
+by_stop input rest read more contents old new s e t =
     let all : input ≡ t.part ++ (t.more ++ more) = e ∙ (ap (λ l. l ++ more) t.bytes_are ∙ append_assoc t.part t.more more) in
     let parts : (zs : List (List ℕ)) × (contents ≡ t.contents ++ zs) × Stream (t.last ++ (t.more ++ more)) zs rest = behind input t.part (t.more ++ more) rest t.last contents t.contents s all t.stream in
     let P : List (List ℕ) → Type 0 = λ l. WrittenFront begun l old new in
-    subst P (sym parts.1) (front-longer begun t.contents parts.0 old new t.written)
+    subst P (sym parts.1) (front_longer begun t.contents parts.0 old new t.made)
 
-by-status : (input rest : List ℕ) (contents : List (List ℕ)) (read unread : List ℕ) (left : Option (List ℕ)) (status : Status) (old new : Option (List ℕ)) → Stream input contents rest
+by_status : (input rest : List ℕ) (contents : List (List ℕ)) (read unread : List ℕ) (left : Option (List ℕ)) (status : Status) (old new : Option (List ℕ)) → Stream input contents rest
     → left ≡ Some unread → input ≡ read ++ unread → Ends [] read begun old status new ⊎ (IsAtEnd left × ReadsToEnd read old status new) → EndsIs contents rest old status new
-by-status input rest contents read unread left status old new s l e (inl h) =
+by_status input rest contents read unread left status old new s l e (inl h) =
     let parts : (zs : List (List ℕ)) × (contents ≡ h.contents ++ zs) × Stream (h.last ++ unread) zs rest = behind input read unread rest h.last contents h.contents s e h.stream in
-    by-exit contents h.contents parts.0 rest h.last unread h.after h.after.status status old new parts.1 parts.2 refl h.status h.written
-by-status input rest contents read unread left status old new s l e (inr h) =
+    by_exit contents h.contents parts.0 rest h.last unread h.made.0 h.exit status old new parts.1 parts.2 h.made.1.0 h.status_is h.made.1.1
+by_status input rest contents read unread left status old new s l e (inr h) =
     let P : Option (List ℕ) → Type 0 = λ o. IsAtEnd o in
-    by-end input contents rest read unread status old new s e (subst P l h.0) h.1
+    by_end input contents rest read unread status old new s e (subst P l h.0) h.1
 
 -- what was served of an input is what the run on the whole of it is
 pub whole : (input rest : List ℕ) (contents : List (List ℕ)) (left : Option (List ℕ)) (spent failed : Type 0) (old : Option (List ℕ)) (r : Result Status ServeFault) (new : Option (List ℕ))
     → Stream input contents rest → ServedIs (Some input) left spent failed old r new → RunsOn input contents rest left old r new
 whole input rest contents left spent failed old (Ok status) new s h =
     let c : (unread : List ℕ) × (left ≡ Some unread) × (input ≡ h.0 ++ unread) = consumed input h.0 left h.1 in
-    by-status input rest contents h.0 c.0 left status old new s c.1 c.2 h.2
+    by_status input rest contents h.0 c.0 left status old new s c.1 c.2 h.2
 whole input rest contents left spent failed old (Err Read) new s h =
-    let g : GoesOn [] h.1.0 begun old h.1.1 h.1.2 new = h.1.4 in
+    let g : RunGoesOn [] h.1.0 begun old h.1.1 h.1.2 new = h.1.4 in
     let c : (unread : List ℕ) × (left ≡ Some unread) × (input ≡ h.1.0 ++ unread) = consumed input h.1.0 left h.1.3 in
     let parts : (zs : List (List ℕ)) × (contents ≡ g.contents ++ zs) × Stream (h.1.1 ++ c.0) zs rest = behind input h.1.0 c.0 rest h.1.1 contents g.contents s c.2 g.stream in
-    (h.1.0, c.0, g.contents, h.1.1, parts.0, h.1.2, (c.1, c.2, g.stream, parts.1, g.answered.1))
+    (h.1.0, c.0, g.contents, h.1.1, parts.0, h.1.2, (c.1, c.2, g.stream, parts.1, g.made.1))
 whole input rest contents left spent failed old (Err Write) new s h =
     let c : (unread : List ℕ) × (left ≡ Some unread) × (input ≡ h.1.0 ++ unread) = consumed input h.1.0 left h.1.1 in
-    by-stop input rest h.1.0 c.0 contents old new s c.2 h.1.2
+    by_stop input rest h.1.0 c.0 contents old new s c.2 h.1.2
 whole input rest contents left spent failed old (Err Strayed) new s h = absurd h
 whole input rest contents left spent failed old (Err Memory) new s h =
     let c : (unread : List ℕ) × (left ≡ Some unread) × (input ≡ h.0 ++ unread) = consumed input h.0 left h.1 in
-    by-stop input rest h.0 c.0 contents old new s c.2 h.2
+    by_stop input rest h.0 c.0 contents old new s c.2 h.2
 
 -- the same, of an input that is told
-pub whole-told : (told : Option (List ℕ)) (left : Option (List ℕ)) (spent failed : Type 0) (old : Option (List ℕ)) (r : Result Status ServeFault) (new : Option (List ℕ)) → ServedIs told left spent failed old r new
+pub whole_told : (told : Option (List ℕ)) (left : Option (List ℕ)) (spent failed : Type 0) (old : Option (List ℕ)) (r : Result Status ServeFault) (new : Option (List ℕ)) → ServedIs told left spent failed old r new
     → (input rest : List ℕ) (contents : List (List ℕ)) → told ≡ Some input → Stream input contents rest → RunsOn input contents rest left old r new
-whole-told told left spent failed old r new h input rest contents e s =
+whole_told told left spent failed old r new h input rest contents e s =
     let P : Option (List ℕ) → Type 0 = λ o. ServedIs o left spent failed old r new in
     whole input rest contents left spent failed old r new s (subst P e h)

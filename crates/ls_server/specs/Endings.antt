@@ -14,15 +14,15 @@ use Rattle.ls_server.specs.declared.ending.Ending.{Ending}
 use Rattle.ls_server.specs.declared.ending.Ending.TheVariants.{Good, Not, Framing, Full, ReadFailed, WriteFailed, CannotRead, NotText, Certificate, HasStrayed, Usage, OutOfMemory}
 
 -- the ending of a session
-abbrev pub ending_of : Result Status ServeFault → Ending
-ending_of (Ok status.Clean) = Good
-ending_of (Ok status.Unclean) = Not
-ending_of (Ok (status.BadFrame fault)) = Framing fault
-ending_of (Ok status.Full) = Full
-ending_of (Err Read) = ReadFailed
-ending_of (Err Write) = WriteFailed
-ending_of (Err Strayed) = HasStrayed
-ending_of (Err Memory) = OutOfMemory
+abbrev pub ending_of_session : Result Status ServeFault → Ending
+ending_of_session (Ok status.Clean) = Good
+ending_of_session (Ok status.Unclean) = Not
+ending_of_session (Ok (status.BadFrame fault)) = Framing fault
+ending_of_session (Ok status.Full) = Full
+ending_of_session (Err Read) = ReadFailed
+ending_of_session (Err Write) = WriteFailed
+ending_of_session (Err Strayed) = HasStrayed
+ending_of_session (Err Memory) = OutOfMemory
 
 -- the ending of a command that can't use the file with this path
 abbrev pub ending_of_file : FileFault → List ℕ → Ending
@@ -61,15 +61,15 @@ status_of_ending Usage = 5
 status_of_ending OutOfMemory = 6
 
 -- number and name of a framing fault
-abbrev pub fault_text : FrameFault → List ℕ
-fault_text HeaderTooLong = codes "1 HeaderTooLong"
-fault_text BadHeader = codes "2 BadHeader"
-fault_text NoLength = codes "3 NoLength"
-fault_text TwoLengths = codes "4 TwoLengths"
-fault_text BadLength = codes "5 BadLength"
-fault_text TooLarge = codes "6 TooLarge"
-fault_text Truncated = codes "7 Truncated"
-fault_text NoMemory = codes "8 Memory"
+abbrev pub framing_fault_text : FrameFault → List ℕ
+framing_fault_text HeaderTooLong = codes "1 HeaderTooLong"
+framing_fault_text BadHeader = codes "2 BadHeader"
+framing_fault_text NoLength = codes "3 NoLength"
+framing_fault_text TwoLengths = codes "4 TwoLengths"
+framing_fault_text BadLength = codes "5 BadLength"
+framing_fault_text TooLarge = codes "6 TooLarge"
+framing_fault_text Truncated = codes "7 Truncated"
+framing_fault_text NoMemory = codes "8 Memory"
 
 -- number and name of a certificate's fault
 abbrev pub cert_fault_text : CertFault → List ℕ
@@ -82,7 +82,7 @@ cert_fault_text cert.Memory = codes "4 Memory"
 abbrev pub line_of_ending : Ending → List ℕ
 line_of_ending Good = []
 line_of_ending Not = []
-line_of_ending (Framing fault) = codes "framing fault " ++ fault_text fault
+line_of_ending (Framing fault) = codes "framing fault " ++ framing_fault_text fault
 line_of_ending Full = codes "session full"
 line_of_ending ReadFailed = codes "read failed"
 line_of_ending WriteFailed = codes "write failed"

@@ -10,7 +10,8 @@ use Rattle.ls_steps.specs.Plain.{Replies, Says, times}
 use Rattle.ls_session.specs.declared.turn.Status.{Status}
 use Rattle.ls_session.specs.declared.turn.Status.TheVariants.{BadFrame, Unclean}
 use Rattle.ls_devices.specs.Devices.{AppendsFront}
-use Rattle.ls_devices.specs.Ends.{end_status, status_or}
+use Rattle.ls_devices.specs.Ends.{end_status}
+use Rattle.ls_devices.specs.Input.{BreaksOff, ComesToEnd, GoesOn}
 use Rattle.ls_devices.specs.declared.fault.ServeFault.{ServeFault}
 use Rattle.ls_devices.specs.declared.fault.ServeFault.TheVariants.{Read, Write, Strayed, Memory}
 
@@ -74,34 +75,20 @@ is_write (Err Strayed) = false
 is_write (Err Memory) = false
 
 -- Bytes come after a rest, and the run goes on with this rest.
-pub record GoesOn (rest bytes : List ℕ) (state : Going) (old : Option (List ℕ)) (after_rest : List ℕ) (after_state : Going) (new : Option (List ℕ)) : Type 0 where
-  pub contents : List (List ℕ)
-  pub stream : Stream (rest ++ bytes) contents after_rest
-  pub fault : fault_of after_rest ≡ None
-  pub answered : AnswersIs state contents old (Ok None) after_state new
+abbrev pub RunGoesOn : List ℕ → List ℕ → Going → Option (List ℕ) → List ℕ → Going → Option (List ℕ) → Type 0
+RunGoesOn rest bytes state old after_rest after_state new = GoesOn (λ contents. AnswersIs state contents old (Ok None) after_state new) rest bytes after_rest
 
 -- Bytes come after a rest, and an exit or a fault in them gives this status.
-pub record Ends (rest bytes : List ℕ) (state : Going) (old : Option (List ℕ)) (answer : Status) (new : Option (List ℕ)) : Type 0 where
-  pub contents : List (List ℕ)
-  pub last : List ℕ
-  pub after : Going
-  pub stream : Stream (rest ++ bytes) contents last
-  pub status : status_or after.status (fault_of last) ≡ Some answer
-  pub written : Written state contents after old new
+abbrev pub Ends : List ℕ → List ℕ → Going → Option (List ℕ) → Status → Option (List ℕ) → Type 0
+Ends rest bytes state old status new = ComesToEnd (λ contents exit. (after : Going) × AnswersIs state contents old (Ok exit) after new) rest bytes status
 
 -- Bytes come after a rest, and a front of what a front of them asks for is written.
-pub record Stops (rest bytes : List ℕ) (state : Going) (old new : Option (List ℕ)) : Type 0 where
-  pub part : List ℕ
-  pub more : List ℕ
-  pub bytes_are : rest ++ bytes ≡ part ++ more
-  pub contents : List (List ℕ)
-  pub last : List ℕ
-  pub stream : Stream part contents last
-  pub written : WrittenFront state contents old new
+abbrev pub Stops : List ℕ → List ℕ → Going → Option (List ℕ) → Option (List ℕ) → Type 0
+Stops rest bytes state old new = BreaksOff (λ contents. WrittenFront state contents old new) rest bytes
 
 -- A piece is taken after a rest, and what it completes is answered.
 abbrev pub PieceIs : List ℕ → List ℕ → Going → Option (List ℕ) → Result (Option Status) ServeFault → List ℕ → Going → Option (List ℕ) → Type 0
-PieceIs rest piece state old (Ok None) after_rest after_state new = GoesOn rest piece state old after_rest after_state new
+PieceIs rest piece state old (Ok None) after_rest after_state new = RunGoesOn rest piece state old after_rest after_state new
 PieceIs rest piece state old (Ok (Some status)) after_rest after_state new = Ends rest piece state old status new
 PieceIs rest piece state old (Err Read) after_rest after_state new = ⊥
 PieceIs rest piece state old (Err Write) after_rest after_state new = Stops rest piece state old new
@@ -115,20 +102,14 @@ outcome (Err NoMemory) = Err Memory
 outcome (Err fault) = Ok (Some (BadFrame fault))
 
 -- All these bytes have been read, there are no more, and no exit came in them.
-pub record ReadsToEnd (bytes : List ℕ) (old : Option (List ℕ)) (answer : Status) (new : Option (List ℕ)) : Type 0 where
-  pub contents : List (List ℕ)
-  pub last : List ℕ
-  pub after : Going
-  pub stream : Stream bytes contents last
-  pub runs : status_or after.status (fault_of last) ≡ None
-  pub status : answer ≡ end_status None last
-  pub written : Written begun contents after old new
+abbrev pub ReadsToEnd : List ℕ → Option (List ℕ) → Status → Option (List ℕ) → Type 0
+ReadsToEnd bytes old answer new = (last : List ℕ) × (after : Going) × RunGoesOn [] bytes begun old last after new × (answer ≡ end_status None last)
 
 -- What a run has read of the input and written: spent and failed say where Read and Write may stand.
 abbrev pub ServedIs : Option (List ℕ) → Option (List ℕ) → Type 0 → Type 0 → Option (List ℕ) → Result Status ServeFault → Option (List ℕ) → Type 0
 ServedIs input left spent failed old (Ok status) new = (read : List ℕ) × Consumes input left read
     × (Ends [] read begun old status new ⊎ (IsAtEnd left × ReadsToEnd read old status new))
-ServedIs input left spent failed old (Err Read) new = spent × ((read : List ℕ) × (rest : List ℕ) × (state : Going) × Consumes input left read × GoesOn [] read begun old rest state new)
+ServedIs input left spent failed old (Err Read) new = spent × ((read : List ℕ) × (rest : List ℕ) × (state : Going) × Consumes input left read × RunGoesOn [] read begun old rest state new)
 ServedIs input left spent failed old (Err Write) new = failed × ((read : List ℕ) × Consumes input left read × Stops [] read begun old new)
 ServedIs input left spent failed old (Err Strayed) new = ⊥
 ServedIs input left spent failed old (Err Memory) new = (read : List ℕ) × Consumes input left read × Stops [] read begun old new

@@ -1,6 +1,6 @@
 //! How the program ends.
 ghost use Rattle.std.specs.Prelude.{◌≡◌, ◌++◌, string_bytes};
-ghost use Rattle.ls_server.specs.Endings.{cert_fault_text, ending_of, ending_of_check, ending_of_file, fault_text, line_of_ending, status_of_ending, text_of_check};
+ghost use Rattle.ls_server.specs.Endings.{cert_fault_text, ending_of_session, ending_of_check, ending_of_file, framing_fault_text, line_of_ending, status_of_ending, text_of_check};
 
 use abnf_cert::CertFault;
 use ls_devices::ServeFault;
@@ -34,7 +34,7 @@ pub enum Ending {
 
 /// A framing fault with its number.
 fn numbered(fault: FrameFault) -> &'static str
-    ensures { result.now ≡ fault_text fault }
+    ensures { result.now ≡ framing_fault_text fault }
 {
     match fault {
         FrameFault::HeaderTooLong => "1 HeaderTooLong",
@@ -62,7 +62,7 @@ fn numbered_cert_fault(fault: CertFault) -> &'static str
 
 impl Ending {
     pub fn of(served: Result<Status, ServeFault>) -> Ending
-        ensures { result ≡ ending_of served }
+        ensures { result ≡ ending_of_session served }
     {
         match served {
             Ok(Status::Clean) => Ending::Good,

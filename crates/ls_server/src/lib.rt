@@ -11,7 +11,7 @@ mod serve;
 
 pub use commands::{cert_part, check_text, example_text};
 pub use ending::Ending;
-pub use file::{MAX_CERT_BYTES, read_cert_file};
+pub use file::read_cert_file;
 pub use laws::{example_texts_are_accepted, example_texts_exist, inputs_have_one_output};
 pub use ls_devices::{DeviceFault, ReadFrom, ServeFault, Sink, Source, WriteTo};
 pub use ls_session::Status;

@@ -87,7 +87,7 @@ fn answer_all<W: Sink>(
 }
 
 /// What a fed piece means for the run, once its contents have been answered.
-fn status_of(fed: Result<usize, FrameFault>) -> Result<Option<Status>, ServeFault>
+fn outcome(fed: Result<usize, FrameFault>) -> Result<Option<Status>, ServeFault>
     ensures { result ≡ outcome fed }
 {
     match fed {
@@ -98,7 +98,7 @@ fn status_of(fed: Result<usize, FrameFault>) -> Result<Option<Status>, ServeFaul
 }
 
 /// Takes a piece and answers what it completes.
-fn serve_piece<W: Sink>(
+fn answer_piece<W: Sink>(
     alloc: Global,
     framer: &mut Framer,
     talk: &mut Conversation,
@@ -117,15 +117,15 @@ fn serve_piece<W: Sink>(
     let mut bodies = Vec::new(alloc);
     let fed = framer.feed(piece, &mut bodies);
     match answer_all(talk, &bodies, writer) {
-        Ok(None) => status_of(fed),
+        Ok(None) => outcome(fed),
         Ok(Some(status)) => Ok(Some(status)),
         Err(fault) => Err(fault),
     }
 }
 
-/// Serves with this buffer.
+/// Reads with this buffer and answers what comes. The loop stands apart from where its buffer is made for the prover's time alone.
 #[tactic(none)]
-fn serve_from<R: Source, W: Sink>(
+fn answer_input<R: Source, W: Sink>(
     alloc: Global,
     framer: &mut Framer,
     talk: &mut Conversation,
@@ -159,7 +159,7 @@ fn serve_from<R: Source, W: Sink>(
                 Err(fault) => return Ok(Status::BadFrame(fault)),
             }
         }
-        match serve_piece(alloc, framer, talk, &buffer[..count], writer) {
+        match answer_piece(alloc, framer, talk, &buffer[..count], writer) {
             Ok(None) => {}
             Ok(Some(status)) => return Ok(status),
             Err(fault) => return Err(fault),
@@ -193,7 +193,7 @@ pub fn serve_limited<R: Source, W: Sink>(
     };
     let mut framer = Framer::new(alloc);
     let mut talk = Conversation::new(alloc);
-    serve_from(
+    answer_input(
         alloc,
         &mut framer,
         &mut talk,

@@ -38,16 +38,16 @@ label_of params = unwrap_or (document_member (codes "version") params >>= as_num
 abbrev pub count_in : Data → Option ℕ
 count_in value = option_map (min 4294967295) (as_number value >>= as_u64)
 
-abbrev pub position_of : Data → Option Position
-position_of value = do
+abbrev pub read_position : Data → Option Position
+read_position value = do
   line ← get (codes "line") value >>= count_in
   character ← get (codes "character") value >>= count_in
   Some (record { line = line; character = character })
 
 abbrev pub range_of : Data → Option Range
 range_of value = do
-  start ← get (codes "start") value >>= position_of
-  end ← get (codes "end") value >>= position_of
+  start ← get (codes "start") value >>= read_position
+  end ← get (codes "end") value >>= read_position
   Some (record { start = start; end = end })
 
 -- a range of null is as none
@@ -110,7 +110,7 @@ event_of encoding notice.Unknown params = None
 
 -- where a request asks (LSP 3.17, "TextDocumentPositionParams")
 abbrev pub position_in : Data → Option Position
-position_in params = get (codes "position") params >>= position_of
+position_in params = get (codes "position") params >>= read_position
 
 abbrev pub named_declarations : Data → Option Bool
 named_declarations params = get (codes "context") params >>= get (codes "includeDeclaration") >>= as_bool

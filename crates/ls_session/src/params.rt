@@ -2,7 +2,7 @@
 ghost use Rattle.std.specs.Prelude.{◌≡◌, IfOk, option_map, unwrap_or};
 ghost use Rattle.serde_json.specs.View.{view, items_view};
 ghost use Rattle.serde_json.specs.Data.{null};
-ghost use Rattle.ls_session.specs.Params.{document_member, uri_of, label_of, count_in, position_of, range_of, range_or_none, edit_of, edits_of, changes_of, did_open_of, did_change_of, did_close_of, cancel_of, event_of, position_in, named_declarations, declarations_of, references_of, rename_of, action_of, ask_of, question_of, named_links, links_of, encoding_named, offer_of, first_offer, named_encoding, encoding_of, agreed_of};
+ghost use Rattle.ls_session.specs.Params.{document_member, uri_of, label_of, count_in, read_position, range_of, range_or_none, edit_of, edits_of, changes_of, did_open_of, did_change_of, did_close_of, cancel_of, event_of, position_in, named_declarations, declarations_of, references_of, rename_of, action_of, ask_of, question_of, named_links, links_of, encoding_named, offer_of, first_offer, named_encoding, encoding_of, agreed_of};
 
 use crate::kind::{NoticeKind, RequestKind};
 use crate::session::Agreed;
@@ -44,7 +44,7 @@ fn count(value: &Value) -> Option<u32>
 }
 
 fn position(value: &Value) -> Option<Position>
-    ensures { result ≡ position_of (view value.now) }
+    ensures { result ≡ read_position (view value.now) }
 {
     let line = count(value.get("line")?)?;
     let character = count(value.get("character")?)?;

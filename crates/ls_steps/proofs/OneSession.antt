@@ -1,6 +1,7 @@
 -- What a run by acts writes, and what is said on messages, is one thing where no memory is refused in a job.
 use Rattle.std.proofs.Common.{◌≡◌, inl, ℕ, zero, suc, ◌++◌, Bool, true, false, List, [], ◌∷◌, Option, Some, None, refl, sym, ap, subst, ◌∙◌}
 use Rattle.std.specs.Prelude.{◌+◌, find, is_none, is_some, length, not, slice_get, remove, option_map}
+use Rattle.std.proofs.lemmas.Option.{same_Some}
 use Rattle.ls_answers.specs.Told.{Told}
 use Rattle.ls_answers.specs.declared.answer.Answer.{Answer}
 use Rattle.ls_answers.proofs.OneAnswer.{one_answer}
@@ -60,9 +61,6 @@ runs_alike g k (Some a) (Some b) (Some job) p q =
 
 -- ---- what leaves
 
-some_same : (a b : List ℕ) → Some a ≡ Some b → a ≡ b
-some_same a b e = cc
-
 abbrev pub body_for : Waiting → Option Request → Answer → List ℕ
 body_for w None a = findings_body w.uri w.label a
 body_for w (Some r) a = reply_body r.id w.uri w.label r.links a
@@ -81,10 +79,10 @@ one_told w (Some r) a b p q = same_reply r.id w.uri w.label r.links a b (one_ans
 
 one_body : (e : Entry) (o p : Out) (a b : List ℕ) → IsOutFor e o → IsOutFor e p → body_of o ≡ Some a → body_of p ≡ Some b → a ≡ b
 unfolding IsOutFor
-one_body (Body body) o p a b x y s t = some_same a b (sym s ∙ (ap body_of (x ∙ sym y) ∙ t))
-one_body (Failure ticket id code) o p a b x y s t = some_same a b (sym s ∙ (ap body_of (x ∙ sym y) ∙ t))
+one_body (Body body) o p a b x y s t = same_Some a b (sym s ∙ (ap body_of (x ∙ sym y) ∙ t))
+one_body (Failure ticket id code) o p a b x y s t = same_Some a b (sym s ∙ (ap body_of (x ∙ sym y) ∙ t))
 one_body (Outcome w) o p a b x y s t =
-    some_same a b
+    same_Some a b
     (sym s
     ∙ (body_told w o x.0 x.2.right.0 x.1 x.2.right.1
     ∙ (ap Some (one_told w w.request x.2.right.0 y.2.right.0 x.2.right.2 y.2.right.2)
@@ -134,7 +132,7 @@ one_until is_done acts (suc n) (suc m) g h k a b p q =
 
 -- ---- messages
 
-pub one_message : (g h k : Going) (body bytes other : List ℕ) → Serves false g body h bytes → Serves false g body k other → (h ≡ k) × (bytes ≡ other)
+one_message : (g h k : Going) (body bytes other : List ℕ) → Serves false g body h bytes → Serves false g body k other → (h ≡ k) × (bytes ≡ other)
 one_message g h k body bytes other p q =
     let heard = one_step g p.hears.heard q.hears.heard (hear body) [] [] p.hears.hears q.hears.hears in
     let worked = one_until has_run_all job_acts p.hears.jobs q.hears.jobs q.hears.heard p.worked q.worked [] [] (subst (λ t. Works false p.hears.jobs t p.worked) heard.0 p.hears.works) q.hears.works in

@@ -6,7 +6,7 @@ use Rattle.std.specs.Str.{encode_utf8_all}
 use Rattle.std.proofs.lemmas.Bool.{cases_lt, lt-ltb, false≢true}
 use Rattle.std.proofs.lemmas.Str.{length-le-encodes}
 use Rattle.ls_text.specs.Edits.{edited, edited_all, is_too_large}
-use Rattle.ls_text.specs.Lines.{units}
+use Rattle.ls_text.specs.Lines.{max_bytes, units}
 use Rattle.ls_text.specs.Positions.{Measured}
 use Rattle.ls_text.specs.declared.edit.Edit.{Edit}
 use Rattle.ls_text.specs.declared.position.Encoding.{Encoding}
@@ -20,7 +20,7 @@ use Rattle.ls_machine.specs.declared.state.Waiting.{Waiting}
 use Rattle.ls_machine.specs.declared.state.Entry.{Entry}
 use Rattle.ls_machine.specs.declared.state.Entry.TheVariants.{Body, Failure, Outcome}
 use Rattle.ls_machine.specs.declared.state.State.{State}
-use Rattle.ls_machine.specs.Machine.{step, is_named, document_of, edited_at, measured, asks_with, is_held, is_queued, on_first, without_first, with_taken, told_to, told_end, told_at, end_of, ends, is_ended, left_at, rest, put_text, close_text, ask_at, content_modified, request_cancelled, internal_error}
+use Rattle.ls_machine.specs.Machine.{step, is_named, document_of, edited_at, measured, asks_with, is_held, is_queued, on_first, without_first_job, with_taken, told_to, told_end, told_if_found, end_of, ends, is_ended, left_at, rest, put_text, close_text, ask_at, content_modified, request_cancelled, internal_error}
 use Rattle.ls_machine.specs.Journal.{replay_from}
 
 -- ---- lists of which each element has a property
@@ -33,7 +33,7 @@ abbrev pub At : {A : Type 0} → (A → Type 0) → Option A → Type 0
 At P None = Unit {0}
 At P (Some x) = P x
 
-pub each_append : {A : Type 0} (P : A → Type 0) (xs ys : List A) → Each P xs → Each P ys → Each P (xs ++ ys)
+each_append : {A : Type 0} (P : A → Type 0) (xs ys : List A) → Each P xs → Each P ys → Each P (xs ++ ys)
 each_append P [] ys p q = q
 each_append P (x ∷ xs) ys p q = (p.0, each_append P xs ys p.1 q)
 
@@ -53,11 +53,11 @@ each_find P test (x ∷ xs) p = by (test x) refl (each_find P test xs p.1)
     by true e later = rw e p.0
     by false e later = rw e later
 
-each_without : (P : Waiting → Type 0) (test : Waiting → Bool) (xs : List Waiting) → Each P xs → Each P (without_first test xs)
+each_without : (P : Waiting → Type 0) (test : Waiting → Bool) (xs : List Waiting) → Each P xs → Each P (without_first_job test xs)
 each_without P test [] p = tt
 each_without P test (x ∷ xs) p = by (test x) refl (each_without P test xs p.1)
   where
-    by : (b : Bool) → test x ≡ b → Each P (without_first test xs) → Each P (without_first test (x ∷ xs))
+    by : (b : Bool) → test x ≡ b → Each P (without_first_job test xs) → Each P (without_first_job test (x ∷ xs))
     by true e more = rw e p.1
     by false e more = rw e (p.0, more)
 
@@ -108,7 +108,7 @@ at_most m n e = ⊎_elim (λ less. absurd (false≢true (sym e ∙ lt-ltb m n le
 
 -- a text that isn't too large
 pub short_chars_of : (text : List ℕ) → is_too_large text ≡ false → IsShort text
-short_chars_of text e = omega (arith, at_most 4194304 (length (encode_utf8_all text)) e, length-le-encodes text)
+short_chars_of text e = omega (arith, at_most max_bytes (length (encode_utf8_all text)) e, length-le-encodes text)
 
 short_edited : (width : ℕ → ℕ) (t : List ℕ) (es : List Edit) → IsShort t → At IsShort (edited_all width t es)
 unfolding edited_all
@@ -139,7 +139,7 @@ short_told : (ticket : ℕ) (code : ℤ) (r : Option Request) → Each IsShortEn
 short_told ticket code None = tt
 short_told ticket code (Some r) = (tt, tt)
 
-short_told_at : (code : ℤ) (o : Option Waiting) → Each IsShortEntry (told_at code o)
+short_told_at : (code : ℤ) (o : Option Waiting) → Each IsShortEntry (told_if_found code o)
 short_told_at code None = tt
 short_told_at code (Some w) = short_told w.ticket code w.request
 

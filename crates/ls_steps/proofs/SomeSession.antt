@@ -1,6 +1,7 @@
 -- On each list of messages something is said, and each list of acts is a run, where no memory is refused in a job.
 use Rattle.std.proofs.Common.{◌≡◌, ◌⊎◌, inl, inr, ℕ, zero, suc, ◌≤◌, Bool, true, false, List, [], ◌∷◌, ◌++◌, Option, Some, None, refl, sym, ap, subst, ◌∙◌, arith}
 use Rattle.std.specs.Prelude.{find, is_none, remove, slice_get, ◌||◌, if◌then◌else◌}
+use Rattle.std.proofs.lemmas.Bool.{or_parts}
 use Rattle.ls_answers.specs.Told.{Told}
 use Rattle.ls_answers.specs.declared.answer.Answer.{Answer}
 use Rattle.ls_answers.specs.declared.answer.Answer.TheVariants.{Hover}
@@ -14,12 +15,12 @@ use Rattle.ls_machine.specs.declared.event.DeskFault.TheVariants as fault
 use Rattle.ls_machine.specs.declared.state.Entry.{Entry}
 use Rattle.ls_machine.specs.declared.state.Entry.TheVariants.{Body, Failure, Outcome}
 use Rattle.ls_machine.specs.declared.state.Waiting.{Waiting}
-use Rattle.ls_machine.specs.Machine.{first_ticket, step, is_held, is_queued, on_first, ticket_of, with_taken, without_first}
+use Rattle.ls_machine.specs.Machine.{first_ticket, step, is_held, is_queued, on_first, ticket_of, with_taken, without_first_job}
 use Rattle.ls_machine.specs.declared.state.State.{State}
 use Rattle.ls_machine.specs.Journal.{replay_from}
 use Rattle.ls_desk.specs.Faults.{finish_fault, take_fault}
 use Rattle.ls_desk.specs.Stands.{IsOutFor, Seen, out_of, state_of}
-use Rattle.ls_machine.proofs.Replays.{replay-push}
+use Rattle.ls_machine.proofs.Replays.{replay_push}
 use Rattle.ls_frame.specs.Frames.{frame_of}
 use Rattle.ls_bodies.specs.Bodies.{failure_body}
 use Rattle.ls_session.specs.Bodies.{body_of}
@@ -28,8 +29,8 @@ use Rattle.ls_steps.specs.Runs.{Act, Going, Held, IsSent, Left, Runs, Steps, beg
 use Rattle.ls_steps.specs.Plain.{Replies, RunsUntil, Says, Serves, Works, has_run_all, job_acts}
 use Rattle.ls_steps.proofs.OneSession.{body_for, body_told}
 use Rattle.ls_steps.proofs.ShortTexts.{Each, IsShortEntry}
-use Rattle.ls_steps.proofs.Lawful.{Good, first-current, good-begun, good-run, good-step}
-use Rattle.ls_steps.proofs.Serving.{job-runs, left-is, send-runs}
+use Rattle.ls_steps.proofs.Lawful.{Good, first_current, good_begun, good_run, good_step}
+use Rattle.ls_steps.proofs.Serving.{job_runs, left_is, send_runs}
 
 -- ---- how many jobs are queued
 
@@ -50,11 +51,11 @@ one_fewer (x ∷ ws) w e = by (is_queued x) refl e (one_fewer ws w)
     by true q e later = rw q refl
     by false q e later = rw (q, q) (later e)
 
-no_more : (test : Waiting → Bool) (ws : List Waiting) → queued (without_first test ws) ≤ queued ws
+no_more : (test : Waiting → Bool) (ws : List Waiting) → queued (without_first_job test ws) ≤ queued ws
 no_more test [] = omega arith
 no_more test (w ∷ ws) = by (test w) (is_queued w) refl refl (no_more test ws)
   where
-    by : (b q : Bool) → test w ≡ b → is_queued w ≡ q → queued (without_first test ws) ≤ queued ws → queued (without_first test (w ∷ ws)) ≤ queued (w ∷ ws)
+    by : (b q : Bool) → test w ≡ b → is_queued w ≡ q → queued (without_first_job test ws) ≤ queued ws → queued (without_first_job test (w ∷ ws)) ≤ queued (w ∷ ws)
     by true true e f le = rw (e, f) (omega arith)
     by true false e f le = rw (e, f) (omega arith)
     by false true e f le = rw (e, f) (omega (arith, le))
@@ -63,12 +64,12 @@ no_more test (w ∷ ws) = by (test w) (is_queued w) refl refl (no_more test ws)
 queued_took : (s : State) (journal : List Event) (w : Waiting) → find is_queued (replay_from s journal).waiting ≡ Some w
     → suc (queued (replay_from s (journal ++ Took 0 ∷ [])).waiting) ≡ queued (replay_from s journal).waiting
 unfolding step
-queued_took s journal w e = ap (λ z. suc (queued z.waiting)) (replay-push s journal (Took 0)) ∙ one_fewer (replay_from s journal).waiting w e
+queued_took s journal w e = ap (λ z. suc (queued z.waiting)) (replay_push s journal (Took 0)) ∙ one_fewer (replay_from s journal).waiting w e
 
 queued_finished : (s : State) (journal : List Event) (ticket : ℕ) (failed : Bool) → queued (replay_from s (journal ++ Finished ticket failed ∷ [])).waiting ≤ queued (replay_from s journal).waiting
 unfolding step
 queued_finished s journal ticket failed =
-    subst (λ z. queued z.waiting ≤ queued (replay_from s journal).waiting) (sym (replay-push s journal (Finished ticket failed))) (no_more (is_held ticket) (replay_from s journal).waiting)
+    subst (λ z. queued z.waiting ≤ queued (replay_from s journal).waiting) (sym (replay_push s journal (Finished ticket failed))) (no_more (is_held ticket) (replay_from s journal).waiting)
 
 -- ---- a job is taken and run
 
@@ -143,7 +144,7 @@ some_sent : (g : Going) (es : List Entry) → (state_at g).unsent ≡ es → Goo
 some_sent g [] u good = (g, [], (refl, refl))
 some_sent g (e ∷ es) u good =
     let o = some_out e (subst (Each IsShortEntry) u good.short.unsent).0 in
-    (record g { journal = g.journal ++ Sent (ticket_of e) ∷ [] }, frame_of o.body, (refl, first-current (desk_of g) e es good.lawful u, (o.leaves, o.body, o.is_for, o.body_is, refl)))
+    (record g { journal = g.journal ++ Sent (ticket_of e) ∷ [] }, frame_of o.body, (refl, first_current (desk_of g) e es good.lawful u, (o.leaves, o.body, o.is_for, o.body_is, refl)))
 
 some_step : (g : Going) (act : Act) → Good g → Next g act
 unfolding Steps
@@ -160,11 +161,11 @@ unfolding Runs
 run_from g [] good = (g, [], (refl, refl))
 run_from g (act ∷ acts) good =
     let first = some_step g act good in
-    let rest = run_from first.left acts (good-step false g first.left act first.bytes first.steps good) in
+    let rest = run_from first.left acts (good_step false g first.left act first.bytes first.steps good) in
     (rest.0, first.bytes ++ rest.1, (first.left, first.bytes, rest.1, (first.steps, rest.2, refl)))
 
 pub some_run : (acts : List Act) → (h : Going) × (bytes : List ℕ) × Runs false begun acts h bytes
-some_run acts = run_from begun acts good-begun
+some_run acts = run_from begun acts good_begun
 
 -- ---- all jobs
 
@@ -186,7 +187,7 @@ some_job g w free found =
     let t = took g w (take_fault (desk_of g)) in
     record {
       left = ended (Some (Hover None)) t;
-      runs_it = job-runs false g t (ended (Some (Hover None)) t) (take_of g w free found) (finish_of t (Hover None));
+      runs_it = job_runs false g t (ended (Some (Hover None)) t) (take_of g w free found) (finish_of t (Hover None));
       further = progress g w (Some (Hover None)) (take_fault (desk_of g)) free found;
     }
 
@@ -195,10 +196,6 @@ record Worked (g : Going) : Type 0 where
   left : Going
   works : Works false jobs g left
   good : Good left
-
-both_false : (a b : Bool) → a || b ≡ false → (a ≡ false) × (b ≡ false)
-both_false true b e = absurd (cc)
-both_false false b e = (refl, e)
 
 some_found : (o : Option Waiting) → is_none o ≡ false → (w : Waiting) × (o ≡ Some w)
 some_found None e = absurd (cc)
@@ -212,10 +209,10 @@ work_by : (g : Going) (b : Bool) → has_run_all g ≡ b → Good g → ((mid : 
 unfolding RunsUntil
 work_by g true e good more = idle g e good
 work_by g false e good more =
-    let parts = both_false (is_filled g.status) (is_none (find is_queued (state_at g).waiting)) e in
+    let parts = or_parts (is_filled g.status) (is_none (find is_queued (state_at g).waiting)) e in
     let w = some_found (find is_queued (state_at g).waiting) parts.1 in
     let job = some_job g w.0 parts.0 w.1 in
-    let later = more job.left (good-run false g job.left job_acts [] job.runs_it good) job.further in
+    let later = more job.left (good_run false g job.left job_acts [] job.runs_it good) job.further in
     record { jobs = suc later.jobs; left = later.left; works = (e, (job.left, [], [], (job.runs_it, later.works, refl))); good = later.good }
 
 onward : (g mid : Going) → Good mid → Progress g mid → (suc (queued_at mid) ≤ queued_at g → Worked mid) → Worked mid
@@ -238,19 +235,19 @@ pub record Replied (g : Going) : Type 0 where
 
 unsent_after : (g m : Going) (e : Entry) (es : List Entry) (bytes : List ℕ) → (state_at g).unsent ≡ e ∷ es → Steps false g send m bytes → (state_at m).unsent ≡ es
 unfolding Steps
-unsent_after g m e es bytes u s = left-is g m e es u (subst (λ l. IsSent g l m bytes) u s).0
+unsent_after g m e es bytes u s = left_is g m e es u (subst (λ l. IsSent g l m bytes) u s).0
 
 pub some_replies : (es : List Entry) (g : Going) → (state_at g).unsent ≡ es → Good g → Replied g
 unfolding RunsUntil
 some_replies [] g u good = record { replies = 0; left = g; bytes = []; sends = (ap (λ l. is_none (first_ticket l)) u, refl, refl); good = good }
 some_replies (e ∷ es) g u good =
     let first = some_step g send good in
-    let rest = some_replies es first.left (unsent_after g first.left e es first.bytes u first.steps) (good-step false g first.left send first.bytes first.steps good) in
+    let rest = some_replies es first.left (unsent_after g first.left e es first.bytes u first.steps) (good_step false g first.left send first.bytes first.steps good) in
     record {
       replies = suc rest.replies;
       left = rest.left;
       bytes = first.bytes ++ rest.bytes;
-      sends = (ap (λ l. is_none (first_ticket l)) u, (first.left, first.bytes, rest.bytes, (send-runs false g first.left first.bytes first.steps, rest.sends, refl)));
+      sends = (ap (λ l. is_none (first_ticket l)) u, (first.left, first.bytes, rest.bytes, (send_runs false g first.left first.bytes first.steps, rest.sends, refl)));
       good = rest.good;
     }
 
@@ -270,7 +267,7 @@ some_message : (g : Going) (body : List ℕ) → Good g → Message g body
 some_message g body good =
     let first = while_open g.status g (heard g body) in
     let hears = hear_of g body in
-    let work = some_work (queued_at first) first (good-step false g first (hear body) [] hears good) (omega arith) in
+    let work = some_work (queued_at first) first (good_step false g first (hear body) [] hears good) (omega arith) in
     let sent = some_replies (state_at work.left).unsent work.left refl work.good in
     record {
       left = sent.left;
@@ -294,4 +291,4 @@ said g (body ∷ bodies) good =
 
 -- nothing is open at the start
 pub some_session : (bodies : List (List ℕ)) → (h : Going) × (bytes : List ℕ) × Says false begun bodies h bytes
-some_session bodies = said begun bodies good-begun
+some_session bodies = said begun bodies good_begun

@@ -1,4 +1,4 @@
 pub mod Runs
-pub mod Leaves
 pub mod Plain
 pub mod Comes
+pub mod own

@@ -29,7 +29,7 @@ use Rattle.ls_machine.specs.Counts.{counted, first}
 use Rattle.ls_machine.specs.Journal.{replay_from}
 use Rattle.ls_desk.specs.Anew.{base_after, journal_after}
 use Rattle.ls_desk.specs.Stands.{Seen, IsOutFor, WasCurrentAt, counts_of, fresh_for, state_of}
-use Rattle.ls_desk.specs.Door.{client_fault, entry_at}
+use Rattle.ls_desk.specs.Door.{client_fault, entered_at}
 use Rattle.ls_desk.specs.Faults.{full_fault, take_fault, finish_fault}
 use Rattle.ls_session.specs.Bodies.{body_of, refusal_to}
 use Rattle.ls_session.specs.Session.{turn_of}
@@ -118,7 +118,7 @@ refused d id SessionFull = left_full d
 refused d id fault = tells d (refusal_to id fault)
 
 abbrev pub met : Seen → ClientEvent → Option DeskFault → Left
-met d event None = entered d (entry_at (state_of d) event)
+met d event None = entered d (entered_at (state_of d) event)
 met d event (Some fault) = refused d (asker_of event) fault
 
 abbrev pub meets : Seen → ClientEvent → Left

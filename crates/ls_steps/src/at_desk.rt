@@ -2,7 +2,7 @@
 ghost use Rattle.std.specs.Prelude.{IfOk};
 ghost use Rattle.ls_desk.specs.Stands.{IsSound};
 ghost use Rattle.ls_steps.specs.Runs.{finishes, meets, refused};
-ghost use Rattle.ls_steps.specs.Leaves.{Leaves};
+ghost use Rattle.ls_steps.specs.own.Leaves.{IsLeft};
 ghost use Rattle.ls_machine.specs.Client.{IsAllowed};
 
 use ls_answers::Done;
@@ -14,7 +14,7 @@ use std::alloc::{AllocError as Memory, Global};
 
 /// Tells a refused request so, and answers whether the session is full.
 fn tell(alloc: Global, desk: &mut Desk, asker: Option<Id>, fault: DeskFault) -> Result<bool, Memory>
-    ensures left { IfOk result (λ full. Leaves (refused desk.old asker fault) full desk.old desk.new) }
+    ensures left { IfOk result (λ full. IsLeft (refused desk.old asker fault) full desk.old desk.new) }
     ensures sound { IsSound desk.old → IsSound desk.new }
 {
     if let DeskFault::SessionFull = fault {
@@ -33,7 +33,7 @@ fn tell(alloc: Global, desk: &mut Desk, asker: Option<Id>, fault: DeskFault) -> 
 /// Does what an event of the client asks for, and answers whether the session is full. A refused request is told so.
 pub fn meet(alloc: Global, desk: &mut Desk, event: ClientEvent) -> Result<bool, Memory>
     requires { IsAllowed event }
-    ensures left { IfOk result (λ full. Leaves (meets desk.old event) full desk.old desk.new) }
+    ensures left { IfOk result (λ full. IsLeft (meets desk.old event) full desk.old desk.new) }
     ensures sound { IsSound desk.old → IsSound desk.new }
 {
     let asker = event.asker()?;
@@ -46,7 +46,7 @@ pub fn meet(alloc: Global, desk: &mut Desk, event: ClientEvent) -> Result<bool, 
 
 /// Takes a job that has run back to the desk, and answers whether the session is full.
 pub fn finish(desk: &mut Desk, done: Done) -> Result<bool, Memory>
-    ensures left { IfOk result (λ full. Leaves (finishes desk.old done) full desk.old desk.new) }
+    ensures left { IfOk result (λ full. IsLeft (finishes desk.old done) full desk.old desk.new) }
     ensures sound { IsSound desk.old → IsSound desk.new }
 {
     match desk.finish(done) {

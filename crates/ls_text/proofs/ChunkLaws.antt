@@ -7,23 +7,23 @@ use Rattle.std.proofs.lemmas.List.Concat.{flat_map-append}
 use Rattle.std.proofs.lemmas.Bool.{cases_lt}
 use Rattle.std.proofs.lemmas.Str.{encodes-append, length-le-encodes}
 use Rattle.ls_text.specs.Cut.{text_of, end_text, line_text, start_of, IsIndex}
-use Rattle.ls_text.specs.Chunks.{char_length, byte_length, AreSums, IsSpine, IsLineAt}
+use Rattle.ls_text.specs.own.Chunks.{char_length, byte_length, AreSums, IsSpine, IsLineAt}
 use Rattle.ls_text.specs.Cut.{Row}
-use Rattle.ls_text.proofs.HeldLaws.{text_of-append, text_of-one}
+use Rattle.ls_text.proofs.HeldLaws.{text_of_append, text_of_one}
 use Rattle.ls_text.proofs.OffsetLaws.{start_le}
 
 -- ---- what is measured adds up
-pub char_length-append : (xs ys : List Row) → char_length (xs ++ ys) ≡ char_length xs + char_length ys
-char_length-append xs ys = ap length (text_of-append xs ys) ∙ length-append (text_of xs) (text_of ys)
+pub char_length_append : (xs ys : List Row) → char_length (xs ++ ys) ≡ char_length xs + char_length ys
+char_length_append xs ys = ap length (text_of_append xs ys) ∙ length-append (text_of xs) (text_of ys)
 
-pub byte_length-append : (xs ys : List Row) → byte_length (xs ++ ys) ≡ byte_length xs + byte_length ys
-byte_length-append xs ys = ap (λ x. length (encodes x)) (text_of-append xs ys) ∙ ap length (encodes-append (text_of xs) (text_of ys)) ∙ length-append (encodes (text_of xs)) (encodes (text_of ys))
+pub byte_length_append : (xs ys : List Row) → byte_length (xs ++ ys) ≡ byte_length xs + byte_length ys
+byte_length_append xs ys = ap (λ x. length (encodes x)) (text_of_append xs ys) ∙ ap length (encodes-append (text_of xs) (text_of ys)) ∙ length-append (encodes (text_of xs)) (encodes (text_of ys))
 
 pub chars_le_bytes : (ls : List Row) → char_length ls ≤ byte_length ls
 chars_le_bytes ls = length-le-encodes (text_of ls)
 
-pub byte_length-front : (xs ys : List Row) → byte_length xs ≤ byte_length (xs ++ ys)
-byte_length-front xs ys = omega (arith, byte_length-append xs ys)
+pub byte_length_front : (xs ys : List Row) → byte_length xs ≤ byte_length (xs ++ ys)
+byte_length_front xs ys = omega (arith, byte_length_append xs ys)
 
 -- ---- lists of three parts
 pub take_in : {X : Type 0} (a b c : List X) (j : ℕ) → j ≤ length b → take (length a + j) (a ++ (b ++ c)) ≡ a ++ take j b
@@ -50,22 +50,22 @@ pub get_in : (a b c : List Row) (j : ℕ) (d : Row) → j < length b → get_or 
 get_in a b c j d lt = get_or-append-add a (b ++ c) j d ∙ get_or_append_left b c d j lt
 
 -- a line starts after the lines before it
-pub start_of-append : (a b : List Row) (j : ℕ) → start_of (a ++ b) (length a + j) ≡ char_length a + start_of b j
-start_of-append [] b j = ap (start_of b) (zero_plus j) ∙ sym (zero_plus (start_of b j))
+pub start_of_append : (a b : List Row) (j : ℕ) → start_of (a ++ b) (length a + j) ≡ char_length a + start_of b j
+start_of_append [] b j = ap (start_of b) (zero_plus j) ∙ sym (zero_plus (start_of b j))
   where
     zero_plus : (j : ℕ) → 0 + j ≡ j
     zero_plus j = omega arith
-start_of-append (l ∷ a) b j =
+start_of_append (l ∷ a) b j =
     ap (start_of (l ∷ (a ++ b))) (more (length a) j)
-    ∙ omega (arith, start_of-append a b j, length-append (line_text l) (end_text l.end ++ text_of a), length-append (end_text l.end) (text_of a))
+    ∙ omega (arith, start_of_append a b j, length-append (line_text l) (end_text l.end ++ text_of a), length-append (end_text l.end) (text_of a))
   where
     more : (n j : ℕ) → suc n + j ≡ suc (n + j)
     more n j = omega arith
 
-pub start_of-left : (a b : List Row) (j : ℕ) → j < length a → start_of (a ++ b) j ≡ start_of a j
-start_of-left [] b j lt = absurd (omega (arith, lt))
-start_of-left (l ∷ a) b zero lt = refl
-start_of-left (l ∷ a) b (suc j) lt = ap (λ n. length (line_text l) + (length (end_text l.end) + n)) (start_of-left a b j (omega (arith, lt)))
+pub start_of_left : (a b : List Row) (j : ℕ) → j < length a → start_of (a ++ b) j ≡ start_of a j
+start_of_left [] b j lt = absurd (omega (arith, lt))
+start_of_left (l ∷ a) b zero lt = refl
+start_of_left (l ∷ a) b (suc j) lt = ap (λ n. length (line_text l) + (length (end_text l.end) + n)) (start_of_left a b j (omega (arith, lt)))
 
 -- a list's front, and what follows it up to a place
 pub take_join : {X : Type 0} (xs : List X) (front place : ℕ) → front ≤ place → take front xs ++ take (place - front) (drop front xs) ≡ take place xs
@@ -100,8 +100,8 @@ module _ {X : Type 0} (value : X → List Row) where
   spine_push cs next x firsts starts firsts' starts' count chars bytes more_lines more_chars more_bytes s next_is firsts_are starts_are lines_is chars_is bytes_is small fits =
       subst (λ z. IsSpine value z firsts' starts' (count + more_lines) (chars + more_chars) (bytes + more_bytes)) (sym next_is) (record {
         line_sums = subst (λ z. AreSums value length (cs ++ x ∷ []) z (count + more_lines)) (sym firsts_are) (sums_push length (λ xs ys. length-append xs ys) cs x firsts count more_lines s.line_sums lines_is);
-        char_sums = subst (λ z. AreSums value char_length (cs ++ x ∷ []) z (chars + more_chars)) (sym starts_are) (sums_push char_length char_length-append cs x starts chars more_chars s.char_sums chars_is);
-        bytes_are = (λ i. s.bytes_are i + bytes_is i) ∙ sym (byte_length-append (flat_map value cs) (value x)) ∙ ap byte_length (sym (pieces_push cs x));
+        char_sums = subst (λ z. AreSums value char_length (cs ++ x ∷ []) z (chars + more_chars)) (sym starts_are) (sums_push char_length char_length_append cs x starts chars more_chars s.char_sums chars_is);
+        bytes_are = (λ i. s.bytes_are i + bytes_is i) ∙ sym (byte_length_append (flat_map value cs) (value x)) ∙ ap byte_length (sym (pieces_push cs x));
         small = small;
         fits = fits;
       })
@@ -130,7 +130,7 @@ module _ {X : Type 0} (value : X → List Row) where
   pieces_bytes cs i x lt item now piece init piece_is before =
       let some : now ++ piece ≡ init ++ flat_map value (take (i + 1) cs) = pieces_more cs i x lt item now (now ++ piece) init (ap (λ z. now ++ z) piece_is) before in
       let all : init ++ flat_map value cs ≡ (init ++ flat_map value (take (i + 1) cs)) ++ flat_map value (drop (i + 1) cs) = ap (λ z. init ++ z) (sym (pieces_split cs (i + 1))) ∙ sym (append_assoc init (flat_map value (take (i + 1) cs)) (flat_map value (drop (i + 1) cs))) in
-      omega (arith, ap byte_length some, ap byte_length all, byte_length-front (init ++ flat_map value (take (i + 1) cs)) (flat_map value (drop (i + 1) cs)))
+      omega (arith, ap byte_length some, ap byte_length all, byte_length_front (init ++ flat_map value (take (i + 1) cs)) (flat_map value (drop (i + 1) cs)))
 
   -- ---- the piece found among sums
   module _ (measure : List Row → ℕ) (add : (xs ys : List Row) → measure (xs ++ ys) ≡ measure xs + measure ys) (none : measure [] ≡ 0) (cs : List X) (sums : List ℕ) (total : ℕ) (s : AreSums value measure cs sums total) where
@@ -192,7 +192,7 @@ module _ {X : Type 0} (value : X → List Row) where
       (subst (λ z. IsLineAt z (length (flat_map value (take k cs)) + local) line (start + local_start)) (sym (pieces_at cs k x lt item)) (record {
         in_range = omega (arith, found.in_range, length-append (flat_map value (take k cs)) (value x ++ flat_map value (drop (k + 1) cs)), length-append (value x) (flat_map value (drop (k + 1) cs)));
         line_is = found.line_is ∙ sym (get_in (flat_map value (take k cs)) (value x) (flat_map value (drop (k + 1) cs)) local line found.in_range);
-        start_is = (λ i. start_is i + found.start_is i) ∙ ap (λ n. char_length (flat_map value (take k cs)) + n) (sym (start_of-left (value x) (flat_map value (drop (k + 1) cs)) local found.in_range)) ∙ sym (start_of-append (flat_map value (take k cs)) (value x ++ flat_map value (drop (k + 1) cs)) local);
+        start_is = (λ i. start_is i + found.start_is i) ∙ ap (λ n. char_length (flat_map value (take k cs)) + n) (sym (start_of_left (value x) (flat_map value (drop (k + 1) cs)) local found.in_range)) ∙ sym (start_of_append (flat_map value (take k cs)) (value x ++ flat_map value (drop (k + 1) cs)) local);
       }))
 
 -- a line of lines with an index
@@ -223,7 +223,7 @@ parts_more init ls now next from to le before more =
 pub parts_bytes : (init ls next : List Row) (to : ℕ) → next ≡ init ++ take to ls → byte_length next ≤ byte_length (init ++ ls)
 parts_bytes init ls next to is =
     let all : init ++ ls ≡ (init ++ take to ls) ++ drop to ls = ap (λ z. init ++ z) (sym (take-append-drop to ls)) ∙ sym (append_assoc init (take to ls) (drop to ls)) in
-    omega (arith, ap byte_length is, ap byte_length all, byte_length-front (init ++ take to ls) (drop to ls))
+    omega (arith, ap byte_length is, ap byte_length all, byte_length_front (init ++ take to ls) (drop to ls))
 
 pub nil_of : {X : Type 0} (xs : List X) → length xs ≡ 0 → xs ≡ []
 nil_of [] e = refl
@@ -283,8 +283,8 @@ module _ {X : Type 0} (value : X → List Row) (cs : List X) (firsts starts : Li
             let lt' : local + 1 < length (value x) = omega (arith, lt, ap length held_is) in
             let here : start_of (flat_map value cs) (first + local + 1) ≡ char_length (flat_map value (take k cs)) + start_of (value x) (local + 1) =
             ap (start_of (flat_map value cs)) sum ∙ ap (λ z. start_of z (length (flat_map value (take k cs)) + (local + 1))) (pieces_at value cs k x k_lt item)
-            ∙ start_of-append (flat_map value (take k cs)) (value x ++ flat_map value (drop (k + 1) cs)) (local + 1)
-            ∙ ap (λ n. char_length (flat_map value (take k cs)) + n) (start_of-left (value x) (flat_map value (drop (k + 1) cs)) (local + 1) lt') in
+            ∙ start_of_append (flat_map value (take k cs)) (value x ++ flat_map value (drop (k + 1) cs)) (local + 1)
+            ∙ ap (λ n. char_length (flat_map value (take k cs)) + n) (start_of_left (value x) (flat_map value (drop (k + 1) cs)) (local + 1) lt') in
             omega (arith, here, local_next lt, ap (λ z. start_of z (local + 1)) held_is, start_at, after_start)
 
         at_end : length held ≤ local + 1 → offset < start_of (flat_map value cs) (first + local + 1)
@@ -298,7 +298,7 @@ module _ {X : Type 0} (value : X → List Row) (cs : List X) (firsts starts : Li
                 let zero_more : length (flat_map value (take (k + 1) cs)) + 0 ≡ length (flat_map value (take (k + 1) cs)) = omega arith in
                 let here : start_of (flat_map value cs) (first + local + 1) ≡ char_length (flat_map value (take (k + 1) cs)) + start_of (flat_map value (drop (k + 1) cs)) 0 =
                 ap (start_of (flat_map value cs)) (ends ∙ sym zero_more) ∙ ap (λ z. start_of z (length (flat_map value (take (k + 1) cs)) + 0)) (sym (pieces_split value cs (k + 1)))
-                ∙ start_of-append (flat_map value (take (k + 1) cs)) (flat_map value (drop (k + 1) cs)) 0 in
+                ∙ start_of_append (flat_map value (take (k + 1) cs)) (flat_map value (drop (k + 1) cs)) 0 in
                 omega (arith, here, start_none (flat_map value (drop (k + 1) cs)), next (omega (arith, lt, ap length got_is, s.char_sums.count)), ap (λ z. get_or z (k + 1) 0) got_is, s.char_sums.sums_are (k + 1) lt)
 
             past : length cs ≤ k + 1 → offset < start_of (flat_map value cs) (first + local + 1)
@@ -312,7 +312,7 @@ module _ (p l0 l1 l b new front back : List Row) (front_is : p ++ l0 ≡ front) 
       ∙ sym (append_assoc p l0 (new ++ back)) ∙ ap (λ z. z ++ (new ++ back)) front_is
 
   pub replaced_bytes : byte_length (p ++ l) ≤ byte_length (front ++ (new ++ back))
-  replaced_bytes = omega (arith, ap byte_length replaced_is, byte_length-front (p ++ l) b)
+  replaced_bytes = omega (arith, ap byte_length replaced_is, byte_length_front (p ++ l) b)
 
 -- ---- the text of the lines from one up to another
 pub between_none : (ls : List Row) (from : ℕ) (t : List ℕ) → t ≡ t ++ text_of (take (from - from) (drop from ls))
@@ -329,4 +329,4 @@ between_more ls from i l start le at init now next next_is before =
     ap (λ n. take n (drop from ls)) one ∙ take_more (drop from ls) (i - from) l (omega (arith, le, at.in_range, length-drop from ls)) ∙ ap (λ z. take (i - from) (drop from ls) ++ z ∷ []) here in
     next_is ∙ ap (λ z. z ++ (line_text l ++ end_text l.end)) before
     ∙ append_assoc init (text_of (take (i - from) (drop from ls))) (line_text l ++ end_text l.end)
-    ∙ ap (λ z. init ++ z) (sym (text_of-one (take (i - from) (drop from ls)) l) ∙ ap text_of (sym more))
+    ∙ ap (λ z. init ++ z) (sym (text_of_one (take (i - from) (drop from ls)) l) ∙ ap text_of (sym more))

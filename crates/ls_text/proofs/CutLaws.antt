@@ -13,31 +13,31 @@ use Rattle.std.proofs.lemmas.Bool.{cases_lt, not-true}
 use Rattle.std.proofs.lemmas.Bool.Decides.{nat_tests}
 use Rattle.std.proofs.lemmas.Str.{encodes-append, encodes-chars, chars-append, chars_from_encodes, encode_ascii, byte_from_char, char_from_byte, IsUtf8-drop, IsUtf8-take, IsCharBoundary-after_ascii, IsCharBoundary-before_ascii, IsCharBoundary-end, IsCharBoundary-start, length-encode, len_utf8_bounds}
 use Rattle.ls_text.specs.Lines.{is_break, starts_with_lf, line_ends, lines}
-use Rattle.ls_text.specs.Cut.{end_text, line_text, text_of, IsPlain, is_end_before, AreLines, AreLinesBefore, IsCutSoFar, IsCutOnto, IsCut, first_end, IsCutFrom, IsPushed}
+use Rattle.ls_text.specs.Cut.{end_text, line_text, text_of, IsPlain, is_end_before, AreLines, AreLinesBefore, IsCutSoFar, IsCutOnto, IsCut, first_end, IsCutFrom, IsPushedLine}
 use Rattle.ls_text.specs.declared.line_end.LineEnd.{LineEnd}
 use Rattle.ls_text.specs.declared.line_end.LineEnd.TheVariants.{Eof, Lf, Cr, CrLf}
 use Rattle.ls_text.specs.Cut.{Row}
-use Rattle.ls_text.proofs.LineLaws.{lines-plain, lines-plain_append, length-lines}
+use Rattle.ls_text.proofs.LineLaws.{lines_plain, lines_plain_append, length_lines}
 
 -- the lines of a plain line, its line end and a rest
-pub lines-end : (e : LineEnd) (t : List ℕ) → is_end_before e t ≡ true → lines (end_text e ++ t) ≡ [] ∷ lines t
+pub lines_end_holds : (e : LineEnd) (t : List ℕ) → is_end_before e t ≡ true → lines (end_text e ++ t) ≡ [] ∷ lines t
 unfolding lines
-lines-end Eof t h = cc
-lines-end Lf t h = refl
-lines-end Cr t h = rw (not-true (starts_with_lf t) h) refl
-lines-end CrLf t h = refl
+lines_end_holds Eof t h = cc
+lines_end_holds Lf t h = refl
+lines_end_holds Cr t h = rw (not-true (starts_with_lf t) h) refl
+lines_end_holds CrLf t h = refl
 
-pub lines-cut : (p : List ℕ) (e : LineEnd) (t : List ℕ) → IsPlain p → is_end_before e t ≡ true → lines (p ++ (end_text e ++ t)) ≡ p ∷ lines t
-lines-cut p e t h k = lines-plain_append p (end_text e ++ t) [] (lines t) h (lines-end e t k) ∙ ap (λ q. q ∷ lines t) (append-nil p)
+pub lines_cut : (p : List ℕ) (e : LineEnd) (t : List ℕ) → IsPlain p → is_end_before e t ≡ true → lines (p ++ (end_text e ++ t)) ≡ p ∷ lines t
+lines_cut p e t h k = lines_plain_append p (end_text e ++ t) [] (lines t) h (lines_end_holds e t k) ∙ ap (λ q. q ∷ lines t) (append-nil p)
 
 -- the lines of the text are the lines held
-pub lines-text_of : (ls : List Row) → AreLines ls → lines (text_of ls) ≡ map line_text ls
-lines-text_of [] h = absurd h
-lines-text_of (l ∷ []) h = ap (λ e. lines (line_text l ++ (end_text e ++ []))) h.1 ∙ ap lines (append-nil (line_text l)) ∙ lines-plain (line_text l) h.0
-lines-text_of (l ∷ m ∷ ls) h = lines-cut (line_text l) l.end (text_of (m ∷ ls)) h.0 h.1 ∙ ap (λ r. line_text l ∷ r) (lines-text_of (m ∷ ls) h.2)
+pub lines_text_of : (ls : List Row) → AreLines ls → lines (text_of ls) ≡ map line_text ls
+lines_text_of [] h = absurd h
+lines_text_of (l ∷ []) h = ap (λ e. lines (line_text l ++ (end_text e ++ []))) h.1 ∙ ap lines (append-nil (line_text l)) ∙ lines_plain (line_text l) h.0
+lines_text_of (l ∷ m ∷ ls) h = lines_cut (line_text l) l.end (text_of (m ∷ ls)) h.0 h.1 ∙ ap (λ r. line_text l ∷ r) (lines_text_of (m ∷ ls) h.2)
 
-pub line_ends-text_of : (ls : List Row) → AreLines ls → line_ends (text_of ls) + 1 ≡ length ls
-line_ends-text_of ls h = sym (length-lines (text_of ls)) ∙ ap length (lines-text_of ls h) ∙ length-map ls line_text
+pub line_ends_text_of : (ls : List Row) → AreLines ls → line_ends (text_of ls) + 1 ≡ length ls
+line_ends_text_of ls h = sym (length_lines (text_of ls)) ∙ ap length (lines_text_of ls h) ∙ length-map ls line_text
 
 -- the first of these bytes that is LF or CR shows the text's line
 pub plain_below : (bs : List ℕ) (n : ℕ) → ((k : ℕ) → k < n → is_break (get_or bs k 0) ≡ false) → list_any is_break (take n bs) ≡ false
@@ -151,14 +151,14 @@ lf_same (c ∷ cs) bs e =
     high_case h (inl low) = absurd (omega (arith, char_from_byte bs (encodes cs) c (sym e) low long, h, low))
     high_case h (inr also) = neither c (get_or bs 0 0) h also
 
-pub starts_with_lf-chars : (bs : List ℕ) → IsUtf8 bs → starts_with_lf (chars bs) ≡ starts_with_lf bs
-starts_with_lf-chars bs u = subst (λ cs. starts_with_lf cs ≡ starts_with_lf bs) (chars_from_encodes u.0 bs u u.1.1) (lf_same u.0 bs u.1.1)
+pub starts_with_lf_chars : (bs : List ℕ) → IsUtf8 bs → starts_with_lf (chars bs) ≡ starts_with_lf bs
+starts_with_lf_chars bs u = subst (λ cs. starts_with_lf cs ≡ starts_with_lf bs) (chars_from_encodes u.0 bs u u.1.1) (lf_same u.0 bs u.1.1)
 
-pub is_end_before-chars : (e : LineEnd) (bs : List ℕ) → IsUtf8 bs → is_end_before e bs ≡ true → is_end_before e (chars bs) ≡ true
-is_end_before-chars Eof bs u h = cc
-is_end_before-chars Lf bs u h = refl
-is_end_before-chars Cr bs u h = ap not (starts_with_lf-chars bs u) ∙ h
-is_end_before-chars CrLf bs u h = refl
+pub is_end_before_chars : (e : LineEnd) (bs : List ℕ) → IsUtf8 bs → is_end_before e bs ≡ true → is_end_before e (chars bs) ≡ true
+is_end_before_chars Eof bs u h = cc
+is_end_before_chars Lf bs u h = refl
+is_end_before_chars Cr bs u h = ap not (starts_with_lf_chars bs u) ∙ h
+is_end_before_chars CrLf bs u h = refl
 
 -- the characters of a line, its end and a rest
 pub end_utf8 : (e : LineEnd) → IsUtf8 (end_text e)
@@ -175,20 +175,20 @@ chars_end Lf = refl
 chars_end Cr = refl
 chars_end CrLf = refl
 
-pub chars-cut : (bs : List ℕ) (e : LineEnd) (rest : List ℕ) → IsUtf8 bs → chars (bs ++ (end_text e ++ rest)) ≡ chars bs ++ (end_text e ++ chars rest)
-chars-cut bs e rest u = chars-append bs (end_text e ++ rest) u ∙ ap (λ r. chars bs ++ r) (chars-append (end_text e) rest (end_utf8 e) ∙ ap (λ x. x ++ chars rest) (chars_end e))
+pub chars_cut : (bs : List ℕ) (e : LineEnd) (rest : List ℕ) → IsUtf8 bs → chars (bs ++ (end_text e ++ rest)) ≡ chars bs ++ (end_text e ++ chars rest)
+chars_cut bs e rest u = chars-append bs (end_text e ++ rest) u ∙ ap (λ r. chars bs ++ r) (chars-append (end_text e) rest (end_utf8 e) ∙ ap (λ x. x ++ chars rest) (chars_end e))
 
 -- ---- the loop: these lines come before the rest t of the text
-pub text_of-push : (ls : List Row) (l : Row) (t : List ℕ) → text_of (ls ++ l ∷ []) ++ t ≡ text_of ls ++ (line_text l ++ (end_text l.end ++ t))
-text_of-push [] l t = append_assoc (line_text l) (end_text l.end ++ []) t ∙ ap (λ x. line_text l ++ x) (append_assoc (end_text l.end) [] t)
-text_of-push (m ∷ ls) l t =
+pub text_of_push : (ls : List Row) (l : Row) (t : List ℕ) → text_of (ls ++ l ∷ []) ++ t ≡ text_of ls ++ (line_text l ++ (end_text l.end ++ t))
+text_of_push [] l t = append_assoc (line_text l) (end_text l.end ++ []) t ∙ ap (λ x. line_text l ++ x) (append_assoc (end_text l.end) [] t)
+text_of_push (m ∷ ls) l t =
     append_assoc (line_text m) (end_text m.end ++ text_of (ls ++ l ∷ [])) t
-    ∙ ap (λ x. line_text m ++ x) (append_assoc (end_text m.end) (text_of (ls ++ l ∷ [])) t ∙ ap (λ x. end_text m.end ++ x) (text_of-push ls l t) ∙ sym (append_assoc (end_text m.end) (text_of ls) (line_text l ++ (end_text l.end ++ t))))
+    ∙ ap (λ x. line_text m ++ x) (append_assoc (end_text m.end) (text_of (ls ++ l ∷ [])) t ∙ ap (λ x. end_text m.end ++ x) (text_of_push ls l t) ∙ sym (append_assoc (end_text m.end) (text_of ls) (line_text l ++ (end_text l.end ++ t))))
     ∙ sym (append_assoc (line_text m) (end_text m.end ++ text_of ls) (line_text l ++ (end_text l.end ++ t)))
 
 pub lines_before_push : (ls : List Row) (l : Row) (t : List ℕ) → AreLinesBefore ls (line_text l ++ (end_text l.end ++ t)) → IsPlain (line_text l) → is_end_before l.end t ≡ true → AreLinesBefore (ls ++ l ∷ []) t
 lines_before_push [] l t h p e = (p, e, tt)
-lines_before_push (m ∷ ls) l t h p e = (h.0, ap (is_end_before m.end) (text_of-push ls l t) ∙ h.1, lines_before_push ls l t h.2 p e)
+lines_before_push (m ∷ ls) l t h p e = (h.0, ap (is_end_before m.end) (text_of_push ls l t) ∙ h.1, lines_before_push ls l t h.2 p e)
 
 pub lines_end : (ls : List Row) (l : Row) → AreLinesBefore ls (line_text l) → IsPlain (line_text l) → l.end ≡ Eof → AreLines (ls ++ l ∷ [])
 lines_end [] l h p e = (p, e)
@@ -198,22 +198,22 @@ lines_end (m ∷ n ∷ ls) l h p e =
     (h.0, ap (is_end_before m.end) (whole (n ∷ ls)) ∙ h.1, lines_end (n ∷ ls) l h.2 p e)
   where
     whole : (ks : List Row) → text_of (ks ++ l ∷ []) ≡ text_of ks ++ line_text l
-    whole ks = sym (append-nil (text_of (ks ++ l ∷ []))) ∙ text_of-push ks l [] ∙ ap (λ x. text_of ks ++ (line_text l ++ (end_text x ++ []))) e ∙ ap (λ x. text_of ks ++ x) (append-nil (line_text l))
+    whole ks = sym (append-nil (text_of (ks ++ l ∷ []))) ∙ text_of_push ks l [] ∙ ap (λ x. text_of ks ++ (line_text l ++ (end_text x ++ []))) e ∙ ap (λ x. text_of ks ++ x) (append-nil (line_text l))
 
 pub cut_start : (text : List ℕ) → IsUtf8 text → IsCutSoFar text [] text
 cut_start text u = record { joins = refl; before = tt; utf8 = u }
 
 module _ {text rest : List ℕ} {ls : List Row} {line after : List ℕ} {end : LineEnd} (l : Row) (so_far : IsCutSoFar text ls rest) (cut : IsCutFrom line end after rest) (text_is : line_text l ≡ chars line) (end_is : l.end ≡ end) where
   rest_is : chars rest ≡ line_text l ++ (end_text l.end ++ chars after)
-  rest_is = ap chars cut.joins ∙ chars-cut line end after cut.line_utf8 ∙ (λ i. sym text_is i ++ (end_text (sym end_is i) ++ chars after))
+  rest_is = ap chars cut.joins ∙ chars_cut line end after cut.line_utf8 ∙ (λ i. sym text_is i ++ (end_text (sym end_is i) ++ chars after))
 
   line_plain : IsPlain (line_text l)
   line_plain = subst IsPlain (sym text_is) (plain_chars line cut.line_utf8 cut.plain)
 
   pub cut_more : is_end_before end after ≡ true → IsCutSoFar text (ls ++ l ∷ []) after
   cut_more e = record {
-    joins = text_of-push ls l (chars after) ∙ ap (λ x. text_of ls ++ x) (sym rest_is) ∙ so_far.joins;
-    before = lines_before_push ls l (chars after) (subst (AreLinesBefore ls) rest_is so_far.before) line_plain (ap (λ x. is_end_before x (chars after)) end_is ∙ is_end_before-chars end after cut.rest_utf8 e);
+    joins = text_of_push ls l (chars after) ∙ ap (λ x. text_of ls ++ x) (sym rest_is) ∙ so_far.joins;
+    before = lines_before_push ls l (chars after) (subst (AreLinesBefore ls) rest_is so_far.before) line_plain (ap (λ x. is_end_before x (chars after)) end_is ∙ is_end_before_chars end after cut.rest_utf8 e);
     utf8 = cut.rest_utf8;
   }
 
@@ -251,7 +251,7 @@ module _ (bytes bs : List ℕ) (n : ℕ) (value : bytes ≡ bs) (u : IsUtf8 bs) 
 -- ---- what `line` finds
 module _ (ls : List Row) (t : List ℕ) (i : ℕ) (h : AreLines ls) (view_is : text_of ls ≡ t) where
   line_found : slice_get (lines t) i ≡ option_map line_text (slice_get ls i)
-  line_found = ap (λ x. slice_get x i) (ap lines (sym view_is) ∙ lines-text_of ls h) ∙ slice_get-map line_text ls i
+  line_found = ap (λ x. slice_get x i) (ap lines (sym view_is) ∙ lines_text_of ls h) ∙ slice_get-map line_text ls i
 
   pub text_some : (x : Row) → i < length ls → x ≡ get_or ls i x → Some (line_text x) ≡ slice_get (lines t) i
   text_some x lt e = sym (line_found ∙ ap (option_map line_text) (slice_get-get_or ls i x lt) ∙ ap (λ y. Some (line_text y)) (sym e))
@@ -271,7 +271,7 @@ pub onto_start : (old : List Row) (text : List ℕ) → IsUtf8 text → IsCutOnt
 onto_start old text u = record { cut = []; joins = sym (append-nil old); so_far = cut_start text u }
 
 module _ {old now : List Row} {text rest line after : List ℕ} {end : LineEnd} (onto : IsCutOnto old text rest now) (cut : IsCutFrom line end after rest) where
-  pub onto_more : {next : List Row} → IsPushed now line end next → (end ≡ Eof → ⊥) → IsCutOnto old text after next
+  pub onto_more : {next : List Row} → IsPushedLine now line end next → (end ≡ Eof → ⊥) → IsCutOnto old text after next
   onto_more pushed ne = record {
     cut = onto.cut ++ pushed.line ∷ [];
     joins = pushed.joins ∙ ap (λ x. x ++ pushed.line ∷ []) onto.joins ∙ append_assoc old onto.cut (pushed.line ∷ []);
@@ -293,12 +293,12 @@ pub onto_plain : {line end_rest : List ℕ} {end : LineEnd} {rest : List ℕ} �
 onto_plain {line} cut = plain_chars line cut.line_utf8 cut.plain
 
 -- all of a text, cut
-pub lines_of_cut : {old next : List Row} {text rest : List ℕ} {now : List Row} → IsCutOnto old text rest now → IsPlain (chars rest) → IsPushed now rest Eof next → old ≡ [] → IsCut (chars text) next
+pub lines_of_cut : {old next : List Row} {text rest : List ℕ} {now : List Row} → IsCutOnto old text rest now → IsPlain (chars rest) → IsPushedLine now rest Eof next → old ≡ [] → IsCut (chars text) next
 lines_of_cut onto plain pushed none =
     let text_is : line_text pushed.line ≡ chars _ = pushed.text_is in
     let joins = pushed.joins ∙ ap (λ x. x ++ pushed.line ∷ []) (onto.joins ∙ ap (λ x. x ++ onto.cut) none) in (
       subst AreLines (sym joins) (lines_end onto.cut pushed.line (subst (AreLinesBefore onto.cut) (sym text_is) onto.so_far.before) (subst IsPlain (sym text_is) plain) pushed.end_is),
-      ap text_of joins ∙ sym (append-nil (text_of (onto.cut ++ pushed.line ∷ []))) ∙ text_of-push onto.cut pushed.line [] ∙ ap (λ x. text_of onto.cut ++ (line_text pushed.line ++ (end_text x ++ []))) pushed.end_is ∙ ap (λ x. text_of onto.cut ++ x) (append-nil (line_text pushed.line) ∙ text_is) ∙ onto.so_far.joins,
+      ap text_of joins ∙ sym (append-nil (text_of (onto.cut ++ pushed.line ∷ []))) ∙ text_of_push onto.cut pushed.line [] ∙ ap (λ x. text_of onto.cut ++ (line_text pushed.line ++ (end_text x ++ []))) pushed.end_is ∙ ap (λ x. text_of onto.cut ++ x) (append-nil (line_text pushed.line) ∙ text_is) ∙ onto.so_far.joins,
     )
 
 -- the first line and the rest are no longer than the text
@@ -310,7 +310,7 @@ parts_le line rest text end cut =
     (omega arith, omega arith)
 
 -- lines that come to the end of lines come to the end of all before them
-pub pushed_behind : (front : List Row) {ls ms : List Row} {text : List ℕ} {end : LineEnd} → IsPushed ls text end ms → IsPushed (front ++ ls) text end (front ++ ms)
+pub pushed_behind : (front : List Row) {ls ms : List Row} {text : List ℕ} {end : LineEnd} → IsPushedLine ls text end ms → IsPushedLine (front ++ ls) text end (front ++ ms)
 pushed_behind front {ls = ls} p = record {
   line = p.line;
   text_is = p.text_is;
@@ -318,7 +318,7 @@ pushed_behind front {ls = ls} p = record {
   joins = ap (λ z. front ++ z) p.joins ∙ sym (append_assoc front ls (p.line ∷ []));
 }
 
-pub pushed_last : {ls ms : List Row} {text : List ℕ} {end : LineEnd} → end ≡ Eof → IsPushed ls text end ms → IsPushed ls text Eof ms
+pub pushed_last : {ls ms : List Row} {text : List ℕ} {end : LineEnd} → end ≡ Eof → IsPushedLine ls text end ms → IsPushedLine ls text Eof ms
 pushed_last e p = record { line = p.line; text_is = p.text_is; end_is = p.end_is ∙ e; joins = p.joins }
 
 -- the lines that are cut so far have no more bytes than the text

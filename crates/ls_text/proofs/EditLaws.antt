@@ -10,13 +10,13 @@ use Rattle.ls_text.specs.declared.edit.Edit.{Edit}
 use Rattle.ls_text.specs.declared.fault.TextFault.{TextFault}
 use Rattle.ls_text.specs.declared.fault.TextFault.TheVariants.{TooLarge, Memory}
 
-pub edited-none : (w : ℕ → ℕ) (t : List ℕ) (e : Edit) → e.range ≡ None → edited w t e ≡ chars e.text
+pub edited_none : (w : ℕ → ℕ) (t : List ℕ) (e : Edit) → e.range ≡ None → edited w t e ≡ chars e.text
 unfolding edited
-edited-none w t e h = rw h refl
+edited_none w t e h = rw h refl
 
-pub edited-some : (w : ℕ → ℕ) (t : List ℕ) (e : Edit) (r : Range) → e.range ≡ Some r → edited w t e ≡ replaced t (position_offset w t r.start) (position_offset w t r.end) (chars e.text)
+pub edited_some : (w : ℕ → ℕ) (t : List ℕ) (e : Edit) (r : Range) → e.range ≡ Some r → edited w t e ≡ replaced t (position_offset w t r.start) (position_offset w t r.end) (chars e.text)
 unfolding edited
-edited-some w t e r h = rw h refl
+edited_some w t e r h = rw h refl
 
 pub not_larger : (n : ℕ) → n ≤ 4_194_304 → nat_lt 4_194_304 n ≡ false
 not_larger n h = grind (arith, nat_tests)

@@ -8,18 +8,18 @@ use Rattle.ls_text.specs.Cut.{end_text, line_text, text_of, IsIndex}
 use Rattle.ls_text.specs.declared.line_end.LineEnd.{LineEnd}
 use Rattle.ls_text.specs.declared.line_end.LineEnd.TheVariants.{Eof, Lf, Cr, CrLf}
 use Rattle.ls_text.specs.Cut.{Row}
-use Rattle.ls_text.proofs.CutLaws.{text_of-push, chars_end}
+use Rattle.ls_text.proofs.CutLaws.{text_of_push, chars_end}
 use Rattle.ls_text.proofs.OffsetLaws.{index_push}
 
-pub text_of-append : (xs ys : List Row) → text_of (xs ++ ys) ≡ text_of xs ++ text_of ys
-text_of-append [] ys = refl
-text_of-append (x ∷ xs) ys =
-    ap (λ t. line_text x ++ (end_text x.end ++ t)) (text_of-append xs ys)
+pub text_of_append : (xs ys : List Row) → text_of (xs ++ ys) ≡ text_of xs ++ text_of ys
+text_of_append [] ys = refl
+text_of_append (x ∷ xs) ys =
+    ap (λ t. line_text x ++ (end_text x.end ++ t)) (text_of_append xs ys)
     ∙ ap (λ t. line_text x ++ t) (sym (append_assoc (end_text x.end) (text_of xs) (text_of ys)))
     ∙ sym (append_assoc (line_text x) (end_text x.end ++ text_of xs) (text_of ys))
 
-pub text_of-one : (ls : List Row) (l : Row) → text_of (ls ++ l ∷ []) ≡ text_of ls ++ (line_text l ++ end_text l.end)
-text_of-one ls l = sym (append-nil (text_of (ls ++ l ∷ []))) ∙ text_of-push ls l [] ∙ ap (λ x. text_of ls ++ (line_text l ++ x)) (append-nil (end_text l.end))
+pub text_of_one : (ls : List Row) (l : Row) → text_of (ls ++ l ∷ []) ≡ text_of ls ++ (line_text l ++ end_text l.end)
+text_of_one ls l = sym (append-nil (text_of (ls ++ l ∷ []))) ∙ text_of_push ls l [] ∙ ap (λ x. text_of ls ++ (line_text l ++ x)) (append-nil (end_text l.end))
 
 bytes_end : (e : LineEnd) → length (encodes (end_text e)) ≡ length (end_text e)
 unfolding encode
@@ -30,14 +30,14 @@ bytes_end CrLf = refl
 
 pub bytes_push : (ls : List Row) (l : Row) → length (encodes (text_of (ls ++ l ∷ []))) ≡ length (encodes (text_of ls)) + (length (encodes (line_text l)) + length (end_text l.end))
 bytes_push ls l =
-    omega (arith, ap (λ x. length (encodes x)) (text_of-one ls l), ap length (encodes-append (text_of ls) (line_text l ++ end_text l.end)), length-append (encodes (text_of ls)) (encodes (line_text l ++ end_text l.end)), ap length (encodes-append (line_text l) (end_text l.end)), length-append (encodes (line_text l)) (encodes (end_text l.end)), bytes_end l.end)
+    omega (arith, ap (λ x. length (encodes x)) (text_of_one ls l), ap length (encodes-append (text_of ls) (line_text l ++ end_text l.end)), length-append (encodes (text_of ls)) (encodes (line_text l ++ end_text l.end)), ap length (encodes-append (line_text l) (end_text l.end)), length-append (encodes (line_text l)) (encodes (end_text l.end)), bytes_end l.end)
 
 -- a text has no fewer bytes than characters
 pub chars_le : (bs : List ℕ) → IsUtf8 bs → length (chars bs) ≤ length bs
 chars_le bs u = omega (arith, length-le-encodes (chars bs), ap length (encodes-chars bs u))
 
 pub bytes_front : (xs ys : List Row) → length (encodes (text_of xs)) ≤ length (encodes (text_of (xs ++ ys)))
-bytes_front xs ys = omega (arith, ap (λ x. length (encodes x)) (text_of-append xs ys), ap length (encodes-append (text_of xs) (text_of ys)), length-append (encodes (text_of xs)) (encodes (text_of ys)))
+bytes_front xs ys = omega (arith, ap (λ x. length (encodes x)) (text_of_append xs ys), ap length (encodes-append (text_of xs) (text_of ys)), length-append (encodes (text_of xs)) (encodes (text_of ys)))
 
 -- a line and its line end, after other bytes
 pub line_spelled : (bs line end : List ℕ) (l : Row) → IsUtf8 bs → chars line ≡ line_text l → IsUtf8 line → end ≡ end_text l.end → chars ((bs ++ line) ++ end) ≡ chars bs ++ (line_text l ++ end_text l.end)

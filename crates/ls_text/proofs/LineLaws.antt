@@ -14,40 +14,40 @@ pub plain_parts : (c : ℕ) (t s : List ℕ) → list_any is_break (c ∷ t) ≡
 plain_parts c t s e = or_false (eqb c 10) (eqb c 13) (not (starts_with_lf s)) (list_any is_break t) e
 
 -- a plain text has no line end
-pub line_ends-plain : (t : List ℕ) → list_any is_break t ≡ false → line_ends t ≡ 0
+pub line_ends_plain : (t : List ℕ) → list_any is_break t ≡ false → line_ends t ≡ 0
 unfolding line_ends
-line_ends-plain [] e = refl
-line_ends-plain (c ∷ t) e =
+line_ends_plain [] e = refl
+line_ends_plain (c ∷ t) e =
     let h = plain_parts c t t e in
-    rw (h.0) (omega (arith, line_ends-plain t h.2))
+    rw (h.0) (omega (arith, line_ends_plain t h.2))
 
 -- a plain text is one line
-pub lines-plain : (t : List ℕ) → list_any is_break t ≡ false → lines t ≡ t ∷ []
+pub lines_plain : (t : List ℕ) → list_any is_break t ≡ false → lines t ≡ t ∷ []
 unfolding lines
-lines-plain [] e = refl
-lines-plain (c ∷ t) e =
+lines_plain [] e = refl
+lines_plain (c ∷ t) e =
     let h = plain_parts c t t e in
-    rw (h.0, h.1, lines-plain t h.2) refl
+    rw (h.0, h.1, lines_plain t h.2) refl
 
 -- the lines of a plain text before another text
-pub lines-plain_append : (p t l : List ℕ) (ls : List (List ℕ)) → list_any is_break p ≡ false → lines t ≡ l ∷ ls → lines (p ++ t) ≡ (p ++ l) ∷ ls
+pub lines_plain_append : (p t l : List ℕ) (ls : List (List ℕ)) → list_any is_break p ≡ false → lines t ≡ l ∷ ls → lines (p ++ t) ≡ (p ++ l) ∷ ls
 unfolding lines
-lines-plain_append [] t l ls e h = h
-lines-plain_append (c ∷ p) t l ls e h =
+lines_plain_append [] t l ls e h = h
+lines_plain_append (c ∷ p) t l ls e h =
     let k = plain_parts c p (p ++ t) e in
-    rw (k.0, k.1, lines-plain_append p t l ls k.2 h) refl
+    rw (k.0, k.1, lines_plain_append p t l ls k.2 h) refl
 
 -- a text has one line more than it has line ends
-pub length-put_first : (c : ℕ) (ls : List (List ℕ)) → 0 < length ls → length (put_first c ls) ≡ length ls
-length-put_first c [] h = absurd (omega (arith, h))
-length-put_first c (l ∷ ls) h = refl
+pub length_put_first : (c : ℕ) (ls : List (List ℕ)) → 0 < length ls → length (put_first c ls) ≡ length ls
+length_put_first c [] h = absurd (omega (arith, h))
+length_put_first c (l ∷ ls) h = refl
 
-length-lines_by : (n : ℕ) (c : ℕ) (ls : List (List ℕ)) (a b : Bool) → length ls ≡ n + 1 → length (cond a ([] ∷ ls) (cond b ls (put_first c ls))) ≡ (cond a 1 0 + n) + 1
-length-lines_by n c ls true b h = omega arith
-length-lines_by n c ls false true h = omega arith
-length-lines_by n c ls false false h = omega (arith, length-put_first c ls (omega arith))
+length_lines_by : (n : ℕ) (c : ℕ) (ls : List (List ℕ)) (a b : Bool) → length ls ≡ n + 1 → length (cond a ([] ∷ ls) (cond b ls (put_first c ls))) ≡ (cond a 1 0 + n) + 1
+length_lines_by n c ls true b h = omega arith
+length_lines_by n c ls false true h = omega arith
+length_lines_by n c ls false false h = omega (arith, length_put_first c ls (omega arith))
 
-pub length-lines : (t : List ℕ) → length (lines t) ≡ line_ends t + 1
+pub length_lines : (t : List ℕ) → length (lines t) ≡ line_ends t + 1
 unfolding lines line_ends
-length-lines [] = refl
-length-lines (c ∷ t) = length-lines_by (line_ends t) c (lines t) (ends_line c t) (eqb c 13) (length-lines t)
+length_lines [] = refl
+length_lines (c ∷ t) = length_lines_by (line_ends t) c (lines t) (ends_line c t) (eqb c 13) (length_lines t)

@@ -11,9 +11,9 @@ use Rattle.ls_text.specs.Lines.{is_break, starts_with_lf, ends_with_cr, line_end
 use Rattle.ls_text.specs.Cut.{end_text, line_text, text_of, IsPlain, is_end_before, AreLines, start_of, text_at, IsIndex}
 use Rattle.ls_text.specs.declared.line_end.LineEnd.{LineEnd}
 use Rattle.ls_text.specs.declared.line_end.LineEnd.TheVariants.{Eof, Lf, Cr, CrLf}
-use Rattle.ls_text.specs.Chunks.{IsLineAt}
+use Rattle.ls_text.specs.own.Chunks.{IsLineAt}
 use Rattle.ls_text.specs.Cut.{Row}
-use Rattle.ls_text.proofs.LineLaws.{plain_parts, line_ends-plain}
+use Rattle.ls_text.proofs.LineLaws.{plain_parts, line_ends_plain}
 
 -- ---- the greatest number that passes
 eq_or_below : (j n : ℕ) → j ≤ suc n → (j ≡ suc n) ⊎ (j ≤ n)
@@ -27,75 +27,75 @@ cond_none : (b : Bool) (n : ℕ) (o : Option ℕ) → b ≡ false → cond b (So
 cond_none false n o e = refl
 cond_none true n o e = cc
 
-pub greatest-is : (p : ℕ → Bool) (n o : ℕ) → o ≤ n → p o ≡ true → ((j : ℕ) → o < j → j ≤ n → p j ≡ false) → greatest p n ≡ Some o
+pub greatest_is : (p : ℕ → Bool) (n o : ℕ) → o ≤ n → p o ≡ true → ((j : ℕ) → o < j → j ≤ n → p j ≡ false) → greatest p n ≡ Some o
 unfolding greatest
-greatest-is p zero o le passes above = let e : o ≡ 0 = omega (arith, le) in subst (λ x. cond (p 0) (Some 0) None ≡ Some x) (sym e) (cond_some (p 0) 0 None (ap p (sym e) ∙ passes))
-greatest-is p (suc n) o le passes above =
+greatest_is p zero o le passes above = let e : o ≡ 0 = omega (arith, le) in subst (λ x. cond (p 0) (Some 0) None ≡ Some x) (sym e) (cond_some (p 0) 0 None (ap p (sym e) ∙ passes))
+greatest_is p (suc n) o le passes above =
     ⊎_elim (λ e. subst (λ x. cond (p (suc n)) (Some (suc n)) (greatest p n) ≡ Some x) (sym e) (cond_some (p (suc n)) (suc n) (greatest p n) (ap p (sym e) ∙ passes)))
-    (λ lower. cond_none (p (suc n)) (suc n) (greatest p n) (above (suc n) (omega (arith, lower)) (omega arith)) ∙ greatest-is p n o lower passes (λ j gt lj. above j gt (omega (arith, lj))))
+    (λ lower. cond_none (p (suc n)) (suc n) (greatest p n) (above (suc n) (omega (arith, lower)) (omega arith)) ∙ greatest_is p n o lower passes (λ j gt lj. above j gt (omega (arith, lj))))
     (eq_or_below o n le)
 
-pub greatest-none : (p : ℕ → Bool) (n : ℕ) → ((j : ℕ) → j ≤ n → p j ≡ false) → greatest p n ≡ None
+pub greatest_none : (p : ℕ → Bool) (n : ℕ) → ((j : ℕ) → j ≤ n → p j ≡ false) → greatest p n ≡ None
 unfolding greatest
-greatest-none p zero fails = cond_none (p 0) 0 None (fails 0 (omega arith))
-greatest-none p (suc n) fails = cond_none (p (suc n)) (suc n) (greatest p n) (fails (suc n) (omega arith)) ∙ greatest-none p n (λ j le. fails j (omega (arith, le)))
+greatest_none p zero fails = cond_none (p 0) 0 None (fails 0 (omega arith))
+greatest_none p (suc n) fails = cond_none (p (suc n)) (suc n) (greatest p n) (fails (suc n) (omega arith)) ∙ greatest_none p n (λ j le. fails j (omega (arith, le)))
 
 -- ---- a text after a whole line
 
-pub line_ends-end : (e : LineEnd) (t : List ℕ) → is_end_before e t ≡ true → line_ends (end_text e ++ t) ≡ 1 + line_ends t
+pub line_ends_end : (e : LineEnd) (t : List ℕ) → is_end_before e t ≡ true → line_ends (end_text e ++ t) ≡ 1 + line_ends t
 unfolding line_ends
-line_ends-end Eof t h = cc
-line_ends-end Lf t h = refl
-line_ends-end Cr t h = rw h refl
-line_ends-end CrLf t h = omega arith
+line_ends_end Eof t h = cc
+line_ends_end Lf t h = refl
+line_ends_end Cr t h = rw h refl
+line_ends_end CrLf t h = omega arith
 
-pub line_ends-plain_append : (p t : List ℕ) → IsPlain p → line_ends (p ++ t) ≡ line_ends t
+pub line_ends_plain_append : (p t : List ℕ) → IsPlain p → line_ends (p ++ t) ≡ line_ends t
 unfolding line_ends
-line_ends-plain_append [] t h = refl
-line_ends-plain_append (c ∷ p) t h =
+line_ends_plain_append [] t h = refl
+line_ends_plain_append (c ∷ p) t h =
     let k = plain_parts c p (p ++ t) h in
-    rw (k.0) (omega (arith, line_ends-plain_append p t k.2))
+    rw (k.0) (omega (arith, line_ends_plain_append p t k.2))
 
-pub line_ends-cut : (p : List ℕ) (e : LineEnd) (t : List ℕ) → IsPlain p → is_end_before e t ≡ true → line_ends (p ++ (end_text e ++ t)) ≡ 1 + line_ends t
-line_ends-cut p e t h k = line_ends-plain_append p (end_text e ++ t) h ∙ line_ends-end e t k
+pub line_ends_cut : (p : List ℕ) (e : LineEnd) (t : List ℕ) → IsPlain p → is_end_before e t ≡ true → line_ends (p ++ (end_text e ++ t)) ≡ 1 + line_ends t
+line_ends_cut p e t h k = line_ends_plain_append p (end_text e ++ t) h ∙ line_ends_end e t k
 
 -- the last line of a plain text is the text
-last_line-none : (t : List ℕ) → line_ends t ≡ 0 → last_line t ≡ t
+last_line_none : (t : List ℕ) → line_ends t ≡ 0 → last_line t ≡ t
 unfolding last_line
-last_line-none [] e = refl
-last_line-none (c ∷ t) e = rw e refl
+last_line_none [] e = refl
+last_line_none (c ∷ t) e = rw e refl
 
-pub last_line-plain : (t : List ℕ) → IsPlain t → last_line t ≡ t
-last_line-plain t h = last_line-none t (line_ends-plain t h)
+pub last_line_plain : (t : List ℕ) → IsPlain t → last_line t ≡ t
+last_line_plain t h = last_line_none t (line_ends_plain t h)
 
 -- what comes before a line end does not matter
-last_line-more : (c : ℕ) (t : List ℕ) (n : ℕ) → line_ends (c ∷ t) ≡ 1 + n → last_line (c ∷ t) ≡ last_line t
+last_line_more : (c : ℕ) (t : List ℕ) (n : ℕ) → line_ends (c ∷ t) ≡ 1 + n → last_line (c ∷ t) ≡ last_line t
 unfolding last_line
-last_line-more c t n e = rw (e, one_add_not n) refl
+last_line_more c t n e = rw (e, one_add_not n) refl
   where
     one_add_not : (n : ℕ) → eqb (1 + n) 0 ≡ false
     one_add_not n = grind (arith, nat_tests)
 
-pub last_line-end : (e : LineEnd) (t : List ℕ) → is_end_before e t ≡ true → last_line (end_text e ++ t) ≡ last_line t
-last_line-end Eof t h = cc
-last_line-end Lf t h = last_line-more 10 t (line_ends t) (line_ends-end Lf t h)
-last_line-end Cr t h = last_line-more 13 t (line_ends t) (line_ends-end Cr t h)
-last_line-end CrLf t h = last_line-more 13 (10 ∷ t) (line_ends t) (line_ends-end CrLf t h) ∙ last_line-more 10 t (line_ends t) (line_ends-end Lf t refl)
+pub last_line_end : (e : LineEnd) (t : List ℕ) → is_end_before e t ≡ true → last_line (end_text e ++ t) ≡ last_line t
+last_line_end Eof t h = cc
+last_line_end Lf t h = last_line_more 10 t (line_ends t) (line_ends_end Lf t h)
+last_line_end Cr t h = last_line_more 13 t (line_ends t) (line_ends_end Cr t h)
+last_line_end CrLf t h = last_line_more 13 (10 ∷ t) (line_ends t) (line_ends_end CrLf t h) ∙ last_line_more 10 t (line_ends t) (line_ends_end Lf t refl)
 
-pub last_line-cut : (p : List ℕ) (e : LineEnd) (t : List ℕ) → IsPlain p → is_end_before e t ≡ true → last_line (p ++ (end_text e ++ t)) ≡ last_line t
-last_line-cut [] e t h k = last_line-end e t k
-last_line-cut (c ∷ p) e t h k =
-    last_line-more c (p ++ (end_text e ++ t)) (line_ends t) (line_ends-cut (c ∷ p) e t h k) ∙ last_line-cut p e t (plain_parts c p p h).2 k
+pub last_line_cut : (p : List ℕ) (e : LineEnd) (t : List ℕ) → IsPlain p → is_end_before e t ≡ true → last_line (p ++ (end_text e ++ t)) ≡ last_line t
+last_line_cut [] e t h k = last_line_end e t k
+last_line_cut (c ∷ p) e t h k =
+    last_line_more c (p ++ (end_text e ++ t)) (line_ends t) (line_ends_cut (c ∷ p) e t h k) ∙ last_line_cut p e t (plain_parts c p p h).2 k
 
 -- a line end before a text is one before each front of it
-pub is_end_before-take : (e : LineEnd) (t : List ℕ) (n : ℕ) → is_end_before e t ≡ true → is_end_before e (take n t) ≡ true
-is_end_before-take Eof t n h = h
-is_end_before-take Lf t n h = refl
-is_end_before-take CrLf t n h = refl
-is_end_before-take Cr [] zero h = refl
-is_end_before-take Cr [] (suc n) h = refl
-is_end_before-take Cr (c ∷ t) zero h = refl
-is_end_before-take Cr (c ∷ t) (suc n) h = h
+pub is_end_before_take : (e : LineEnd) (t : List ℕ) (n : ℕ) → is_end_before e t ≡ true → is_end_before e (take n t) ≡ true
+is_end_before_take Eof t n h = h
+is_end_before_take Lf t n h = refl
+is_end_before_take CrLf t n h = refl
+is_end_before_take Cr [] zero h = refl
+is_end_before_take Cr [] (suc n) h = refl
+is_end_before_take Cr (c ∷ t) zero h = refl
+is_end_before_take Cr (c ∷ t) (suc n) h = h
 
 -- ---- the offset at which a line starts
 pub take_past : (p e t : List ℕ) (x : ℕ) → take (length p + (length e + x)) (p ++ (e ++ t)) ≡ p ++ (e ++ take x t)
@@ -119,8 +119,8 @@ at_front : (l : Row) (r : List ℕ) (k : ℕ) → IsPlain (line_text l) → k �
 at_front l r k p le =
     let front : take (0 + k) (line_text l ++ (end_text l.end ++ r)) ≡ take k (line_text l) = ap (λ x. take x (line_text l ++ (end_text l.end ++ r))) (zero-add k) ∙ take-append-le k (line_text l) (end_text l.end ++ r) le in
     record {
-      line_is = ap line_ends front ∙ line_ends-plain (take k (line_text l)) (plain_take (line_text l) k p);
-      before_is = ap last_line front ∙ last_line-plain (take k (line_text l)) (plain_take (line_text l) k p);
+      line_is = ap line_ends front ∙ line_ends_plain (take k (line_text l)) (plain_take (line_text l) k p);
+      before_is = ap last_line front ∙ last_line_plain (take k (line_text l)) (plain_take (line_text l) k p);
     }
 
 pub at_line : (ls : List Row) → AreLines ls → (m k : ℕ) → m < length ls → k ≤ length (text_at ls m) → IsAt (text_of ls) (start_of ls m + k) m (take k (text_at ls m))
@@ -133,10 +133,10 @@ at_line (l ∷ n ∷ ls) h (suc m) k lt le =
     let o = start_of (n ∷ ls) m + k in
     let sum : start_of (l ∷ n ∷ ls) (suc m) + k ≡ length (line_text l) + (length (end_text l.end) + (start_of (n ∷ ls) m + k)) = omega arith in
     let front : take (start_of (l ∷ n ∷ ls) (suc m) + k) (text_of (l ∷ n ∷ ls)) ≡ line_text l ++ (end_text l.end ++ take (start_of (n ∷ ls) m + k) (text_of (n ∷ ls))) = ap (λ x. take x (text_of (l ∷ n ∷ ls))) sum ∙ take_past (line_text l) (end_text l.end) (text_of (n ∷ ls)) (start_of (n ∷ ls) m + k) in
-    let seam = is_end_before-take l.end (text_of (n ∷ ls)) (start_of (n ∷ ls) m + k) h.1 in
+    let seam = is_end_before_take l.end (text_of (n ∷ ls)) (start_of (n ∷ ls) m + k) h.1 in
     record {
-      line_is = ap line_ends front ∙ line_ends-cut (line_text l) l.end _ h.0 seam ∙ ap (λ x. 1 + x) rest.line_is ∙ omega arith;
-      before_is = ap last_line front ∙ last_line-cut (line_text l) l.end _ h.0 seam ∙ rest.before_is;
+      line_is = ap line_ends front ∙ line_ends_cut (line_text l) l.end _ h.0 seam ∙ ap (λ x. 1 + x) rest.line_is ∙ omega arith;
+      before_is = ap last_line front ∙ last_line_cut (line_text l) l.end _ h.0 seam ∙ rest.before_is;
     }
 
 -- ---- each offset stands in a line, before its line end
@@ -152,18 +152,18 @@ and_not true false e = (refl, refl)
 and_not true true e = cc
 and_not false b e = cc
 
-pub ends_with_cr-append : (x y : List ℕ) → 0 < length y → ends_with_cr (x ++ y) ≡ ends_with_cr y
-ends_with_cr-append [] y h = refl
-ends_with_cr-append (c ∷ []) [] h = absurd (omega (arith, h))
-ends_with_cr-append (c ∷ []) (d ∷ y) h = refl
-ends_with_cr-append (c ∷ d ∷ x) y h = ends_with_cr-append (d ∷ x) y h
+pub ends_with_cr_append : (x y : List ℕ) → 0 < length y → ends_with_cr (x ++ y) ≡ ends_with_cr y
+ends_with_cr_append [] y h = refl
+ends_with_cr_append (c ∷ []) [] h = absurd (omega (arith, h))
+ends_with_cr_append (c ∷ []) (d ∷ y) h = refl
+ends_with_cr_append (c ∷ d ∷ x) y h = ends_with_cr_append (d ∷ x) y h
 
 -- an offset after a whole line is one in the text after it
 offset_after : (p e t : List ℕ) (x : ℕ) → x ≤ length t → splits_crlf (p ++ (e ++ t)) (length p + (length e + x)) ≡ false → splits_crlf t x ≡ false
 offset_after p e t zero le h = refl
 offset_after p e [] (suc x) le h = absurd (omega (arith, le))
 offset_after p e (c ∷ t) (suc x) le h =
-    let front : ends_with_cr (take (length p + (length e + suc x)) (p ++ (e ++ (c ∷ t)))) ≡ ends_with_cr (take (suc x) (c ∷ t)) = ap ends_with_cr (take_past p e (c ∷ t) (suc x)) ∙ ends_with_cr-append p (e ++ take (suc x) (c ∷ t)) (omega (arith, length-append e (take (suc x) (c ∷ t)))) ∙ ends_with_cr-append e (take (suc x) (c ∷ t)) (omega arith) in
+    let front : ends_with_cr (take (length p + (length e + suc x)) (p ++ (e ++ (c ∷ t)))) ≡ ends_with_cr (take (suc x) (c ∷ t)) = ap ends_with_cr (take_past p e (c ∷ t) (suc x)) ∙ ends_with_cr_append p (e ++ take (suc x) (c ∷ t)) (omega (arith, length-append e (take (suc x) (c ∷ t)))) ∙ ends_with_cr_append e (take (suc x) (c ∷ t)) (omega arith) in
     let back : starts_with_lf (drop (length p + (length e + suc x)) (p ++ (e ++ (c ∷ t)))) ≡ starts_with_lf (drop (suc x) (c ∷ t)) = ap starts_with_lf (drop_past p e (c ∷ t) (suc x)) in
     (λ i. sym front i && sym back i) ∙ h
 
@@ -174,7 +174,7 @@ inside_end p Lf t o gt lt h = omega (arith, gt, lt)
 inside_end p Cr t o gt lt h = omega (arith, gt, lt)
 inside_end p CrLf t o gt lt h =
     let at : o ≡ length p + 1 = omega (arith, gt, lt) in
-    let front : ends_with_cr (take (length p + 1) (p ++ (13 ∷ 10 ∷ t))) ≡ true = ap ends_with_cr (take-append-add p (13 ∷ 10 ∷ t) 1) ∙ ends_with_cr-append p (13 ∷ []) (omega arith) in
+    let front : ends_with_cr (take (length p + 1) (p ++ (13 ∷ 10 ∷ t))) ≡ true = ap ends_with_cr (take-append-add p (13 ∷ 10 ∷ t) 1) ∙ ends_with_cr_append p (13 ∷ []) (omega arith) in
     let back : starts_with_lf (drop (length p + 1) (p ++ (13 ∷ 10 ∷ t))) ≡ true = ap starts_with_lf (drop-append-add p (13 ∷ 10 ∷ t) 1) in
     let both : splits_crlf (p ++ (13 ∷ 10 ∷ t)) o ≡ true = ap (splits_crlf (p ++ (13 ∷ 10 ∷ t))) at ∙ (λ i. front i && back i) in
     cc
@@ -260,9 +260,9 @@ plain_no_cr (c ∷ d ∷ t) h = plain_no_cr (d ∷ t) (plain_parts c (d ∷ t) (
 
 end_seam : (p : List ℕ) (e : LineEnd) (t : List ℕ) → IsPlain p → is_end_before e t ≡ true → (ends_with_cr (p ++ end_text e) && starts_with_lf t) ≡ false
 end_seam p Eof t h k = cc
-end_seam p Lf t h k = rw (ends_with_cr-append p (10 ∷ []) (omega arith)) refl
-end_seam p Cr t h k = rw (ends_with_cr-append p (13 ∷ []) (omega arith)) (not-true (starts_with_lf t) k)
-end_seam p CrLf t h k = rw (ends_with_cr-append p (13 ∷ 10 ∷ []) (omega arith)) refl
+end_seam p Lf t h k = rw (ends_with_cr_append p (10 ∷ []) (omega arith)) refl
+end_seam p Cr t h k = rw (ends_with_cr_append p (13 ∷ []) (omega arith)) (not-true (starts_with_lf t) k)
+end_seam p CrLf t h k = rw (ends_with_cr_append p (13 ∷ 10 ∷ []) (omega arith)) refl
 
 after_whole : (p : List ℕ) (e : LineEnd) (t : List ℕ) (x : ℕ) → IsPlain p → is_end_before e t ≡ true → splits_crlf t x ≡ false → splits_crlf (p ++ (end_text e ++ t)) (length p + (length (end_text e) + x)) ≡ false
 after_whole p e t zero h k off =
@@ -277,7 +277,7 @@ after_whole p e [] (suc x) h k off =
     and_no true = refl
     and_no false = refl
 after_whole p e (c ∷ t) (suc x) h k off =
-    let front : ends_with_cr (take (length p + (length (end_text e) + suc x)) (p ++ (end_text e ++ (c ∷ t)))) ≡ ends_with_cr (take (suc x) (c ∷ t)) = ap ends_with_cr (take_past p (end_text e) (c ∷ t) (suc x)) ∙ ends_with_cr-append p (end_text e ++ take (suc x) (c ∷ t)) (omega (arith, length-append (end_text e) (take (suc x) (c ∷ t)))) ∙ ends_with_cr-append (end_text e) (take (suc x) (c ∷ t)) (omega arith) in
+    let front : ends_with_cr (take (length p + (length (end_text e) + suc x)) (p ++ (end_text e ++ (c ∷ t)))) ≡ ends_with_cr (take (suc x) (c ∷ t)) = ap ends_with_cr (take_past p (end_text e) (c ∷ t) (suc x)) ∙ ends_with_cr_append p (end_text e ++ take (suc x) (c ∷ t)) (omega (arith, length-append (end_text e) (take (suc x) (c ∷ t)))) ∙ ends_with_cr_append (end_text e) (take (suc x) (c ∷ t)) (omega arith) in
     let back : starts_with_lf (drop (length p + (length (end_text e) + suc x)) (p ++ (end_text e ++ (c ∷ t)))) ≡ starts_with_lf (drop (suc x) (c ∷ t)) = ap starts_with_lf (drop_past p (end_text e) (c ∷ t) (suc x)) in
     (λ i. front i && back i) ∙ off
 
@@ -318,45 +318,45 @@ module _ (w : ℕ → ℕ) (ls : List Row) (h : AreLines ls) (m c : ℕ) where
           let few : sum_by w (take at.at (text_at ls at.line)) ≤ c = subst (λ x. x ≤ c) (ap (units_at w (text_of ls)) at.sum ∙ ap (sum_by w) here.before_is) units_le in
           (at.at, subst (λ x. x < length ls) same at.line_in_range, subst (λ x. at.at ≤ length (text_at ls x)) same at.at_in_range, at.sum ∙ ap (λ x. start_of ls x + at.at) same, subst (λ x. sum_by w (take at.at (text_at ls x)) ≤ c) same few)
 
-  pub offset_of-line : m < length ls → offset_of w (text_of ls) m c ≡ start_of ls m + fitting w (text_at ls m) c
+  pub offset_of_line : m < length ls → offset_of w (text_of ls) m c ≡ start_of ls m + fitting w (text_at ls m) c
   unfolding offset_of
-  offset_of-line lt =
+  offset_of_line lt =
       let f = fits w (text_at ls m) c in
       let in_line = fitting_le w (text_at ls m) c in
       let here = at_line ls h m (fitting w (text_at ls m) c) lt in_line in
       let le : start_of ls m + fitting w (text_at ls m) c ≤ length (text_of ls) = omega (arith, start_le ls m lt, in_line) in
       let passes : is_within w (text_of ls) m c (start_of ls m + fitting w (text_at ls m) c) ≡ true =
       and_from _ _ (and_from _ _ (le_to _ _ le) (ap not (is_apart ls h m (fitting w (text_at ls m) c) lt in_line))) (and_from _ _ (eq_to _ _ here.line_is) (le_to _ _ (subst (λ x. x ≤ c) (sym (ap (sum_by w) here.before_is)) f.within))) in
-      ap (λ o. unwrap_or o (length (text_of ls))) (greatest-is (is_within w (text_of ls) m c) (length (text_of ls)) (start_of ls m + fitting w (text_at ls m) c) le passes (λ j gt j_le. false_from_ne_true (is_within w (text_of ls) m c j) (λ e. too_far j gt (within_place j e))))
+      ap (λ o. unwrap_or o (length (text_of ls))) (greatest_is (is_within w (text_of ls) m c) (length (text_of ls)) (start_of ls m + fitting w (text_at ls m) c) le passes (λ j gt j_le. false_from_ne_true (is_within w (text_of ls) m c j) (λ e. too_far j gt (within_place j e))))
     where
       too_far : (j : ℕ) → start_of ls m + fitting w (text_at ls m) c < j → (k : ℕ) × (m < length ls) × (k ≤ length (text_at ls m)) × (j ≡ start_of ls m + k) × (sum_by w (take k (text_at ls m)) ≤ c) → ⊥
       too_far j gt at = omega (arith, (fits w (text_at ls m) c).most at.0 (omega (arith, at.3, gt)) at.2, at.4)
 
-  pub offset_of-past : length ls ≤ m → offset_of w (text_of ls) m c ≡ length (text_of ls)
+  pub offset_of_past : length ls ≤ m → offset_of w (text_of ls) m c ≡ length (text_of ls)
   unfolding offset_of
-  offset_of-past le =
-      ap (λ o. unwrap_or o (length (text_of ls))) (greatest-none (is_within w (text_of ls) m c) (length (text_of ls)) (λ j j_le. false_from_ne_true (is_within w (text_of ls) m c j) (λ e. let at = within_place j e in omega (arith, at.1, le))))
+  offset_of_past le =
+      ap (λ o. unwrap_or o (length (text_of ls))) (greatest_none (is_within w (text_of ls) m c) (length (text_of ls)) (λ j j_le. false_from_ne_true (is_within w (text_of ls) m c j) (λ e. let at = within_place j e in omega (arith, at.1, le))))
 
 -- ---- the index
-start_of-push : (ls : List Row) (l : Row) (m : ℕ) → m < length ls → start_of (ls ++ l ∷ []) m ≡ start_of ls m
-start_of-push [] l m lt = absurd (omega (arith, lt))
-start_of-push (n ∷ ls) l zero lt = refl
-start_of-push (n ∷ ls) l (suc m) lt = ap (λ x. length (line_text n) + (length (end_text n.end) + x)) (start_of-push ls l m (omega (arith, lt)))
+start_of_push : (ls : List Row) (l : Row) (m : ℕ) → m < length ls → start_of (ls ++ l ∷ []) m ≡ start_of ls m
+start_of_push [] l m lt = absurd (omega (arith, lt))
+start_of_push (n ∷ ls) l zero lt = refl
+start_of_push (n ∷ ls) l (suc m) lt = ap (λ x. length (line_text n) + (length (end_text n.end) + x)) (start_of_push ls l m (omega (arith, lt)))
 
-start_of-last : (ls : List Row) (l : Row) → start_of (ls ++ l ∷ []) (length ls) ≡ length (text_of ls)
-start_of-last [] l = refl
-start_of-last (n ∷ ls) l = omega (arith, start_of-last ls l, length-append (line_text n) (end_text n.end ++ text_of ls), length-append (end_text n.end) (text_of ls))
+start_of_last : (ls : List Row) (l : Row) → start_of (ls ++ l ∷ []) (length ls) ≡ length (text_of ls)
+start_of_last [] l = refl
+start_of_last (n ∷ ls) l = omega (arith, start_of_last ls l, length-append (line_text n) (end_text n.end ++ text_of ls), length-append (end_text n.end) (text_of ls))
 
-length-text_of-push : (ls : List Row) (l : Row) → length (text_of (ls ++ l ∷ [])) ≡ length (text_of ls) + (length (line_text l) + length (end_text l.end))
-length-text_of-push [] l = omega (arith, length-append (line_text l) (end_text l.end ++ []), length-append (end_text l.end) [])
-length-text_of-push (n ∷ ls) l = omega (arith, length-text_of-push ls l, length-append (line_text n) (end_text n.end ++ text_of ls), length-append (end_text n.end) (text_of ls), length-append (line_text n) (end_text n.end ++ text_of (ls ++ l ∷ [])), length-append (end_text n.end) (text_of (ls ++ l ∷ [])))
+length_text_of_push : (ls : List Row) (l : Row) → length (text_of (ls ++ l ∷ [])) ≡ length (text_of ls) + (length (line_text l) + length (end_text l.end))
+length_text_of_push [] l = omega (arith, length-append (line_text l) (end_text l.end ++ []), length-append (end_text l.end) [])
+length_text_of_push (n ∷ ls) l = omega (arith, length_text_of_push ls l, length-append (line_text n) (end_text n.end ++ text_of ls), length-append (end_text n.end) (text_of ls), length-append (line_text n) (end_text n.end ++ text_of (ls ++ l ∷ [])), length-append (end_text n.end) (text_of (ls ++ l ∷ [])))
 
 pub index_push : (starts : List ℕ) (len : ℕ) (ls : List Row) (l : Row) (more : ℕ) → IsIndex starts len ls → more ≡ length (line_text l) + length (end_text l.end) → IsIndex (starts ++ len ∷ []) (len + more) (ls ++ l ∷ [])
 index_push starts len ls l more index more_is = record {
   count = omega (arith, length-append starts (len ∷ []), length-append ls (l ∷ []), index.count);
-  starts_are = λ m lt. ⊎_elim (λ below. get_or_append_left starts (len ∷ []) 0 m (omega (arith, below, index.count)) ∙ index.starts_are m below ∙ sym (start_of-push ls l m below))
-      (λ above. let e : m ≡ length ls = omega (arith, above, lt, length-append ls (l ∷ [])) in subst (λ x. get_or (starts ++ len ∷ []) x 0 ≡ start_of (ls ++ l ∷ []) x) (sym e) (get_or_push starts len 0 (length ls) index.count ∙ index.len_is ∙ sym (start_of-last ls l))) (cases_lt m (length ls));
-  len_is = omega (arith, length-text_of-push ls l, index.len_is, more_is);
+  starts_are = λ m lt. ⊎_elim (λ below. get_or_append_left starts (len ∷ []) 0 m (omega (arith, below, index.count)) ∙ index.starts_are m below ∙ sym (start_of_push ls l m below))
+      (λ above. let e : m ≡ length ls = omega (arith, above, lt, length-append ls (l ∷ [])) in subst (λ x. get_or (starts ++ len ∷ []) x 0 ≡ start_of (ls ++ l ∷ []) x) (sym e) (get_or_push starts len 0 (length ls) index.count ∙ index.len_is ∙ sym (start_of_last ls l))) (cases_lt m (length ls));
+  len_is = omega (arith, length_text_of_push ls l, index.len_is, more_is);
 }
 
 pub text_found : (ls : List Row) (m : ℕ) (x : Row) → m < length ls → x ≡ get_or ls m x → text_at ls m ≡ line_text x
@@ -368,10 +368,10 @@ text_found (l ∷ ls) (suc m) x lt e = text_found ls m x (omega (arith, lt)) e
 module _ (w : ℕ → ℕ) (ls : List Row) (m c : ℕ) (t : List ℕ) (h : AreLines ls) (view_is : text_of ls ≡ t) where
   pub offset_found : (x : Row) (start fit : ℕ) → IsLineAt ls m x start → fit ≡ fitting w (line_text x) c → start + fit ≡ offset_of w t m c
   offset_found x start fit at fit_is =
-      (λ i. at.start_is i + (fit_is ∙ ap (λ y. fitting w y c) (sym (text_found ls m x at.in_range at.line_is))) i) ∙ sym (offset_of-line w ls h m c at.in_range) ∙ ap (λ y. offset_of w y m c) view_is
+      (λ i. at.start_is i + (fit_is ∙ ap (λ y. fitting w y c) (sym (text_found ls m x at.in_range at.line_is))) i) ∙ sym (offset_of_line w ls h m c at.in_range) ∙ ap (λ y. offset_of w y m c) view_is
 
   pub offset_past : (len : ℕ) → len ≡ length (text_of ls) → length ls ≤ m → len ≡ offset_of w t m c
-  offset_past len len_is le = len_is ∙ sym (offset_of-past w ls h m c le) ∙ ap (λ y. offset_of w y m c) view_is
+  offset_past len len_is le = len_is ∙ sym (offset_of_past w ls h m c le) ∙ ap (λ y. offset_of w y m c) view_is
 
 pub offset_bound : (w : ℕ → ℕ) (ls : List Row) (m c : ℕ) (x : Row) (start fit : ℕ) → IsLineAt ls m x start → fit ≡ fitting w (line_text x) c → start + fit ≤ length (text_of ls)
 offset_bound w ls m c x start fit at fit_is =

@@ -7,7 +7,7 @@ use Rattle.std.proofs.lemmas.Str.{IsUtf8-append, IsUtf8-drop, IsCharBoundary-fro
 use Rattle.abnf_token.specs.declared.mark.TokenMark.{TokenMark}
 use Rattle.abnf_token.specs.Marks.{AreMarks}
 use Rattle.ls_text.specs.Cut.{Row, row}
-use Rattle.ls_text.specs.Parts.{held_text, held_row, IsHeld, AreHeld}
+use Rattle.ls_text.specs.own.Parts.{held_text, held_row, IsHeldLine, AreHeld}
 use Rattle.ls_text.specs.declared.part.Held.{Held}
 
 -- ---- a line that stands in a text still does where something follows
@@ -20,10 +20,10 @@ boundary_more : (bs text : List ℕ) (i : ℕ) → IsUtf8 bs → IsUtf8 text →
 boundary_more bs text i u v b =
     IsCharBoundary-from_drop (bs ++ text) i (omega (arith, b.0, length-append bs text)) (subst IsUtf8 (sym (drop-append-le i bs text b.0)) (IsUtf8-append (drop i bs) text (IsUtf8-drop bs i u b) v))
 
-text_same : (bs text : List ℕ) (marks : List TokenMark) (h : Held) → IsHeld bs marks h → held_text (bs ++ text) h ≡ held_text bs h
+text_same : (bs text : List ℕ) (marks : List TokenMark) (h : Held) → IsHeldLine bs marks h → held_text (bs ++ text) h ≡ held_text bs h
 text_same bs text marks h is = range_more bs text h.text_start h.text_end is.order is.to.0
 
-held_more : (bs text : List ℕ) (marks : List TokenMark) (h : Held) → IsUtf8 bs → IsUtf8 text → IsHeld bs marks h → IsHeld (bs ++ text) marks h
+held_more : (bs text : List ℕ) (marks : List TokenMark) (h : Held) → IsUtf8 bs → IsUtf8 text → IsHeldLine bs marks h → IsHeldLine (bs ++ text) marks h
 held_more bs text marks h u v is = record {
   order = is.order;
   from = boundary_more bs text h.text_start u v is.from;
@@ -58,7 +58,7 @@ marks_more bs marks more (h ∷ hs) are = (
 )
 
 -- ---- one more line
-pub all_push : (bs : List ℕ) (marks : List TokenMark) (hs : List Held) (h : Held) → AreHeld bs marks hs → IsHeld bs marks h → AreHeld bs marks (hs ++ h ∷ [])
+pub all_push : (bs : List ℕ) (marks : List TokenMark) (hs : List Held) (h : Held) → AreHeld bs marks hs → IsHeldLine bs marks h → AreHeld bs marks (hs ++ h ∷ [])
 all_push bs marks [] h are is = (is, tt)
 all_push bs marks (x ∷ hs) h are is = (are.0, all_push bs marks hs h are.1 is)
 
@@ -79,7 +79,7 @@ module _ (bs text : List ℕ) (marks : List TokenMark) (hs : List Held) (u : IsU
   last_marks : slice_range marks h.marks_start h.marks_end ≡ drop first marks
   last_marks = (λ i. slice_range marks (first_is i) (last_is i)) ∙ range_from marks first
 
-  last_held : IsHeld (bs ++ text) marks h
+  last_held : IsHeldLine (bs ++ text) marks h
   last_held = record {
     order = omega (arith, start_is, end_is, length-append bs text);
     from = subst (IsCharBoundary (bs ++ text)) (sym start_is) (IsCharBoundary-at_seam (bs ++ text) bs text refl v);
@@ -97,9 +97,9 @@ module _ (bs text : List ℕ) (marks : List TokenMark) (hs : List Held) (u : IsU
   rows_last = map-append (held_row (bs ++ text)) hs (h ∷ []) ∙ (λ i. rows_more bs text marks hs are i ++ row (chars (last_text i)) h.end ∷ [])
 
 -- ---- a line among them
-pub held_at : (bs : List ℕ) (marks : List TokenMark) (hs : List Held) → AreHeld bs marks hs → (i : ℕ) (h : Held) → i < length hs → h ≡ get_or hs i h → IsHeld bs marks h
+pub held_at : (bs : List ℕ) (marks : List TokenMark) (hs : List Held) → AreHeld bs marks hs → (i : ℕ) (h : Held) → i < length hs → h ≡ get_or hs i h → IsHeldLine bs marks h
 held_at bs marks [] are i h lt is = absurd (omega (arith, lt))
-held_at bs marks (x ∷ hs) are zero h lt is = subst (IsHeld bs marks) (sym is) are.0
+held_at bs marks (x ∷ hs) are zero h lt is = subst (IsHeldLine bs marks) (sym is) are.0
 held_at bs marks (x ∷ hs) are (suc i) h lt is = held_at bs marks hs are.1 i h (omega (arith, lt)) is
 
 -- ---- the lines of another part, from one up to another
@@ -117,5 +117,5 @@ some_more ls from i l le lt is init now next next_is before =
     ap (λ n. take n (drop from ls)) one ∙ take_more (drop from ls) (i - from) l (omega (arith, le, lt, length-drop from ls)) ∙ ap (λ z. take (i - from) (drop from ls) ++ z ∷ []) here in
     next_is ∙ ap (λ z. z ++ l ∷ []) before ∙ append_assoc init (take (i - from) (drop from ls)) (l ∷ []) ∙ ap (λ z. init ++ z) (sym more)
 
-pub held_line : (bs : List ℕ) (marks : List TokenMark) (hs : List Held) → AreHeld bs marks hs → (ls : List Row) → map (held_row bs) hs ≡ ls → (i : ℕ) → i < length ls → (h : Held) → h ≡ get_or hs i h → IsHeld bs marks h
+pub held_line : (bs : List ℕ) (marks : List TokenMark) (hs : List Held) → AreHeld bs marks hs → (ls : List Row) → map (held_row bs) hs ≡ ls → (i : ℕ) → i < length ls → (h : Held) → h ≡ get_or hs i h → IsHeldLine bs marks h
 held_line bs marks hs are ls ls_are i lt h is = held_at bs marks hs are i h (omega (arith, lt, ap length ls_are, length-map hs (held_row bs))) is

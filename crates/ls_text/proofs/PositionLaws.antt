@@ -7,14 +7,14 @@ use Rattle.std.proofs.Math.Seq.{take-append-add, drop-append-add}
 use Rattle.std.proofs.lemmas.List.{take_all}
 use Rattle.std.proofs.lemmas.Bool.{cases_lt, cond-false, cond-true}
 use Rattle.ls_text.specs.Lines.{starts_with_lf, ends_with_cr, splits_crlf, line_at, units_at, lowered}
-use Rattle.ls_text.specs.Cut.{end_text, line_text, text_of, is_end_before, AreLines, start_of, text_at, end_at, IsKept}
-use Rattle.ls_text.specs.Chunks.{IsLineAt}
+use Rattle.ls_text.specs.Cut.{end_text, line_text, text_of, is_end_before, AreLines, start_of, text_at, end_at, IsKeptText}
+use Rattle.ls_text.specs.own.Chunks.{IsLineAt}
 use Rattle.ls_text.specs.Positions.{position_of}
 use Rattle.ls_text.specs.declared.position.Position.{Position}
 use Rattle.ls_text.specs.declared.line_end.LineEnd.{LineEnd}
 use Rattle.ls_text.specs.declared.line_end.LineEnd.TheVariants.{Eof, Lf, Cr, CrLf}
 use Rattle.ls_text.specs.Cut.{Row}
-use Rattle.ls_text.proofs.OffsetLaws.{take_past, drop_past, ends_with_cr-append, at_line, is_apart, start_le, text_found}
+use Rattle.ls_text.proofs.OffsetLaws.{take_past, drop_past, ends_with_cr_append, at_line, is_apart, start_le, text_found}
 
 -- between CR and LF
 splits_front : (p : List ℕ) (e : LineEnd) (t : List ℕ) (o : ℕ) → length p < o → o < length p + length (end_text e) → splits_crlf (p ++ (end_text e ++ t)) o ≡ true
@@ -23,7 +23,7 @@ splits_front p Lf t o gt lt = absurd (omega (arith, gt, lt))
 splits_front p Cr t o gt lt = absurd (omega (arith, gt, lt))
 splits_front p CrLf t o gt lt =
     let at : o ≡ length p + 1 = omega (arith, gt, lt) in
-    let front : ends_with_cr (take (length p + 1) (p ++ (13 ∷ 10 ∷ t))) ≡ true = ap ends_with_cr (take-append-add p (13 ∷ 10 ∷ t) 1) ∙ ends_with_cr-append p (13 ∷ []) (omega arith) in
+    let front : ends_with_cr (take (length p + 1) (p ++ (13 ∷ 10 ∷ t))) ≡ true = ap ends_with_cr (take-append-add p (13 ∷ 10 ∷ t) 1) ∙ ends_with_cr_append p (13 ∷ []) (omega arith) in
     let back : starts_with_lf (drop (length p + 1) (p ++ (13 ∷ 10 ∷ t))) ≡ true = ap starts_with_lf (drop-append-add p (13 ∷ 10 ∷ t) 1) in
     ap (splits_crlf (p ++ (13 ∷ 10 ∷ t))) at ∙ (λ i. front i && back i)
 
@@ -31,7 +31,7 @@ splits_after : (p e t : List ℕ) (x : ℕ) → splits_crlf t x ≡ true → spl
 splits_after p e t zero h = cc
 splits_after p e [] (suc x) h = cc
 splits_after p e (c ∷ t) (suc x) h =
-    let front : ends_with_cr (take (length p + (length e + suc x)) (p ++ (e ++ (c ∷ t)))) ≡ ends_with_cr (take (suc x) (c ∷ t)) = ap ends_with_cr (take_past p e (c ∷ t) (suc x)) ∙ ends_with_cr-append p (e ++ take (suc x) (c ∷ t)) (omega (arith, length-append e (take (suc x) (c ∷ t)))) ∙ ends_with_cr-append e (take (suc x) (c ∷ t)) (omega arith) in
+    let front : ends_with_cr (take (length p + (length e + suc x)) (p ++ (e ++ (c ∷ t)))) ≡ ends_with_cr (take (suc x) (c ∷ t)) = ap ends_with_cr (take_past p e (c ∷ t) (suc x)) ∙ ends_with_cr_append p (e ++ take (suc x) (c ∷ t)) (omega (arith, length-append e (take (suc x) (c ∷ t)))) ∙ ends_with_cr_append e (take (suc x) (c ∷ t)) (omega arith) in
     let back : starts_with_lf (drop (length p + (length e + suc x)) (p ++ (e ++ (c ∷ t)))) ≡ starts_with_lf (drop (suc x) (c ∷ t)) = ap starts_with_lf (drop_past p e (c ∷ t) (suc x)) in
     (λ i. front i && back i) ∙ h
 
@@ -147,7 +147,7 @@ text_bytes_le (l ∷ ls) (suc m) = omega (arith, text_bytes_le ls m, (bytes_le (
 pub same_position : (a b c d : ℕ) → a ≡ c → b ≡ d → ◌≡◌ {A = Position} (record { line = a; character = b }) (record { line = c; character = d })
 same_position a b c d e f = λ i. record { line = e i; character = f i }
 
-module _ (ls : List Row) (kept : IsKept ls) where
+module _ (ls : List Row) (kept : IsKeptText ls) where
   pub line_small : (m : ℕ) → m < length ls → m < 4_294_967_296
   line_small m lt = omega (arith, lt, few_lines ls kept.lines, length-le-encodes (text_of ls), kept.small)
 

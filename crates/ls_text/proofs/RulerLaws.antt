@@ -10,18 +10,18 @@ use Rattle.std.proofs.lemmas.Bool.Decides.{nat_tests}
 use Rattle.std.proofs.lemmas.Str.{IsCharBoundary-at_seam, chars-encodes, encodes-append, encodes-chars, length-encode, scalars-chars}
 use Rattle.std.proofs.lemmas.Bool.{and_parts}
 use Rattle.ls_text.specs.Lines.{fitting}
-use Rattle.ls_text.specs.Counts.{IsCountedIn}
+use Rattle.ls_text.specs.own.Counts.{IsCountedIn}
 use Rattle.ls_text.specs.declared.ruler.Counted.{Counted}
 use Rattle.ls_text.proofs.OffsetLaws.{fitting_le}
 
 -- ---- the front of a text by so many characters
-scalars-parts : (cs : List ℕ) (n : ℕ) → scalars cs ≡ true → (scalars (take n cs) ≡ true) × (scalars (drop n cs) ≡ true)
-scalars-parts [] zero s = (refl, refl)
-scalars-parts [] (suc n) s = (refl, refl)
-scalars-parts (c ∷ cs) zero s = (refl, s)
-scalars-parts (c ∷ cs) (suc n) s =
+scalars_parts : (cs : List ℕ) (n : ℕ) → scalars cs ≡ true → (scalars (take n cs) ≡ true) × (scalars (drop n cs) ≡ true)
+scalars_parts [] zero s = (refl, refl)
+scalars_parts [] (suc n) s = (refl, refl)
+scalars_parts (c ∷ cs) zero s = (refl, s)
+scalars_parts (c ∷ cs) (suc n) s =
     let parts = and_parts _ _ s in
-    let rest = scalars-parts cs n parts.1 in
+    let rest = scalars_parts cs n parts.1 in
     (ap (λ b. b && scalars (take n cs)) parts.0 ∙ rest.0, rest.1)
 
 module _ (bs : List ℕ) (u : IsUtf8 bs) (n : ℕ) where
@@ -29,7 +29,7 @@ module _ (bs : List ℕ) (u : IsUtf8 bs) (n : ℕ) where
   seam = sym (encodes-chars bs u) ∙ ap encodes (sym (take-append-drop n (chars bs))) ∙ encodes-append (take n (chars bs)) (drop n (chars bs))
 
   parts_are : (scalars (take n (chars bs)) ≡ true) × (scalars (drop n (chars bs)) ≡ true)
-  parts_are = scalars-parts (chars bs) n (scalars-chars bs u)
+  parts_are = scalars_parts (chars bs) n (scalars-chars bs u)
 
   pub front_boundary : IsCharBoundary bs (length (encodes (take n (chars bs))))
   front_boundary = IsCharBoundary-at_seam bs _ _ seam (drop n (chars bs), (parts_are.1, refl))
@@ -50,17 +50,17 @@ module _ (bs : List ℕ) (u : IsUtf8 bs) (n : ℕ) where
 le_test : (x y f : ℕ) → x ≤ y → cond (leb x y) (suc f) 0 ≡ suc f
 le_test x y f le = grind (arith, nat_tests)
 
-pub fitting-behind : (xs ys : List ℕ) (b : ℕ) → length (encodes xs) ≤ b → fitting len_utf8 (xs ++ ys) b ≡ length xs + fitting len_utf8 ys (b - length (encodes xs))
+pub fitting_behind : (xs ys : List ℕ) (b : ℕ) → length (encodes xs) ≤ b → fitting len_utf8 (xs ++ ys) b ≡ length xs + fitting len_utf8 ys (b - length (encodes xs))
 unfolding fitting
-fitting-behind [] ys b le = nothing (omega arith)
+fitting_behind [] ys b le = nothing (omega arith)
   where
     nothing : b ≡ b - length (encodes []) → fitting len_utf8 ([] ++ ys) b ≡ 0 + fitting len_utf8 ys (b - length (encodes []))
     nothing e = omega (arith, ap (fitting len_utf8 ys) e)
-fitting-behind (x ∷ xs) ys b le =
+fitting_behind (x ∷ xs) ys b le =
     let first : length (encodes (x ∷ [])) ≡ len_utf8 x = ap length (append-nil _) ∙ length-encode x in
     let all : length (encodes (x ∷ xs)) ≡ len_utf8 x + length (encodes xs) = omega (arith, first, ap length (encodes-append (x ∷ []) xs), length-append (encodes (x ∷ [])) (encodes xs)) in
     let left : (b - len_utf8 x) - length (encodes xs) ≡ b - length (encodes (x ∷ xs)) = omega (arith, all) in
-    let rest = fitting-behind xs ys (b - len_utf8 x) (omega (arith, all, le)) ∙ ap (λ k. length xs + fitting len_utf8 ys k) left in
+    let rest = fitting_behind xs ys (b - len_utf8 x) (omega (arith, all, le)) ∙ ap (λ k. length xs + fitting len_utf8 ys k) left in
     le_test (len_utf8 x) b (fitting len_utf8 (xs ++ ys) (b - len_utf8 x)) (omega (arith, all, le)) ∙ one_more (fitting len_utf8 (xs ++ ys) (b - len_utf8 x)) (length xs) (fitting len_utf8 ys (b - length (encodes (x ∷ xs)))) rest
   where
     one_more : (a l f : ℕ) → a ≡ l + f → suc a ≡ suc l + f
@@ -92,7 +92,7 @@ module _ (width : ℕ → ℕ) (line : List ℕ) (c : Counted) (is : IsCountedIn
   front_length : length (is.front ++ more) ≡ fitting len_utf8 line b
   front_length =
       let le_front : length (encodes is.front) ≤ b = omega (arith, is.bytes, le) in
-      let fit = ap (λ t. fitting len_utf8 t b) is.parts ∙ fitting-behind is.front (chars c.rest.now) b le_front in
+      let fit = ap (λ t. fitting len_utf8 t b) is.parts ∙ fitting_behind is.front (chars c.rest.now) b le_front in
       omega (arith, length-append is.front more, length-take-le n (chars c.rest.now) count_le, fit, n_is, ap (λ k. fitting len_utf8 (chars c.rest.now) (b - k)) is.bytes)
 
   pub taken_is : take (fitting len_utf8 line b) line ≡ is.front ++ more

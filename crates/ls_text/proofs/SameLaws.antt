@@ -6,9 +6,9 @@ use Rattle.ls_text.specs.Cut.{end_text, line_text, text_of, row, is_end_before, 
 use Rattle.ls_text.specs.declared.line_end.LineEnd.{LineEnd}
 use Rattle.ls_text.specs.declared.line_end.LineEnd.TheVariants.{Eof, Lf, Cr, CrLf}
 use Rattle.ls_text.specs.Cut.{Row}
-use Rattle.ls_text.proofs.CutLaws.{lines-text_of, line_ends-text_of}
+use Rattle.ls_text.proofs.CutLaws.{lines_text_of, line_ends_text_of}
 use Rattle.ls_text.proofs.OffsetLaws.{text_found}
-use Rattle.ls_text.specs.Chunks.{IsLineAt}
+use Rattle.ls_text.specs.own.Chunks.{IsLineAt}
 use Rattle.ls_text.proofs.SpotLaws.{end_found}
 
 -- two line ends, each before what follows it
@@ -44,10 +44,10 @@ ends_same CrLf CrLf s t h k e = record { ends = refl; rests = cc }
 
 -- ---- the same text has the same lines
 pub length_same : (ls ms : List Row) → AreLines ls → AreLines ms → text_of ls ≡ text_of ms → length ls ≡ length ms
-length_same ls ms h k e = sym (line_ends-text_of ls h) ∙ ap (λ t. line_ends t + 1) e ∙ line_ends-text_of ms k
+length_same ls ms h k e = sym (line_ends_text_of ls h) ∙ ap (λ t. line_ends t + 1) e ∙ line_ends_text_of ms k
 
 texts_same : (ls ms : List Row) → AreLines ls → AreLines ms → text_of ls ≡ text_of ms → map line_text ls ≡ map line_text ms
-texts_same ls ms h k e = sym (lines-text_of ls h) ∙ ap lines e ∙ lines-text_of ms k
+texts_same ls ms h k e = sym (lines_text_of ls h) ∙ ap lines e ∙ lines_text_of ms k
 
 -- line i is the same in both
 pub record IsSameAt (ls ms : List Row) (i : ℕ) : Type 0 where

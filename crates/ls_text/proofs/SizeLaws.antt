@@ -4,13 +4,13 @@ use Rattle.std.specs.Str.{chars, IsUtf8, encode_utf8_all as encodes}
 use Rattle.std.proofs.lemmas.List.{length-take-le, take_more}
 use Rattle.std.proofs.lemmas.Bool.{cases_lt}
 use Rattle.std.proofs.lemmas.Str.{encodes-append, encodes-chars, IsUtf8-take}
-use Rattle.ls_text.specs.Chunks.{byte_length, IsLineAt}
+use Rattle.ls_text.specs.own.Chunks.{byte_length, IsLineAt}
 use Rattle.ls_text.specs.Cut.{Row, line_text, text_of, text_at, end_at, end_text, start_of, AreLines}
-use Rattle.ls_text.specs.Spots.{IsSpot, bytes_at, front_of, back_of}
+use Rattle.ls_text.specs.own.Spots.{IsSpot, bytes_at, front_of, back_of}
 use Rattle.ls_text.specs.declared.edit.Spot.{Spot}
 use Rattle.ls_text.specs.declared.line_end.LineEnd.{LineEnd}
 use Rattle.ls_text.specs.declared.line_end.LineEnd.TheVariants.{Eof, Lf, Cr, CrLf}
-use Rattle.ls_text.proofs.ChunkLaws.{byte_length-append, take_join}
+use Rattle.ls_text.proofs.ChunkLaws.{byte_length_append, take_join}
 use Rattle.ls_text.proofs.HeldLaws.{bytes_push}
 use Rattle.ls_text.proofs.SpliceLaws.{take_spot, spot_text, end_last, wanted_text}
 
@@ -35,7 +35,7 @@ module _ (ls : List Row) (s : Spot) (spot : IsSpot ls s) where
 
 -- the bytes of the lines up to one, and from there up to another
 pub bytes_between : (ls : List Row) (from to : ℕ) → from ≤ to → byte_length (take from ls) + byte_length (take (to - from) (drop from ls)) ≡ byte_length (take to ls)
-bytes_between ls from to le = omega (arith, byte_length-append (take from ls) (take (to - from) (drop from ls)), ap byte_length (take_join ls from to le))
+bytes_between ls from to le = omega (arith, byte_length_append (take from ls) (take (to - from) (drop from ls)), ap byte_length (take_join ls from to le))
 
 -- a line begins behind the end of each line before it
 start_behind : (ls : List Row) (m n : ℕ) → m < n → n < length ls → start_of ls m + (length (text_at ls m) + length (end_text (end_at ls m))) ≤ start_of ls n
@@ -101,8 +101,8 @@ pub between_le : (ls : List Row) (from k : ℕ) → byte_length (take k (drop fr
 between_le ls from k =
     omega (
       arith,
-      byte_length-append (take from ls) (drop from ls),
+      byte_length_append (take from ls) (drop from ls),
       ap byte_length (take-append-drop from ls),
-      byte_length-append (take k (drop from ls)) (drop k (drop from ls)),
+      byte_length_append (take k (drop from ls)) (drop k (drop from ls)),
       ap byte_length (take-append-drop k (drop from ls)),
     )

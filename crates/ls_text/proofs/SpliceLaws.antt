@@ -6,16 +6,16 @@ use Rattle.std.proofs.lemmas.List.{append-nil, take-append-le, drop-append-le}
 use Rattle.std.proofs.lemmas.Str.{chars-append, encodes-append, IsUtf8-take}
 use Rattle.std.proofs.lemmas.Bool.{not-true, both_ways}
 use Rattle.ls_text.specs.Lines.{is_break, starts_with_lf, ends_with_cr}
-use Rattle.ls_text.specs.Cut.{end_text, line_text, text_of, IsPlain, is_end_before, AreLines, AreLinesBefore, IsCut, IsCutOnto, IsPushed, start_of, text_at, end_at}
-use Rattle.ls_text.specs.Spots.{bytes_at, IsSpot, front_of, back_of}
+use Rattle.ls_text.specs.Cut.{end_text, line_text, text_of, IsPlain, is_end_before, AreLines, AreLinesBefore, IsCut, IsCutOnto, IsPushedLine, start_of, text_at, end_at}
+use Rattle.ls_text.specs.own.Spots.{bytes_at, IsSpot, front_of, back_of}
 use Rattle.ls_text.specs.declared.line_end.LineEnd.{LineEnd}
 use Rattle.ls_text.specs.declared.line_end.LineEnd.TheVariants.{Eof, Lf, Cr, CrLf}
 use Rattle.ls_text.specs.Cut.{Row}
 use Rattle.ls_text.specs.declared.edit.Spot.{Spot}
 use Rattle.ls_text.proofs.LineLaws.{plain_parts}
 use Rattle.ls_text.proofs.CutLaws.{lines_end}
-use Rattle.ls_text.proofs.OffsetLaws.{take_past, drop_past, ends_with_cr-append}
-use Rattle.ls_text.proofs.HeldLaws.{text_of-append, text_of-one}
+use Rattle.ls_text.proofs.OffsetLaws.{take_past, drop_past, ends_with_cr_append}
+use Rattle.ls_text.proofs.HeldLaws.{text_of_append, text_of_one}
 
 -- ---- lines before a text
 pub lines_split : (xs ys : List Row) → 0 < length ys → AreLines (xs ++ ys) → AreLinesBefore xs (text_of ys) × AreLines ys
@@ -24,13 +24,13 @@ lines_split [] (y ∷ ys) lt h = (tt, h)
 lines_split (x ∷ []) (y ∷ ys) lt h = ((h.0, h.1, tt), h.2)
 lines_split (x ∷ z ∷ xs) (y ∷ ys) lt h =
     let rest = lines_split (z ∷ xs) (y ∷ ys) lt h.2 in
-    ((h.0, ap (is_end_before x.end) (sym (text_of-append (z ∷ xs) (y ∷ ys))) ∙ h.1, rest.0), rest.1)
+    ((h.0, ap (is_end_before x.end) (sym (text_of_append (z ∷ xs) (y ∷ ys))) ∙ h.1, rest.0), rest.1)
 
 pub lines_join : (xs ys : List Row) → AreLinesBefore xs (text_of ys) → AreLines ys → AreLines (xs ++ ys)
 lines_join xs [] h k = absurd k
 lines_join [] (y ∷ ys) h k = k
 lines_join (x ∷ []) (y ∷ ys) h k = (h.0, h.1, k)
-lines_join (x ∷ z ∷ xs) (y ∷ ys) h k = (h.0, ap (is_end_before x.end) (text_of-append (z ∷ xs) (y ∷ ys)) ∙ h.1, lines_join (z ∷ xs) (y ∷ ys) h.2 k)
+lines_join (x ∷ z ∷ xs) (y ∷ ys) h k = (h.0, ap (is_end_before x.end) (text_of_append (z ∷ xs) (y ∷ ys)) ∙ h.1, lines_join (z ∷ xs) (y ∷ ys) h.2 k)
 
 -- a line end before a text sees only whether it begins with LF
 end_same : (e : LineEnd) (s t : List ℕ) → starts_with_lf s ≡ starts_with_lf t → is_end_before e s ≡ true → is_end_before e t ≡ true
@@ -65,7 +65,7 @@ last_end : (p : List ℕ) (e : LineEnd) (t : List ℕ) → is_end_before e [] �
 last_end p Eof t h seam = cc
 last_end p Lf t h seam = refl
 last_end p CrLf t h seam = refl
-last_end p Cr t h seam = to_not (starts_with_lf t) (ap (λ b. b && starts_with_lf t) (sym (ends_with_cr-append p (13 ∷ []) (omega arith))) ∙ seam)
+last_end p Cr t h seam = to_not (starts_with_lf t) (ap (λ b. b && starts_with_lf t) (sym (ends_with_cr_append p (13 ∷ []) (omega arith))) ∙ seam)
   where
     to_not : (b : Bool) → (true && b) ≡ false → not b ≡ true
     to_not false e = refl
@@ -76,7 +76,7 @@ before_more [] t h seam = tt
 before_more (l ∷ []) t h seam = (h.0, last_end (line_text l) l.end t h.1 seam, tt)
 before_more (l ∷ n ∷ ls) t h seam =
     let some = line_some_text n ls _ h.2.1 in
-    let same : ends_with_cr (text_of (l ∷ n ∷ ls)) ≡ ends_with_cr (text_of (n ∷ ls)) = ends_with_cr-append (line_text l) (end_text l.end ++ text_of (n ∷ ls)) (omega (arith, some, length-append (end_text l.end) (text_of (n ∷ ls)))) ∙ ends_with_cr-append (end_text l.end) (text_of (n ∷ ls)) some in
+    let same : ends_with_cr (text_of (l ∷ n ∷ ls)) ≡ ends_with_cr (text_of (n ∷ ls)) = ends_with_cr_append (line_text l) (end_text l.end ++ text_of (n ∷ ls)) (omega (arith, some, length-append (end_text l.end) (text_of (n ∷ ls)))) ∙ ends_with_cr_append (end_text l.end) (text_of (n ∷ ls)) some in
     (h.0, end_same l.end _ _ (lf_front (text_of (n ∷ ls)) [] t some) h.1, before_more (n ∷ ls) t h.2 (ap (λ b. b && starts_with_lf t) (sym same) ∙ seam))
 
 -- ---- the lines kept before the one before the edit
@@ -108,11 +108,11 @@ final [] = 0
 final (c ∷ []) = c
 final (c ∷ d ∷ t) = final (d ∷ t)
 
-final-append : (x y : List ℕ) → 0 < length y → final (x ++ y) ≡ final y
-final-append [] y lt = refl
-final-append (c ∷ []) [] lt = absurd (omega (arith, lt))
-final-append (c ∷ []) (d ∷ y) lt = refl
-final-append (c ∷ d ∷ x) y lt = final-append (d ∷ x) y lt
+final_append : (x y : List ℕ) → 0 < length y → final (x ++ y) ≡ final y
+final_append [] y lt = refl
+final_append (c ∷ []) [] lt = absurd (omega (arith, lt))
+final_append (c ∷ []) (d ∷ y) lt = refl
+final_append (c ∷ d ∷ x) y lt = final_append (d ∷ x) y lt
 
 or_left : (a b : Bool) → (a || b) ≡ false → a ≡ false
 or_left false b e = refl
@@ -132,7 +132,7 @@ final_end CrLf lt = refl
 pub rest_empty : (x p r : List ℕ) (e : LineEnd) → 0 < length (end_text e) → x ++ r ≡ p ++ end_text e → IsPlain r → r ≡ []
 rest_empty x p [] e some same h = refl
 rest_empty x p (c ∷ r) e some same h =
-    absurd (both_ways (is_break (final (c ∷ r))) (final_plain c r h) (ap is_break (sym (final-append x (c ∷ r) (omega arith)) ∙ ap final same ∙ final-append p (end_text e) some) ∙ final_end e some))
+    absurd (both_ways (is_break (final (c ∷ r))) (final_plain c r h) (ap is_break (sym (final_append x (c ∷ r) (omega arith)) ∙ ap final same ∙ final_append p (end_text e) some) ∙ final_end e some))
 
 -- ---- the text before and after a place in a line
 pub take_at : (ls : List Row) (m k : ℕ) → m < length ls → k ≤ length (text_at ls m) → take (start_of ls m + k) (text_of ls) ≡ text_of (take m ls) ++ take k (text_at ls m)
@@ -195,12 +195,12 @@ end_inner (l ∷ n ∷ ls) h (suc m) lt ne = end_inner (n ∷ ls) h.2 m (omega (
 -- ---- the lines of a text with a part replaced
 seam_of : (p : List ℕ) (e : LineEnd) (t : List ℕ) → is_end_before e t ≡ true → (ends_with_cr (p ++ end_text e) && starts_with_lf t) ≡ false
 seam_of p Eof t k = cc
-seam_of p Lf t k = rw (ends_with_cr-append p (10 ∷ []) (omega arith)) refl
-seam_of p Cr t k = rw (ends_with_cr-append p (13 ∷ []) (omega arith)) (not-true (starts_with_lf t) k)
-seam_of p CrLf t k = rw (ends_with_cr-append p (13 ∷ 10 ∷ []) (omega arith)) refl
+seam_of p Lf t k = rw (ends_with_cr_append p (10 ∷ []) (omega arith)) refl
+seam_of p Cr t k = rw (ends_with_cr_append p (13 ∷ []) (omega arith)) (not-true (starts_with_lf t) k)
+seam_of p CrLf t k = rw (ends_with_cr_append p (13 ∷ 10 ∷ []) (omega arith)) refl
 
 front_join : (ls : List Row) (m kept : ℕ) → kept ≤ m → text_of (take kept ls) ++ text_of (take (m - kept) (drop kept ls)) ≡ text_of (take m ls)
-front_join ls m kept le = sym (text_of-append (take kept ls) (take (m - kept) (drop kept ls))) ∙ ap text_of (take_join ls m kept le)
+front_join ls m kept le = sym (text_of_append (take kept ls) (take (m - kept) (drop kept ls))) ∙ ap text_of (take_join ls m kept le)
   where
     take_join : (xs : List Row) (m k : ℕ) → k ≤ m → take k xs ++ take (m - k) (drop k xs) ≡ take m xs
     take_join xs m zero le = ap (λ n. take n xs) (none m)
@@ -244,13 +244,13 @@ module _ (ls : List Row) (h : AreLines ls) (from to : Spot) (at_from : IsSpot ls
   spliced_any : (ms : List Row) → AreLines ms → text_of ms ≡ middle_text ls kept from to new ++ text_of (drop (suc to.line) ls) → IsCut (wanted_text ls from to new) (take kept ls ++ ms)
   spliced_any ms lines text = (
     lines_join (take kept ls) ms (subst (AreLinesBefore (take kept ls)) (sym text) (before_all (text_of (drop (suc to.line) ls)))) lines,
-    text_of-append (take kept ls) ms ∙ ap (λ x. text_of (take kept ls) ++ x) text ∙ whole_text,
+    text_of_append (take kept ls) ms ∙ ap (λ x. text_of (take kept ls) ++ x) text ∙ whole_text,
   )
 
   pub spliced_last : (ms : List Row) (l : Row) → text_of ms ++ line_text l ≡ middle_text ls kept from to new → AreLinesBefore ms (line_text l) → IsPlain (line_text l) → l.end ≡ Eof → end_at ls to.line ≡ Eof → IsCut (wanted_text ls from to new) (take kept ls ++ (ms ++ l ∷ []))
   spliced_last ms l joins before plain eof last =
       spliced_any (ms ++ l ∷ []) (lines_end ms l before plain eof)
-      (text_of-one ms l ∙ ap (λ x. text_of ms ++ (line_text l ++ end_text x)) eof ∙ ap (λ x. text_of ms ++ x) (append-nil (line_text l)) ∙ joins ∙ sym (append-nil (middle_text ls kept from to new)) ∙ ap (λ x. middle_text ls kept from to new ++ text_of x) (sym (end_last ls h to.line at_to.line_in_range last)))
+      (text_of_one ms l ∙ ap (λ x. text_of ms ++ (line_text l ++ end_text x)) eof ∙ ap (λ x. text_of ms ++ x) (append-nil (line_text l)) ∙ joins ∙ sym (append-nil (middle_text ls kept from to new)) ∙ ap (λ x. middle_text ls kept from to new ++ text_of x) (sym (end_last ls h to.line at_to.line_in_range last)))
 
   pub spliced_inner : (ms : List Row) (r : List ℕ) → text_of ms ++ r ≡ middle_text ls kept from to new → AreLinesBefore ms r → IsPlain r → (end_at ls to.line ≡ Eof → ⊥) → IsCut (wanted_text ls from to new) (take kept ls ++ (ms ++ drop (suc to.line) ls))
   spliced_inner ms r joins before plain inner =
@@ -262,7 +262,7 @@ module _ (ls : List Row) (h : AreLines ls) (from to : Spot) (at_from : IsSpot ls
       let seam : (ends_with_cr (text_of ms) && starts_with_lf (text_of (drop (suc to.line) ls))) ≡ false = ap (λ x. ends_with_cr x && starts_with_lf (text_of (drop (suc to.line) ls))) (all ∙ whole) ∙ seam_of (text_of (take (from.line - kept) (drop kept ls)) ++ (front_of ls from ++ (new ++ back_of ls to))) (end_at ls to.line) (text_of (drop (suc to.line) ls)) next.0 in
       spliced_any (ms ++ drop (suc to.line) ls)
       (lines_join ms (drop (suc to.line) ls) (before_more ms (text_of (drop (suc to.line) ls)) (subst (AreLinesBefore ms) none before) seam) next.1)
-      (text_of-append ms (drop (suc to.line) ls) ∙ ap (λ x. x ++ text_of (drop (suc to.line) ls)) (all ∙ joins))
+      (text_of_append ms (drop (suc to.line) ls) ∙ ap (λ x. x ++ text_of (drop (suc to.line) ls)) (all ∙ joins))
 
   -- the text that is cut anew is a part of the one that is wanted
   pub middle_bytes : length (encodes (middle_text ls kept from to new)) ≤ length (encodes (wanted_text ls from to new))
@@ -271,7 +271,7 @@ module _ (ls : List Row) (h : AreLines ls) (from to : Spot) (at_from : IsSpot ls
 
   -- ---- what `spliced` makes of what it pushes
   module _ {text rest : List ℕ} {now : List Row} (cut : IsCutOnto [] text rest now) (plain : IsPlain (chars rest)) (text_is : chars text ≡ middle_text ls kept from to new) where
-    pub spliced_eof : {next : List Row} → IsPushed now rest Eof next → end_at ls to.line ≡ Eof → IsCut (wanted_text ls from to new) (take kept ls ++ (next ++ drop (to.line + 1) ls))
+    pub spliced_eof : {next : List Row} → IsPushedLine now rest Eof next → end_at ls to.line ≡ Eof → IsCut (wanted_text ls from to new) (take kept ls ++ (next ++ drop (to.line + 1) ls))
     spliced_eof {next} pushed last =
         let rest_is : line_text pushed.line ≡ chars rest = pushed.text_is in
         let after : to.line + 1 ≡ suc to.line = omega arith in

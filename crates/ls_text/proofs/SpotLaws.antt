@@ -7,12 +7,12 @@ use Rattle.std.proofs.lemmas.Str.{encodes-append, encodes-chars, scalars-chars, 
 use Rattle.std.proofs.lemmas.List.{length-take-le, take_all}
 use Rattle.std.proofs.lemmas.Bool.{and_parts}
 use Rattle.ls_text.specs.Lines.{offset_of, fitting}
-use Rattle.ls_text.specs.Spots.{IsSpot}
+use Rattle.ls_text.specs.own.Spots.{IsSpot}
 use Rattle.ls_text.proofs.OffsetLaws.{fitting_le, offset_found, text_found}
 use Rattle.ls_text.proofs.PositionLaws.{last_full}
-use Rattle.ls_text.specs.Chunks.{IsLineAt}
+use Rattle.ls_text.specs.own.Chunks.{IsLineAt}
 use Rattle.ls_text.specs.Cut.{line_text, text_of, text_at, end_at, start_of, AreLines}
-use Rattle.ls_text.specs.Spots.{bytes_at}
+use Rattle.ls_text.specs.own.Spots.{bytes_at}
 use Rattle.ls_text.specs.Cut.{Row}
 
 pub bytes_found : (ls : List Row) (m : ℕ) (x : Row) → m < length ls → x ≡ get_or ls m x → bytes_at ls m ≡ encodes (line_text x)
@@ -35,17 +35,17 @@ middle_chars bs front new back end u v w x =
     regroup a b c d e = simp append_assoc refl
 
 -- ---- a text cut after some of its characters
-scalars-take : (k : ℕ) (cs : List ℕ) → scalars cs ≡ true → scalars (take k cs) ≡ true
-scalars-take zero cs e = refl
-scalars-take (suc k) [] e = refl
-scalars-take (suc k) (c ∷ cs) e =
+scalars_take : (k : ℕ) (cs : List ℕ) → scalars cs ≡ true → scalars (take k cs) ≡ true
+scalars_take zero cs e = refl
+scalars_take (suc k) [] e = refl
+scalars_take (suc k) (c ∷ cs) e =
     let parts = and_parts (scalar c) (scalars cs) e in
-    rw (parts.0, scalars-take k cs parts.1) refl
+    rw (parts.0, scalars_take k cs parts.1) refl
 
-scalars-drop : (k : ℕ) (cs : List ℕ) → scalars cs ≡ true → scalars (drop k cs) ≡ true
-scalars-drop zero cs e = e
-scalars-drop (suc k) [] e = e
-scalars-drop (suc k) (c ∷ cs) e = scalars-drop k cs (and_parts (scalar c) (scalars cs) e).1
+scalars_drop : (k : ℕ) (cs : List ℕ) → scalars cs ≡ true → scalars (drop k cs) ≡ true
+scalars_drop zero cs e = e
+scalars_drop (suc k) [] e = e
+scalars_drop (suc k) (c ∷ cs) e = scalars_drop k cs (and_parts (scalar c) (scalars cs) e).1
 
 module _ (bs : List ℕ) (u : IsUtf8 bs) (k : ℕ) where
   seam : bs ≡ encodes (take k (chars bs)) ++ encodes (drop k (chars bs))
@@ -53,14 +53,14 @@ module _ (bs : List ℕ) (u : IsUtf8 bs) (k : ℕ) where
 
   -- the bytes of so many characters end at a boundary
   pub boundary_after : IsCharBoundary bs (length (encodes (take k (chars bs))))
-  boundary_after = IsCharBoundary-at_seam bs (encodes (take k (chars bs))) (encodes (drop k (chars bs))) seam (drop k (chars bs), (scalars-drop k (chars bs) (scalars-chars bs u), refl))
+  boundary_after = IsCharBoundary-at_seam bs (encodes (take k (chars bs))) (encodes (drop k (chars bs))) seam (drop k (chars bs), (scalars_drop k (chars bs) (scalars-chars bs u), refl))
 
   -- and before that boundary are these characters
   pub chars_before : chars (take (length (encodes (take k (chars bs)))) bs) ≡ take k (chars bs)
   chars_before =
       ap (λ x. chars (take (length (encodes (take k (chars bs)))) x)) seam
       ∙ ap chars (take-append_seam (encodes (take k (chars bs))) (encodes (drop k (chars bs))))
-      ∙ sym (chars_from_encodes (take k (chars bs)) (encodes (take k (chars bs))) (take k (chars bs), (scalars-take k (chars bs) (scalars-chars bs u), refl)) refl)
+      ∙ sym (chars_from_encodes (take k (chars bs)) (encodes (take k (chars bs))) (take k (chars bs), (scalars_take k (chars bs) (scalars-chars bs u), refl)) refl)
 
 -- ---- what `spot_of` finds
 module _ (ls : List Row) (m : ℕ) (x : Row) (start : ℕ) (at : IsLineAt ls m x start) (bs : List ℕ) (u : IsUtf8 bs) (bs_is : bs ≡ encodes (line_text x)) (chars_are : chars bs ≡ line_text x) where

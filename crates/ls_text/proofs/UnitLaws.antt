@@ -49,22 +49,22 @@ units_le u (c ∷ cs) =
     one_char c = ap length (append-nil _) ∙ length-encode c
 
 -- the units of UTF-8 are its bytes
-pub units-utf8 : (cs : List ℕ) → sum_by len_utf8 cs ≡ length (encodes cs)
-units-utf8 [] = refl
-units-utf8 (c ∷ cs) =
-    omega (arith, sum_by-cons len_utf8 c cs, units-utf8 cs, ap length (encodes-append (c ∷ []) cs), length-append (encodes (c ∷ [])) (encodes cs), ap length (append-nil (encodes (c ∷ []))), one_char c)
+pub units_utf8 : (cs : List ℕ) → sum_by len_utf8 cs ≡ length (encodes cs)
+units_utf8 [] = refl
+units_utf8 (c ∷ cs) =
+    omega (arith, sum_by-cons len_utf8 c cs, units_utf8 cs, ap length (encodes-append (c ∷ []) cs), length-append (encodes (c ∷ [])) (encodes cs), ap length (append-nil (encodes (c ∷ []))), one_char c)
   where
     one_char : (c : ℕ) → length (encodes (c ∷ [])) ≡ len_utf8 c
     one_char c = ap length (append-nil _) ∙ length-encode c
 
 -- ---- how many characters fit
-pub fitting-drop : (w : ℕ → ℕ) (cs : List ℕ) (n c left : ℕ) → (n < length cs) × (c ≡ get_or cs n c) → fitting w (drop n cs) left ≡ cond (leb (w c) left) (suc (fitting w (drop (n + 1) cs) (left - w c))) 0
+pub fitting_drop : (w : ℕ → ℕ) (cs : List ℕ) (n c left : ℕ) → (n < length cs) × (c ≡ get_or cs n c) → fitting w (drop n cs) left ≡ cond (leb (w c) left) (suc (fitting w (drop (n + 1) cs) (left - w c))) 0
 unfolding fitting
-fitting-drop w cs n c left h = at_drop_more (λ xs. fitting w xs left) cs n c h.0 ∙ ap (λ x. cond (leb (w x) left) (suc (fitting w (drop (n + 1) cs) (left - w x))) 0) (sym h.1)
+fitting_drop w cs n c left h = at_drop_more (λ xs. fitting w xs left) cs n c h.0 ∙ ap (λ x. cond (leb (w x) left) (suc (fitting w (drop (n + 1) cs) (left - w x))) 0) (sym h.1)
 
-pub fitting-none : (w : ℕ → ℕ) (left : ℕ) (cs : List ℕ) (n : ℕ) → length cs ≤ n → fitting w (drop n cs) left ≡ 0
+pub fitting_none : (w : ℕ → ℕ) (left : ℕ) (cs : List ℕ) (n : ℕ) → length cs ≤ n → fitting w (drop n cs) left ≡ 0
 unfolding fitting
-fitting-none w left cs n le = at_drop_all (λ xs. fitting w xs left) cs n le
+fitting_none w left cs n le = at_drop_all (λ xs. fitting w xs left) cs n le
 
 stops : (w left f n m : ℕ) → left < w → n + cond (leb w left) f 0 ≡ m → n ≡ m
 stops w left f n m lt e = grind (arith, nat_tests)
@@ -77,7 +77,7 @@ moved cs y n c count_is turn = (omega (arith, turn.0), turn.1 ∙ ap (λ k. get_
 
 module _ (w : ℕ → ℕ) (cs : List ℕ) (n c left wide m : ℕ) (here : (n < length cs) × (c ≡ get_or cs n c)) (w_is : wide ≡ w c) (before : n + fitting w (drop n cs) left ≡ m) where
   at_c : n + cond (leb (w c) left) (suc (fitting w (drop (n + 1) cs) (left - w c))) 0 ≡ m
-  at_c = ap (λ x. n + x) (sym (fitting-drop w cs n c left here)) ∙ before
+  at_c = ap (λ x. n + x) (sym (fitting_drop w cs n c left here)) ∙ before
 
   pub turn_stops : left < wide → n ≡ m
   turn_stops lt = stops (w c) left _ n m (omega (arith, lt, w_is)) at_c
@@ -106,29 +106,29 @@ one_unit Utf32 c e = refl
 fit_more : (x k f n : ℕ) → x ≡ 1 → f ≡ min (k - x) n → cond (leb x k) (suc f) 0 ≡ min k (suc n)
 fit_more x k f n e h = grind (arith, nat_tests)
 
-pub fitting-ascii : (u : Encoding) (cs : List ℕ) (k : ℕ) → length (encodes cs) ≡ length cs → fitting (units u) cs k ≡ min k (length cs)
+pub fitting_ascii : (u : Encoding) (cs : List ℕ) (k : ℕ) → length (encodes cs) ≡ length cs → fitting (units u) cs k ≡ min k (length cs)
 unfolding fitting
-fitting-ascii u [] k e = omega arith
-fitting-ascii u (c ∷ cs) k e =
+fitting_ascii u [] k e = omega arith
+fitting_ascii u (c ∷ cs) k e =
     let parts = one_byte c cs e in
-    fit_more (units u c) k (fitting (units u) cs (k - units u c)) (length cs) (one_unit u c parts.0) (fitting-ascii u cs (k - units u c) parts.1)
+    fit_more (units u c) k (fitting (units u) cs (k - units u c)) (length cs) (one_unit u c parts.0) (fitting_ascii u cs (k - units u c) parts.1)
 
-pub units-ascii : (u : Encoding) (cs : List ℕ) (k : ℕ) → length (encodes cs) ≡ length cs → sum_by (units u) (take k cs) ≡ min k (length cs)
-units-ascii u [] zero e = omega arith
-units-ascii u [] (suc k) e = omega arith
-units-ascii u (c ∷ cs) zero e = omega arith
-units-ascii u (c ∷ cs) (suc k) e =
+pub units_ascii : (u : Encoding) (cs : List ℕ) (k : ℕ) → length (encodes cs) ≡ length cs → sum_by (units u) (take k cs) ≡ min k (length cs)
+units_ascii u [] zero e = omega arith
+units_ascii u [] (suc k) e = omega arith
+units_ascii u (c ∷ cs) zero e = omega arith
+units_ascii u (c ∷ cs) (suc k) e =
     let parts = one_byte c cs e in
-    omega (arith, sum_by-cons (units u) c (take k cs), one_unit u c parts.0, units-ascii u cs k parts.1)
+    omega (arith, sum_by-cons (units u) c (take k cs), one_unit u c parts.0, units_ascii u cs k parts.1)
 
-pub bytes-ascii : (cs : List ℕ) (k : ℕ) → length (encodes cs) ≡ length cs → length (encodes (take k cs)) ≡ min k (length cs)
-bytes-ascii [] zero e = omega arith
-bytes-ascii [] (suc k) e = omega arith
-bytes-ascii (c ∷ cs) zero e = omega arith
-bytes-ascii (c ∷ cs) (suc k) e =
+pub bytes_ascii : (cs : List ℕ) (k : ℕ) → length (encodes cs) ≡ length cs → length (encodes (take k cs)) ≡ min k (length cs)
+bytes_ascii [] zero e = omega arith
+bytes_ascii [] (suc k) e = omega arith
+bytes_ascii (c ∷ cs) zero e = omega arith
+bytes_ascii (c ∷ cs) (suc k) e =
     let parts = one_byte c cs e in
     let first : length (encodes (c ∷ [])) ≡ len_utf8 c = ap length (append-nil _) ∙ length-encode c in
-    omega (arith, parts.0, first, ap length (encodes-append (c ∷ []) (take k cs)), length-append (encodes (c ∷ [])) (encodes (take k cs)), bytes-ascii cs k parts.1)
+    omega (arith, parts.0, first, ap length (encodes-append (c ∷ []) (take k cs)), length-append (encodes (c ∷ [])) (encodes (take k cs)), bytes_ascii cs k parts.1)
 
-pub text-ascii : (bytes : List ℕ) (count : ℕ) → IsUtf8 bytes → count ≡ length (chars bytes) → length bytes ≡ count → length (encodes (chars bytes)) ≡ length (chars bytes)
-text-ascii bytes count u count_is same = ap length (encodes-chars bytes u) ∙ same ∙ count_is
+pub text_ascii : (bytes : List ℕ) (count : ℕ) → IsUtf8 bytes → count ≡ length (chars bytes) → length bytes ≡ count → length (encodes (chars bytes)) ≡ length (chars bytes)
+text_ascii bytes count u count_is same = ap length (encodes-chars bytes u) ∙ same ∙ count_is

@@ -59,7 +59,7 @@ pub record IsCutFrom (line : List ℕ) (end : LineEnd) (rest : List ℕ) (text :
   pub ends : (end ≡ Eof × rest ≡ []) ⊎ (is_end_before end rest ≡ true)
 
 -- a line with these bytes and this end has come to the end of the lines
-pub record IsPushed (ls : List Row) (text : List ℕ) (end : LineEnd) (ms : List Row) : Type 0 where
+pub record IsPushedLine (ls : List Row) (text : List ℕ) (end : LineEnd) (ms : List Row) : Type 0 where
   pub line : Row
   pub text_is : line_text line ≡ chars text
   pub end_is : line.end ≡ end
@@ -78,7 +78,7 @@ pub record IsIndex (starts : List ℕ) (len : ℕ) (ls : List Row) : Type 0 wher
   pub len_is : len ≡ length (text_of ls)
 
 -- what a snapshot keeps: the lines of a text of at most 4,194,304 bytes of UTF-8
-pub record IsKept (ls : List Row) : Type 0 where
+pub record IsKeptText (ls : List Row) : Type 0 where
   pub lines : AreLines ls
   pub small : length (encode_utf8_all (text_of ls)) ≤ max_bytes
 

@@ -1,9 +1,6 @@
 pub mod Lines
 pub mod Cut
-pub mod Parts
-pub mod Chunks
 pub mod Positions
-pub mod Counts
-pub mod Spots
 pub mod Edits
 pub mod Marks
+pub mod own

@@ -4,8 +4,8 @@ ghost use Rattle.std.specs.Prelude.{◌≡◌, ◌+◌, ◌-◌, ◌<◌, ◌≤
 ghost use Rattle.std.specs.Str.{chars, encode_utf8_all};
 ghost use Rattle.std.specs.String.{string_bytes};
 ghost use Rattle.ls_text.specs.Lines.{offset_of, units};
-ghost use Rattle.ls_text.specs.Cut.{end_text, line_text, end_at, text_of, IsCut, IsKept};
-ghost use Rattle.ls_text.specs.Spots.{IsSpot, front_of, back_of};
+ghost use Rattle.ls_text.specs.Cut.{end_text, line_text, end_at, text_of, IsCut, IsKeptText};
+ghost use Rattle.ls_text.specs.own.Spots.{IsSpot, front_of, back_of};
 
 use crate::chunk::MOST_LINES;
 use crate::cut::{first_line, with_lines};
@@ -53,7 +53,7 @@ pub struct Spot {
 
 // Where a position stands in these lines.
 pub fn spot_of(lines: &Lines, at: Position, encoding: Encoding) -> Spot
-    requires { IsKept lines.now }
+    requires { IsKeptText lines.now }
     ensures spot { IsSpot lines.now result }
     ensures position { result.offset ≡ offset_of (units encoding) (text_of lines.now) at.line at.character }
 {
@@ -173,7 +173,7 @@ pub fn whole(alloc: Global, text: &str) -> Result<Lines, TextFault>
 
 // The bytes of the lines from one up to another.
 fn bytes_between(lines: &Lines, from: usize, to: usize) -> usize
-    requires lines { IsKept lines.now }
+    requires lines { IsKeptText lines.now }
     requires order { from ≤ to }
     requires within { to ≤ length lines.now }
     ensures { result ≡ length (encode_utf8_all (text_of (take (to - from) (drop from lines.now)))) }
@@ -188,7 +188,7 @@ fn bytes_between(lines: &Lines, from: usize, to: usize) -> usize
 
 // The bytes of a text but for those between two spots.
 fn bytes_around(lines: &Lines, from: Spot, to: Spot) -> usize
-    requires lines { IsKept lines.now }
+    requires lines { IsKeptText lines.now }
     requires from { IsSpot lines.now from }
     requires to { IsSpot lines.now to }
     requires order { from.offset ≤ to.offset }
@@ -201,7 +201,7 @@ fn bytes_around(lines: &Lines, from: Spot, to: Spot) -> usize
 
 // The lines with what stands between two spots replaced, where the text isn't too large then.
 fn joined(alloc: Global, lines: &Lines, from: Spot, to: Spot, new: &str) -> Result<Lines, TextFault>
-    requires lines { IsKept lines.now }
+    requires lines { IsKeptText lines.now }
     requires from { IsSpot lines.now from }
     requires to { IsSpot lines.now to }
     requires small { let text = take from.offset (text_of lines.now)
@@ -232,7 +232,7 @@ pub fn spliced(
     to: Spot,
     new: &str,
 ) -> Result<Lines, TextFault>
-    requires lines { IsKept lines.now }
+    requires lines { IsKeptText lines.now }
     requires from { IsSpot lines.now from }
     requires to { IsSpot lines.now to }
     requires order { from.offset ≤ to.offset }

@@ -6,7 +6,7 @@ ghost use Rattle.std.specs.Char.{IsScalar};
 ghost use Rattle.std.specs.List.{flat_map};
 ghost use Rattle.std.specs.Str.{encode_utf8_all};
 ghost use Rattle.ls_text.specs.Cut.{text_of, start_of};
-ghost use Rattle.ls_text.specs.Chunks.{lines_behind, IsLineAt};
+ghost use Rattle.ls_text.specs.own.Chunks.{lines_behind, IsLineAt};
 
 use crate::chunk::{Chunk, MOST_LINES, chunk_of, push_number, start_before};
 use crate::fault::TextFault;
@@ -37,7 +37,7 @@ impl Model for Lines {
     ghost use Rattle.std.specs.Prelude.{List};
     ghost use Rattle.std.specs.List.{flat_map};
     ghost use Rattle.ls_text.specs.declared.line.Line.{Line};
-    ghost use Rattle.ls_text.specs.Chunks.{lines_behind, IsSpine};
+    ghost use Rattle.ls_text.specs.own.Chunks.{lines_behind, IsSpine};
 
     ghost Value = { List Line };
 

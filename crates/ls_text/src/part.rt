@@ -5,8 +5,8 @@ ghost use Rattle.std.specs.List.{slice_range};
 ghost use Rattle.std.specs.Str.{chars};
 ghost use Rattle.std.specs.String.{string_bytes};
 ghost use Rattle.abnf_token.specs.Marks.{AreMarks};
-ghost use Rattle.ls_text.specs.Cut.{row, IsPushed};
-ghost use Rattle.ls_text.specs.Parts.{held_row, AreHeld};
+ghost use Rattle.ls_text.specs.Cut.{row, IsPushedLine};
+ghost use Rattle.ls_text.specs.own.Parts.{held_row, AreHeld};
 
 use crate::line::Line;
 use crate::line_end::LineEnd;
@@ -49,7 +49,7 @@ impl Model for Part {
 
     ghost Value = { List Row };
 
-    ghost use Rattle.ls_text.specs.Parts.{held_row, AreHeld};
+    ghost use Rattle.ls_text.specs.own.Parts.{held_row, AreHeld};
 
     ghost view = { λ p. map (held_row (string_bytes p.text)) p.lines.items };
 
@@ -183,7 +183,7 @@ impl Part {
     #[inline(always)]
     pub fn pushed(self, text: &str, end: LineEnd) -> Result<Part, AllocError>
         requires { length text.now < 2 ^ 32 }
-        ensures { IfOk result (λ part. IsPushed self text.now end part) }
+        ensures { IfOk result (λ part. IsPushedLine self text.now end part) }
     {
         let Part {
             text: before,

@@ -6,7 +6,7 @@ ghost use Rattle.std.specs.List.{slice_get};
 ghost use Rattle.std.specs.Str.{chars};
 ghost use Rattle.ls_text.specs.Lines.{fitting, lines, offset_of, units};
 ghost use Rattle.ls_text.specs.Positions.{position_in, position_of, place_range};
-ghost use Rattle.ls_text.specs.Counts.{IsCountedIn};
+ghost use Rattle.ls_text.specs.own.Counts.{IsCountedIn};
 
 use crate::position::{Encoding, Place, Position, Range};
 use crate::snapshot::{MAX_BYTES, Snapshot};
@@ -67,7 +67,7 @@ pub struct Ruler<'s> {
 
 impl<'s> Model for Ruler<'s> {
     ghost use Rattle.std.specs.Prelude.{IfSome};
-    ghost use Rattle.ls_text.specs.Counts.{IsCountedAt};
+    ghost use Rattle.ls_text.specs.own.Counts.{IsCountedAt};
     ghost use Rattle.ls_text.specs.Lines.{units};
     ghost use Rattle.ls_text.specs.Positions.{Measured};
 

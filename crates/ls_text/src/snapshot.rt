@@ -36,13 +36,13 @@ pub struct Snapshot {
 
 impl Model for Snapshot {
     ghost use Rattle.std.specs.Prelude.{List, ℕ};
-    ghost use Rattle.ls_text.specs.Cut.{text_of, IsKept};
+    ghost use Rattle.ls_text.specs.Cut.{text_of, IsKeptText};
 
     ghost Value = { List ℕ };
 
     ghost view = { λ s. text_of s.lines };
 
-    ghost invariant = { λ s. IsKept s.lines };
+    ghost invariant = { λ s. IsKeptText s.lines };
 }
 
 // The snapshot of these lines.

@@ -3,7 +3,7 @@ use Rattle.std.proofs.Common.{◌≡◌, ◌∙◌, Bool, true, false, not, OnOk
 use Rattle.ls_session.specs.declared.turn.Status.{Status}
 use Rattle.ls_session.specs.declared.turn.Status.TheVariants.{Full}
 use Rattle.ls_devices.specs.declared.fault.ServeFault.{ServeFault}
-use Rattle.ls_threads.specs.Ends.{has_failed, has_met_full_session, has_strayed, is_ended, is_read, lacked_memory, result_of, status_of}
+use Rattle.ls_threads.specs.Ends.{has_failed, has_met_full_session, has_strayed, is_ended, is_read, lacked_memory, result_of, readers_status}
 use Rattle.ls_threads.specs.declared.ending.Early.TheVariants as early
 use Rattle.ls_threads.specs.declared.ending.Heard.{Heard}
 use Rattle.ls_threads.specs.declared.ending.Heard.TheVariants as heard
@@ -11,13 +11,9 @@ use Rattle.ls_threads.specs.declared.ending.Worked.{Worked}
 use Rattle.ls_threads.specs.declared.ending.Wrote.{Wrote}
 use Rattle.ls_threads.specs.declared.ending.Wrote.TheVariants.{All, Failed, Memory}
 
-pub on-ok : {P : Type 0} (r : Result Status ServeFault) → ((s : Status) → r ≡ Ok s → P) → OnOk r P
-on-ok (Ok s) f = f s refl
-on-ok (Err e) f = tt
-
-pub if-ok : {P : Status → Type 0} (r : Result Status ServeFault) → ((s : Status) → r ≡ Ok s → P s) → IfOk r P
-if-ok (Ok s) f = f s refl
-if-ok (Err e) f = tt
+pub if_ok : {P : Status → Type 0} (r : Result Status ServeFault) → ((s : Status) → r ≡ Ok s → P s) → IfOk r P
+if_ok (Ok s) f = f s refl
+if_ok (Err e) f = tt
 
 -- what a status that is answered says of the causes that come before it
 pub record Shows (read failed strayed lacked settled full : Bool) (last status : Status) : Type 0 where
@@ -33,46 +29,46 @@ answer read failed strayed lacked settled full a b c d last =
     if read then Err a else if failed then Err b else if strayed then Err c else if lacked then Err d else if not settled then Err c else if full then Ok Full else Ok last
 
 -- an error is no status
-err-ok : {P : Type 0} (e : ServeFault) (s : Status) → Err e ≡ Ok s → P
-err-ok e s q = absurd (cc)
+err_ok : {P : Type 0} (e : ServeFault) (s : Status) → Err e ≡ Ok s → P
+err_ok e s q = absurd (cc)
 
-same-ok : (r : Result Status ServeFault) (a b : Status) → r ≡ Ok a → r ≡ Ok b → b ≡ a
-same-ok r a b p q = cc
+same_ok : (r : Result Status ServeFault) (a b : Status) → r ≡ Ok a → r ≡ Ok b → b ≡ a
+same_ok r a b p q = cc
 
-pub true-false : {P : Type 0} → true ≡ false → P
-true-false e = absurd (cc)
+pub true_false : {P : Type 0} → true ≡ false → P
+true_false e = absurd (cc)
 
-pub false-true : {P : Type 0} → false ≡ true → P
-false-true e = absurd (cc)
+pub false_true : {P : Type 0} → false ≡ true → P
+false_true e = absurd (cc)
 
 shows : (read failed strayed lacked settled full : Bool) (a b c d : ServeFault) (last s : Status) → answer read failed strayed lacked settled full a b c d last ≡ Ok s
     → Shows read failed strayed lacked settled full last s
-shows true failed strayed lacked settled full a b c d last s e = err-ok a s e
-shows false true strayed lacked settled full a b c d last s e = err-ok b s e
-shows false false true lacked settled full a b c d last s e = err-ok c s e
-shows false false false true settled full a b c d last s e = err-ok d s e
-shows false false false false false full a b c d last s e = err-ok c s e
+shows true failed strayed lacked settled full a b c d last s e = err_ok a s e
+shows false true strayed lacked settled full a b c d last s e = err_ok b s e
+shows false false true lacked settled full a b c d last s e = err_ok c s e
+shows false false false true settled full a b c d last s e = err_ok d s e
+shows false false false false false full a b c d last s e = err_ok c s e
 shows false false false false true true a b c d last s e = record {
   not_read = refl;
   not_failed = refl;
   not_lacked = refl;
   is_settled = refl;
-  is_full = λ q. same-ok (Ok Full) Full s refl e;
-  is_last = λ q. true-false q;
+  is_full = λ q. same_ok (Ok Full) Full s refl e;
+  is_last = λ q. true_false q;
 }
 shows false false false false true false a b c d last s e = record {
   not_read = refl;
   not_failed = refl;
   not_lacked = refl;
   is_settled = refl;
-  is_full = λ q. false-true q;
-  is_last = λ q. same-ok (Ok last) last s refl e;
+  is_full = λ q. false_true q;
+  is_last = λ q. same_ok (Ok last) last s refl e;
 }
 
 -- of an answered status
-pub ok-shows : (h : Heard) (w : Wrote) (k : Worked) (settled : Bool) (s : Status) → result_of h w k true settled ≡ Ok s
-    → Shows (is_read h) (has_failed w) (has_strayed k) (lacked_memory h w k) settled (has_met_full_session h k) (status_of h) s
-ok-shows h w k settled s e = shows (is_read h) (has_failed w) (has_strayed k) (lacked_memory h w k) settled (has_met_full_session h k) _ _ _ _ (status_of h) s e
+pub ok_shows : (h : Heard) (w : Wrote) (k : Worked) (settled : Bool) (s : Status) → result_of h w k true settled ≡ Ok s
+    → Shows (is_read h) (has_failed w) (has_strayed k) (lacked_memory h w k) settled (has_met_full_session h k) (readers_status h) s
+ok_shows h w k settled s e = shows (is_read h) (has_failed w) (has_strayed k) (lacked_memory h w k) settled (has_met_full_session h k) _ _ _ _ (readers_status h) s e
 
 lacks : (h : Heard) (k : Worked) → lacked_memory h Memory k ≡ true
 lacks (heard.Ended s) k = refl
@@ -82,18 +78,18 @@ lacks (heard.Broken early.Memory) k = refl
 lacks (heard.Broken early.Halted) k = refl
 
 -- where the writer failed or lacked memory, no status is answered
-pub all-is-written : (h : Heard) (w : Wrote) (k : Worked) (settled : Bool) (s : Status) → result_of h w k true settled ≡ Ok s → w ≡ All
-all-is-written h All k settled s e = refl
-all-is-written h Failed k settled s e = let shown = ok-shows h Failed k settled s e in true-false shown.not_failed
-all-is-written h Memory k settled s e = let shown = ok-shows h Memory k settled s e in true-false (sym (lacks h k) ∙ shown.not_lacked)
+pub all_is_written : (h : Heard) (w : Wrote) (k : Worked) (settled : Bool) (s : Status) → result_of h w k true settled ≡ Ok s → w ≡ All
+all_is_written h All k settled s e = refl
+all_is_written h Failed k settled s e = let shown = ok_shows h Failed k settled s e in true_false shown.not_failed
+all_is_written h Memory k settled s e = let shown = ok_shows h Memory k settled s e in true_false (sym (lacks h k) ∙ shown.not_lacked)
 
 -- where the reader ended by itself
-pub ended-is : (h : Heard) → is_ended h ≡ true → h ≡ heard.Ended (status_of h)
-ended-is (heard.Ended s) e = refl
-ended-is heard.Failed e = false-true e
-ended-is (heard.Broken x) e = false-true e
+pub ended_is : (h : Heard) → is_ended h ≡ true → h ≡ heard.Ended (readers_status h)
+ended_is (heard.Ended s) e = refl
+ended_is heard.Failed e = false_true e
+ended_is (heard.Broken x) e = false_true e
 
 -- who wrote before hasn't failed where nobody has
-pub not-failed : (before after : Bool) → (before ≡ true → after ≡ true) → after ≡ false → before ≡ false
-not-failed false after f e = refl
-not-failed true after f e = true-false (sym (f refl) ∙ e)
+pub not_failed_holds : (before after : Bool) → (before ≡ true → after ≡ true) → after ≡ false → before ≡ false
+not_failed_holds false after f e = refl
+not_failed_holds true after f e = true_false (sym (f refl) ∙ e)

@@ -2,10 +2,11 @@
 use Rattle.std.proofs.Common.{◌≡◌, ◌∙◌, inl, inr, ℕ, List, [], ◌∷◌, ◌++◌, Option, None, Some, Result, Ok, Err, refl, sym, ap, subst, append_assoc}
 use Rattle.std.specs.Io.KnownBytes.{Consumes, IsAtEnd}
 use Rattle.ls_frame.specs.Faults.{fault_of}
-use Rattle.ls_frame.proofs.Streams.{no-fault, none-yet, stream-append}
+use Rattle.ls_frame.proofs.Streams.{no_fault, none_yet}
 use Rattle.ls_devices.specs.Ends.{end_status}
 use Rattle.std.proofs.lemmas.List.{append-nil}
-use Rattle.ls_devices.proofs.Input.{no-stream, consumes-consumes, stream-behind}
+use Rattle.ls_devices.proofs.Input.{no_stream, consumes_consumes}
+use Rattle.ls_devices.proofs.Pieces.{breaks_more, ends_more, goes_more}
 use Rattle.ls_session.specs.declared.turn.Status.{Status}
 use Rattle.ls_session.specs.declared.session.Stage.{Stage}
 use Rattle.ls_workers.specs.Seats.{ToldClient}
@@ -14,65 +15,47 @@ use Rattle.ls_threads.specs.Reading.{HearsAll, HearsFront, HearsOn}
 use Rattle.ls_threads.specs.declared.ending.Early.{Early}
 use Rattle.ls_threads.specs.declared.ending.Heard.TheVariants as heard
 
-on-append : (xs ys : List (List ℕ)) (s t u : Stage) (a b c : ToldClient) → HearsOn xs s a t b → HearsOn ys t b u c → HearsOn (xs ++ ys) s a u c
-on-append [] ys s t u a b c h k = subst (λ stage. HearsOn ys stage a u c) h.0 (subst (λ told. HearsOn ys t told u c) h.1 k)
-on-append (x ∷ xs) ys s t u a b c h k = (h.0, h.1, (h.2.0, on-append xs ys h.0 t u h.1 b c h.2.1 k))
+on_append : (xs ys : List (List ℕ)) (s t u : Stage) (a b c : ToldClient) → HearsOn xs s a t b → HearsOn ys t b u c → HearsOn (xs ++ ys) s a u c
+on_append [] ys s t u a b c h k = subst (λ stage. HearsOn ys stage a u c) h.0 (subst (λ told. HearsOn ys t told u c) h.1 k)
+on_append (x ∷ xs) ys s t u a b c h k = (h.0, h.1, (h.2.0, on_append xs ys h.0 t u h.1 b c h.2.1 k))
 
-all-append : (xs ys : List (List ℕ)) (s t u : Stage) (a b c : ToldClient) (exit : Option Status) → HearsOn xs s a t b → HearsAll ys t b exit u c → HearsAll (xs ++ ys) s a exit u c
-all-append xs ys s t u a b c None h k = on-append xs ys s t u a b c h k
-all-append xs ys s t u a b c (Some status) h k = (
+all_append : (xs ys : List (List ℕ)) (s t u : Stage) (a b c : ToldClient) (exit : Option Status) → HearsOn xs s a t b → HearsAll ys t b exit u c → HearsAll (xs ++ ys) s a exit u c
+all_append xs ys s t u a b c None h k = on_append xs ys s t u a b c h k
+all_append xs ys s t u a b c (Some status) h k = (
   xs ++ k.0,
   k.1,
   k.2,
   k.3,
   k.4,
-  (ap (λ l. xs ++ l) k.5.0 ∙ sym (append_assoc xs k.0 (k.1 ∷ k.2)), on-append xs k.0 s t k.3 a b k.4 h k.5.1, k.5.2),
+  (ap (λ l. xs ++ l) k.5.0 ∙ sym (append_assoc xs k.0 (k.1 ∷ k.2)), on_append xs k.0 s t k.3 a b k.4 h k.5.1, k.5.2),
 )
 
-front-append : (xs ys : List (List ℕ)) (s t : Stage) (a b c : ToldClient) → HearsOn xs s a t b → HearsFront ys t b c → HearsFront (xs ++ ys) s a c
-front-append xs ys s t a b c h k = (xs ++ k.0, k.1, k.2, (ap (λ l. xs ++ l) k.3.0 ∙ sym (append_assoc xs k.0 k.1), on-append xs k.0 s t k.2 a b c h k.3.1))
+front_append : (xs ys : List (List ℕ)) (s t : Stage) (a b c : ToldClient) → HearsOn xs s a t b → HearsFront ys t b c → HearsFront (xs ++ ys) s a c
+front_append xs ys s t a b c h k = (xs ++ k.0, k.1, k.2, (ap (λ l. xs ++ l) k.3.0 ∙ sym (append_assoc xs k.0 k.1), on_append xs k.0 s t k.2 a b c h k.3.1))
 
 -- a piece comes behind what was read
-pub piece-more : (read rest piece last : List ℕ) (s t u : Stage) (r : Result (Option Status) Early) (a b c : ToldClient)
+pub piece_more : (read rest piece last : List ℕ) (s t u : Stage) (r : Result (Option Status) Early) (a b c : ToldClient)
     → HearsMore [] read s a rest t b → HearsPiece rest piece t b r last u c → HearsPiece [] (read ++ piece) s a r last u c
-piece-more read rest piece last s t u (Ok None) a b c g p = record {
-  contents = g.contents ++ p.contents;
-  stream = stream-append read piece rest last g.contents p.contents g.stream p.stream;
-  fault = p.fault;
-  heard = on-append g.contents p.contents s t u a b c g.heard p.heard;
-}
-piece-more read rest piece last s t u (Ok (Some status)) a b c g p = record {
-  contents = g.contents ++ p.contents;
-  last = p.last;
-  exit = p.exit;
-  stream = stream-append read piece rest p.last g.contents p.contents g.stream p.stream;
-  heard = all-append g.contents p.contents s t u a b c p.exit g.heard p.heard;
-  status_is = p.status_is;
-}
-piece-more read rest piece last s t u (Err early) a b c g p = record {
-  part = g.stream.frames ++ p.part;
-  more = p.more;
-  bytes_are = ap (λ l. l ++ piece) g.stream.bytes_are ∙ (append_assoc g.stream.frames rest piece
-      ∙ (ap (λ l. g.stream.frames ++ l) p.bytes_are ∙ sym (append_assoc g.stream.frames p.part p.more)));
-  contents = g.contents ++ p.contents;
-  last = p.last;
-  stream = stream-behind g.stream.frames p.part p.last g.contents p.contents g.stream.whole p.stream;
-  heard = front-append g.contents p.contents s t a b c g.heard p.heard;
-}
+piece_more read rest piece last s t u (Ok None) a b c g p =
+    goes_more (λ xs. HearsOn xs s a t b) (λ xs. HearsOn xs t b u c) (λ xs. HearsOn xs s a u c) read rest piece last g p (λ xs ys. on_append xs ys s t u a b c)
+piece_more read rest piece last s t u (Ok (Some status)) a b c g p =
+    ends_more (λ xs. HearsOn xs s a t b) (λ xs exit. HearsAll xs t b exit u c) (λ xs exit. HearsAll xs s a exit u c) read rest piece status g p (λ xs ys exit. all_append xs ys s t u a b c exit)
+piece_more read rest piece last s t u (Err early) a b c g p =
+    breaks_more (λ xs. HearsOn xs s a t b) (λ xs. HearsFront xs t b c) (λ xs. HearsFront xs s a c) read rest piece g p (λ xs ys. front_append xs ys s t a b c)
 
 -- nothing was read
 pub begins : (rest : List ℕ) (s : Stage) (a : ToldClient) → rest ≡ [] → HearsMore [] [] s a rest s a
-begins rest s a e = record { contents = []; stream = rw e (no-stream [] none-yet); fault = rw e no-fault; heard = (refl, refl) }
+begins rest s a e = record { contents = []; stream = rw e (no_stream [] none_yet); fault = rw e no_fault; made = (refl, refl) }
 
-pub some-begun : (s : Stage) (a : ToldClient) → HearsSome [] [] s a a
-some-begun s a = record {
+pub some_begun : (s : Stage) (a : ToldClient) → HearsSome [] [] s a a
+some_begun s a = record {
   part = [];
   more = [];
   bytes_are = refl;
   contents = [];
   last = [];
-  stream = no-stream [] none-yet;
-  heard = ([], [], s, (refl, (refl, refl)));
+  stream = no_stream [] none_yet;
+  made = ([], [], s, (refl, (refl, refl)));
 }
 
 -- the input has ended behind what was read
@@ -80,16 +63,16 @@ pub ended : (input before left : Option (List ℕ)) (read none rest : List ℕ) 
     → Consumes before left none → IsAtEnd left → status ≡ end_status (fault_of rest) rest → HearsInput input left s a (heard.Ended status) t b
 ended input before left read none rest s t a b status n c g d at_end e =
     let P : List ℕ → Type 0 = λ l. Consumes input left l in
-    (read, subst P (ap (λ l. read ++ l) n ∙ append-nil read) (consumes-consumes input before left read none c d), inr (at_end, (rest, g, e ∙ ap (λ o. end_status o rest) g.fault)))
+    (read, subst P (ap (λ l. read ++ l) n ∙ append-nil read) (consumes_consumes input before left read none c d), inr (at_end, (rest, g, e ∙ ap (λ o. end_status o rest) g.fault)))
 
 -- a piece gives a status
-pub by-status : (input before left : Option (List ℕ)) (read piece rest last : List ℕ) (s t u : Stage) (a b c : ToldClient) (status : Status) → Consumes input before read → HearsMore [] read s a rest t b
+pub by_status : (input before left : Option (List ℕ)) (read piece rest last : List ℕ) (s t u : Stage) (a b c : ToldClient) (status : Status) → Consumes input before read → HearsMore [] read s a rest t b
     → Consumes before left piece → HearsPiece rest piece t b (Ok (Some status)) last u c → HearsInput input left s a (heard.Ended status) u c
-by-status input before left read piece rest last s t u a b c status q g d p =
-    (read ++ piece, consumes-consumes input before left read piece q d, inl (piece-more read rest piece last s t u (Ok (Some status)) a b c g p))
+by_status input before left read piece rest last s t u a b c status q g d p =
+    (read ++ piece, consumes_consumes input before left read piece q d, inl (piece_more read rest piece last s t u (Ok (Some status)) a b c g p))
 
 -- the reader breaks off in a piece
-pub by-fault : (input before left : Option (List ℕ)) (read piece rest last : List ℕ) (s t u : Stage) (a b c : ToldClient) (early : Early) → Consumes input before read → HearsMore [] read s a rest t b
+pub by_fault : (input before left : Option (List ℕ)) (read piece rest last : List ℕ) (s t u : Stage) (a b c : ToldClient) (early : Early) → Consumes input before read → HearsMore [] read s a rest t b
     → Consumes before left piece → HearsPiece rest piece t b (Err early) last u c → HearsInput input left s a (heard.Broken early) u c
-by-fault input before left read piece rest last s t u a b c early q g d p =
-    (read ++ piece, consumes-consumes input before left read piece q d, piece-more read rest piece last s t u (Err early) a b c g p)
+by_fault input before left read piece rest last s t u a b c early q g d p =
+    (read ++ piece, consumes_consumes input before left read piece q d, piece_more read rest piece last s t u (Err early) a b c g p)

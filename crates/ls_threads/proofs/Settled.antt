@@ -5,19 +5,19 @@ use Rattle.std.proofs.lemmas.Bool.Decides.{nat_tests}
 use Rattle.ls_session.specs.declared.turn.Status.{Status}
 use Rattle.ls_session.specs.declared.turn.Status.TheVariants.{Full}
 use Rattle.ls_desk.specs.Stands.{Seen, state_of, used}
-use Rattle.ls_threads.specs.Ends.{has_met_full_session, is_ended, is_read, status_of}
+use Rattle.ls_threads.specs.Ends.{has_met_full_session, is_ended, is_read, readers_status}
 use Rattle.ls_threads.specs.Settled.{IsSettled, is_done, is_nearly_full, is_settled}
 use Rattle.ls_threads.specs.declared.ending.Heard.{Heard}
 use Rattle.ls_threads.specs.declared.ending.Heard.TheVariants.{Ended}
-use Rattle.ls_threads.proofs.Ends.{ended-is}
+use Rattle.ls_threads.proofs.Ends.{ended_is}
 use Rattle.ls_threads.specs.declared.ending.Worked.{Worked}
 
-zero-is : (n : ℕ) → (n == 0) ≡ true → n ≡ 0
-zero-is n e = grind (arith, nat_tests)
+zero_is : (n : ℕ) → (n == 0) ≡ true → n ≡ 0
+zero_is n e = grind (arith, nat_tests)
 
-pub is-none : {X : Type 0} (xs : List X) → (length xs == 0) ≡ true → xs ≡ []
-is-none [] e = refl
-is-none (x ∷ xs) e = let none : length (x ∷ xs) ≡ 0 = zero-is (length (x ∷ xs)) e in absurd (omega (arith, none))
+pub is_none : {X : Type 0} (xs : List X) → (length xs == 0) ≡ true → xs ≡ []
+is_none [] e = refl
+is_none (x ∷ xs) e = let none : length (x ∷ xs) ≡ 0 = zero_is (length (x ∷ xs)) e in absurd (omega (arith, none))
 
 pub both : (a b : Bool) → (a && b) ≡ true → (a ≡ true) × (b ≡ true)
 both true true e = (refl, refl)
@@ -28,27 +28,27 @@ less : (a b : ℕ) → nat_lt a b ≡ true → a < b
 less a b e = grind (arith, nat_tests)
 
 -- with a full session
-full-settled : (events : ℕ) (h : Heard) (k : Worked) (status : Status) (before after : Seen) → has_met_full_session h k ≡ true → is_settled events h k before ≡ true → is_read h ≡ false
+full_settled : (events : ℕ) (h : Heard) (k : Worked) (status : Status) (before after : Seen) → has_met_full_session h k ≡ true → is_settled events h k before ≡ true → is_read h ≡ false
     → status ≡ Full → after.outbox ≡ [] → used after ≡ used before → IsSettled events status h after
-full-settled events h k status before after full settled read is_full none same =
+full_settled events h k status before after full settled read is_full none same =
     let P : Bool → Type 0 = λ b. (if b then is_nearly_full events before else (is_ended h && is_done before)) ≡ true in
     let near : nat_lt events (used before + 1025) ≡ true = subst P full settled in
     record { read = read; sent = none; done = inr (is_full, subst (λ n. events < n + 1025) (sym same) (less events (used before + 1025) near)) }
 
 -- without, the reader ended by itself, and all is done
-all-done : (events : ℕ) (h : Heard) (k : Worked) (desk : Seen) → has_met_full_session h k ≡ false → is_settled events h k desk ≡ true
+all_done : (events : ℕ) (h : Heard) (k : Worked) (desk : Seen) → has_met_full_session h k ≡ false → is_settled events h k desk ≡ true
     → (is_ended h ≡ true) × ((state_of desk).waiting ≡ []) × (desk.outbox ≡ [])
-all-done events h k desk full settled =
+all_done events h k desk full settled =
     let P : Bool → Type 0 = λ b. (if b then is_nearly_full events desk else (is_ended h && is_done desk)) ≡ true in
     let two = both (is_ended h) (is_done desk) (subst P full settled) in
     let done = both (length (state_of desk).waiting == 0) (length desk.outbox == 0) two.1 in
-    (two.0, is-none (state_of desk).waiting done.0, is-none desk.outbox done.1)
+    (two.0, is_none (state_of desk).waiting done.0, is_none desk.outbox done.1)
 
-pub is-settled : (events : ℕ) (h : Heard) (k : Worked) (full : Bool) (status : Status) (before after : Seen) → has_met_full_session h k ≡ full → is_settled events h k before ≡ true
-    → is_read h ≡ false → (full ≡ true → status ≡ Full) → (full ≡ false → status ≡ status_of h) → (full ≡ true → after.outbox ≡ []) → (full ≡ false → after ≡ before)
+pub is_settled_holds : (events : ℕ) (h : Heard) (k : Worked) (full : Bool) (status : Status) (before after : Seen) → has_met_full_session h k ≡ full → is_settled events h k before ≡ true
+    → is_read h ≡ false → (full ≡ true → status ≡ Full) → (full ≡ false → status ≡ readers_status h) → (full ≡ true → after.outbox ≡ []) → (full ≡ false → after ≡ before)
     → used after ≡ used before → IsSettled events status h after
-is-settled events h k true status before after met settled read is_full is_last rest kept same = full-settled events h k status before after met settled read (is_full refl) (rest refl) same
-is-settled events h k false status before after met settled read is_full is_last rest kept same =
-    let done = all-done events h k before met settled in
-    let own : h ≡ Ended status = ended-is h done.0 ∙ ap Ended (sym (is_last refl)) in
+is_settled_holds events h k true status before after met settled read is_full is_last rest kept same = full_settled events h k status before after met settled read (is_full refl) (rest refl) same
+is_settled_holds events h k false status before after met settled read is_full is_last rest kept same =
+    let done = all_done events h k before met settled in
+    let own : h ≡ Ended status = ended_is h done.0 ∙ ap Ended (sym (is_last refl)) in
     subst (λ d. IsSettled events status h d) (sym (kept refl)) (record { read = read; sent = done.2; done = inl (own, done.1) })

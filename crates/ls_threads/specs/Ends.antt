@@ -46,9 +46,9 @@ is_ended (heard.Ended s) = true
 is_ended _ = false
 
 -- the reader's own status
-abbrev pub status_of : Heard → Status
-status_of (heard.Ended s) = s
-status_of _ = status.Unclean
+abbrev pub readers_status : Heard → Status
+readers_status (heard.Ended s) = s
+readers_status _ = status.Unclean
 
 -- the causes that hold, in the order of this table: each with what it makes of the run
 abbrev pub causes : Heard → Wrote → Worked → Bool → Bool → List (Bool × Result Status ServeFault)
@@ -62,13 +62,13 @@ causes h w k audited settled =
     ∷ []
 
 -- the first that holds, or else the last resort
-abbrev pub first_of : {A : Type 0} → List (Bool × A) → A → A
-first_of [] last = last
-first_of ((holds, x) ∷ rest) last = if holds then x else first_of rest last
+abbrev pub first_that_holds : {A : Type 0} → List (Bool × A) → A → A
+first_that_holds [] last = last
+first_that_holds ((holds, x) ∷ rest) last = if holds then x else first_that_holds rest last
 
 -- what a run answers, where all its threads could be made
 abbrev pub result_of : Heard → Wrote → Worked → Bool → Bool → Result Status ServeFault
-result_of h w k audited settled = first_of (causes h w k audited settled) (Ok (status_of h))
+result_of h w k audited settled = first_that_holds (causes h w k audited settled) (Ok (readers_status h))
 
 -- how the reader broke off, by the fault that the board answered
 abbrev pub early_by : DeskFault → Early

@@ -1,11 +1,10 @@
 -- What the reader makes of the bytes that it reads.
-use Rattle.std.specs.Prelude.{◌≡◌, ◌⊎◌, ◌++◌, ℕ, List, [], Option, None, Some, Result, Ok, Err}
+use Rattle.std.specs.Prelude.{◌≡◌, ◌⊎◌, ℕ, List, [], Option, None, Some, Result, Ok, Err}
 use Rattle.std.specs.Io.KnownBytes.{Consumes, IsAtEnd}
-use Rattle.ls_frame.specs.Frames.{Stream}
-use Rattle.ls_frame.specs.Faults.{fault_of}
 use Rattle.ls_frame.specs.declared.fault.FrameFault.{FrameFault}
 use Rattle.ls_frame.specs.declared.fault.FrameFault.TheVariants.{Memory as NoMemory}
-use Rattle.ls_devices.specs.Ends.{end_status, status_or}
+use Rattle.ls_devices.specs.Ends.{end_status}
+use Rattle.ls_devices.specs.Input.{BreaksOff, ComesToEnd, GoesOn}
 use Rattle.ls_session.specs.declared.turn.Status.{Status}
 use Rattle.ls_session.specs.declared.turn.Status.TheVariants.{BadFrame}
 use Rattle.ls_session.specs.declared.session.Stage.{Stage}
@@ -17,30 +16,16 @@ use Rattle.ls_threads.specs.declared.ending.Heard.{Heard}
 use Rattle.ls_threads.specs.declared.ending.Heard.TheVariants as heard
 
 -- Bytes come after a rest. Their messages were heard, none of which is an exit, and the input goes on with this rest.
-pub record HearsMore (rest bytes : List ℕ) (stage : Stage) (old : ToldClient) (after_rest : List ℕ) (after : Stage) (new : ToldClient) : Type 0 where
-  pub contents : List (List ℕ)
-  pub stream : Stream (rest ++ bytes) contents after_rest
-  pub fault : fault_of after_rest ≡ None
-  pub heard : HearsOn contents stage old after new
+abbrev pub HearsMore : List ℕ → List ℕ → Stage → ToldClient → List ℕ → Stage → ToldClient → Type 0
+HearsMore rest bytes stage old after_rest after new = GoesOn (λ contents. HearsOn contents stage old after new) rest bytes after_rest
 
 -- Bytes come after a rest. Their messages were heard, and an exit among them or a fault behind them gives this status.
-pub record HearsLast (rest bytes : List ℕ) (stage : Stage) (old : ToldClient) (status : Status) (after : Stage) (new : ToldClient) : Type 0 where
-  pub contents : List (List ℕ)
-  pub last : List ℕ
-  pub exit : Option Status
-  pub stream : Stream (rest ++ bytes) contents last
-  pub heard : HearsAll contents stage old exit after new
-  pub status_is : status_or exit (fault_of last) ≡ Some status
+abbrev pub HearsLast : List ℕ → List ℕ → Stage → ToldClient → Status → Stage → ToldClient → Type 0
+HearsLast rest bytes stage old status after new = ComesToEnd (λ contents exit. HearsAll contents stage old exit after new) rest bytes status
 
 -- Bytes come after a rest, and of the messages of a front of them a front was heard.
-pub record HearsSome (rest bytes : List ℕ) (stage : Stage) (old new : ToldClient) : Type 0 where
-  pub part : List ℕ
-  pub more : List ℕ
-  pub bytes_are : rest ++ bytes ≡ part ++ more
-  pub contents : List (List ℕ)
-  pub last : List ℕ
-  pub stream : Stream part contents last
-  pub heard : HearsFront contents stage old new
+abbrev pub HearsSome : List ℕ → List ℕ → Stage → ToldClient → ToldClient → Type 0
+HearsSome rest bytes stage old new = BreaksOff (λ contents. HearsFront contents stage old new) rest bytes
 
 -- A piece is taken after a rest, and the messages that it completes are heard.
 abbrev pub HearsPiece : List ℕ → List ℕ → Stage → ToldClient → Result (Option Status) Early → List ℕ → Stage → ToldClient → Type 0

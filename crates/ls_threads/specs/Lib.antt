@@ -1,7 +1,7 @@
-pub mod Audit
 pub mod Ends
 pub mod Input
 pub mod Reading
 pub mod Served
 pub mod Settled
 pub mod Writing
+pub mod own

@@ -17,8 +17,8 @@ use Rattle.ls_threads.specs.Writing.{LastAre, frames_for}
 use Rattle.ls_threads.specs.declared.ending.Heard.{Heard}
 
 -- what a seat was told is what a desk has of its client
-abbrev pub told_of : Seen → ToldClient
-told_of desk = record { list = client_events desk.journal; checkpoints = desk.base.checkpoints; strayed = false }
+abbrev pub told_by_desk : Seen → ToldClient
+told_by_desk desk = record { list = client_events desk.journal; checkpoints = desk.base.checkpoints; strayed = false }
 
 -- A run that ended well has a desk of these limits, whose journal is legal. The messages of the input were heard, from the first on and in their order,
 -- and the client's events of this desk since its last checkpoint are what that left. The status says how that ended, and what it leaves at the desk.
@@ -29,7 +29,7 @@ pub record IsServed (journal events : ℕ) (status : Status) (input left old new
   pub limits : HasLimits journal events desk
   pub sound : IsSound desk
   pub end : Heard
-  pub heard : HasHeard input left BeforeInitialize told_nothing end (told_of desk)
+  pub heard : HasHeard input left BeforeInitialize told_nothing end (told_by_desk desk)
   pub settled : IsSettled events status end desk
   pub outs : List Out
   pub leave : AllByRecursion LeavesADesk outs

@@ -15,6 +15,5 @@ mod settling;
 mod working;
 mod writing;
 
-pub use ending::{Early, Heard, Worked, Wrote, result_of};
 pub use ls_workers::Gate;
 pub use serve::{Served, serve_threads, serve_with_journal};

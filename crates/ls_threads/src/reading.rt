@@ -175,7 +175,7 @@ impl<C: Crew> Reader<C> {
         self.read_with(rt, board, source, &mut buffer, halted)
     }
 
-    /// Reads and hears by this buffer.
+    /// Reads and hears by this buffer. The loop stands apart from where its buffer is made for the prover's time alone.
     #[tactic(none)]
     fn read_with<R: Wait, I: Source>(
         &mut self,

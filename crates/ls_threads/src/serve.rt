@@ -1,18 +1,14 @@
 //! The run: the threads are made, joined, and their board is closed.
 ghost use denote.Param.Send.{IsSend};
-ghost use Rattle.std.specs.Prelude.{◌≡◌, ◌+◌, ◌<◌, ◌≤◌, ◌==◌, ◌||◌, Bool, IfOk, OnOk, [], false, sum_by, true, vec_len};
+ghost use Rattle.std.specs.Prelude.{◌≡◌, ◌+◌, ◌<◌, ◌≤◌, ◌==◌, ◌||◌, ◌++◌, ◌∷◌, IfOk, [], false, sum_by, true, vec_len, vec_capacity};
 ghost use Rattle.std.specs.Io.KnownBytes.{Appends};
 ghost use Rattle.ls_session.specs.declared.session.Stage.TheVariants.{BeforeInitialize};
-ghost use Rattle.ls_desk.specs.Stands.{Seen};
-ghost use Rattle.ls_workers.specs.Count.{Counts};
 ghost use Rattle.ls_workers.specs.Jobs.{HasLimits};
-ghost use Rattle.ls_workers.specs.Seats.{AreAll, HasCause, told_by, told_nothing};
-ghost use Rattle.ls_workers.specs.declared.behind.SeatFault.{SeatFault};
-ghost use Rattle.ls_threads.specs.Audit.{IsAudited};
-ghost use Rattle.ls_threads.specs.Ends.{has_cause, has_failed, has_met_full_session, result_of};
+ghost use Rattle.ls_workers.specs.Seats.{AreAll, told_by, told_nothing};
+ghost use Rattle.ls_threads.specs.own.Audit.{IsAnswered, left_by};
+ghost use Rattle.ls_threads.specs.Ends.{has_cause, has_failed, worked_by, worse};
 ghost use Rattle.ls_threads.specs.Input.{HasHeard};
 ghost use Rattle.ls_threads.specs.Served.{IsServed};
-ghost use Rattle.ls_threads.specs.Settled.{is_settled};
 ghost use Rattle.ls_threads.specs.Writing.{HasWritten, SaysTheRest, WritesFrames};
 
 use crate::ending::{Early, Heard, Worked, Wrote, has_met_full_session, result_of};
@@ -21,7 +17,7 @@ use crate::reading::Reader;
 use crate::settling::is_settled;
 use crate::working::work_on;
 use crate::writing::{Writer, Writes, Written, write_rest};
-use ls_desk::Desk;
+use ls_desk::{Desk, DeskFault};
 use ls_devices::{ServeFault, Sink, Source};
 use ls_session::{Session, Status};
 use ls_workers::{Blanks, Board, ClientSeat, Crew, Gate, Stop, WorkerSeat};
@@ -71,10 +67,19 @@ struct Unread<C: Crew, I: Source> {
 }
 
 impl<C: Crew, I: Source> Unread<C, I> {
-    /// Reads up to the end, and ends the board as that asks for.
-    fn read_up<R: Wait>(self, rt: &R, board: &Board<C>, halted: &AtomicU64) -> ReadUp<C, I>
+    /// Reads up to the end, and ends the board as that asks for. Where not all threads could be made it reads nothing.
+    fn read_up<R: Wait>(
+        self,
+        all_made: bool,
+        rt: &R,
+        board: &Board<C>,
+        halted: &AtomicU64,
+    ) -> ReadUp<C, I>
         ensures { HasHeard (I.remaining self.source) (I.remaining result.source) self.reader.session (told_by self.reader.seat.told) result.end (told_by result.seat.told) }
     {
+        if !all_made {
+            return self.given_up();
+        }
         let Unread {
             mut reader,
             mut source,
@@ -88,7 +93,7 @@ impl<C: Crew, I: Source> Unread<C, I> {
         ReadUp { seat, source, end }
     }
 
-    /// Reads nothing, where memory for the threads was refused.
+    /// Reads nothing.
     fn given_up(self) -> ReadUp<C, I>
         ensures { HasHeard (I.remaining self.source) (I.remaining result.source) self.reader.session (told_by self.reader.seat.told) result.end (told_by result.seat.told) }
     {
@@ -98,23 +103,6 @@ impl<C: Crew, I: Source> Unread<C, I> {
             seat,
             source,
             end: Heard::Broken(Early::Memory),
-        }
-    }
-
-    /// Reads up to the end where all threads could be made, and else nothing.
-    fn read_where<R: Wait>(
-        self,
-        made: bool,
-        rt: &R,
-        board: &Board<C>,
-        halted: &AtomicU64,
-    ) -> ReadUp<C, I>
-        ensures { HasHeard (I.remaining self.source) (I.remaining result.source) self.reader.session (told_by self.reader.seat.told) result.end (told_by result.seat.told) }
-    {
-        if made {
-            self.read_up(rt, board, halted)
-        } else {
-            self.given_up()
         }
     }
 }
@@ -141,6 +129,22 @@ impl<C: Crew, I: Source> Done<C, I> {
             made: false,
         }
     }
+}
+
+/// Puts a worker's seat to those that came back, and answers how these workers ended.
+fn put_back<C: Crew>(
+    workers: &mut Vec<WorkerSeat<C>>,
+    worked: Worked,
+    left: (WorkerSeat<C>, Option<DeskFault>),
+) -> Worked
+    requires { vec_len workers.old < vec_capacity workers.old }
+    ensures worst { result ≡ worse worked (worked_by left.1) }
+    ensures seats { workers.new.items ≡ workers.old.items ++ left.0 ∷ [] }
+    ensures room { (vec_len workers.new ≡ vec_len workers.old + 1) × (vec_capacity workers.new ≡ vec_capacity workers.old) }
+{
+    let (seat, fault) = left;
+    workers.push_reserved(seat);
+    worked.and(Worked::by(fault))
 }
 
 /// Reads here while the workers work, each in a thread of its own. Room for what they leave is made before the first starts. Where a thread
@@ -184,17 +188,13 @@ fn read_and_work<
                     Err(refused) => {
                         halt(rt, board, halted);
                         made = false;
-                        let (seat, fault) = (refused.value)();
-                        worked = worked.and(Worked::by(fault));
-                        workers.push_reserved(seat);
+                        worked = put_back(&mut workers, worked, (refused.value)());
                     }
                 }
             }
-            let read = unread.read_where(made, rt, board, halted);
+            let read = unread.read_up(made, rt, board, halted);
             'handles: while let Some(handle) = handles.pop() {
-                let (seat, fault) = handle.join(rt);
-                worked = worked.and(Worked::by(fault));
-                workers.push_reserved(seat);
+                worked = put_back(&mut workers, worked, handle.join(rt));
             }
             Done {
                 read,
@@ -314,24 +314,15 @@ fn closed<C: Crew, I: Source + Drop, W: Sink + Drop>(
     ensures frames { WritesFrames (W.failed result.sink) (W.contents begun.value) (W.contents result.sink) }
     ensures flushed { W.unflushed begun.value ≡ false → W.failed result.sink ≡ false → W.unflushed result.sink ≡ false }
     ensures not_made { ran.done.made ≡ false → result.answer ≡ Err ServeFault.Memory }
-    ensures causes { ran.done.made ≡ true → (wrote : Wrote) × (audited settled : Bool) × ((result.answer ≡ result_of ran.done.read.end wrote ran.done.worked audited settled) × (W.failed result.sink ≡ has_failed wrote)
-        × (has_met_full_session ran.done.read.end ran.done.worked ≡ false → wrote ≡ ran.written.end)
-        × (audited ≡ false → (fault : SeatFault) × HasCause ((ran.done.read.seat.mark ≡ board.mark) × (ran.written.seat.mark ≡ board.mark)
-        × AreAll (λ seat. seat.mark) (λ seat. seat.number) board.mark board.workers ran.done.workers.items)
-        (λ desk. Counts ran.done.read.seat.asked.share.amount (sum_by (λ seat. seat.took.share.amount) ran.done.workers.items)
-        (sum_by (λ seat. seat.returned.share.amount) ran.done.workers.items) (sum_by (λ seat. seat.finished.share.amount) ran.done.workers.items)
-        ran.written.seat.sent.share.amount desk × HasLimits C.max_journal C.max_events desk)
-        (told_by ran.done.read.seat.told) ran.written.seat.checkpoints ran.written.seat.tickets.items ran.written.seat.notes.items fault)
-        × (audited ≡ true → settled ≡ false → (desk : Seen) × HasLimits C.max_journal C.max_events desk × IsAudited ran.done.read.seat.asked.share.amount
-        (sum_by (λ seat. seat.took.share.amount) ran.done.workers.items) (sum_by (λ seat. seat.returned.share.amount) ran.done.workers.items)
-        (sum_by (λ seat. seat.finished.share.amount) ran.done.workers.items) ran.written.seat.sent.share.amount
-        ran.done.read.seat.told.list.items ran.written.seat.checkpoints ran.written.seat.tickets.items desk
-        × (is_settled C.max_events ran.done.read.end ran.done.worked desk ≡ false))) }
-    ensures audited { OnOk result.answer ((desk : Seen) × HasLimits C.max_journal C.max_events desk × IsAudited ran.done.read.seat.asked.share.amount
-        (sum_by (λ seat. seat.took.share.amount) ran.done.workers.items) (sum_by (λ seat. seat.returned.share.amount) ran.done.workers.items)
-        (sum_by (λ seat. seat.finished.share.amount) ran.done.workers.items) ran.written.seat.sent.share.amount
-        ran.done.read.seat.told.list.items ran.written.seat.checkpoints ran.written.seat.tickets.items desk
-        × (is_settled C.max_events ran.done.read.end ran.done.worked desk ≡ true)) }
+    ensures causes { ran.done.made ≡ true → IsAnswered ((ran.done.read.seat.mark ≡ board.mark) × (ran.written.seat.mark ≡ board.mark)
+        × AreAll (λ seat. seat.mark) (λ seat. seat.number) board.mark board.workers ran.done.workers.items) C.max_journal C.max_events (left_by (ran.done.read.end, ran.written.end, ran.done.worked) (
+          ran.done.read.seat.asked.share.amount,
+          sum_by (λ seat. seat.took.share.amount) ran.done.workers.items,
+          sum_by (λ seat. seat.returned.share.amount) ran.done.workers.items,
+          sum_by (λ seat. seat.finished.share.amount) ran.done.workers.items,
+          ran.written.seat.sent.share.amount,
+        ) (told_by ran.done.read.seat.told)
+        (ran.written.seat.checkpoints, ran.written.seat.tickets.items, ran.written.seat.notes.items)) (W.failed result.sink) result.answer }
     ensures served { IfOk result.answer (λ status. IsServed C.max_journal C.max_events status (I.remaining input.value) (I.remaining result.source) (W.contents begun.value) (W.contents result.sink)) }
 {
     let Ran { done, written } = ran;
@@ -363,13 +354,8 @@ fn closed<C: Crew, I: Source + Drop, W: Sink + Drop>(
     };
     let _sound = desk.journal();
     let settled = is_settled(&desk, MOST_EVENTS, end, worked);
-    let wrote = finished(
-        alloc,
-        desk,
-        &mut sink,
-        has_met_full_session(end, worked),
-        wrote,
-    );
+    let full = has_met_full_session(end, worked);
+    let wrote = finished(alloc, desk, &mut sink, full, wrote);
     Served {
         answer: result_of(end, wrote, worked, true, settled),
         source,
@@ -377,8 +363,8 @@ fn closed<C: Crew, I: Source + Drop, W: Sink + Drop>(
     }
 }
 
-/// Serves at a board whose ledgers are those of `C`.
-fn serve<
+/// Makes a board whose ledgers are those of `C`, runs its threads and closes it. It stands apart for the caller to say which ledgers these are.
+fn run_session<
     C: Crew + Send + Sync,
     R: Threads + Wait + Sync,
     I: Source + Drop,
@@ -489,7 +475,7 @@ pub fn serve_with_journal<
     ensures flushed { W.unflushed sink ≡ false → W.failed result.sink ≡ false → W.unflushed result.sink ≡ false }
     ensures served { IfOk result.answer (λ status. IsServed max_journal MOST_EVENTS status (I.remaining source) (I.remaining result.source) (W.contents sink) (W.contents result.sink)) }
 {
-    serve::<Brand, R, I, W, G>(
+    run_session::<Brand, R, I, W, G>(
         rt,
         alloc,
         Blanks::new(workers),

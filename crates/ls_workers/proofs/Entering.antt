@@ -15,13 +15,13 @@ use Rattle.ls_machine.specs.declared.event.Event.{Event}
 use Rattle.ls_machine.specs.declared.event.Event.TheVariants as event
 use Rattle.ls_machine.specs.declared.state.State.{State}
 use Rattle.ls_desk.specs.Anew.{base_after, journal_after}
-use Rattle.ls_desk.specs.Door.{Admits, IsTextOf, entry_at}
+use Rattle.ls_desk.specs.Door.{Admits, IsTextOf, entered_at}
 use Rattle.ls_desk.specs.Stands.{Seen, counts_of, fresh, fresh_for, state_of}
-use Rattle.ls_workers.specs.Count.{Adds}
+use Rattle.ls_workers.specs.Count.{AddsEvents}
 use Rattle.ls_workers.specs.Jobs.{HasLimits}
 
 -- the entry is a client's
-client_entry : (s : State) (e : ClientEvent) → is_client (entry_at s e) ≡ true
+client_entry : (s : State) (e : ClientEvent) → is_client (entered_at s e) ≡ true
 client_entry s (DidOpen uri label text encoding) = refl
 client_entry s (DidChange uri label edits) = refl
 client_entry s (DidClose uri) = refl
@@ -30,18 +30,18 @@ client_entry s (Cancel id) = refl
 client_entry s (Say body) = refl
 
 -- so it makes a checkpoint where the journal is as long as it may be
-anew : (old : Seen) (e : ClientEvent) → fresh_for old (entry_at (state_of old) e) ≡ fresh old
+anew : (old : Seen) (e : ClientEvent) → fresh_for old (entered_at (state_of old) e) ≡ fresh old
 anew old e = ap (λ (b : Bool). if b then fresh old else None) (client_entry (state_of old) e)
 
 pub notes_entry : (old new : Seen) (e : ClientEvent) (a : ClientAnswer) → Admits e a old new → Notes e a (journal_after (fresh old) old.journal) new.journal
 notes_entry old new e a admits =
-    let entry = entry_at (state_of old) e in
+    let entry = entered_at (state_of old) e in
     (entry, admits.answer_is, admits.accepts.enters.journal ∙ ap (λ (s : Option State). journal_after s old.journal ++ entry ∷ []) (anew old e))
 
 pub base_is : (old new : Seen) (e : ClientEvent) (a : ClientAnswer) → Admits e a old new → new.base ≡ base_after (fresh old) (counts_of old) old.base
 base_is old new e a admits = admits.accepts.enters.base ∙ ap (λ (s : Option State). base_after s (counts_of old) old.base) (anew old e)
 
-one_more : (c : Counts) (s : State) (e : ClientEvent) → count_one c (entry_at s e) ≡ record c { client = c.client + 1 }
+one_more : (c : Counts) (s : State) (e : ClientEvent) → count_one c (entered_at s e) ≡ record c { client = c.client + 1 }
 one_more c s (DidOpen uri label text encoding) = refl
 one_more c s (DidChange uri label edits) = refl
 one_more c s (DidClose uri) = refl
@@ -52,7 +52,7 @@ one_more c s (Say body) = refl
 plus_none : (n m : ℕ) → n ≡ m → n ≡ m + 0
 plus_none n m q = search rules
 
-pub adds_one : (old new : Seen) (e : ClientEvent) (a : ClientAnswer) → Admits e a old new → Adds 1 0 0 0 0 old new
+pub adds_one : (old new : Seen) (e : ClientEvent) (a : ClientAnswer) → Admits e a old new → AddsEvents 1 0 0 0 0 old new
 adds_one old new e a admits =
     let q = admits.accepts.enters.counts ∙ one_more (counts_of old) (state_of old) e in
     record {

@@ -1,4 +1,5 @@
 pub mod Beside
+pub mod Entered
 pub mod Entering
 pub mod FirstWaiting
 pub mod Numbers

@@ -24,13 +24,13 @@ has_job stop desk = is_some stop || is_some (find is_queued (state_of desk).wait
 abbrev pub first_waiting : List Bool → Option ℕ
 first_waiting idle = position (λ waits. waits) idle
 
-abbrev pub is_number : ℕ → Option ℕ → Bool
-is_number number None = false
-is_number number (Some first) = first == number
+abbrev pub is_this_number : ℕ → Option ℕ → Bool
+is_this_number number None = false
+is_this_number number (Some first) = first == number
 
 -- the worker of this number is the first that waits
 abbrev pub is_first : List Bool → ℕ → Bool
-is_first idle number = is_number number (first_waiting idle)
+is_first idle number = is_this_number number (first_waiting idle)
 
 -- the worker of this number has nothing to wait for: the board ends, or a job is queued and this is the first that waits
 abbrev pub has_job_for : Option Stop → Seen → List Bool → ℕ → Bool

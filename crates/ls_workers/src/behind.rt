@@ -3,7 +3,7 @@ ghost use Rattle.std.specs.Prelude.{◌≡◌, ◌+◌, ◌%◌, ◌++◌, ◌�
 ghost use Rattle.ls_machine.specs.Machine.{is_queued, waits};
 ghost use Rattle.ls_desk.specs.Stands.{Sends, state_of, ticket_of_out};
 ghost use Rattle.ls_workers.specs.Count.{Counts};
-ghost use Rattle.ls_machine.specs.Client.{HasSmallText, IsAllowed, note_of, is_too_long};
+ghost use Rattle.ls_machine.specs.Client.{HasSmallText, IsAllowed, note_of, opens_too_large};
 ghost use Rattle.ls_desk.specs.Door.{client_fault};
 ghost use Rattle.ls_desk.specs.Faults.{Refuses, Takes, take_fault, give_back_fault, finish_fault};
 ghost use Rattle.ls_workers.specs.Jobs.{Finishes, HasLimits, Returns};
@@ -12,7 +12,7 @@ ghost use Rattle.ls_workers.specs.Seats.{Heard, since, told_by};
 ghost use Rattle.ls_workers.specs.Sent.{noted_of, sent_by};
 ghost use Rattle.ls_workers.specs.Ends.{is_over, ended_by, first_waiting, is_first, has_job, has_job_for, has_news};
 
-use crate::calls::{count_none, enter, finish, give_back, is_long, next_out, strays, take};
+use crate::calls::{count_none, enter, is_long, strays};
 use crate::ledgers::{Crew, OfClient, OfFinished, OfReturned, OfSent, OfTook};
 use crate::notes::filled;
 use crate::replies::{Noted, begin_anew, first_notes};
@@ -187,8 +187,8 @@ impl<C: Crew> Behind<C> {
         note: Option<Event>,
     ) -> Result<ClientAnswer, DeskFault>
         requires allowed { IsAllowed event }
-        requires some { IfSome note (λ noted. (noted ≡ note_of event) × (is_too_long event ≡ false) × HasSmallText noted) }
-        requires none { IfNone note (is_too_long event ≡ true) }
+        requires some { IfSome note (λ noted. (noted ≡ note_of event) × (opens_too_large event ≡ false) × HasSmallText noted) }
+        requires none { IfNone note (opens_too_large event ≡ true) }
         requires room { vec_len seat.old.told.list < vec_capacity seat.old.told.list }
         ensures ok { OnOk result (seat.new.asked.share.amount ≡ seat.old.asked.share.amount + 1) }
         ensures heard { IfOk result (λ answer. Heard event answer self.old.desk self.new.desk
@@ -239,12 +239,12 @@ impl<C: Crew> Behind<C> {
             return Ok(None);
         }
         let Behind { desk, took, .. } = self;
-        let job = take(desk, seat.number)?;
-        if job.is_some() {
-            let _counts = desk.counts();
-            seat.took.one_more(took);
-        }
-        Ok(job)
+        let Some(job) = desk.take(seat.number)? else {
+            return Ok(None);
+        };
+        let _counts = desk.counts();
+        seat.took.one_more(took);
+        Ok(Some(job))
     }
 
     /// Gives a job back that wasn't run.
@@ -261,7 +261,7 @@ impl<C: Crew> Behind<C> {
         ensures ends { (self.new.stop ≡ self.old.stop) × (self.new.idle ≡ self.old.idle) }
     {
         let Behind { desk, returned, .. } = self;
-        give_back(desk, ticket)?;
+        desk.give_back(ticket)?;
         let _counts = desk.counts();
         seat.returned.one_more(returned);
         Ok(())
@@ -284,7 +284,7 @@ impl<C: Crew> Behind<C> {
         ensures ends { (self.new.stop ≡ self.old.stop) × (self.new.idle ≡ self.old.idle) }
     {
         let Behind { desk, finished, .. } = self;
-        let kept = finish(desk, done)?;
+        let kept = desk.finish(done)?;
         let _counts = desk.counts();
         seat.finished.one_more(finished);
         Ok(kept)
@@ -321,7 +321,7 @@ impl<C: Crew> Behind<C> {
         } = self;
         let (note, own) = first_notes(desk)?;
         left.reserve(1)?;
-        let Some(out) = next_out(desk) else {
+        let Some(out) = desk.next_out() else {
             unreachable!()
         };
         let _counts = desk.counts();

@@ -112,7 +112,7 @@ impl<C: Crew> Board<C> {
         ensures refused { IfErr result (λ fault. may_refuse event fault ≡ true) }
         ensures mark { seat.new.mark ≡ seat.old.mark }
     {
-        let note = seat.told.note_with_room(&event)?;
+        let note = seat.told.prepare_note(&event)?;
         let result = self.behind.lock(rt).client(seat, event, note);
         self.changed.notify_all();
         result

@@ -1,8 +1,8 @@
 //! The entry of a client's event, made before its answer is known.
 ghost use Rattle.std.specs.Prelude.{◌≡◌, IfOk, IfNone, IfSome, true, false};
-ghost use Rattle.ls_machine.specs.Client.{HasSmallText, filled, note_of, is_too_long};
+ghost use Rattle.ls_machine.specs.Client.{HasSmallText, filled, note_of, opens_too_large};
 
-use ls_desk::{Event, shared_text};
+use ls_desk::{Event, snapshot_of_text};
 use ls_machine::{ClientAnswer, ClientEvent, copy_of};
 use ls_text::MAX_BYTES;
 use std::alloc::{AllocError, Global};
@@ -10,15 +10,15 @@ use std::alloc::{AllocError, Global};
 /// The entry that an event will be, its answer aside. `None` where its text is too large for any desk.
 pub fn note_of(alloc: Global, event: &ClientEvent) -> Result<Option<Event>, AllocError>
     ensures some { IfOk result (λ noted. IfSome noted (λ note. note ≡ note_of event.now)) }
-    ensures none { IfOk result (λ noted. IfNone noted (is_too_long event.now ≡ true)) }
-    ensures fits { IfOk result (λ noted. IfSome noted (λ note. (is_too_long event.now ≡ false) × HasSmallText note)) }
+    ensures none { IfOk result (λ noted. IfNone noted (opens_too_large event.now ≡ true)) }
+    ensures fits { IfOk result (λ noted. IfSome noted (λ note. (opens_too_large event.now ≡ false) × HasSmallText note)) }
 {
     match event {
         ClientEvent::DidOpen(uri, label, text, encoding) => {
             if text.len() > MAX_BYTES {
                 return Ok(None);
             }
-            let text = shared_text(alloc, text.copy()?)?;
+            let text = snapshot_of_text(alloc, text.copy()?)?;
             Ok(Some(Event::Opened {
                 uri: uri.copy()?,
                 label: *label,

@@ -1,6 +1,6 @@
 //! Seats: what the client's reader, the workers and the writer hold.
 ghost use Rattle.std.specs.Prelude.{◌≡◌, ◌↔◌, ◌⊎◌, ◌+◌, ◌++◌, ◌∷◌, ◌<◌, ◌^◌, [], IfOk, IfNone, IfSome, IsTrue, OnOk, vec_len, vec_capacity, true, false, if◌then◌else◌};
-ghost use Rattle.ls_machine.specs.Client.{HasSmallText, note_of, is_too_long};
+ghost use Rattle.ls_machine.specs.Client.{HasSmallText, note_of, opens_too_large};
 ghost use Rattle.ls_workers.specs.Seats.{since, told_by, told_nothing};
 
 use crate::ledgers::{Ledgers, OfClient, OfFinished, OfReturned, OfSent, OfTook};
@@ -74,13 +74,10 @@ impl ToldClient {
     }
 
     /// The note of an event, its answer aside, for which the list has room then. `None` where the event's text is too large for any desk.
-    pub(crate) fn note_with_room(
-        &mut self,
-        event: &ClientEvent,
-    ) -> Result<Option<Event>, AllocError>
+    pub(crate) fn prepare_note(&mut self, event: &ClientEvent) -> Result<Option<Event>, AllocError>
         ensures some { IfOk result (λ noted. IfSome noted (λ note. note ≡ note_of event.now)) }
-        ensures none { IfOk result (λ noted. IfNone noted (is_too_long event.now ≡ true)) }
-        ensures fits { IfOk result (λ noted. IfSome noted (λ note. (is_too_long event.now ≡ false) × HasSmallText note)) }
+        ensures none { IfOk result (λ noted. IfNone noted (opens_too_large event.now ≡ true)) }
+        ensures fits { IfOk result (λ noted. IfSome noted (λ note. (opens_too_large event.now ≡ false) × HasSmallText note)) }
         ensures room { OnOk result (vec_len self.new.list < vec_capacity self.new.list) }
         ensures kept { told_by self.new ≡ told_by self.old }
     {

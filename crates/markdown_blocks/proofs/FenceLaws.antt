@@ -6,45 +6,45 @@ use Rattle.ls_text.specs.Lines.{ends_line}
 use Rattle.origins.specs.Origins.{Sourced, SourcedBlock, aligned, grammar_of}
 use Rattle.markdown_blocks.specs.declared.fence.Fence.{Fence}
 use Rattle.markdown_blocks.specs.Fences.{Line, fenced_blocks, closes_fence, fence_content, ended_block, placed_lines_from, opening_fence, put_placed, without_end}
-use Rattle.markdown_blocks.specs.Reading.{line_len, reading_fence}
+use Rattle.markdown_blocks.specs.own.Reading.{line_len, reading_fence}
 
 -- ---- the first line of a text
 
-pub line_len-last : (c : ℕ) (t : List ℕ) → ends_line c t ≡ true → line_len (c ∷ t) ≡ 1
+pub line_len_last : (c : ℕ) (t : List ℕ) → ends_line c t ≡ true → line_len (c ∷ t) ≡ 1
 unfolding line_len
-line_len-last c t e = rw e refl
+line_len_last c t e = rw e refl
 
-pub line_len-more : (c : ℕ) (t : List ℕ) → ends_line c t ≡ false → line_len (c ∷ t) ≡ suc (line_len t)
+pub line_len_more : (c : ℕ) (t : List ℕ) → ends_line c t ≡ false → line_len (c ∷ t) ≡ suc (line_len t)
 unfolding line_len
-line_len-more c t e = rw e refl
+line_len_more c t e = rw e refl
 
-pub line_len-le : (t : List ℕ) → line_len t ≤ length t
+pub line_len_le : (t : List ℕ) → line_len t ≤ length t
 unfolding line_len
-line_len-le [] = omega arith
-line_len-le (c ∷ t) = by_test (ends_line c t) (line_len-le t)
+line_len_le [] = omega arith
+line_len_le (c ∷ t) = by_test (ends_line c t) (line_len_le t)
   where
     by_test : (b : Bool) → line_len t ≤ length t → cond b 1 (suc (line_len t)) ≤ suc (length t)
     by_test true le = omega arith
     by_test false le = omega (arith, le)
 
-pub line_len-some : (t : List ℕ) → 0 < length t → 0 < line_len t
+pub line_len_some : (t : List ℕ) → 0 < length t → 0 < line_len t
 unfolding line_len
-line_len-some [] lt = lt
-line_len-some (c ∷ t) lt = by_test (ends_line c t)
+line_len_some [] lt = lt
+line_len_some (c ∷ t) lt = by_test (ends_line c t)
   where
     by_test : (b : Bool) → 0 < cond b 1 (suc (line_len t))
     by_test true = omega arith
     by_test false = omega arith
 
-pub lines-first : (at : ℕ) (t : List ℕ) → 0 < length t → placed_lines_from at t ≡ (at, take (line_len t) t) ∷ placed_lines_from (at + line_len t) (drop (line_len t) t)
+pub lines_first : (at : ℕ) (t : List ℕ) → 0 < length t → placed_lines_from at t ≡ (at, take (line_len t) t) ∷ placed_lines_from (at + line_len t) (drop (line_len t) t)
 unfolding line_len placed_lines_from
-lines-first at [] lt = absurd (omega (arith, lt))
-lines-first at (c ∷ []) lt = by_test (ends_line c [])
+lines_first at [] lt = absurd (omega (arith, lt))
+lines_first at (c ∷ []) lt = by_test (ends_line c [])
   where
     by_test : (b : Bool) → cond b ((at, c ∷ []) ∷ []) ((at, c ∷ []) ∷ []) ≡ (at, take (cond b 1 1) (c ∷ [])) ∷ placed_lines_from (at + cond b 1 1) (drop (cond b 1 1) (c ∷ []))
     by_test true = refl
     by_test false = refl
-lines-first at (c ∷ d ∷ t) lt = by_test (ends_line c (d ∷ t)) (lines-first (suc at) (d ∷ t) (omega arith))
+lines_first at (c ∷ d ∷ t) lt = by_test (ends_line c (d ∷ t)) (lines_first (suc at) (d ∷ t) (omega arith))
   where
     by_test : (b : Bool) → placed_lines_from (suc at) (d ∷ t) ≡ (suc at, take (line_len (d ∷ t)) (d ∷ t)) ∷ placed_lines_from (suc at + line_len (d ∷ t)) (drop (line_len (d ∷ t)) (d ∷ t))
         → cond b ((at, c ∷ []) ∷ placed_lines_from (suc at) (d ∷ t)) (put_placed at c (placed_lines_from (suc at) (d ∷ t))) ≡ (at, take (cond b 1 (suc (line_len (d ∷ t)))) (c ∷ d ∷ t)) ∷ placed_lines_from (at + cond b 1 (suc (line_len (d ∷ t)))) (drop (cond b 1 (suc (line_len (d ∷ t)))) (c ∷ d ∷ t))
@@ -55,20 +55,20 @@ lines-first at (c ∷ d ∷ t) lt = by_test (ends_line c (d ∷ t)) (lines-first
 
 -- ---- a line behind an open fence
 
-pub blocks-closed : (end : ℕ) (fence : Fence) (content : List Sourced) (l : Line) (ls : List Line) → closes_fence fence (without_end l.1) ≡ true → fenced_blocks end (Some (fence, content)) (l ∷ ls) ≡ ended_block (fence, content) l.0 ++ fenced_blocks end None ls
+pub blocks_closed : (end : ℕ) (fence : Fence) (content : List Sourced) (l : Line) (ls : List Line) → closes_fence fence (without_end l.1) ≡ true → fenced_blocks end (Some (fence, content)) (l ∷ ls) ≡ ended_block (fence, content) l.0 ++ fenced_blocks end None ls
 unfolding fenced_blocks
-blocks-closed end fence content l ls e = rw e refl
+blocks_closed end fence content l ls e = rw e refl
 
-pub blocks-more : (end : ℕ) (fence : Fence) (content : List Sourced) (l : Line) (ls : List Line) → closes_fence fence (without_end l.1) ≡ false → fenced_blocks end (Some (fence, content)) (l ∷ ls) ≡ fenced_blocks end (Some (fence, content ++ fence_content fence l)) ls
+pub blocks_more : (end : ℕ) (fence : Fence) (content : List Sourced) (l : Line) (ls : List Line) → closes_fence fence (without_end l.1) ≡ false → fenced_blocks end (Some (fence, content)) (l ∷ ls) ≡ fenced_blocks end (Some (fence, content ++ fence_content fence l)) ls
 unfolding fenced_blocks
-blocks-more end fence content l ls e = rw e refl
+blocks_more end fence content l ls e = rw e refl
 
 -- the content of a block that isn't ABNF doesn't matter
-pub blocks-other : (end : ℕ) (fence : Fence) (ls : List Line) (content other : List Sourced) → fence.is_abnf ≡ false → fenced_blocks end (Some (fence, content)) ls ≡ fenced_blocks end (Some (fence, other)) ls
+pub blocks_other : (end : ℕ) (fence : Fence) (ls : List Line) (content other : List Sourced) → fence.is_abnf ≡ false → fenced_blocks end (Some (fence, content)) ls ≡ fenced_blocks end (Some (fence, other)) ls
 unfolding fenced_blocks
-blocks-other end fence [] content other e = rw e refl
-blocks-other end fence (l ∷ ls) content other e =
-    by_test (closes_fence fence (without_end l.1)) (blocks-other end fence ls (content ++ fence_content fence l) (other ++ fence_content fence l) e)
+blocks_other end fence [] content other e = rw e refl
+blocks_other end fence (l ∷ ls) content other e =
+    by_test (closes_fence fence (without_end l.1)) (blocks_other end fence ls (content ++ fence_content fence l) (other ++ fence_content fence l) e)
   where
     by_test : (b : Bool) → fenced_blocks end (Some (fence, content ++ fence_content fence l)) ls ≡ fenced_blocks end (Some (fence, other ++ fence_content fence l)) ls → cond b (ended_block (fence, content) l.0 ++ fenced_blocks end None ls) (fenced_blocks end (Some (fence, content ++ fence_content fence l)) ls) ≡ cond b (ended_block (fence, other) l.0 ++ fenced_blocks end None ls) (fenced_blocks end (Some (fence, other ++ fence_content fence l)) ls)
     by_test true more = rw e refl
@@ -76,38 +76,38 @@ blocks-other end fence (l ∷ ls) content other e =
 
 -- ---- what was read so far
 
-pub grammar_of-append : (bs cs : List SourcedBlock) → grammar_of (bs ++ cs) ≡ grammar_of bs ++ grammar_of cs
-grammar_of-append [] cs = refl
-grammar_of-append (b ∷ bs) cs = ap (λ g. aligned b ++ g) (grammar_of-append bs cs) ∙ sym (append_assoc (aligned b) (grammar_of bs) (grammar_of cs))
+pub grammar_of_append : (bs cs : List SourcedBlock) → grammar_of (bs ++ cs) ≡ grammar_of bs ++ grammar_of cs
+grammar_of_append [] cs = refl
+grammar_of_append (b ∷ bs) cs = ap (λ g. aligned b ++ g) (grammar_of_append bs cs) ∙ sym (append_assoc (aligned b) (grammar_of bs) (grammar_of cs))
 
-pub blocks-outside : (end : ℕ) (content : List Sourced) (l : Line) (ls : List Line) → fenced_blocks end (reading_fence (opening_fence (without_end l.1)) []) ls ≡ fenced_blocks end (reading_fence None content) (l ∷ ls)
+pub blocks_outside : (end : ℕ) (content : List Sourced) (l : Line) (ls : List Line) → fenced_blocks end (reading_fence (opening_fence (without_end l.1)) []) ls ≡ fenced_blocks end (reading_fence None content) (l ∷ ls)
 unfolding fenced_blocks
-blocks-outside end content l ls = refl
+blocks_outside end content l ls = refl
 
-pub lines-split : (at n : ℕ) (t line behind : List ℕ) → 0 < length t → n ≡ line_len t → line ≡ take n t → behind ≡ drop n t → length line ≡ n → (at, line) ∷ placed_lines_from (at + length line) behind ≡ placed_lines_from at t
-lines-split at n t line behind some n_is line_is behind_is len =
+pub lines_split : (at n : ℕ) (t line behind : List ℕ) → 0 < length t → n ≡ line_len t → line ≡ take n t → behind ≡ drop n t → length line ≡ n → (at, line) ∷ placed_lines_from (at + length line) behind ≡ placed_lines_from at t
+lines_split at n t line behind some n_is line_is behind_is len =
     (λ i. (at, line_is i) ∷ placed_lines_from (at + len i) (behind_is i))
     ∙ ap (λ m. (at, take m t) ∷ placed_lines_from (at + m) (drop m t)) n_is
-    ∙ sym (lines-first at t some)
+    ∙ sym (lines_first at t some)
 
 module _ (grammar : List Sourced) (end at : ℕ) (block : List Sourced) (rest : List ℕ) (none : length rest ≡ 0) (left : at + length rest ≡ end) where
-  lines-none : (t : List ℕ) → length t ≡ 0 → placed_lines_from at t ≡ []
+  lines_none : (t : List ℕ) → length t ≡ 0 → placed_lines_from at t ≡ []
   unfolding placed_lines_from
-  lines-none [] e = refl
-  lines-none (c ∷ t) e = absurd (omega (arith, e))
+  lines_none [] e = refl
+  lines_none (c ∷ t) e = absurd (omega (arith, e))
 
-  pub end-open : (f : Option Fence) (fence : Fence) {whole : List Sourced} → f ≡ Some fence → grammar ++ grammar_of (fenced_blocks end (reading_fence f block) (placed_lines_from at rest)) ≡ whole → grammar ++ grammar_of (ended_block (fence, block) at) ≡ whole
+  pub end_open : (f : Option Fence) (fence : Fence) {whole : List Sourced} → f ≡ Some fence → grammar ++ grammar_of (fenced_blocks end (reading_fence f block) (placed_lines_from at rest)) ≡ whole → grammar ++ grammar_of (ended_block (fence, block) at) ≡ whole
   unfolding fenced_blocks
-  end-open f fence is was =
+  end_open f fence is was =
       (λ i. grammar ++ grammar_of (ended_block (fence, block) ((let e : at ≡ end = omega (arith, none, left) in e) i)))
-      ∙ (λ i. grammar ++ grammar_of (fenced_blocks end (reading_fence (sym is i) block) (sym (lines-none rest none) i)))
+      ∙ (λ i. grammar ++ grammar_of (fenced_blocks end (reading_fence (sym is i) block) (sym (lines_none rest none) i)))
       ∙ was
 
-  pub end-outside : (f : Option Fence) {whole : List Sourced} → f ≡ None → grammar ++ grammar_of (fenced_blocks end (reading_fence f block) (placed_lines_from at rest)) ≡ whole → grammar ≡ whole
+  pub end_outside : (f : Option Fence) {whole : List Sourced} → f ≡ None → grammar ++ grammar_of (fenced_blocks end (reading_fence f block) (placed_lines_from at rest)) ≡ whole → grammar ≡ whole
   unfolding fenced_blocks
-  end-outside f is was =
+  end_outside f is was =
       sym (append-nil grammar)
-      ∙ (λ i. grammar ++ grammar_of (fenced_blocks end (reading_fence (sym is i) block) (sym (lines-none rest none) i)))
+      ∙ (λ i. grammar ++ grammar_of (fenced_blocks end (reading_fence (sym is i) block) (sym (lines_none rest none) i)))
       ∙ was
 
 pub positive : (n : ℕ) → nat_eq n 0 ≡ false → 0 < n
@@ -115,19 +115,19 @@ positive zero e = cc
 positive (suc n) e = omega arith
 
 -- ---- the line of a loop
-pub rest-all : (t : List ℕ) (n : ℕ) → take (length t - n) (drop n t) ≡ drop n t
-rest-all t n = take_all (length t - n) (drop n t) (omega (arith, length-drop n t))
+pub rest_all : (t : List ℕ) (n : ℕ) → take (length t - n) (drop n t) ≡ drop n t
+rest_all t n = take_all (length t - n) (drop n t) (omega (arith, length-drop n t))
 
 pub left_at : (t : List ℕ) (n c : ℕ) → n < length t → c ≡ get_or t n c → drop n t ≡ c ∷ drop (n + 1) t
 left_at t n c lt is = at_drop_more (λ ds. ds) t n c lt ∙ ap (λ d. d ∷ drop (n + 1) t) (sym is)
 
 module _ (t : List ℕ) (n c : ℕ) (lt : n < length t) (is : c ≡ get_or t n c) (so_far : n + line_len (drop n t) ≡ line_len t) where
-  pub line_len-found : ends_line c (drop (n + 1) t) ≡ true → n + 1 ≡ line_len t
-  line_len-found e = omega (arith, so_far, ap line_len (left_at t n c lt is), line_len-last c (drop (n + 1) t) e)
+  pub line_len_found : ends_line c (drop (n + 1) t) ≡ true → n + 1 ≡ line_len t
+  line_len_found e = omega (arith, so_far, ap line_len (left_at t n c lt is), line_len_last c (drop (n + 1) t) e)
 
-  pub line_len-next : ends_line c (drop (n + 1) t) ≡ false → n + 1 + line_len (drop (n + 1) t) ≡ line_len t
-  line_len-next e = omega (arith, so_far, ap line_len (left_at t n c lt is), line_len-more c (drop (n + 1) t) e)
+  pub line_len_next : ends_line c (drop (n + 1) t) ≡ false → n + 1 + line_len (drop (n + 1) t) ≡ line_len t
+  line_len_next e = omega (arith, so_far, ap line_len (left_at t n c lt is), line_len_more c (drop (n + 1) t) e)
 
-pub line_len-all : (t : List ℕ) (n : ℕ) → length t ≤ n → n + line_len (drop n t) ≡ line_len t → n ≡ line_len t
+pub line_len_all : (t : List ℕ) (n : ℕ) → length t ≤ n → n + line_len (drop n t) ≡ line_len t → n ≡ line_len t
 unfolding line_len
-line_len-all t n le so_far = omega (arith, so_far, ap line_len (drop_all n t le))
+line_len_all t n le so_far = omega (arith, so_far, ap line_len (drop_all n t le))

@@ -1,2 +1,2 @@
 pub mod Fences
-pub mod Reading
+pub mod own

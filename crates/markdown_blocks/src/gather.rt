@@ -3,7 +3,7 @@
 ghost use Rattle.std.specs.Prelude.{◌≡◌, ℕ, ◌+◌, ◌<◌, ◌^◌, List, ◌∷◌, ◌++◌, IfOk, OnOk, length};
 ghost use Rattle.origins.specs.Origins.{from, grammar_of};
 ghost use Rattle.markdown_blocks.specs.Fences.{Line, fenced_blocks, fence_content, ended_block, markdown_blocks};
-ghost use Rattle.markdown_blocks.specs.Reading.{reading_fence};
+ghost use Rattle.markdown_blocks.specs.own.Reading.{reading_fence};
 
 use crate::fence::{Fence, opening};
 use crate::line::{blanks, line_len, without_end};

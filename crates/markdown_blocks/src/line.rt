@@ -5,7 +5,7 @@ ghost use Rattle.std.specs.List.{list_all, prefix_len, take_while};
 ghost use Rattle.ls_text.specs.Lines.{ends_line};
 ghost use Rattle.origins.specs.Origins.{is_blank_char, is_break};
 ghost use Rattle.markdown_blocks.specs.Fences.{blank_count, marks, without_end};
-ghost use Rattle.markdown_blocks.specs.Reading.{line_len};
+ghost use Rattle.markdown_blocks.specs.own.Reading.{line_len};
 
 use origins::{is_blank, is_break};
 

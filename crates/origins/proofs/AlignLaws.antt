@@ -6,7 +6,7 @@ use Rattle.std.specs.List.{enumerate_from}
 use Rattle.std.proofs.lemmas.List.FromFn.{get_or-enumerate_from, length-enumerate_from}
 use Rattle.std.proofs.lemmas.Bool.Decides.{eqb_tells}
 use Rattle.origins.specs.Origins.{Sourced, first_indent, is_blank_char, is_break, left_aligned}
-use Rattle.origins.specs.Runs.{placed}
+use Rattle.origins.specs.own.Runs.{placed}
 
 -- a character of a text, and what is left behind it
 pub left_at : (cs : List ℕ) (n c : ℕ) → (n < length cs) × (c ≡ get_or cs n c) → drop n cs ≡ c ∷ drop (n + 1) cs
@@ -15,32 +15,32 @@ left_at cs n c here = at_drop_more (λ ds. ds) cs n c here.0 ∙ ap (λ d. d ∷
 -- ---- the indent by one character more
 
 module _ (c : ℕ) (cs : List ℕ) where
-  pub indent-break : (front : Option ℕ) → is_break c ≡ true → first_indent front (c ∷ cs) ≡ first_indent (Some 0) cs
-  indent-break None e = rw e refl
-  indent-break (Some n) e = rw e refl
+  pub indent_break : (front : Option ℕ) → is_break c ≡ true → first_indent front (c ∷ cs) ≡ first_indent (Some 0) cs
+  indent_break None e = rw e refl
+  indent_break (Some n) e = rw e refl
 
-  pub indent-comment : is_break c ≡ false → first_indent None (c ∷ cs) ≡ first_indent None cs
-  indent-comment e = rw e refl
+  pub indent_comment : is_break c ≡ false → first_indent None (c ∷ cs) ≡ first_indent None cs
+  indent_comment e = rw e refl
 
-  pub indent-blank : (n : ℕ) → is_break c ≡ false → is_blank_char c ≡ true → first_indent (Some n) (c ∷ cs) ≡ first_indent (Some (n + 1)) cs
-  indent-blank n e b = rw (e, b) (ap (λ m. first_indent (Some m) cs) (let same : suc n ≡ n + 1 = omega arith in same))
+  pub indent_blank : (n : ℕ) → is_break c ≡ false → is_blank_char c ≡ true → first_indent (Some n) (c ∷ cs) ≡ first_indent (Some (n + 1)) cs
+  indent_blank n e b = rw (e, b) (ap (λ m. first_indent (Some m) cs) (let same : suc n ≡ n + 1 = omega arith in same))
 
-  pub indent-semicolon : (n : ℕ) → is_break c ≡ false → is_blank_char c ≡ false → nat_eq c 59 ≡ true → first_indent (Some n) (c ∷ cs) ≡ first_indent None cs
-  indent-semicolon n e b s = rw (e, b, s) refl
+  pub indent_semicolon : (n : ℕ) → is_break c ≡ false → is_blank_char c ≡ false → nat_eq c 59 ≡ true → first_indent (Some n) (c ∷ cs) ≡ first_indent None cs
+  indent_semicolon n e b s = rw (e, b, s) refl
 
-  pub indent-content : (n : ℕ) → is_break c ≡ false → is_blank_char c ≡ false → (c ≡ 59 → ⊥) → first_indent (Some n) (c ∷ cs) ≡ n
-  indent-content n e b s = let other : nat_eq c 59 ≡ false = elim (eqb_tells c 59) [ inl x ↦ absurd (s x.1) | inr x ↦ x.0 ] in rw (e, b, other) refl
+  pub indent_content : (n : ℕ) → is_break c ≡ false → is_blank_char c ≡ false → (c ≡ 59 → ⊥) → first_indent (Some n) (c ∷ cs) ≡ n
+  indent_content n e b s = let other : nat_eq c 59 ≡ false = elim (eqb_tells c 59) [ inl x ↦ absurd (s x.1) | inr x ↦ x.0 ] in rw (e, b, other) refl
 
-pub indent-end : (front : Option ℕ) → first_indent front [] ≡ 0
-indent-end None = refl
-indent-end (Some n) = refl
+pub indent_end : (front : Option ℕ) → first_indent front [] ≡ 0
+indent_end None = refl
+indent_end (Some n) = refl
 
-pub indent-more : (cs yielded : List ℕ) (c : ℕ) (front next : Option ℕ) {whole : ℕ} → (length yielded < length cs) × (c ≡ get_or cs (length yielded) c) → ((ds : List ℕ) → first_indent front (c ∷ ds) ≡ first_indent next ds) → first_indent front (drop (length yielded) cs) ≡ whole → first_indent next (drop (length (yielded ++ c ∷ [])) cs) ≡ whole
-indent-more cs yielded c front next here step was =
+pub indent_more : (cs yielded : List ℕ) (c : ℕ) (front next : Option ℕ) {whole : ℕ} → (length yielded < length cs) × (c ≡ get_or cs (length yielded) c) → ((ds : List ℕ) → first_indent front (c ∷ ds) ≡ first_indent next ds) → first_indent front (drop (length yielded) cs) ≡ whole → first_indent next (drop (length (yielded ++ c ∷ [])) cs) ≡ whole
+indent_more cs yielded c front next here step was =
     ap (λ n. first_indent next (drop n cs)) (length_push yielded c) ∙ sym (step (drop (length yielded + 1) cs)) ∙ ap (first_indent front) (sym (left_at cs (length yielded) c here)) ∙ was
 
-pub IfSome-at : (o : Option ℕ) (P : ℕ → Type 0) (n : ℕ) → o ≡ Some n → IfSome o P → P n
-IfSome-at o P n is h = subst (λ p. IfSome p P) is h
+pub IfSome_at : (o : Option ℕ) (P : ℕ → Type 0) (n : ℕ) → o ≡ Some n → IfSome o P → P n
+IfSome_at o P n is h = subst (λ p. IfSome p P) is h
 
 -- ---- the characters without the indent, by one more
 
@@ -50,19 +50,19 @@ enumerated cs yielded p here =
     let is : p ≡ (0 + length yielded, get_or cs (length yielded) p.1) = here.1 ∙ get_or-enumerate_from 0 cs (length yielded) p lt in
     (ap (λ q. q.0) is ∙ (let e : 0 + length yielded ≡ length yielded = omega arith in e), left_at cs (length yielded) p.1 (lt, ap (λ q. q.1) is))
 
-placed-left : (f : ℕ → ℕ) (n : ℕ) (cs : List ℕ) (c : ℕ) → drop n cs ≡ c ∷ drop (n + 1) cs → placed f n (drop n cs) ≡ (c, f n) ∷ placed f (n + 1) (drop (n + 1) cs)
+placed_left : (f : ℕ → ℕ) (n : ℕ) (cs : List ℕ) (c : ℕ) → drop n cs ≡ c ∷ drop (n + 1) cs → placed f n (drop n cs) ≡ (c, f n) ∷ placed f (n + 1) (drop (n + 1) cs)
 unfolding placed
-placed-left f n cs c is = ap (placed f n) is ∙ ap (λ m. (c, f n) ∷ placed f m (drop (n + 1) cs)) (let e : suc n ≡ n + 1 = omega arith in e)
+placed_left f n cs c is = ap (placed f n) is ∙ ap (λ m. (c, f n) ∷ placed f m (drop (n + 1) cs)) (let e : suc n ≡ n + 1 = omega arith in e)
 
-pub aligned-more : (f : ℕ → ℕ) (cs : List ℕ) (base left next : ℕ) (old new whole : List Sourced) (yielded : List (ℕ × ℕ)) (p : ℕ × ℕ) (at : ℕ) → drop (length yielded) cs ≡ p.1 ∷ drop (length yielded + 1) cs → at ≡ f (length yielded) → ((ds : List Sourced) → new ++ left_aligned base next ds ≡ old ++ left_aligned base left ((p.1, at) ∷ ds)) → old ++ left_aligned base left (placed f (length yielded) (drop (length yielded) cs)) ≡ whole → new ++ left_aligned base next (placed f (length (yielded ++ p ∷ [])) (drop (length (yielded ++ p ∷ [])) cs)) ≡ whole
-aligned-more f cs base left next old new whole yielded p at here place step was =
+pub aligned_more : (f : ℕ → ℕ) (cs : List ℕ) (base left next : ℕ) (old new whole : List Sourced) (yielded : List (ℕ × ℕ)) (p : ℕ × ℕ) (at : ℕ) → drop (length yielded) cs ≡ p.1 ∷ drop (length yielded + 1) cs → at ≡ f (length yielded) → ((ds : List Sourced) → new ++ left_aligned base next ds ≡ old ++ left_aligned base left ((p.1, at) ∷ ds)) → old ++ left_aligned base left (placed f (length yielded) (drop (length yielded) cs)) ≡ whole → new ++ left_aligned base next (placed f (length (yielded ++ p ∷ [])) (drop (length (yielded ++ p ∷ [])) cs)) ≡ whole
+aligned_more f cs base left next old new whole yielded p at here place step was =
     let n = length yielded in
     ap (λ m. new ++ left_aligned base next (placed f m (drop m cs))) (length_push yielded p)
     ∙ step (placed f (n + 1) (drop (n + 1) cs))
     ∙ ap (λ a. old ++ left_aligned base left ((p.1, a) ∷ placed f (n + 1) (drop (n + 1) cs))) place
-    ∙ ap (λ ds. old ++ left_aligned base left ds) (sym (placed-left f n cs p.1 here))
+    ∙ ap (λ ds. old ++ left_aligned base left ds) (sym (placed_left f n cs p.1 here))
     ∙ was
 
-pub aligned-end : (f : ℕ → ℕ) (cs : List ℕ) (base left n : ℕ) (to : List Sourced) {whole : List Sourced} → length cs ≤ n → to ++ left_aligned base left (placed f n (drop n cs)) ≡ whole → to ≡ whole
+pub aligned_end : (f : ℕ → ℕ) (cs : List ℕ) (base left n : ℕ) (to : List Sourced) {whole : List Sourced} → length cs ≤ n → to ++ left_aligned base left (placed f n (drop n cs)) ≡ whole → to ≡ whole
 unfolding placed
-aligned-end f cs base left n to le was = sym (append-nil to) ∙ ap (λ ds. to ++ left_aligned base left (placed f n ds)) (sym (drop_all n cs le)) ∙ was
+aligned_end f cs base left n to le was = sym (append-nil to) ∙ ap (λ ds. to ++ left_aligned base left (placed f n ds)) (sym (drop_all n cs le)) ∙ was

@@ -1,2 +1,2 @@
 pub mod Origins
-pub mod Runs
+pub mod own

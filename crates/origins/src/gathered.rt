@@ -5,7 +5,7 @@ ghost use Rattle.std.specs.Option.{option_map};
 ghost use Rattle.std.specs.List.{slice_get};
 ghost use Rattle.std.specs.Str.{chars};
 ghost use Rattle.origins.specs.Origins as spec;
-ghost use Rattle.origins.specs.Runs.{AreRuns, origin_at, placed};
+ghost use Rattle.origins.specs.own.Runs.{AreRuns, origin_at, placed};
 
 use crate::aligned::{first_indent, is_blank, is_break};
 use crate::runs::{Run, START, continue_at, forward, run_of};
@@ -28,11 +28,11 @@ impl Model for Gathered {
 
     ghost Value = { List Sourced };
 
-    ghost use Rattle.origins.specs.Runs.{placed, origin_at, IsHeld};
+    ghost use Rattle.origins.specs.own.Runs.{placed, origin_at, AreHeldRuns};
 
     ghost view = { λ g. placed (origin_at g.runs.items) 0 (chars (string_bytes g.text)) };
 
-    ghost invariant = { λ g. IsHeld (string_bytes g.text) g.count g.runs.items };
+    ghost invariant = { λ g. AreHeldRuns (string_bytes g.text) g.count g.runs.items };
 }
 
 // The number of characters.

@@ -2,7 +2,7 @@
 
 ghost use Rattle.std.specs.Prelude.{◌≡◌, ℕ, ◌+◌, ◌-◌, ◌^◌, ◌<◌, ◌≤◌, ◌∷◌, OnOk, length, slice_index_or};
 ghost use Rattle.std.specs.List.Sorted.{IsNonDecreasingBy};
-ghost use Rattle.origins.specs.Runs.{AreRuns, origin_at, origin_by, run_at, first_run};
+ghost use Rattle.origins.specs.own.Runs.{AreRuns, origin_at, origin_by, run_at, first_run};
 
 use std::alloc::AllocError;
 

@@ -136,7 +136,7 @@ impl Call {
             Call::Symbols(id) => Answer::Number(symbols(desk, alloc, *id)?),
             Call::Cancel(id) => Answer::Found(desk.cancel(&Id::Number(*id))?),
             Call::Say => {
-                desk.say(List::from_slice(alloc, b"{}")?)?;
+                desk.say(List::from_vec(Vec::from_slice(alloc, b"{}")?))?;
                 Answer::Done
             }
             Call::Take => Answer::Number(worker.take(desk)?),

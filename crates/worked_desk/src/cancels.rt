@@ -57,7 +57,7 @@ fn a_job_comes_back(rt: HostRuntime) -> Result<(), Fail> {
 }
 
 fn says(desk: &mut Desk, alloc: Global) -> Result<bool, DeskFault> {
-    desk.say(List::from_slice(alloc, b"{}")?)?;
+    desk.say(List::from_vec(Vec::from_slice(alloc, b"{}")?))?;
     let said = matches!(desk.out_at(0), Some(Out::Said(_))) && desk.out_at(1).is_none();
     Ok(said && leaves(desk) && !leaves(desk))
 }

@@ -1,7 +1,7 @@
 //! The limits of a session.
 
 use super::steps::{START, change, open, opened, symbols};
-use ls_desk::{Desk, DeskFault, shared_text};
+use ls_desk::{Desk, DeskFault, snapshot_of_text};
 use ls_lists::{List, Text};
 use ls_text::{Edit, Encoding, MAX_BYTES, Range};
 use std::alloc::{AllocError, Global};
@@ -35,7 +35,7 @@ fn of_documents(rt: HostRuntime) -> Result<(), Fail> {
 
 // Opens a document whose text is made already.
 fn open_made(desk: &mut Desk, alloc: Global, uri: &str) -> Result<u64, DeskFault> {
-    let text = shared_text(alloc, Text::from_str(alloc, "")?)?;
+    let text = snapshot_of_text(alloc, Text::from_str(alloc, "")?)?;
     desk.open_shared(Text::from_str(alloc, uri)?, 1, text, Encoding::Utf16)
 }
 

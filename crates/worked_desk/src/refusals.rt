@@ -133,7 +133,7 @@ fn refuses_all(desk: &mut Desk, alloc: Global) -> Result<bool, DeskFault> {
     let closed = close(desk, alloc) == Err(full);
     let asked = symbols(desk, alloc, 3) == Err(full);
     let cancelled = desk.cancel(&Id::Number(2)) == Err(full);
-    let said = desk.say(List::from_slice(alloc, b"{}")?) == Err(full);
+    let said = desk.say(List::from_vec(Vec::from_slice(alloc, b"{}")?)) == Err(full);
     let taken = taken(desk) == Err(full);
     Ok(changed && closed && asked && cancelled && said && taken)
 }

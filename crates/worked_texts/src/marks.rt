@@ -4,7 +4,7 @@ ghost use Rattle.std.specs.Prelude.{◌<◌, ◌^◌, length};
 ghost use Rattle.abnf_token.specs.Marks.{AreMarks};
 
 use super::texts::{changed, snapshot};
-use abnf_token::{Kind, Token, TokenMark, marks_of, token_at, tokens};
+use abnf_token::{Kind, Token, TokenMark, push_marks, token_at, tokens};
 use ls_text::{Snapshot, TextFault};
 use std::alloc::{AllocError, Global};
 
@@ -72,7 +72,8 @@ fn has_tokens_at(line: &str, marks: &[TokenMark]) -> bool
 fn has_tokens_at_marks(alloc: Global, line: &str) -> Result<bool, AllocError>
     requires { length line.now < 2 ^ 32 }
 {
-    let marks = marks_of(alloc, line)?;
+    let mut marks = Vec::new(alloc);
+    push_marks(&mut marks, line)?;
     Ok(has_tokens_at(line, marks.as_slice()))
 }
 

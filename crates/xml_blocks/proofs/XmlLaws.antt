@@ -12,17 +12,17 @@ use Rattle.xml_blocks.specs.declared.fault.XmlFault.{XmlFault}
 use Rattle.xml_blocks.specs.declared.fault.XmlFault.TheVariants.{BlockWithoutEnd}
 use Rattle.xml_blocks.specs.declared.gather.Open.{Open}
 use Rattle.xml_blocks.specs.declared.piece.Piece.{Piece}
-use Rattle.xml_blocks.specs.Reading.{reading_element}
+use Rattle.xml_blocks.specs.own.Reading.{reading_element}
 use Rattle.xml_blocks.specs.Xml.{Opened, and_then, begins, begins_type, behind_piece, element_blocks, closes_tag, grammar_behind, has_abnf_type, is_scalar, named_value, number, open_quote, piece_at, put_before, quoted_len, until, value_with_digit, with_value}
 
 -- ---- texts
 
-pub chars-none : (bs : List ℕ) → length bs ≡ 0 → chars bs ≡ []
-chars-none [] e = chars-nil
-chars-none (b ∷ bs) e = absurd (omega (arith, e))
+pub chars_none : (bs : List ℕ) → length bs ≡ 0 → chars bs ≡ []
+chars_none [] e = chars-nil
+chars_none (b ∷ bs) e = absurd (omega (arith, e))
 
-pub chars-le : (bs : List ℕ) → IsUtf8 bs → length (chars bs) ≤ length bs
-chars-le bs u = omega (arith, length-le-encodes (chars bs), ap length (encodes-chars bs u))
+pub chars_le : (bs : List ℕ) → IsUtf8 bs → length (chars bs) ≤ length bs
+chars_le bs u = omega (arith, length-le-encodes (chars bs), ap length (encodes-chars bs u))
 
 -- a text is what comes before a rest of it, and the rest
 module _ (bs ds : List ℕ) (n : ℕ) (u : IsUtf8 bs) (v : IsUtf8 ds) (is : chars ds ≡ drop n (chars bs)) where
@@ -33,214 +33,214 @@ module _ (bs ds : List ℕ) (n : ℕ) (u : IsUtf8 bs) (v : IsUtf8 ds) (is : char
       ∙ ap encodes (take-append-drop n (chars bs))
       ∙ encodes-chars bs u
 
-  pub rest-le : length ds ≤ length bs
-  rest-le = omega (arith, ap length front_joins, length-append (encodes (take n (chars bs))) ds)
+  pub rest_le : length ds ≤ length bs
+  rest_le = omega (arith, ap length front_joins, length-append (encodes (take n (chars bs))) ds)
 
   front_len : length bs - length ds ≡ length (encodes (take n (chars bs)))
   front_len = omega (arith, ap length front_joins, length-append (encodes (take n (chars bs))) ds)
 
-  pub rest-boundary : IsCharBoundary bs (length bs - length ds)
-  rest-boundary = subst (λ k. IsCharBoundary bs k) (sym front_len) (IsCharBoundary-at_seam bs (encodes (take n (chars bs))) ds (sym front_joins) v)
+  pub rest_boundary : IsCharBoundary bs (length bs - length ds)
+  rest_boundary = subst (λ k. IsCharBoundary bs k) (sym front_len) (IsCharBoundary-at_seam bs (encodes (take n (chars bs))) ds (sym front_joins) v)
 
-  rest-is : drop (length bs - length ds) bs ≡ ds
-  rest-is = ap (λ k. drop k bs) front_len ∙ ap (λ r. drop (length (encodes (take n (chars bs)))) r) (sym front_joins) ∙ drop-append_seam (encodes (take n (chars bs))) ds
+  rest_is : drop (length bs - length ds) bs ≡ ds
+  rest_is = ap (λ k. drop k bs) front_len ∙ ap (λ r. drop (length (encodes (take n (chars bs)))) r) (sym front_joins) ∙ drop-append_seam (encodes (take n (chars bs))) ds
 
-  pub front-chars : (front : List ℕ) → front ≡ take (length bs - length ds) bs → chars front ≡ take n (chars bs)
-  front-chars front e =
-      let w : IsUtf8 front = subst IsUtf8 (sym e) (IsUtf8-take bs (length bs - length ds) u rest-boundary) in
+  pub front_chars : (front : List ℕ) → front ≡ take (length bs - length ds) bs → chars front ≡ take n (chars bs)
+  front_chars front e =
+      let w : IsUtf8 front = subst IsUtf8 (sym e) (IsUtf8-take bs (length bs - length ds) u rest_boundary) in
       append_cancel_right (chars front) (take n (chars bs)) (drop n (chars bs))
       (ap (λ r. chars front ++ r) (sym is) ∙ sym (chars-append front ds w)
-      ∙ ap chars ((λ i. e i ++ sym rest-is i) ∙ take-append-drop (length bs - length ds) bs)
+      ∙ ap chars ((λ i. e i ++ sym rest_is i) ∙ take-append-drop (length bs - length ds) bs)
       ∙ sym (take-append-drop n (chars bs)))
 
 -- a text of fewer bytes than 2^63 has as few characters
-pub chars-small : (bs : List ℕ) → IsUtf8 bs → length bs < 2 ^ 63 → length (chars bs) < 2 ^ 63
-chars-small bs u lt = omega (arith, chars-le bs u, lt)
+pub chars_small : (bs : List ℕ) → IsUtf8 bs → length bs < 2 ^ 63 → length (chars bs) < 2 ^ 63
+chars_small bs u lt = omega (arith, chars_le bs u, lt)
 
 -- ---- marks
 
-pub begins-all : (mark t : List ℕ) {whole : Bool} → length mark ≡ 0 → begins mark t ≡ whole → true ≡ whole
+pub begins_all : (mark t : List ℕ) {whole : Bool} → length mark ≡ 0 → begins mark t ≡ whole → true ≡ whole
 unfolding begins
-begins-all [] t e was = was
-begins-all (m ∷ ms) t e was = absurd (omega (arith, e))
+begins_all [] t e was = was
+begins_all (m ∷ ms) t e was = absurd (omega (arith, e))
 
-pub begins-none : (mark t ms : List ℕ) (m : ℕ) {whole : Bool} → mark ≡ m ∷ ms → t ≡ [] → begins mark t ≡ whole → false ≡ whole
+pub begins_none : (mark t ms : List ℕ) (m : ℕ) {whole : Bool} → mark ≡ m ∷ ms → t ≡ [] → begins mark t ≡ whole → false ≡ whole
 unfolding begins
-begins-none mark t ms m e is was = (λ i. begins (sym e i) (sym is i)) ∙ was
+begins_none mark t ms m e is was = (λ i. begins (sym e i) (sym is i)) ∙ was
 
-pub begins-other : (mark t ms u : List ℕ) (m c : ℕ) {whole : Bool} → mark ≡ m ∷ ms → t ≡ c ∷ u → (c ≡ m → ⊥) → begins mark t ≡ whole → false ≡ whole
+pub begins_other : (mark t ms u : List ℕ) (m c : ℕ) {whole : Bool} → mark ≡ m ∷ ms → t ≡ c ∷ u → (c ≡ m → ⊥) → begins mark t ≡ whole → false ≡ whole
 unfolding begins
-begins-other mark t ms u m c e is other was =
+begins_other mark t ms u m c e is other was =
     let differs : nat_eq c m ≡ false = elim (eqb_tells c m) [ inl x ↦ absurd (other x.1) | inr x ↦ x.0 ] in
     (λ i. sym differs i && begins ms u) ∙ (λ i. begins (sym e i) (sym is i)) ∙ was
 
-pub begins-more : (mark t ms u : List ℕ) (m c : ℕ) {whole : Bool} → mark ≡ m ∷ ms → t ≡ c ∷ u → c ≡ m → begins mark t ≡ whole → begins ms u ≡ whole
+pub begins_more : (mark t ms u : List ℕ) (m c : ℕ) {whole : Bool} → mark ≡ m ∷ ms → t ≡ c ∷ u → c ≡ m → begins mark t ≡ whole → begins ms u ≡ whole
 unfolding begins
-begins-more mark t ms u m c e is same was =
+begins_more mark t ms u m c e is same was =
     (λ i. sym (eq-eqb c m same) i && begins ms u) ∙ (λ i. begins (sym e i) (sym is i)) ∙ was
 
-map-suc : (count : ℕ) (o : Option ℕ) → option_map (λ n. count + 1 + n) o ≡ option_map (λ n. count + n) (option_map suc o)
-map-suc count None = refl
-map-suc count (Some n) = ap Some (let e : count + 1 + n ≡ count + suc n = omega arith in e)
+map_suc : (count : ℕ) (o : Option ℕ) → option_map (λ n. count + 1 + n) o ≡ option_map (λ n. count + n) (option_map suc o)
+map_suc count None = refl
+map_suc count (Some n) = ap Some (let e : count + 1 + n ≡ count + suc n = omega arith in e)
 
 module _ (count : ℕ) (mark t : List ℕ) {whole : Option ℕ} (was : option_map (λ n. count + n) (until mark t) ≡ whole) where
-  pub until-none : t ≡ [] → None ≡ whole
+  pub until_none : t ≡ [] → None ≡ whole
   unfolding until
-  until-none is = ap (λ u. option_map (λ n. count + n) (until mark u)) (sym is) ∙ was
+  until_none is = ap (λ u. option_map (λ n. count + n) (until mark u)) (sym is) ∙ was
 
-  pub until-found : (c : ℕ) (u : List ℕ) → t ≡ c ∷ u → begins mark t ≡ true → Some count ≡ whole
+  pub until_found : (c : ℕ) (u : List ℕ) → t ≡ c ∷ u → begins mark t ≡ true → Some count ≡ whole
   unfolding until
-  until-found c u is b =
+  until_found c u is b =
       ap Some (let e : count ≡ count + 0 = omega arith in e)
       ∙ ap (λ x. option_map (λ n. count + n) (cond x (Some 0) (option_map suc (until mark u)))) (sym b ∙ ap (begins mark) is)
       ∙ ap (λ v. option_map (λ n. count + n) (until mark v)) (sym is) ∙ was
 
-  pub until-more : (c : ℕ) (u : List ℕ) → t ≡ c ∷ u → begins mark t ≡ false → option_map (λ n. count + 1 + n) (until mark u) ≡ whole
+  pub until_more : (c : ℕ) (u : List ℕ) → t ≡ c ∷ u → begins mark t ≡ false → option_map (λ n. count + 1 + n) (until mark u) ≡ whole
   unfolding until
-  until-more c u is b =
-      map-suc count (until mark u)
+  until_more c u is b =
+      map_suc count (until mark u)
       ∙ ap (λ x. option_map (λ n. count + n) (cond x (Some 0) (option_map suc (until mark u)))) (sym b ∙ ap (begins mark) is)
       ∙ ap (λ v. option_map (λ n. count + n) (until mark v)) (sym is) ∙ was
 
 -- ---- tags
 
 module _ (count : ℕ) (quote : Option ℕ) (t : List ℕ) {whole : Option ℕ} (was : option_map (λ n. count + n) (quoted_len quote t) ≡ whole) where
-  pub quoted-none : t ≡ [] → None ≡ whole
+  pub quoted_none : t ≡ [] → None ≡ whole
   unfolding quoted_len
-  quoted-none is = ap (λ u. option_map (λ n. count + n) (quoted_len quote u)) (sym is) ∙ was
+  quoted_none is = ap (λ u. option_map (λ n. count + n) (quoted_len quote u)) (sym is) ∙ was
 
-  pub quoted-closed : (c : ℕ) (u : List ℕ) → t ≡ c ∷ u → closes_tag quote c ≡ true → Some (count + 1) ≡ whole
+  pub quoted_closed : (c : ℕ) (u : List ℕ) → t ≡ c ∷ u → closes_tag quote c ≡ true → Some (count + 1) ≡ whole
   unfolding quoted_len
-  quoted-closed c u is b =
+  quoted_closed c u is b =
       ap (λ x. option_map (λ n. count + n) (cond x (Some 1) (option_map suc (quoted_len (open_quote quote c) u)))) (sym b)
       ∙ ap (λ v. option_map (λ n. count + n) (quoted_len quote v)) (sym is) ∙ was
 
-  pub quoted-more : (c : ℕ) (u : List ℕ) (next : Option ℕ) → t ≡ c ∷ u → closes_tag quote c ≡ false → next ≡ open_quote quote c → option_map (λ n. count + 1 + n) (quoted_len next u) ≡ whole
+  pub quoted_more : (c : ℕ) (u : List ℕ) (next : Option ℕ) → t ≡ c ∷ u → closes_tag quote c ≡ false → next ≡ open_quote quote c → option_map (λ n. count + 1 + n) (quoted_len next u) ≡ whole
   unfolding quoted_len
-  quoted-more c u next is b e =
+  quoted_more c u next is b e =
       ap (λ q. option_map (λ n. count + 1 + n) (quoted_len q u)) e
-      ∙ map-suc count (quoted_len (open_quote quote c) u)
+      ∙ map_suc count (quoted_len (open_quote quote c) u)
       ∙ ap (λ x. option_map (λ n. count + n) (cond x (Some 1) (option_map suc (quoted_len (open_quote quote c) u)))) (sym b)
       ∙ ap (λ v. option_map (λ n. count + n) (quoted_len quote v)) (sym is) ∙ was
 
 module _ (quote : Option ℕ) (t : List ℕ) {whole : Bool} (was : has_abnf_type quote t ≡ whole) where
-  pub type-none : t ≡ [] → false ≡ whole
+  pub type_none : t ≡ [] → false ≡ whole
   unfolding has_abnf_type
-  type-none is = ap (has_abnf_type quote) (sym is) ∙ was
+  type_none is = ap (has_abnf_type quote) (sym is) ∙ was
 
-  pub type-found : (c : ℕ) (u : List ℕ) → t ≡ c ∷ u → begins_type quote c u ≡ true → true ≡ whole
+  pub type_found : (c : ℕ) (u : List ℕ) → t ≡ c ∷ u → begins_type quote c u ≡ true → true ≡ whole
   unfolding has_abnf_type
-  type-found c u is b = ap (λ x. x || has_abnf_type (open_quote quote c) u) (sym b) ∙ ap (has_abnf_type quote) (sym is) ∙ was
+  type_found c u is b = ap (λ x. x || has_abnf_type (open_quote quote c) u) (sym b) ∙ ap (has_abnf_type quote) (sym is) ∙ was
 
-  pub type-more : (c : ℕ) (u : List ℕ) (next : Option ℕ) → t ≡ c ∷ u → begins_type quote c u ≡ false → next ≡ open_quote quote c → has_abnf_type next u ≡ whole
+  pub type_more : (c : ℕ) (u : List ℕ) (next : Option ℕ) → t ≡ c ∷ u → begins_type quote c u ≡ false → next ≡ open_quote quote c → has_abnf_type next u ≡ whole
   unfolding has_abnf_type
-  type-more c u next is b e = ap (λ q. has_abnf_type q u) e ∙ ap (λ x. x || has_abnf_type (open_quote quote c) u) (sym b) ∙ ap (has_abnf_type quote) (sym is) ∙ was
+  type_more c u next is b e = ap (λ q. has_abnf_type q u) e ∙ ap (λ x. x || has_abnf_type (open_quote quote c) u) (sym b) ∙ ap (has_abnf_type quote) (sym is) ∙ was
 
 -- ---- references
 
-count-named : (value count : ℕ) → named_value value (count + 1) ≡ option_map {U = ℕ × ℕ} (λ r. (r.0, count + r.1)) (named_value value 1)
-count-named value count = by_test (is_scalar value)
+count_named : (value count : ℕ) → named_value value (count + 1) ≡ option_map {U = ℕ × ℕ} (λ r. (r.0, count + r.1)) (named_value value 1)
+count_named value count = by_test (is_scalar value)
   where
     by_test : (b : Bool) → cond {A = Option (ℕ × ℕ)} b (Some (value, count + 1)) None ≡ option_map {U = ℕ × ℕ} (λ r. (r.0, count + r.1)) (cond {A = Option (ℕ × ℕ)} b (Some (value, 1)) None)
     by_test true = refl
     by_test false = refl
 
-map-suc_of : (count : ℕ) (o : Option (ℕ × ℕ)) → option_map {U = ℕ × ℕ} (λ r. (r.0, count + 1 + r.1)) o ≡ option_map {U = ℕ × ℕ} (λ r. (r.0, count + r.1)) (option_map {U = ℕ × ℕ} (λ r. (r.0, suc r.1)) o)
-map-suc_of count None = refl
-map-suc_of count (Some r) =
+map_suc_of : (count : ℕ) (o : Option (ℕ × ℕ)) → option_map {U = ℕ × ℕ} (λ r. (r.0, count + 1 + r.1)) o ≡ option_map {U = ℕ × ℕ} (λ r. (r.0, count + r.1)) (option_map {U = ℕ × ℕ} (λ r. (r.0, suc r.1)) o)
+map_suc_of count None = refl
+map_suc_of count (Some r) =
     let pair : ℕ → Option (ℕ × ℕ) = λ n. Some (r.0, n) in
     ap pair (let e : count + 1 + r.1 ≡ count + suc r.1 = omega arith in e)
 
 module _ (base value count : ℕ) (t : List ℕ) {whole : Option (ℕ × ℕ)} (was : option_map {U = ℕ × ℕ} (λ r. (r.0, count + r.1)) (number base value t) ≡ whole) where
-  pub number-none : t ≡ [] → None ≡ whole
+  pub number_none : t ≡ [] → None ≡ whole
   unfolding number
-  number-none is = ap (λ u. option_map {U = ℕ × ℕ} (λ r. (r.0, count + r.1)) (number base value u)) (sym is) ∙ was
+  number_none is = ap (λ u. option_map {U = ℕ × ℕ} (λ r. (r.0, count + r.1)) (number base value u)) (sym is) ∙ was
 
-  number-at : (c : ℕ) (u : List ℕ) → t ≡ c ∷ u → (b : Bool) → nat_eq c 59 ≡ b → option_map {U = ℕ × ℕ} (λ r. (r.0, count + r.1)) (cond b (named_value value 1) (with_value (value_with_digit value base c) (λ more. option_map {U = ℕ × ℕ} (λ r. (r.0, suc r.1)) (number base more u)))) ≡ whole
+  number_at : (c : ℕ) (u : List ℕ) → t ≡ c ∷ u → (b : Bool) → nat_eq c 59 ≡ b → option_map {U = ℕ × ℕ} (λ r. (r.0, count + r.1)) (cond b (named_value value 1) (with_value (value_with_digit value base c) (λ more. option_map {U = ℕ × ℕ} (λ r. (r.0, suc r.1)) (number base more u)))) ≡ whole
   unfolding number
-  number-at c u is b e =
+  number_at c u is b e =
       ap (λ x. option_map {U = ℕ × ℕ} (λ r. (r.0, count + r.1)) (cond x (named_value value 1) (with_value (value_with_digit value base c) (λ more. option_map {U = ℕ × ℕ} (λ r. (r.0, suc r.1)) (number base more u))))) (sym e)
       ∙ ap (λ v. option_map {U = ℕ × ℕ} (λ r. (r.0, count + r.1)) (number base value v)) (sym is) ∙ was
 
-  pub number-ends : (c : ℕ) (u : List ℕ) → t ≡ c ∷ u → c ≡ 59 → named_value value (count + 1) ≡ whole
-  number-ends c u is e = count-named value count ∙ number-at c u is true (eq-eqb c 59 e)
+  pub number_ends : (c : ℕ) (u : List ℕ) → t ≡ c ∷ u → c ≡ 59 → named_value value (count + 1) ≡ whole
+  number_ends c u is e = count_named value count ∙ number_at c u is true (eq-eqb c 59 e)
 
   not_end : (c : ℕ) → (c ≡ 59 → ⊥) → nat_eq c 59 ≡ false
   not_end c s = elim (eqb_tells c 59) [ inl x ↦ absurd (s x.1) | inr x ↦ x.0 ]
 
-  pub number-bad : (c : ℕ) (u : List ℕ) → t ≡ c ∷ u → (c ≡ 59 → ⊥) → None ≡ value_with_digit value base c → None ≡ whole
-  number-bad c u is s e =
+  pub number_bad : (c : ℕ) (u : List ℕ) → t ≡ c ∷ u → (c ≡ 59 → ⊥) → None ≡ value_with_digit value base c → None ≡ whole
+  number_bad c u is s e =
       ap (λ d. option_map {U = ℕ × ℕ} (λ r. (r.0, count + r.1)) (with_value d (λ more. option_map {U = ℕ × ℕ} (λ r. (r.0, suc r.1)) (number base more u)))) e
-      ∙ number-at c u is false (not_end c s)
+      ∙ number_at c u is false (not_end c s)
 
-  pub number-more : (c next : ℕ) (u : List ℕ) → t ≡ c ∷ u → (c ≡ 59 → ⊥) → Some next ≡ value_with_digit value base c → option_map {U = ℕ × ℕ} (λ r. (r.0, count + 1 + r.1)) (number base next u) ≡ whole
-  number-more c next u is s e =
-      map-suc_of count (number base next u)
+  pub number_more : (c next : ℕ) (u : List ℕ) → t ≡ c ∷ u → (c ≡ 59 → ⊥) → Some next ≡ value_with_digit value base c → option_map {U = ℕ × ℕ} (λ r. (r.0, count + 1 + r.1)) (number base next u) ≡ whole
+  number_more c next u is s e =
+      map_suc_of count (number base next u)
       ∙ ap (λ d. option_map {U = ℕ × ℕ} (λ r. (r.0, count + r.1)) (with_value d (λ more. option_map {U = ℕ × ℕ} (λ r. (r.0, suc r.1)) (number base more u)))) e
-      ∙ number-at c u is false (not_end c s)
+      ∙ number_at c u is false (not_end c s)
 
 -- ---- blocks
 
 -- what was read already is passed over
-blocks-skip : (state : Option Opened) (n at : ℕ) (t : List ℕ) → element_blocks state n at t ≡ element_blocks state 0 (at + length (take n t)) (drop n t)
+blocks_skip : (state : Option Opened) (n at : ℕ) (t : List ℕ) → element_blocks state n at t ≡ element_blocks state 0 (at + length (take n t)) (drop n t)
 unfolding element_blocks
-blocks-skip state zero at t = ap (λ a. element_blocks state 0 a t) (let e : at ≡ at + 0 = omega arith in e)
-blocks-skip state (suc n) at [] = refl
-blocks-skip state (suc n) at (c ∷ t) =
-    blocks-skip state n (suc at) t
+blocks_skip state zero at t = ap (λ a. element_blocks state 0 a t) (let e : at ≡ at + 0 = omega arith in e)
+blocks_skip state (suc n) at [] = refl
+blocks_skip state (suc n) at (c ∷ t) =
+    blocks_skip state n (suc at) t
     ∙ ap (λ a. element_blocks state 0 a (drop n t)) (let e : suc at + length (take n t) ≡ at + suc (length (take n t)) = omega arith in e)
 
 pub parts_len : (n : ℕ) (t : List ℕ) → length (take n t) + length (drop n t) ≡ length t
 parts_len n t = sym (length-append (take n t) (drop n t)) ∙ ap length (take-append-drop n t)
 
-grammar_of-append : (bs cs : List SourcedBlock) → grammar_of (bs ++ cs) ≡ grammar_of bs ++ grammar_of cs
-grammar_of-append [] cs = refl
-grammar_of-append (b ∷ bs) cs = ap (λ g. aligned b ++ g) (grammar_of-append bs cs) ∙ sym (append_assoc (aligned b) (grammar_of bs) (grammar_of cs))
+grammar_of_append : (bs cs : List SourcedBlock) → grammar_of (bs ++ cs) ≡ grammar_of bs ++ grammar_of cs
+grammar_of_append [] cs = refl
+grammar_of_append (b ∷ bs) cs = ap (λ g. aligned b ++ g) (grammar_of_append bs cs) ∙ sym (append_assoc (aligned b) (grammar_of bs) (grammar_of cs))
 
-behind-put : (front : List Sourced) (bs : List SourcedBlock) (r : Result (List SourcedBlock) XmlFault) → grammar_behind (front ++ grammar_of bs) r ≡ grammar_behind front (put_before bs r)
-behind-put front bs (Err f) = refl
-behind-put front bs (Ok cs) = ap Ok (append_assoc front (grammar_of bs) (grammar_of cs) ∙ ap (λ g. front ++ g) (sym (grammar_of-append bs cs)))
+behind_put : (front : List Sourced) (bs : List SourcedBlock) (r : Result (List SourcedBlock) XmlFault) → grammar_behind (front ++ grammar_of bs) r ≡ grammar_behind front (put_before bs r)
+behind_put front bs (Err f) = refl
+behind_put front bs (Ok cs) = ap Ok (append_assoc front (grammar_of bs) (grammar_of cs) ∙ ap (λ g. front ++ g) (sym (grammar_of_append bs cs)))
 
-reading-some : (current : Option Open) (block : List Sourced) → is_some current ≡ is_some (reading_element current block)
-reading-some None block = refl
-reading-some (Some o) block = refl
+reading_some : (current : Option Open) (block : List Sourced) → is_some current ≡ is_some (reading_element current block)
+reading_some None block = refl
+reading_some (Some o) block = refl
 
 -- the blocks behind a piece
 after : Option Opened → ℕ → List ℕ → Piece → Result (List SourcedBlock) XmlFault
 after state at t piece = put_before (behind_piece state piece.kind at (take piece.more t)).1 (element_blocks (behind_piece state piece.kind at (take piece.more t)).0 piece.more (suc at) t)
 
 module _ (grammar : List Sourced) (at : ℕ) (rest : List ℕ) (current : Option Open) (block : List Sourced) {whole : Result (List Sourced) XmlFault} (was : grammar_behind grammar (element_blocks (reading_element current block) 0 at rest) ≡ whole) where
-  pub ends-open : (o : Open) → rest ≡ [] → current ≡ Some o → Err (BlockWithoutEnd o.begin) ≡ whole
+  pub ends_open : (o : Open) → rest ≡ [] → current ≡ Some o → Err (BlockWithoutEnd o.begin) ≡ whole
   unfolding element_blocks
-  ends-open o none is = (λ i. grammar_behind grammar (element_blocks (reading_element (sym is i) block) 0 at (sym none i))) ∙ was
+  ends_open o none is = (λ i. grammar_behind grammar (element_blocks (reading_element (sym is i) block) 0 at (sym none i))) ∙ was
 
-  pub ends-outside : rest ≡ [] → current ≡ None → Ok grammar ≡ whole
+  pub ends_outside : rest ≡ [] → current ≡ None → Ok grammar ≡ whole
   unfolding element_blocks
-  ends-outside none is = ap Ok (sym (append-nil grammar)) ∙ (λ i. grammar_behind grammar (element_blocks (reading_element (sym is i) block) 0 at (sym none i))) ∙ was
+  ends_outside none is = ap Ok (sym (append-nil grammar)) ∙ (λ i. grammar_behind grammar (element_blocks (reading_element (sym is i) block) 0 at (sym none i))) ∙ was
 
   module _ (c : ℕ) (t : List ℕ) (is : rest ≡ c ∷ t) (flag : Bool) (some : flag ≡ is_some current) where
     stands : grammar_behind grammar (and_then (piece_at flag at c t) (after (reading_element current block) at t)) ≡ whole
     unfolding element_blocks after
     stands =
-        (λ i. grammar_behind grammar (and_then (piece_at ((some ∙ reading-some current block) i) at c t) (after (reading_element current block) at t)))
+        (λ i. grammar_behind grammar (and_then (piece_at ((some ∙ reading_some current block) i) at c t) (after (reading_element current block) at t)))
         ∙ (λ i. grammar_behind grammar (element_blocks (reading_element current block) 0 at (sym is i)))
         ∙ was
 
-    pub piece-fault : (fault : XmlFault) → Err fault ≡ piece_at flag at c t → Err fault ≡ whole
-    piece-fault fault e = ap (λ r. grammar_behind grammar (and_then r (after (reading_element current block) at t))) e ∙ stands
+    pub piece_fault : (fault : XmlFault) → Err fault ≡ piece_at flag at c t → Err fault ≡ whole
+    piece_fault fault e = ap (λ r. grammar_behind grammar (and_then r (after (reading_element current block) at t))) e ∙ stands
 
     module _ (piece : Piece) (piece_is : Ok piece ≡ piece_at flag at c t) where
       skipped : grammar_behind (grammar ++ grammar_of (behind_piece (reading_element current block) piece.kind at (take piece.more t)).1) (element_blocks (behind_piece (reading_element current block) piece.kind at (take piece.more t)).0 0 (at + (1 + length (take piece.more t))) (drop piece.more t)) ≡ whole
       unfolding after
       skipped =
           ap (λ a. grammar_behind (grammar ++ grammar_of (behind_piece (reading_element current block) piece.kind at (take piece.more t)).1) (element_blocks (behind_piece (reading_element current block) piece.kind at (take piece.more t)).0 0 a (drop piece.more t))) (let e : at + (1 + length (take piece.more t)) ≡ suc at + length (take piece.more t) = omega arith in e)
-          ∙ ap (λ r. grammar_behind (grammar ++ grammar_of (behind_piece (reading_element current block) piece.kind at (take piece.more t)).1) r) (sym (blocks-skip (behind_piece (reading_element current block) piece.kind at (take piece.more t)).0 piece.more (suc at) t))
-          ∙ behind-put grammar (behind_piece (reading_element current block) piece.kind at (take piece.more t)).1 (element_blocks (behind_piece (reading_element current block) piece.kind at (take piece.more t)).0 piece.more (suc at) t)
+          ∙ ap (λ r. grammar_behind (grammar ++ grammar_of (behind_piece (reading_element current block) piece.kind at (take piece.more t)).1) r) (sym (blocks_skip (behind_piece (reading_element current block) piece.kind at (take piece.more t)).0 piece.more (suc at) t))
+          ∙ behind_put grammar (behind_piece (reading_element current block) piece.kind at (take piece.more t)).1 (element_blocks (behind_piece (reading_element current block) piece.kind at (take piece.more t)).0 piece.more (suc at) t)
           ∙ ap (λ r. grammar_behind grammar (and_then r (after (reading_element current block) at t))) piece_is
           ∙ stands
 
-      pub piece-read : (text left : List ℕ) (n : ℕ) (next : Option Open) (to content : List Sourced) → text ≡ take piece.more t → left ≡ drop piece.more t → n ≡ length text → reading_element next content ≡ (behind_piece (reading_element current block) piece.kind at text).0 → to ≡ grammar ++ grammar_of (behind_piece (reading_element current block) piece.kind at text).1 → grammar_behind to (element_blocks (reading_element next content) 0 (at + (1 + n)) left) ≡ whole
-      piece-read text left n next to content text_is left_is n_is next_is to_is =
+      pub piece_read : (text left : List ℕ) (n : ℕ) (next : Option Open) (to content : List Sourced) → text ≡ take piece.more t → left ≡ drop piece.more t → n ≡ length text → reading_element next content ≡ (behind_piece (reading_element current block) piece.kind at text).0 → to ≡ grammar ++ grammar_of (behind_piece (reading_element current block) piece.kind at text).1 → grammar_behind to (element_blocks (reading_element next content) 0 (at + (1 + n)) left) ≡ whole
+      piece_read text left n next to content text_is left_is n_is next_is to_is =
           (λ i. grammar_behind (to_is i) (element_blocks (next_is i) 0 (at + (1 + n_is i)) (left_is i)))
           ∙ ap (λ x. grammar_behind (grammar ++ grammar_of (behind_piece (reading_element current block) piece.kind at x).1) (element_blocks (behind_piece (reading_element current block) piece.kind at x).0 0 (at + (1 + length x)) (drop piece.more t))) text_is
           ∙ skipped

@@ -1,2 +1,2 @@
 pub mod Xml
-pub mod Reading
+pub mod own

@@ -3,7 +3,7 @@
 ghost use Rattle.std.specs.Prelude.{◌≡◌, ◌<◌, ◌^◌, ◌++◌, IfOk, OnOk, length};
 ghost use Rattle.std.specs.Str.{chars};
 ghost use Rattle.origins.specs.Origins.{grammar_of};
-ghost use Rattle.xml_blocks.specs.Reading.{reading_element};
+ghost use Rattle.xml_blocks.specs.own.Reading.{reading_element};
 ghost use Rattle.xml_blocks.specs.Xml as spec;
 
 use crate::fault::XmlFault;

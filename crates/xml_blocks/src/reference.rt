@@ -2,7 +2,7 @@
 
 ghost use Rattle.std.specs.Prelude.{◌≡◌, ◌≤◌, ◌<◌, ◌^◌, ◌+◌, IfSome, length};
 ghost use Rattle.std.specs.Str.{chars};
-ghost use Rattle.xml_blocks.specs.Reading.{IsBase};
+ghost use Rattle.xml_blocks.specs.own.Reading.{IsBase};
 ghost use Rattle.xml_blocks.specs.Xml as spec;
 
 use crate::text::{begins, behind, char_at, first};

@@ -1,6 +1,6 @@
 use Rattle.std.proofs.Common.{◌↔◌, IsTrue, drop, ◌≤◌, length}
 use Rattle.std.specs.List.{AllByRecursion}
-use Rattle.abnf_cert.specs.Test.{Passes, entries_at}
+use Rattle.abnf_cert.specs.own.Test.{Passes, entries_at}
 use Rattle.abnf_cert.proofs.checker.all_pass.Given as goal
 
 abbrev pub invariant-loop-at : goal.invariant-loop-at

@@ -1,5 +1,5 @@
 use Rattle.std.proofs.Common.{◌<◌, ◌↔◌, IsTrue, arith, subst, sym}
-use Rattle.abnf_cert.specs.Test.{entries_at}
+use Rattle.abnf_cert.specs.own.Test.{entries_at}
 use Rattle.abnf_cert.specs.Accepted.{HasPair, top, IsChoice, entry_at}
 use Rattle.abnf_cert.proofs.Checked.{chosen, full_choice, first_choice}
 use Rattle.abnf_cert.proofs.checker.is_choice.Goals as goal

@@ -1,6 +1,6 @@
 use Rattle.std.proofs.Common.{not, length, eqb, subst, sym, ap, ◌∙◌}
 use Rattle.std.specs.Prelude.{IsTrue, ◌↔◌}
-use Rattle.abnf_least.specs.Form.{AwaitsParts, node_form, row}
+use Rattle.abnf_least.specs.own.Form.{AwaitsParts, node_form, row}
 use Rattle.abnf_least.proofs.Awaits.{others_await, row_awaits}
 use Rattle.abnf_least.proofs.given.awaits_parts.Goals as goal
 

@@ -1,7 +1,7 @@
 use Rattle.std.proofs.Common.{◌≡◌, ◌+◌, ◌-◌, get_or, sym, ap, ◌∙◌, arith}
 use Rattle.std.proofs.lemmas.List.{get_or_default}
 use Rattle.abnf_cert.specs.Accepted.{entry_at}
-use Rattle.abnf_least.specs.Form.{better}
+use Rattle.abnf_least.specs.own.Form.{better}
 use Rattle.abnf_least.proofs.Choice.{first_more}
 use Rattle.abnf_least.proofs.given.chosen.Goals as goal
 

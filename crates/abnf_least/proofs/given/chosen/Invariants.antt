@@ -1,6 +1,6 @@
 use Rattle.std.proofs.Common.{◌≡◌, map, drop, ◌≤◌, length}
 use Rattle.abnf_cert.specs.Accepted.{entry_at}
-use Rattle.abnf_least.specs.Form.{first_least}
+use Rattle.abnf_least.specs.own.Form.{first_least}
 use Rattle.abnf_least.proofs.given.chosen.Given as goal
 
 abbrev pub invariant-loop-at : goal.invariant-loop-at

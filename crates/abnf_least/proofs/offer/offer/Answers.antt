@@ -1,7 +1,7 @@
 use Rattle.abnf_parts.specs.Part.{root_number}
 use Rattle.abnf_cert.specs.Accepted.{entry_at}
-use Rattle.abnf_least.specs.Form.{node_form}
-use Rattle.abnf_least.specs.Search.{form_at}
+use Rattle.abnf_least.specs.own.Form.{node_form}
+use Rattle.abnf_least.specs.own.Search.{form_at}
 use Rattle.abnf_least.proofs.At.{has_form}
 use Rattle.abnf_least.proofs.Offers.{on_ok, offered_from}
 use Rattle.abnf_least.proofs.offer.offer.Goals as goal

@@ -1,6 +1,6 @@
 use Rattle.std.proofs.Common.{get_or}
 use Rattle.abnf_cert.specs.Accepted.{entry_at}
-use Rattle.abnf_least.specs.Search.{form_at}
+use Rattle.abnf_least.specs.own.Search.{form_at}
 use Rattle.abnf_least.proofs.Offers.{OffersUpTo}
 use Rattle.abnf_least.proofs.offer.offer_all.Given as goal
 

@@ -1,4 +1,4 @@
-use Rattle.abnf_least.specs.Search.{candidate}
+use Rattle.abnf_least.specs.own.Search.{candidate}
 use Rattle.abnf_least.proofs.Offers.{on_ok, pushed_from}
 use Rattle.abnf_least.proofs.Queued.{still_there}
 use Rattle.abnf_least.proofs.offer.push_given.Goals as goal

@@ -2,8 +2,8 @@ use Rattle.std.proofs.Common.{◌+◌, ◌≤◌, List, length, arith, subst, sy
 use Rattle.abnf_cert.specs.declared.entry.Entry.{Entry}
 use Rattle.abnf_parts.specs.Part.{parts_of, root_number}
 use Rattle.abnf_cert.specs.Accepted.{entry_at}
-use Rattle.abnf_least.specs.Form.{first_least, node_form}
-use Rattle.abnf_least.specs.Search.{form_at}
+use Rattle.abnf_least.specs.own.Form.{first_least, node_form}
+use Rattle.abnf_least.specs.own.Search.{form_at}
 use Rattle.abnf_least.proofs.At.{has_form}
 use Rattle.abnf_least.proofs.Chosen.{ChosenUpTo, IsChoiceForm, other_form, none_chosen, choice_named, no_choice, all_chosen}
 use Rattle.abnf_least.proofs.search.choose.Goals.{in-Alt, in_default}

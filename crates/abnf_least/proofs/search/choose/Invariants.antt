@@ -1,4 +1,4 @@
-use Rattle.abnf_least.specs.Search.{form_at}
+use Rattle.abnf_least.specs.own.Search.{form_at}
 use Rattle.abnf_least.proofs.Chosen.{ChosenUpTo}
 use Rattle.abnf_least.proofs.search.choose.Given as goal
 

@@ -1,7 +1,7 @@
 use Rattle.std.proofs.Common.{◌≡◌, ◌<◌, ap, sym, ◌∙◌, length, arith}
 use Rattle.abnf_cert.specs.declared.entry.Entry.TheVariants.{Nothing}
 use Rattle.abnf_cert.specs.Accepted.{entry_at}
-use Rattle.abnf_least.specs.Form.{entry_given}
+use Rattle.abnf_least.specs.own.Form.{entry_given}
 use Rattle.abnf_least.proofs.At.{has_form, given_from, pair_from}
 use Rattle.abnf_least.proofs.search.is_given.Goals as goal
 

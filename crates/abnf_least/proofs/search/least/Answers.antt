@@ -2,7 +2,7 @@ use Rattle.std.proofs.Common.{◌≡◌, List, length, arith, subst, sym, ◌∙
 use Rattle.std.proofs.lemmas.List.{with_items_is}
 use Rattle.abnf_cert.specs.declared.entry.Entry.{Entry}
 use Rattle.abnf_cert.specs.Accepted.{IsAccepted}
-use Rattle.abnf_least.specs.Search.{AreGiven}
+use Rattle.abnf_least.specs.own.Search.{AreGiven}
 use Rattle.abnf_least.proofs.Chosen.{accepted_chosen}
 use Rattle.abnf_least.proofs.search.least.Goals as goal
 

@@ -4,7 +4,7 @@ use Rattle.std.proofs.lemmas.List.{with_items_is}
 use Rattle.abnf_cert.specs.declared.entry.Entry.{Entry}
 use Rattle.abnf_cert.specs.declared.entry.Entry.TheVariants.{Nothing}
 use Rattle.abnf_cert.specs.Accepted.{entry_at}
-use Rattle.abnf_least.specs.Search.{form_at, AllWait, Stands}
+use Rattle.abnf_least.specs.own.Search.{form_at, AllWait, IsSearchState}
 use Rattle.abnf_least.proofs.SearchStep.{none_at, stands_at_start}
 use Rattle.abnf_least.proofs.search.settled.Goals as goal
 
@@ -24,4 +24,4 @@ settle-requires-clause-stands c =
 pub returns : goal.returns
 returns c =
     let long : length c.settle.new.table ≡ c.in_ok-table.table.len = omega arith in
-    subst (λ (t : List Entry). Stands c.args.grammar.now.rules t []) (sym (with_items_is c.in_ok-table.table c.settle.new.table long)) c.in_ok-settle.ensures
+    subst (λ (t : List Entry). IsSearchState c.args.grammar.now.rules t []) (sym (with_items_is c.in_ok-table.table c.settle.new.table long)) c.in_ok-settle.ensures

@@ -2,8 +2,8 @@ use Rattle.std.proofs.Common.{◌≤◌, ◌+◌, List, length, arith, subst, sy
 use Rattle.abnf_parts.specs.Part.{parts_of, root_number}
 use Rattle.abnf_cert.specs.Accepted.{entry_at}
 use Rattle.abnf_least.specs.declared.candidate.Candidate.{Candidate}
-use Rattle.abnf_least.specs.Form.{entry_given, node_form}
-use Rattle.abnf_least.specs.Search.{form_at}
+use Rattle.abnf_least.specs.own.Form.{entry_given, node_form}
+use Rattle.abnf_least.specs.own.Search.{form_at}
 use Rattle.abnf_least.proofs.At.{has_form}
 use Rattle.abnf_least.proofs.Awaits.{room_for_all, still_nothing}
 use Rattle.abnf_least.proofs.Offers.{WaitUpTo, wait_more, wait_past, wait_all}

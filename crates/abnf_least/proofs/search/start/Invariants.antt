@@ -1,5 +1,5 @@
 use Rattle.abnf_cert.specs.Accepted.{entry_at}
-use Rattle.abnf_least.specs.Search.{form_at}
+use Rattle.abnf_least.specs.own.Search.{form_at}
 use Rattle.abnf_least.proofs.Offers.{WaitUpTo}
 use Rattle.abnf_least.proofs.search.start.Given as goal
 

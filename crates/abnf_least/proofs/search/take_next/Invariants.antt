@@ -1,6 +1,6 @@
 use Rattle.std.proofs.Common.{length}
 use Rattle.abnf_cert.specs.Accepted.{entry_at}
-use Rattle.abnf_least.specs.Search.{form_at, AllWait}
+use Rattle.abnf_least.specs.own.Search.{form_at, AllWait}
 use Rattle.abnf_least.proofs.search.take_next.Given as goal
 
 abbrev pub invariant-loop-candidate : goal.invariant-loop-candidate

@@ -4,7 +4,7 @@ use Rattle.abnf_cert.specs.Accepted.{entry_at}
 use Rattle.abnf_cert.proofs.Checked.{stands_at}
 use Rattle.abnf_least.specs.declared.work.Task.{Task}
 use Rattle.abnf_least.specs.declared.work.Task.TheVariants.{End}
-use Rattle.abnf_least.specs.Walk.{choice_of, work_after}
+use Rattle.abnf_least.specs.own.Walk.{choice_of, work_after}
 use Rattle.abnf_least.proofs.Draft.{node_of}
 use Rattle.abnf_least.proofs.Offers.{on_ok}
 use Rattle.abnf_least.proofs.walk.expand.Goals as goal

@@ -3,7 +3,7 @@ use Rattle.std.specs.Prelude.{replicate}
 use Rattle.abnf_parts.specs.Part.{parts_of, root_number}
 use Rattle.abnf_cert.specs.Accepted.{entry_at}
 use Rattle.abnf_least.specs.declared.work.Task.{Task}
-use Rattle.abnf_least.specs.Walk.{keep}
+use Rattle.abnf_least.specs.own.Walk.{keep}
 use Rattle.abnf_least.proofs.Draft.{IsDraft, left, first_draft, task_of, does_more}
 use Rattle.abnf_least.proofs.walk.sentence.Goals as goal
 

@@ -2,8 +2,8 @@ use Rattle.std.proofs.Common.{◌≡◌, ◌∙◌, ◌++◌, List, [], false, l
 use Rattle.abnf_names.specs.Excerpts.{Excerpt, excerpt}
 use Rattle.abnf_lint.specs.declared.block.Seen.{Seen}
 use Rattle.abnf_lint.specs.declared.finding.Finding.{Finding}
-use Rattle.abnf_lint.specs.Findings.{block_findings}
-use Rattle.abnf_lint.specs.Passes.{AreSoundWhereMarked, HaveRules, findings_behind, with_base, with_head}
+use Rattle.abnf_lint.specs.own.Findings.{block_findings}
+use Rattle.abnf_lint.specs.own.Passes.{AreSoundWhereMarked, HaveRules, findings_behind, with_base, with_head}
 use Rattle.abnf_lint.proofs.Sound.{all_blocks_sound}
 use Rattle.abnf_lint.proofs.Seen.{has_mark, have_rules, none_seen, rest_is}
 use Rattle.abnf_lint.proofs.findings_of.candidates.Goals as goal

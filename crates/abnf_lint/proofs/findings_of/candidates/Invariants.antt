@@ -1,7 +1,7 @@
 use Rattle.std.proofs.Common.{◌≡◌, ◌++◌, List, [], map, drop}
 use Rattle.abnf_parts.specs.Names.{Name}
 use Rattle.abnf_names.specs.Excerpts.{excerpt}
-use Rattle.abnf_lint.specs.Passes.{AreSoundWhereMarked, AreSeen, HaveRules, findings_behind}
+use Rattle.abnf_lint.specs.own.Passes.{AreSoundWhereMarked, AreSeen, HaveRules, findings_behind}
 use Rattle.abnf_lint.proofs.findings_of.candidates.Given as goal
 
 -- What is left gives the findings that are left, behind blocks with these heads. Their names have rules, and where a

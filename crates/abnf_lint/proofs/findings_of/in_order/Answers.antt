@@ -1,7 +1,8 @@
 use Rattle.std.proofs.Common.{rules, sym, subst, List}
 use Rattle.std.proofs.lemmas.List.Sorted.{answers_always}
 use Rattle.abnf_lint.specs.declared.finding.Finding.{Finding}
-use Rattle.abnf_lint.specs.Order.{AreOrdered, key}
+use Rattle.abnf_lint.specs.Order.{key}
+use Rattle.abnf_lint.specs.own.Findings.{AreOrdered}
 use Rattle.abnf_lint.proofs.findings_of.in_order.Goals as goal
 
 pub returns : goal.returns

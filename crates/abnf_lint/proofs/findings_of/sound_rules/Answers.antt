@@ -1,5 +1,5 @@
 use Rattle.std.proofs.Common.{Bool, List, ap, length, subst, sym}
-use Rattle.abnf_lint.specs.Passes.{AreSoundMarks}
+use Rattle.abnf_lint.specs.own.Passes.{AreSoundMarks}
 use Rattle.abnf_lint.proofs.Sound.{marked_more, none_marked}
 use Rattle.abnf_lint.proofs.findings_of.sound_rules.Goals as goal
 

@@ -1,5 +1,5 @@
 use Rattle.std.proofs.Common.{◌≡◌, length}
-use Rattle.abnf_lint.specs.Passes.{AreSoundMarks}
+use Rattle.abnf_lint.specs.own.Passes.{AreSoundMarks}
 use Rattle.abnf_lint.proofs.findings_of.sound_rules.Given as goal
 
 abbrev pub invariant-loop-rule : goal.invariant-loop-rule

@@ -1,5 +1,5 @@
 use Rattle.std.proofs.Common.{◌≡◌, ◌++◌, drop}
-use Rattle.abnf_lint.specs.Findings.{items_findings}
+use Rattle.abnf_lint.specs.own.Findings.{items_findings}
 use Rattle.abnf_lint.proofs.item.push_items.Given as goal
 
 -- what is left gives the findings that are left

@@ -1,6 +1,6 @@
 use Rattle.std.proofs.Common.{◌≡◌, ◌++◌, drop}
 use Rattle.std.specs.Prelude.{filter_map}
-use Rattle.abnf_names.specs.Passes.{section_fault}
+use Rattle.abnf_names.specs.own.Passes.{section_fault}
 use Rattle.abnf_names.proofs.own.faults_of.Given as goal
 
 -- what is left gives the faults that are left

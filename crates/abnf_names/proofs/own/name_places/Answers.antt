@@ -1,5 +1,5 @@
 use Rattle.std.proofs.Common.{◌∙◌, ap, map}
-use Rattle.abnf_names.specs.Passes.{stated}
+use Rattle.abnf_names.specs.own.Passes.{stated}
 use Rattle.abnf_names.specs.Places.{named_at}
 use Rattle.abnf_names.proofs.OwnPass.{places_by}
 use Rattle.abnf_names.proofs.own.name_places.Goals as goal

@@ -1,6 +1,6 @@
 use Rattle.std.proofs.Common.{map, take}
 use Rattle.abnf_names.specs.Excerpts.{excerpt}
-use Rattle.abnf_names.specs.Passes.{AreGrouped}
+use Rattle.abnf_names.specs.own.Passes.{AreGrouped}
 use Rattle.abnf_names.proofs.own.own_groups.Given as goal
 
 abbrev pub invariant-loop-section : goal.invariant-loop-section

@@ -4,7 +4,7 @@ use Rattle.abnf_parts.specs.declared.core_rule.Core.{Core}
 use Rattle.abnf_parts.specs.Names.{Name, with_name}
 use Rattle.abnf_parts.specs.Core.{core_name}
 use Rattle.abnf_parts.specs.CoreTable.{core_of}
-use Rattle.abnf_names.specs.Passes.{stated, AreNames}
+use Rattle.abnf_names.specs.own.Passes.{stated, AreNames}
 use Rattle.abnf_names.proofs.Kept.{names_made}
 use Rattle.abnf_names.proofs.own.rule_names.Goals as goal
 

@@ -1,6 +1,6 @@
 use Rattle.std.proofs.Common.{◌≡◌, take}
 use Rattle.std.specs.Prelude.{fold}
-use Rattle.abnf_names.specs.Search.{with_place}
+use Rattle.abnf_names.specs.own.Search.{with_place}
 use Rattle.abnf_names.proofs.reach.add_all.Given as goal
 
 abbrev pub invariant-loop-place : goal.invariant-loop-place

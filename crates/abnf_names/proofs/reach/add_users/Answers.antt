@@ -1,5 +1,5 @@
 use Rattle.std.proofs.Common.{◌<◌, ◌∙◌, ap, sym, subst, map, take}
-use Rattle.abnf_names.specs.Users.{place_of_node, with_user}
+use Rattle.abnf_names.specs.own.Users.{place_of_node, with_user}
 use Rattle.abnf_names.proofs.UsersLaws.{place_in, users_kept, users_next}
 use Rattle.abnf_names.proofs.reach.add_users.Goals as goal
 

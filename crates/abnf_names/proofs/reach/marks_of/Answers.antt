@@ -1,7 +1,7 @@
 use Rattle.std.proofs.Common.{◌≡◌, ◌<◌, ◌+◌, ◌∙◌, [], ℕ, List, length, subst, sym, ap}
 use Rattle.std.specs.Prelude.{fold, Contains}
 use Rattle.std.proofs.lemmas.List.{get_or_read}
-use Rattle.abnf_names.specs.Search.{users_at, with_place}
+use Rattle.abnf_names.specs.own.Search.{users_at, with_place}
 use Rattle.abnf_names.proofs.SearchLaws.{IsSearched, searched_more, searched_all}
 use Rattle.abnf_names.proofs.reach.marks_of.Goals as goal
 

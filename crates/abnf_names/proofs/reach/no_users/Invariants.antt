@@ -1,5 +1,5 @@
 use Rattle.std.proofs.Common.{◌≡◌, ℕ, [], length}
-use Rattle.abnf_names.specs.Search.{users_at}
+use Rattle.abnf_names.specs.own.Search.{users_at}
 use Rattle.abnf_names.proofs.reach.no_users.Given as goal
 
 abbrev pub invariant-loop : goal.invariant-loop

@@ -2,7 +2,7 @@ use Rattle.std.proofs.Common.{◌≡◌, ◌<◌, ◌∙◌, Some, List, ap, sym
 use Rattle.std.specs.Prelude.{fold, Contains}
 use Rattle.abnf_parts.specs.declared.node.Node.{Node}
 use Rattle.abnf_parts.specs.Nodes.{trees_at}
-use Rattle.abnf_names.specs.Users.{place_of_node, nodes_of, with_user, AreUsers}
+use Rattle.abnf_names.specs.own.Users.{place_of_node, nodes_of, with_user, AreUsingRules}
 use Rattle.abnf_names.proofs.UsersLaws.{users_none, places_within, users_more}
 use Rattle.abnf_names.proofs.reach.users_of.Goals as goal
 
@@ -32,4 +32,4 @@ loop-rule-preserved c =
 
 pub returns : goal.returns
 returns c =
-    subst (λ n. AreUsers (trees_at c.args.nodes.now c.args.roots.now) n c.loop-rule.users.items) (let all : c.loop-rule.rule ≡ length c.args.roots.now = omega arith in all) c.loop-rule.invariant
+    subst (λ n. AreUsingRules (trees_at c.args.nodes.now c.args.roots.now) n c.loop-rule.users.items) (let all : c.loop-rule.rule ≡ length c.args.roots.now = omega arith in all) c.loop-rule.invariant

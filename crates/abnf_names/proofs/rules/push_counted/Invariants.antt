@@ -1,6 +1,6 @@
 use Rattle.std.proofs.Common.{◌≤◌, List, drop, length}
 use Rattle.abnf_parts.specs.Names.{all_names, rule_number}
-use Rattle.abnf_names.specs.Passes.{AreTold, Definition, alternatives_of}
+use Rattle.abnf_names.specs.own.Passes.{AreTold, Definition, alternatives_of}
 use Rattle.abnf_names.proofs.RulePass.{HasPushed}
 use Rattle.abnf_names.proofs.rules.push_counted.Given as goal
 

@@ -1,6 +1,6 @@
 use Rattle.std.proofs.Common.{List, map, take}
 use Rattle.abnf_parts.specs.Names.{all_names, rule_number}
-use Rattle.abnf_names.specs.Passes.{AllTold, Definition, tree_of}
+use Rattle.abnf_names.specs.own.Passes.{AllTold, Definition, tree_of}
 use Rattle.abnf_parts.specs.Pushed.{AddsTrees}
 use Rattle.abnf_names.proofs.rules.push_own.Given as goal
 

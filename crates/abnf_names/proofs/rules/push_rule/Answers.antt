@@ -1,7 +1,7 @@
 use Rattle.std.proofs.Common.{◌∙◌, refl}
 use Rattle.std.specs.Prelude.{flat_map}
 use Rattle.abnf_parts.specs.Names.{all_names, rule_number}
-use Rattle.abnf_names.specs.Passes.{alternatives_of, counted_among}
+use Rattle.abnf_names.specs.own.Passes.{alternatives_of, counted_among}
 use Rattle.abnf_parts.proofs.Pushing.{choice_added}
 use Rattle.abnf_names.proofs.RulePass.{pushed_within}
 use Rattle.abnf_names.proofs.rules.push_rule.Goals as goal

@@ -3,7 +3,7 @@ use Rattle.std.specs.Prelude.{OnErr}
 use Rattle.abnf_syntax.specs.declared.block.Block.{Block}
 use Rattle.abnf_syntax.specs.Blocks.{line_texts}
 use Rattle.abnf_syntax.specs.Items.{AreItems}
-use Rattle.abnf_syntax.proofs.BlockLaws.{none_found, found_more, all_found, All-none, All-snoc}
+use Rattle.abnf_syntax.proofs.BlockLaws.{none_found, found_more, all_found, All_none, All_snoc}
 use Rattle.abnf_syntax.proofs.block.blocks.Goals as goal
 
 pub blocks-2-init : goal.blocks-2-init
@@ -11,8 +11,8 @@ blocks-2-init c = record {
   within = omega (arith, c.line_count-count.ensures, c.next_block-first.ensures.within);
   begins = λ less. c.next_block-first.ensures.begins (omega (arith, less, c.line_count-count.ensures));
   all = none_found (line_texts c.args.snapshot.now) c.next_block-first.result c.new-found.result.items c.new-found.ensures.items c.next_block-first.ensures;
-  items = All-none (λ (b : Block). AreItems (line_texts c.args.snapshot.now) b.first b.end b.items) _ c.new-found.ensures.items;
-  some = All-none (λ (b : Block). 0 < length b.items) _ c.new-found.ensures.items;
+  items = All_none (λ (b : Block). AreItems (line_texts c.args.snapshot.now) b.first b.end b.items) _ c.new-found.ensures.items;
+  some = All_none (λ (b : Block). 0 < length b.items) _ c.new-found.ensures.items;
 }
 
 pub blocks-2-preserved : goal.blocks-2-preserved
@@ -20,8 +20,8 @@ blocks-2-preserved c = record {
   within = omega (arith, c.line_count-count.ensures, c.next_block-end.ensures.within);
   begins = λ less. c.next_block-end.ensures.begins (omega (arith, less, c.line_count-count.ensures));
   all = found_more (line_texts c.args.snapshot.now) c.blocks-2.found.items (record { first = c.blocks-2.first; end = c.next_block-end.result; items = c.in_ok-items.items }) c.push.new.self.items c.in_ok-push.ensures.items (omega (arith, c.line_count-count.ensures, c.blocks-2-test.true)) (c.blocks-2.invariant.begins c.blocks-2-test.true) c.next_block-end.ensures c.blocks-2.invariant.all;
-  items = All-snoc (λ (b : Block). AreItems (line_texts c.args.snapshot.now) b.first b.end b.items) _ _ _ c.in_ok-push.ensures.items c.blocks-2.invariant.items c.in_ok-items.ensures.items;
-  some = All-snoc (λ (b : Block). 0 < length b.items) _ _ _ c.in_ok-push.ensures.items c.blocks-2.invariant.some c.in_ok-items.ensures.some;
+  items = All_snoc (λ (b : Block). AreItems (line_texts c.args.snapshot.now) b.first b.end b.items) _ _ _ c.in_ok-push.ensures.items c.blocks-2.invariant.items c.in_ok-items.ensures.items;
+  some = All_snoc (λ (b : Block). 0 < length b.items) _ _ _ c.in_ok-push.ensures.items c.blocks-2.invariant.some c.in_ok-items.ensures.some;
 }
 
 pub returns-clause-all : goal.returns-clause-all

@@ -2,7 +2,7 @@ use Rattle.std.proofs.Common.{◌≡◌, ℕ, refl, sym, subst, arith}
 use Rattle.abnf_token.specs.Marks.{AreMarks}
 use Rattle.abnf_syntax.specs.Blocks.{line_texts}
 use Rattle.abnf_syntax.specs.Items.{AreItems}
-use Rattle.abnf_syntax.specs.Gather.{AddsLine, HasLines, gathering_of}
+use Rattle.abnf_syntax.specs.own.Gather.{AddsLine, HasLines, gathering_of}
 use Rattle.abnf_syntax.proofs.GatherLaws.{line_more, items_are}
 use Rattle.abnf_syntax.proofs.ContentLaws.{some_items}
 use Rattle.abnf_syntax.proofs.block.items_of.Goals as goal

@@ -1,5 +1,5 @@
 use Rattle.abnf_syntax.specs.Blocks.{line_texts}
-use Rattle.abnf_syntax.specs.Gather.{gathering_of, HasLines}
+use Rattle.abnf_syntax.specs.own.Gather.{gathering_of, HasLines}
 use Rattle.abnf_syntax.proofs.block.items_of.Given as goal
 
 abbrev pub invariant-loop-at : goal.invariant-loop-at

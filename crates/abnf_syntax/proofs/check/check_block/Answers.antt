@@ -4,7 +4,7 @@ use Rattle.std.specs.Result.{result_err}
 use Rattle.abnf_syntax.specs.declared.item.Item.{Item}
 use Rattle.abnf_syntax.specs.Kinds.{opens}
 use Rattle.abnf_syntax.specs.Grammar.{kind_of}
-use Rattle.abnf_syntax.specs.Check.{Shows}
+use Rattle.abnf_syntax.specs.own.Check.{Shows}
 use Rattle.abnf_syntax.specs.Machine.{parse, early}
 use Rattle.abnf_syntax.proofs.CheckLaws.{check_sound, check_derived, check_shows, check_shown, check_bare}
 use Rattle.abnf_syntax.proofs.Early.{early_fault}

@@ -1,5 +1,5 @@
 use Rattle.std.proofs.Common.{◌∙◌, reverse}
-use Rattle.abnf_syntax.specs.Check.{fault_behind}
+use Rattle.abnf_syntax.specs.own.Check.{fault_behind}
 use Rattle.abnf_syntax.proofs.Early.{none_left}
 use Rattle.abnf_syntax.proofs.check.check_body.Goals as goal
 

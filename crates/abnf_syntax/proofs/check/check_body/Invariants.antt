@@ -1,6 +1,6 @@
 use Rattle.std.proofs.Common.{◌≡◌, [], Some, drop, reverse}
 use Rattle.abnf_syntax.specs.declared.fault.SyntaxFault.{SyntaxFault}
-use Rattle.abnf_syntax.specs.Check.{fault_behind, first_fault}
+use Rattle.abnf_syntax.specs.own.Check.{fault_behind, first_fault}
 use Rattle.abnf_syntax.proofs.check.check_body.Given as goal
 
 -- What is shown from here on is what is shown from the start. Where the start shows a fault, no step has been taken.

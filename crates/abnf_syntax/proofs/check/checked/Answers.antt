@@ -4,7 +4,7 @@ use Rattle.std.proofs.lemmas.List.Elements.{All-tail}
 use Rattle.abnf_syntax.specs.declared.item.Item.{Item}
 use Rattle.abnf_syntax.specs.Kinds.{opens}
 use Rattle.abnf_syntax.specs.Grammar.{kind_of}
-use Rattle.abnf_syntax.specs.Check.{Shows, first_fault}
+use Rattle.abnf_syntax.specs.own.Check.{Shows, first_fault}
 use Rattle.abnf_syntax.proofs.CheckLaws.{err_parse, start_fault, parse_bare}
 use Rattle.abnf_syntax.proofs.check.checked.Goals as goal
 

@@ -1,30 +1,30 @@
-use Rattle.std.proofs.Common.{◌≡◌, List, Some, sym, subst}
-use Rattle.abnf_syntax.specs.declared.item.Item.{Item}
-use Rattle.abnf_syntax.specs.Machine.{parse, early, GivesRule}
-use Rattle.abnf_syntax.proofs.Whole.{ok_of_gives, only_of_gives, fault_of_gives}
-use Rattle.abnf_syntax.proofs.Exact.{shown_of_gives, one_rule}
-use Rattle.abnf_syntax.proofs.Early.{early_fault}
+use Rattle.std.proofs.Common.{ap, inl, inr, Ok, Err}
+use Rattle.abnf_syntax.proofs.Exact.{one_rule}
 use Rattle.abnf_syntax.proofs.parse.parse_block.Goals as goal
 
--- what the private function says, of the block's own list
-gives : (c : goal.After-parsed) → GivesRule c.parsed.result (parse c.args.block.now.items)
-gives c = subst (λ (items : List Item). GivesRule c.parsed.result (parse items)) c.as_slice.ensures c.parsed.ensures.gives
+pub returns-in-Err-clause-derived : goal.returns-in-Err-clause-derived
+returns-in-Err-clause-derived c rule d = elim (c.in-Err.ensures.derived rule d) [ inl x ↦ absurd (cc x) | inr x ↦ inr (cc x) ]
 
-pub returns-clause-derives : goal.returns-clause-derives
-returns-clause-derives c = ok_of_gives c.args.block.now.items c.parsed.result (gives c)
+pub returns-in-Err-clause-one : goal.returns-in-Err-clause-one
+returns-in-Err-clause-one c = one_rule c.args.block.now.items
 
-pub returns-clause-derived : goal.returns-clause-derived
-returns-clause-derived c = only_of_gives c.args.block.now.items c.parsed.result (gives c)
+pub returns-in-Err-clause-shown : goal.returns-in-Err-clause-shown
+returns-in-Err-clause-shown c fault f = elim (c.in-Err.ensures.shown fault f) [ inl x ↦ inl (cc x) | inr x ↦ inr (cc x) ]
 
-pub returns-clause-one : goal.returns-clause-one
-returns-clause-one c = one_rule c.args.block.now.items
+pub returns-in-Err-clause-early : goal.returns-in-Err-clause-early
+returns-in-Err-clause-early c fault shows few = let x = c.in-Err.ensures.early fault shows few in cc x
 
-pub returns-clause-shows : goal.returns-clause-shows
-returns-clause-shows c = fault_of_gives c.args.block.now.items c.parsed.result c.requires (gives c)
+pub read_block-requires-clause-sound : goal.read_block-requires-clause-sound
+read_block-requires-clause-sound c fault f = elim (c.in-Ok.ensures.shown fault f) [ inl x ↦ absurd (cc x) | inr x ↦ absurd (cc x) ]
 
-pub returns-clause-shown : goal.returns-clause-shown
-returns-clause-shown c = shown_of_gives c.args.block.now.items c.parsed.result c.requires (gives c)
+pub returns-in_err-read_block-in-Ok-clause-early : goal.returns-in_err-read_block-in-Ok-clause-early
+returns-in_err-read_block-in-Ok-clause-early c fault shows few = let x = c.in-Ok.ensures.early fault shows few in absurd (cc x)
 
-pub returns-clause-early : goal.returns-clause-early
-returns-clause-early c fault shows few =
-    c.parsed.ensures.early fault (subst (λ (items : List Item). early items ≡ Some fault) (sym c.as_slice.ensures) (early_fault c.args.block.now.items fault shows few))
+pub returns-in_ok-read_block-in-Ok-clause-derived : goal.returns-in_ok-read_block-in-Ok-clause-derived
+returns-in_ok-read_block-in-Ok-clause-derived c rule d = inl (ap Ok (c.in_ok-read_block-in-Ok.ensures.one c.in_ok-read_block-in-Ok.field-0 rule c.in_ok-read_block-in-Ok.ensures.derives d))
+
+pub returns-in_ok-read_block-in-Ok-clause-shown : goal.returns-in_ok-read_block-in-Ok-clause-shown
+returns-in_ok-read_block-in-Ok-clause-shown c fault f = elim (c.in-Ok.ensures.shown fault f) [ inl x ↦ absurd (cc x) | inr x ↦ absurd (cc x) ]
+
+pub returns-in_ok-read_block-in-Ok-clause-early : goal.returns-in_ok-read_block-in-Ok-clause-early
+returns-in_ok-read_block-in-Ok-clause-early c fault shows few = let x = c.in-Ok.ensures.early fault shows few in absurd (cc x)

@@ -1,7 +1,7 @@
 use Rattle.std.proofs.Common.{◌≡◌, drop, Some, None}
 use Rattle.abnf_token.specs.declared.token.Kind.TheVariants as k
 use Rattle.abnf_token.specs.declared.machine.State.TheVariants.{Start, Name}
-use Rattle.abnf_token.specs.Machine.{munch}
+use Rattle.abnf_token.specs.own.Machine.{munch}
 use Rattle.abnf_token.proofs.scan.longest_name.Given as goal
 
 abbrev pub invariant-loop-i : goal.invariant-loop-i

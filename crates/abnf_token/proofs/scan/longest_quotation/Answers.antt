@@ -2,7 +2,7 @@ use Rattle.std.proofs.Common.{◌+◌, drop, Some, None, ap, sym, ◌∙◌}
 use Rattle.std.proofs.lemmas.Bool.{ne_eqb}
 use Rattle.abnf_token.specs.declared.token.Kind.TheVariants as k
 use Rattle.abnf_token.specs.declared.machine.State.TheVariants.{Quote, Done}
-use Rattle.abnf_token.specs.Machine.{step}
+use Rattle.abnf_token.specs.own.Machine.{step}
 use Rattle.abnf_token.proofs.Runs.{stepped, stopped, done, ends_quotation}
 use Rattle.abnf_token.proofs.scan.longest_quotation.Goals as goal
 

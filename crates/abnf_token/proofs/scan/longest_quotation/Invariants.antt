@@ -1,6 +1,6 @@
 use Rattle.std.proofs.Common.{◌≡◌, drop, None}
 use Rattle.abnf_token.specs.declared.machine.State.TheVariants.{Start, Quote}
-use Rattle.abnf_token.specs.Machine.{munch}
+use Rattle.abnf_token.specs.own.Machine.{munch}
 use Rattle.abnf_token.proofs.scan.longest_quotation.Given as goal
 
 abbrev pub invariant-loop-i : goal.invariant-loop-i

@@ -1,7 +1,7 @@
 use Rattle.std.proofs.Common.{drop}
 use Rattle.std.specs.Prelude.{string_bytes}
 use Rattle.std.specs.Str.{chars}
-use Rattle.joined_grammars.specs.Passes.{HasJoined, state}
+use Rattle.joined_grammars.specs.own.Passes.{HasJoined, state}
 use Rattle.joined_grammars.proofs.join.joined.Given as goal
 
 abbrev pub invariant-loop-other : goal.invariant-loop-other

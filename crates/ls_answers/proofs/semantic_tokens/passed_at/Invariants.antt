@@ -1,6 +1,6 @@
 use Rattle.std.proofs.Common.{◌≡◌, ◌-◌, ◌≤◌, drop, length, map}
 use Rattle.abnf_names.specs.Places.{named_at}
-use Rattle.ls_answers.specs.Walk.{from_point}
+use Rattle.ls_answers.specs.own.Walk.{from_point}
 use Rattle.ls_answers.proofs.semantic_tokens.passed_at.Given as goal
 
 -- what begins before the point is passed

@@ -1,6 +1,6 @@
 use Rattle.std.proofs.Common.{◌≡◌, ◌≤◌, ◌++◌, drop, length, map}
 use Rattle.abnf_names.specs.Places.{named_at}
-use Rattle.ls_answers.specs.Walk.{left_behind, told_in_line}
+use Rattle.ls_answers.specs.own.Walk.{left_behind, told_in_line}
 use Rattle.ls_answers.proofs.semantic_tokens.push_line.Given as goal
 
 -- what is left gives what is left to tell

@@ -6,7 +6,7 @@ use Rattle.abnf_syntax.proofs.BlockLaws.{count_lines}
 use Rattle.abnf_names.specs.Places.{named_at}
 use Rattle.ls_text.specs.Lines.{line_ends}
 use Rattle.ls_text.specs.Positions.{Measured}
-use Rattle.ls_answers.specs.Walk.{told_in_line}
+use Rattle.ls_answers.specs.own.Walk.{told_in_line}
 use Rattle.ls_answers.proofs.WalkLaws.{all_walked, line_walked}
 use Rattle.ls_answers.proofs.semantic_tokens.told.Goals as goal
 

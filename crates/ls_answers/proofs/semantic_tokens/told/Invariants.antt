@@ -1,6 +1,6 @@
 use Rattle.std.proofs.Common.{◌≡◌, ◌≤◌, drop, length, map}
 use Rattle.abnf_names.specs.Places.{named_at}
-use Rattle.ls_answers.specs.Walk.{HasWalked}
+use Rattle.ls_answers.specs.own.Walk.{HasWalked}
 use Rattle.ls_answers.proofs.semantic_tokens.told.Given as goal
 
 abbrev pub invariant-loop-line : goal.invariant-loop-line

@@ -7,17 +7,17 @@ use Rattle.ls_desk.specs.Stands.{failed, finished, out_of}
 use Rattle.ls_desk.proofs.outs.put_finished.Goals as goal
 use Rattle.ls_desk.proofs.outs.put_finished.Goals.{in-Some, in-None}
 
-as-failed : (w : Waiting) (done : Told) (b : Bool) → b ≡ is_none done.answer → b ≡ true → length (finished w done) ≡ length (failed internal_error w)
-as-failed w done b is holds = ap (λ (x : Bool). length (cond x (failed internal_error w) (out_of w w.request done ∷ []))) (sym is ∙ holds)
+as_failed : (w : Waiting) (done : Told) (b : Bool) → b ≡ is_none done.answer → b ≡ true → length (finished w done) ≡ length (failed internal_error w)
+as_failed w done b is holds = ap (λ (x : Bool). length (cond x (failed internal_error w) (out_of w w.request done ∷ []))) (sym is ∙ holds)
 
-as-replied : (w : Waiting) (done : Told) (b : Bool) → b ≡ is_none done.answer → b ≡ false → length (finished w done) ≡ 1
-as-replied w done b is fails = ap (λ (x : Bool). length (cond x (failed internal_error w) (out_of w w.request done ∷ []))) (sym is ∙ fails)
+as_replied : (w : Waiting) (done : Told) (b : Bool) → b ≡ is_none done.answer → b ≡ false → length (finished w done) ≡ 1
+as_replied w done b is fails = ap (λ (x : Bool). length (cond x (failed internal_error w) (out_of w w.request done ∷ []))) (sym is ∙ fails)
 
 pub put_failure-requires : goal.put_failure-requires
-put_failure-requires c = let one = as-failed c.args.job c.args.done c.args.failed c.requires.failed c.if-failed.true in let r = c.requires.room in omega arith
+put_failure-requires c = let one = as_failed c.args.job c.args.done c.args.failed c.requires.failed c.if-failed.true in let r = c.requires.room in omega arith
 
 pub push_back_reserved-requires : goal.push_back_reserved-requires
-push_back_reserved-requires c = let one = as-replied c.args.job c.args.done c.args.failed c.requires.failed c.if-failed.false in let r = c.requires.room in omega arith
+push_back_reserved-requires c = let one = as_replied c.args.job c.args.done c.args.failed c.requires.failed c.if-failed.false in let r = c.requires.room in omega arith
 
 pub returns : goal.returns
 returns c =

@@ -9,17 +9,17 @@ use Rattle.ls_desk.proofs.present.close_document.Goals as goal
 pub returns-clause-items : goal.returns-clause-items
 returns-clause-items c = filter_same _ _ _ (λ x b f' k. search rules) _ _ c.retain.ensures.filtered
 
-shorter-by : (b : Bool) (d : Document) (ds xs : List Document) (o : Option Document) → is_some (cond b (Some d) o) ≡ true → length xs ≤ length ds → (is_some o ≡ true → length xs < length ds)
+shorter_by : (b : Bool) (d : Document) (ds xs : List Document) (o : Option Document) → is_some (cond b (Some d) o) ≡ true → length xs ≤ length ds → (is_some o ≡ true → length xs < length ds)
     → length (cond (not b) (d ∷ xs) xs) < length (d ∷ ds)
-shorter-by true d ds xs o h few f = omega arith
-shorter-by false d ds xs o h few f = let less = f h in omega arith
+shorter_by true d ds xs o h few f = omega arith
+shorter_by false d ds xs o h few f = let less = f h in omega arith
 
 shorter : (uri : List ℕ) (ds : List Document) → is_open uri ds ≡ true → length (others uri ds) < length ds
 shorter uri [] h = absurd (cc)
 shorter uri (d ∷ ds) h =
     let few = length-filter (λ x. not (is_named uri x)) ds in
     let most = count_by-le-length (λ x. not (is_named uri x)) ds in
-    shorter-by (is_named uri d) d ds (others uri ds) (find (is_named uri) ds) h (omega arith) (shorter uri ds)
+    shorter_by (is_named uri d) d ds (others uri ds) (find (is_named uri) ds) h (omega arith) (shorter uri ds)
 
 pub returns-clause-place : goal.returns-clause-place
 returns-clause-place c = λ h.

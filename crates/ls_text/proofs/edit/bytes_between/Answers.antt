@@ -1,5 +1,5 @@
 use Rattle.std.proofs.Common.{◌≡◌, ◌+◌, ◌-◌, ◌∙◌, ap, arith, length, take, drop}
-use Rattle.ls_text.specs.Chunks.{byte_length}
+use Rattle.ls_text.specs.own.Chunks.{byte_length}
 use Rattle.ls_text.specs.Cut.{end_text}
 use Rattle.ls_text.proofs.SizeLaws.{between_bytes, between_le}
 use Rattle.ls_text.proofs.edit.bytes_between.Goals as goal

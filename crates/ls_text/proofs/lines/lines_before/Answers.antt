@@ -1,7 +1,7 @@
 use Rattle.std.proofs.Common.{◌≡◌, ◌+◌, ap, ◌∙◌, ◌++◌, take, length, List}
 use Rattle.std.specs.List.{flat_map}
 use Rattle.std.proofs.lemmas.Result.{IfOk-weaker}
-use Rattle.ls_text.specs.Chunks.{lines_behind}
+use Rattle.ls_text.specs.own.Chunks.{lines_behind}
 use Rattle.ls_text.specs.Cut.{Row}
 use Rattle.ls_text.specs.declared.chunk.Chunk.{Chunk}
 use Rattle.ls_text.proofs.ChunkLaws.{before_is, from_none}

@@ -1,6 +1,6 @@
 use Rattle.std.proofs.Common.{◌-◌, ap, ◌∙◌, ◌++◌, arith}
 use Rattle.std.proofs.lemmas.List.{take_all}
-use Rattle.ls_text.specs.Chunks.{lines_behind}
+use Rattle.ls_text.specs.own.Chunks.{lines_behind}
 use Rattle.ls_text.specs.declared.chunk.Chunk.{Chunk}
 use Rattle.ls_text.proofs.ChunkLaws.{pieces_more}
 use Rattle.ls_text.proofs.lines.with_whole.Goals as goal

@@ -1,6 +1,6 @@
 use Rattle.std.proofs.Common.{◌≡◌, ◌++◌, take}
 use Rattle.std.specs.List.{flat_map}
-use Rattle.ls_text.specs.Chunks.{lines_behind}
+use Rattle.ls_text.specs.own.Chunks.{lines_behind}
 use Rattle.ls_text.proofs.lines.with_whole.Given as goal
 
 abbrev pub invariant-loop-chunk : goal.invariant-loop-chunk

@@ -3,7 +3,7 @@ use Rattle.std.specs.Str.{chars}
 use Rattle.std.specs.String.{string_bytes}
 use Rattle.std.proofs.lemmas.Str.{IsUtf8-string_bytes}
 use Rattle.ls_text.specs.Cut.{row}
-use Rattle.ls_text.specs.Parts.{AreHeld, held_row}
+use Rattle.ls_text.specs.own.Parts.{AreHeld, held_row}
 use Rattle.ls_text.specs.declared.part.Held.{Held}
 use Rattle.ls_text.proofs.PartLaws.{with_last, rows_last}
 use Rattle.ls_text.proofs.part.with_line.Goals as goal

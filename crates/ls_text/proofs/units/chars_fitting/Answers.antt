@@ -4,7 +4,7 @@ use Rattle.std.proofs.lemmas.List.{length_push}
 use Rattle.std.proofs.lemmas.Iterator.Consumers.{YieldsList-turn, YieldsList-end}
 use Rattle.std.specs.Str.{chars}
 use Rattle.ls_text.specs.Lines.{units}
-use Rattle.ls_text.proofs.UnitLaws.{moved, turn_stops, turn_goes, fitting-none, bytes_more, bytes_fit}
+use Rattle.ls_text.proofs.UnitLaws.{moved, turn_stops, turn_goes, fitting_none, bytes_more, bytes_fit}
 use Rattle.ls_text.proofs.units.chars_fitting.Goals as goal
 
 pub returns-then-width-left-clause-count : goal.returns-then-width-left-clause-count
@@ -32,5 +32,5 @@ loop-c-preserved c =
 pub returns-clause-count : goal.returns-clause-count
 returns-clause-count c =
     let t = YieldsList-end (YieldsList-from_chars c.args.text.now c.utf8.text cc) c.loop-c.yielded _ c.loop-c.yielded_by _ _ c.in-None.is c.next.ensures.steps in
-    let e = fitting-none (units c.args.encoding) c.loop-c.left (chars c.args.text.now) c.loop-c.count (omega (arith, t.1, c.loop-c.invariant.yielded)) in
+    let e = fitting_none (units c.args.encoding) c.loop-c.left (chars c.args.text.now) c.loop-c.count (omega (arith, t.1, c.loop-c.invariant.yielded)) in
     omega (arith, e, c.loop-c.invariant.so_far)

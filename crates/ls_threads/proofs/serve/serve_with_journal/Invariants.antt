@@ -1,7 +1,7 @@
 use Rattle.ls_threads.proofs.serve.serve_with_journal.Given as goal
 
-abbrev pub ghosts-serve-C-Ledgers : goal.ghosts-serve-C-Ledgers
-ghosts-serve-C-Ledgers g a = record { client = a.blanks.client.name; took = a.blanks.took.name; returned = a.blanks.returned.name; finished = a.blanks.finished.name; sent = a.blanks.sent.name; parts = a.workers }
+abbrev pub ghosts-run_session-C-Ledgers : goal.ghosts-run_session-C-Ledgers
+ghosts-run_session-C-Ledgers g a = record { client = a.blanks.client.name; took = a.blanks.took.name; returned = a.blanks.returned.name; finished = a.blanks.finished.name; sent = a.blanks.sent.name; parts = a.workers }
 
-abbrev pub ghosts-serve-C-Crew : goal.ghosts-serve-C-Crew
-ghosts-serve-C-Crew g a = record { workers = a.workers; max_journal = a.max_journal; max_events = 18446744073709551614 }
+abbrev pub ghosts-run_session-C-Crew : goal.ghosts-run_session-C-Crew
+ghosts-run_session-C-Crew g a = record { workers = a.workers; max_journal = a.max_journal; max_events = 18446744073709551614 }

@@ -1,6 +1,6 @@
 use Rattle.ls_machine.specs.Client.{sent_ticket}
-use Rattle.ls_workers.proofs.Beside.{rest-done}
+use Rattle.ls_workers.proofs.Beside.{rest_done}
 use Rattle.ls_workers.proofs.agree.same_tickets.Goals as goal
 
 pub returns : goal.returns
-returns c = rest-done sent_ticket _ _ _ _ c.loop-at-test.false c.loop-at.invariant.within c.loop-at.invariant.rest
+returns c = rest_done sent_ticket _ _ _ _ c.loop-at-test.false c.loop-at.invariant.within c.loop-at.invariant.rest

@@ -1,7 +1,7 @@
 use Rattle.std.proofs.Common.{◌≡◌, ◌+◌, ◌++◌, length}
 use Rattle.origins.specs.Origins.{grammar_of}
 use Rattle.markdown_blocks.specs.Fences.{fenced_blocks, placed_lines_from, markdown_blocks}
-use Rattle.markdown_blocks.specs.Reading.{reading_fence}
+use Rattle.markdown_blocks.specs.own.Reading.{reading_fence}
 use Rattle.markdown_blocks.proofs.gather.gather.Given as goal
 
 abbrev pub invariant-lines : goal.invariant-lines

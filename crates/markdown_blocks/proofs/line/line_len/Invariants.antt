@@ -1,5 +1,5 @@
 use Rattle.std.proofs.Common.{◌≡◌, ◌+◌, drop}
-use Rattle.markdown_blocks.specs.Reading.{line_len}
+use Rattle.markdown_blocks.specs.own.Reading.{line_len}
 use Rattle.markdown_blocks.proofs.line.line_len.Given as goal
 
 abbrev pub invariant-loop-at : goal.invariant-loop-at

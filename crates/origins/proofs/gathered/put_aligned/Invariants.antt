@@ -1,7 +1,7 @@
 use Rattle.std.proofs.Common.{◌≡◌, ℕ, ◌≤◌, ◌++◌, length, drop}
 use Rattle.std.specs.Str.{chars}
 use Rattle.origins.specs.Origins.{left_aligned}
-use Rattle.origins.specs.Runs.{origin_at, placed, run_at, first_run}
+use Rattle.origins.specs.own.Runs.{origin_at, placed, run_at, first_run}
 use Rattle.origins.proofs.gathered.put_aligned.Given as goal
 
 abbrev pub invariant-loop-offset : goal.invariant-loop-offset

@@ -1,5 +1,5 @@
 use Rattle.std.proofs.Common.{◌≡◌, ℕ, ◌≤◌, length}
-use Rattle.origins.specs.Runs.{run_at}
+use Rattle.origins.specs.own.Runs.{run_at}
 use Rattle.origins.proofs.runs.forward.Given as goal
 
 abbrev pub invariant-runs : goal.invariant-runs

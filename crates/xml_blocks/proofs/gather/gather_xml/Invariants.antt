@@ -2,7 +2,7 @@ use Rattle.std.proofs.Common.{◌≡◌, ◌+◌, [], length}
 use denote.Text.{Utf8}
 use denote.Shadow.{shadow}
 use Rattle.std.specs.Str.{chars}
-use Rattle.xml_blocks.specs.Reading.{reading_element}
+use Rattle.xml_blocks.specs.own.Reading.{reading_element}
 use Rattle.xml_blocks.specs.Xml as spec
 use Rattle.xml_blocks.proofs.gather.gather_xml.Given as goal
 

@@ -1,7 +1,7 @@
 use Rattle.std.proofs.Common.{ap, sym, ◌∙◌, ◌++◌, length}
 use Rattle.std.specs.Char.{encode_utf8}
 use Rattle.std.proofs.lemmas.Str.{chars_past_char}
-use Rattle.xml_blocks.proofs.XmlLaws.{chars-none}
+use Rattle.xml_blocks.proofs.XmlLaws.{chars_none}
 use Rattle.xml_blocks.proofs.text.first.Goals as goal
 
 pub returns-in-Some : goal.returns-in-Some
@@ -10,4 +10,4 @@ returns-in-Some c =
     (sym c.chars-characters.ensures.rest ∙ c.in-Some.ensures.steps.0 ∙ ap (λ r. encode_utf8 c.in-Some.c ++ r) (sym c.as_str.ensures))
 
 pub returns-in-None : goal.returns-in-None
-returns-in-None c = chars-none c.args.text.now (ap length (sym c.chars-characters.ensures.rest) ∙ c.in-None.ensures.steps.0.0)
+returns-in-None c = chars_none c.args.text.now (ap length (sym c.chars-characters.ensures.rest) ∙ c.in-None.ensures.steps.0.0)

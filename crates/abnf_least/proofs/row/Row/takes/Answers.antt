@@ -1,7 +1,7 @@
 use Rattle.std.proofs.Common.{◌≡◌, List, subst, sym, ap, ◌∙◌, get_or, length, ◌-◌}
 use Rattle.std.proofs.lemmas.Bool.{not-true, not_from_false}
 use Rattle.abnf_least.specs.declared.candidate.Candidate.{Candidate}
-use Rattle.abnf_least.specs.Queue.{ComesLast}
+use Rattle.abnf_least.specs.own.Queue.{ComesLast}
 use Rattle.abnf_least.proofs.Rows.{row_ends, row_last}
 use Rattle.abnf_least.proofs.row.Row.takes.Goals as goal
 

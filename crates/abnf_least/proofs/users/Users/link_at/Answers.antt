@@ -1,6 +1,6 @@
 use Rattle.std.proofs.Common.{◌≡◌, ◌-◌, ◌^◌, arith, ap}
 use Rattle.std.proofs.lemmas.List.{get_or_read}
-use Rattle.abnf_least.specs.Users.{link_at}
+use Rattle.abnf_least.specs.own.Users.{link_at}
 use Rattle.abnf_least.proofs.Chains.{leads_on}
 use Rattle.abnf_least.proofs.users.Users.link_at.Goals as goal
 

@@ -1,6 +1,6 @@
 use Rattle.std.proofs.Common.{arith}
 use Rattle.abnf_parts.specs.Part.{root_number}
-use Rattle.abnf_least.specs.Form.{node_form}
+use Rattle.abnf_least.specs.own.Form.{node_form}
 use Rattle.abnf_least.proofs.At.{has_form}
 use Rattle.abnf_least.proofs.Listed.{listed_more, listed_all}
 use Rattle.abnf_least.proofs.users.Users.of_grammar.Goals as goal

@@ -1,6 +1,6 @@
 use Rattle.std.proofs.Common.{rules}
 use Rattle.abnf_parts.specs.Names.{folded_text}
-use Rattle.abnf_names.specs.Inside.{grammar_inside}
+use Rattle.abnf_names.specs.own.Inside.{grammar_inside}
 use Rattle.abnf_names.proofs.DefinedPlaces.{own_is_defined}
 use Rattle.abnf_names.proofs.grammar.Grammar.own_rule_of.Goals as goal
 

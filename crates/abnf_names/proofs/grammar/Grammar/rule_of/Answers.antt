@@ -1,7 +1,7 @@
 use Rattle.std.proofs.Common.{◌<◌, sym, subst, length}
 use Rattle.std.specs.Prelude.{IfSome}
 use Rattle.abnf_parts.specs.Names.{folded_text}
-use Rattle.abnf_names.specs.Inside.{grammar_inside}
+use Rattle.abnf_names.specs.own.Inside.{grammar_inside}
 use Rattle.abnf_names.specs.Rules.{Grammar}
 use Rattle.abnf_names.proofs.Within.{rule_within}
 use Rattle.abnf_names.proofs.grammar.Grammar.rule_of.Goals as goal

@@ -5,7 +5,7 @@ use Rattle.std.specs.Option.{is_some}
 use Rattle.std.specs.Str.{bytes_eq}
 use Rattle.std.proofs.lemmas.Bool.{not-true, not-false}
 use Rattle.abnf_parts.specs.Names.{with_name, folded_text, rule_number}
-use Rattle.abnf_parts.proofs.NameLaws.{list_any-map, map_if, no_place, old_place, position-map, position_any}
+use Rattle.abnf_parts.proofs.NameLaws.{list_any_map, map_if, no_place, old_place, position_map, position_any}
 use Rattle.abnf_parts.proofs.names.Names.add.Goals.{then-is_new, else-is_new}
 use Rattle.abnf_parts.proofs.names.Names.add.Goals as goal
 
@@ -15,7 +15,7 @@ returns-clause-names c =
     let keys = c.self.inside.names.keys in
     ap (map folded_text) c.in_ok-place.ensures.keys
     ∙ (map_if folded_text (list_any (λ k. bytes_eq name (folded_text k)) keys) keys c.args.name
-    ∙ (ap (λ b. if b then map folded_text keys else map folded_text keys ++ name ∷ []) (sym (list_any-map folded_text (bytes_eq name) keys))
+    ∙ (ap (λ b. if b then map folded_text keys else map folded_text keys ++ name ∷ []) (sym (list_any_map folded_text (bytes_eq name) keys))
     ∙ ap (λ names. with_name names name) c.self.view_is))
 
 pub returns-clause-place : goal.returns-clause-place
@@ -23,8 +23,8 @@ returns-clause-place c =
     let name = folded_text c.args.name in
     let keys = c.self.inside.names.keys in
     let is_there = list_any (λ k. bytes_eq name (folded_text k)) keys in
-    let seen = list_any-map folded_text (bytes_eq name) keys in
-    let here = position-map folded_text (bytes_eq name) keys in
+    let seen = list_any_map folded_text (bytes_eq name) keys in
+    let here = position_map folded_text (bytes_eq name) keys in
     elim c.if-is_new.branch [
       | then-is_new w ↦ w.result-is ∙ (no_place name (map folded_text keys) (seen ∙ not-true is_there (sym c.in_ok-place.ensures.added ∙ w.if-is_new.true)) ∙ ap (λ names. rule_number names name) c.self.view_is)
       | else-is_new w ↦

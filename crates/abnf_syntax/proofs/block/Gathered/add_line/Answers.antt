@@ -1,6 +1,6 @@
 use Rattle.std.proofs.Common.{subst, sym}
 use Rattle.std.proofs.lemmas.List.{get_or_default}
-use Rattle.abnf_syntax.specs.Gather.{gathering_of}
+use Rattle.abnf_syntax.specs.own.Gather.{gathering_of}
 use Rattle.abnf_syntax.proofs.GatherLaws.{HasMarked, none_marked, token_more, line_done}
 use Rattle.abnf_syntax.proofs.block.Gathered.add_line.Goals as goal
 

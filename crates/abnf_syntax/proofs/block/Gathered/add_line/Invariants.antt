@@ -1,4 +1,4 @@
-use Rattle.abnf_syntax.specs.Gather.{gathering_of}
+use Rattle.abnf_syntax.specs.own.Gather.{gathering_of}
 use Rattle.abnf_syntax.proofs.GatherLaws.{HasMarked}
 use Rattle.abnf_syntax.proofs.block.Gathered.add_line.Given as goal
 

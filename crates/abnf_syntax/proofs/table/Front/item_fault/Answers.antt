@@ -1,5 +1,5 @@
 use Rattle.std.proofs.Common.{rules}
-use Rattle.abnf_syntax.specs.Check.{fault_behind}
+use Rattle.abnf_syntax.specs.own.Check.{fault_behind}
 use Rattle.abnf_syntax.proofs.table.Front.item_fault.Goals as goal
 
 pub returns : goal.returns

@@ -9,9 +9,9 @@ use Rattle.ls_machine.specs.declared.event.Event.TheVariants.{Cancelled}
 use Rattle.ls_machine.specs.declared.event.Out.{Out}
 use Rattle.ls_machine.specs.declared.state.Request.{Request}
 use Rattle.ls_machine.specs.declared.state.Waiting.{Waiting}
-use Rattle.ls_machine.specs.Machine.{asks_with, told_at, told_end, told_to, request_cancelled}
+use Rattle.ls_machine.specs.Machine.{asks_with, told_if_found, told_end, told_to, request_cancelled}
 use Rattle.ls_desk.specs.Stands.{Seen, Enters, state_of, failed, fresh, fresh_for, used}
-use Rattle.ls_desk.proofs.Grows.{Goes, enters, goes, holds, kept-room, seen, outs-length, failed-outs}
+use Rattle.ls_desk.proofs.Grows.{Goes, enters, goes, holds, kept_room, seen, outs_length, failed_outs}
 use Rattle.ls_desk.proofs.Events.{cancelled, uncancelled}
 use Rattle.ls_desk.proofs.desk.Desk.cancel.Goals as goal
 use Rattle.ls_desk.proofs.desk.Desk.cancel.Goals.{After-enter, After-enter-in-None}
@@ -19,12 +19,12 @@ use Rattle.ls_desk.proofs.desk.Desk.cancel.Goals.{After-enter, After-enter-in-No
 pub invariant_of-self : goal.invariant_of-self
 invariant_of-self c =
     let e = c.room_for_replies.ensures in
-    kept-room _ _ _ _ _ _ _ _ _ _ _ _ c.self.invariant refl refl refl refl e.outbox e.journal e.more
+    kept_room _ _ _ _ _ _ _ _ _ _ _ _ c.self.invariant refl refl refl refl e.outbox e.journal e.more
 
 pub invariant_of-self-in_err-room_for_event-in-None : goal.invariant_of-self-in_err-room_for_event-in-None
 invariant_of-self-in_err-room_for_event-in-None c =
     let e = c.room_for_event.ensures in
-    kept-room _ _ _ _ _ _ _ _ _ _ _ _ c.self.invariant refl refl refl refl refl e.journal e.more
+    kept_room _ _ _ _ _ _ _ _ _ _ _ _ c.self.invariant refl refl refl refl refl e.journal e.more
 
 -- ---- a request waits
 
@@ -53,16 +53,16 @@ found_now c = let P : Seen → Type 0 = λ d. find (asks_with c.args.id.now) (st
 grown_by : (c : After-enter) → c.put_failure.new.outbox.items ≡ c.self.inside.outbox.items ++ failed request_cancelled c.remove_at-job.result
 grown_by c = c.put_failure.ensures ∙ ap (λ (os : List Out). os ++ failed request_cancelled c.remove_at-job.result) c.room_for_replies.ensures.outbox
 
-longer : (c : After-enter) → length c.put_failure.new.outbox.items ≡ length c.self.inside.outbox.items + length (told_at request_cancelled (Some c.remove_at-job.result))
+longer : (c : After-enter) → length c.put_failure.new.outbox.items ≡ length c.self.inside.outbox.items + length (told_if_found request_cancelled (Some c.remove_at-job.result))
 longer c =
     let w = c.remove_at-job.result in
     ap length (grown_by c) ∙ (length-append c.self.inside.outbox.items (failed request_cancelled w)
-    ∙ ap (λ n. length c.self.inside.outbox.items + n) (outs-length (told_end request_cancelled w) (failed request_cancelled w) (failed-outs w.ticket request_cancelled w.request)))
+    ∙ ap (λ n. length c.self.inside.outbox.items + n) (outs_length (told_end request_cancelled w) (failed request_cancelled w) (failed_outs w.ticket request_cancelled w.request)))
 
 fits : (c : After-enter) → total c.self.inside.history.counts + 1 + length c.put_failure.new.outbox.items ≤ c.self.inside.max_events
 fits c =
-    let Q : Option Waiting → Type 0 = λ w. used c.args.self.now + (1 + length (told_at request_cancelled w)) ≤ c.args.self.now.max_events in
-    let P : Seen → Type 0 = λ d. used d + (1 + length (told_at request_cancelled (Some c.remove_at-job.result))) ≤ d.max_events in
+    let Q : Option Waiting → Type 0 = λ w. used c.args.self.now + (1 + length (told_if_found request_cancelled w)) ≤ c.args.self.now.max_events in
+    let P : Seen → Type 0 = λ d. used d + (1 + length (told_if_found request_cancelled (Some c.remove_at-job.result))) ≤ d.max_events in
     let r = subst P (sym c.self.view_is) (subst Q (found_now c) c.in_ok-at.ensures.room) in
     let k = ap total c.self.invariant.counts_are in
     let l = longer c in omega arith
@@ -116,7 +116,7 @@ none c = let P : Seen → Type 0 = λ d. find (asks_with c.args.id.now) (state_o
 
 none_fits : (c : After-enter-in-None) → total c.self.inside.history.counts + 1 + length c.self.inside.outbox.items ≤ c.self.inside.max_events
 none_fits c =
-    let Q : Option Waiting → Type 0 = λ w. used c.args.self.now + (1 + length (told_at request_cancelled w)) ≤ c.args.self.now.max_events in
+    let Q : Option Waiting → Type 0 = λ w. used c.args.self.now + (1 + length (told_if_found request_cancelled w)) ≤ c.args.self.now.max_events in
     let P : Seen → Type 0 = λ d. used d + 1 ≤ d.max_events in
     let q : used c.args.self.now + (1 + 0) ≤ c.args.self.now.max_events = subst Q (none_now c) c.in_ok-at.ensures.room in
     let k = ap total c.self.invariant.counts_are in

@@ -9,12 +9,12 @@ use Rattle.ls_machine.specs.Counts.{total}
 use Rattle.ls_machine.specs.Journal.{replay_from}
 use Rattle.ls_desk.specs.Anew.{journal_after}
 use Rattle.ls_desk.specs.Stands.{Seen, Enters, state_of, fresh, fresh_for, used}
-use Rattle.ls_desk.proofs.Grows.{Goes, enters, goes, holds, kept-room, seen}
+use Rattle.ls_desk.proofs.Grows.{Goes, enters, goes, holds, kept_room, seen}
 use Rattle.std.proofs.lemmas.Int.{to_z-of_z}
 use Rattle.ls_text.specs.declared.edit.Edit.{Edit}
 use Rattle.ls_machine.specs.Machine.{is_open, document_of, edited_at, version_if, going_on}
 use Rattle.ls_desk.specs.Stands.{failures}
-use Rattle.ls_desk.specs.Puts.{next_of, jobs_of}
+use Rattle.ls_desk.specs.own.Puts.{next_of, jobs_of}
 use Rattle.ls_desk.proofs.Events.{changed}
 use Rattle.ls_desk.proofs.desk.Desk.did_change.Goals as goal
 use Rattle.ls_desk.proofs.desk.Desk.did_change.Goals.{After-enter}
@@ -22,7 +22,7 @@ use Rattle.ls_desk.proofs.desk.Desk.did_change.Goals.{After-enter}
 pub invariant_of-self : goal.invariant_of-self
 invariant_of-self c =
     let e = c.put_change.ensures in
-    kept-room _ _ _ _ _ _ _ _ _ _ _ _ c.self.invariant refl e.waiting refl refl c.in_err-put_change.ensures.same e.journal e.more
+    kept_room _ _ _ _ _ _ _ _ _ _ _ _ c.self.invariant refl e.waiting refl refl c.in_err-put_change.ensures.same e.journal e.more
 
 abbrev now : After-enter → State
 now c = replay_from c.self.inside.history.base.state c.self.inside.history.events.items

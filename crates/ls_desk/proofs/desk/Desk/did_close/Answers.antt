@@ -9,7 +9,7 @@ use Rattle.ls_machine.specs.Machine.{is_open}
 use Rattle.ls_machine.specs.Journal.{replay_from}
 use Rattle.ls_desk.specs.Anew.{journal_after}
 use Rattle.ls_desk.specs.Stands.{Seen, Enters, state_of, failures, fresh, fresh_for, used}
-use Rattle.ls_desk.proofs.Grows.{Goes, enters, goes, holds, kept-room, seen}
+use Rattle.ls_desk.proofs.Grows.{Goes, enters, goes, holds, kept_room, seen}
 use Rattle.ls_desk.proofs.Events.{closed}
 use Rattle.ls_desk.proofs.desk.Desk.did_close.Goals as goal
 use Rattle.ls_desk.proofs.desk.Desk.did_close.Goals.{After-enter}
@@ -17,7 +17,7 @@ use Rattle.ls_desk.proofs.desk.Desk.did_close.Goals.{After-enter}
 pub invariant_of-self : goal.invariant_of-self
 invariant_of-self c =
     let e = c.put_replies.ensures in
-    kept-room _ _ _ _ _ _ _ _ _ _ _ _ c.self.invariant refl refl refl refl c.in_err-put_replies.ensures.same e.journal e.more
+    kept_room _ _ _ _ _ _ _ _ _ _ _ _ c.self.invariant refl refl refl refl c.in_err-put_replies.ensures.same e.journal e.more
 
 abbrev now : After-enter → State
 now c = replay_from c.self.inside.history.base.state c.self.inside.history.events.items

@@ -10,15 +10,15 @@ use Rattle.ls_machine.specs.Machine.{is_held, left_at}
 use Rattle.ls_desk.specs.Stands.{Seen, Enters, state_of, finished, used}
 use Rattle.ls_machine.specs.Same.{is_for}
 use Rattle.ls_desk.specs.Faults.{kept_at, kept_for}
-use Rattle.ls_desk.proofs.Grows.{Goes, enters, goes, holds, kept-room, seen}
-use Rattle.ls_desk.proofs.Events.{finish, finished-length}
+use Rattle.ls_desk.proofs.Grows.{Goes, enters, goes, holds, kept_room, seen}
+use Rattle.ls_desk.proofs.Events.{finish, finished_length_holds}
 use Rattle.ls_desk.proofs.desk.Desk.finish.Goals as goal
 use Rattle.ls_desk.proofs.desk.Desk.finish.Goals.{After-enter}
 
 pub invariant_of-self : goal.invariant_of-self
 invariant_of-self c =
     let e = c.room_for_replies.ensures in
-    kept-room _ _ _ _ _ _ _ _ _ _ _ _ c.self.invariant refl refl refl refl e.outbox e.journal e.more
+    kept_room _ _ _ _ _ _ _ _ _ _ _ _ c.self.invariant refl refl refl refl e.outbox e.journal e.more
 
 abbrev now : After-enter → State
 now c = replay_from c.self.inside.history.base.state c.self.inside.history.events.items
@@ -46,7 +46,7 @@ grown_by c = c.put_finished.ensures ∙ ap (λ (os : List Out). os ++ finished c
 longer : (c : After-enter) → length c.put_finished.new.outbox.items ≡ length c.self.inside.outbox.items + length (left_at (is_none c.args.done.answer) (Some c.remove_at-job.result))
 longer c =
     ap length (grown_by c) ∙ (length-append c.self.inside.outbox.items (finished c.remove_at-job.result c.args.done)
-    ∙ ap (λ n. length c.self.inside.outbox.items + n) (finished-length c.remove_at-job.result c.args.done))
+    ∙ ap (λ n. length c.self.inside.outbox.items + n) (finished_length_holds c.remove_at-job.result c.args.done))
 
 fits : (c : After-enter) → total c.self.inside.history.counts + 1 + length c.put_finished.new.outbox.items ≤ c.self.inside.max_events
 fits c =
@@ -101,6 +101,6 @@ put_finished-requires-clause-room c =
     let there = subst Q c.self.view_is (ap (λ (ws : List Waiting). find (is_held c.args.done.ticket) ws) (sym c.self.invariant.waiting_are) ∙ e.0) in
     let n : c.in-Ok.found.1 ≡ length (left_at (is_none c.args.done.answer) (Some c.remove_at-job.result))
     = c.in-Ok.ensures.replies ∙ ap (λ (w : Option Waiting). length (left_at (is_none c.args.done.answer) w)) there in
-    let l = finished-length c.remove_at-job.result c.args.done in
+    let l = finished_length_holds c.remove_at-job.result c.args.done in
     let r = c.in-Ok-room_for_replies.ensures.places in
     omega arith

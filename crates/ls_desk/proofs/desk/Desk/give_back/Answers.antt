@@ -7,7 +7,7 @@ use Rattle.ls_machine.specs.declared.state.State.{State}
 use Rattle.ls_machine.specs.Counts.{total}
 use Rattle.ls_machine.specs.Journal.{replay_from}
 use Rattle.ls_desk.specs.Stands.{Seen, Enters, state_of, used}
-use Rattle.ls_desk.proofs.Grows.{Goes, enters, goes, holds, kept-room, seen}
+use Rattle.ls_desk.proofs.Grows.{Goes, enters, goes, holds, kept_room, seen}
 use Rattle.ls_machine.specs.Machine.{is_held}
 use Rattle.ls_desk.proofs.Events.{returned}
 use Rattle.ls_desk.proofs.desk.Desk.give_back.Goals as goal
@@ -16,7 +16,7 @@ use Rattle.ls_desk.proofs.desk.Desk.give_back.Goals.{After-enter}
 pub invariant_of-self : goal.invariant_of-self
 invariant_of-self c =
     let e = c.room_for_event.ensures in
-    kept-room _ _ _ _ _ _ _ _ _ _ _ _ c.self.invariant refl refl refl refl refl e.journal e.more
+    kept_room _ _ _ _ _ _ _ _ _ _ _ _ c.self.invariant refl refl refl refl refl e.journal e.more
 
 abbrev now : After-enter → State
 now c = replay_from c.self.inside.history.base.state c.self.inside.history.events.items

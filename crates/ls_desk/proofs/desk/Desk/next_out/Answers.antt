@@ -5,15 +5,15 @@ use Rattle.ls_machine.specs.Counts.{total}
 use Rattle.ls_machine.specs.Journal.{replay_from}
 use Rattle.ls_desk.specs.Stands.{Seen, Sends, ticket_of_out}
 use Rattle.ls_desk.proofs.Grows.{Goes, enters, goes, holds, seen}
-use Rattle.ls_desk.proofs.Sends.{kept-same, front-of, Front, sent, sends}
+use Rattle.ls_desk.proofs.Sends.{kept_same, front_of, Front, sent, sends}
 use Rattle.ls_desk.proofs.desk.Desk.next_out.Goals as goal
 use Rattle.ls_desk.proofs.desk.Desk.next_out.Goals.{After-enter}
 
 pub invariant_of-self : goal.invariant_of-self
-invariant_of-self c = kept-same _ _ _ _ _ _ _ _ _ c.self.invariant c.in_err-out.ensures.items
+invariant_of-self c = kept_same _ _ _ _ _ _ _ _ _ c.self.invariant c.in_err-out.ensures.items
 
 first : (c : After-enter) → Front (replay_from c.self.inside.history.base.state c.self.inside.history.events.items).unsent c.in_ok-out.out c.pop_front.new.self.items
-first c = front-of _ c.self.inside.outbox.items c.in_ok-out.out c.pop_front.new.self.items c.self.invariant.outs c.in_ok-out.ensures.items
+first c = front_of _ c.self.inside.outbox.items c.in_ok-out.out c.pop_front.new.self.items c.self.invariant.outs c.in_ok-out.ensures.items
 
 shorter : (c : After-enter) → length c.self.inside.outbox.items ≡ length c.pop_front.new.self.items + 1
 shorter c = ap length c.in_ok-out.ensures.items ∙ omega arith

@@ -8,7 +8,7 @@ use Rattle.ls_machine.specs.Counts.{total}
 use Rattle.ls_machine.specs.Journal.{replay_from}
 use Rattle.ls_desk.specs.Anew.{journal_after}
 use Rattle.ls_desk.specs.Stands.{Seen, Enters, state_of, fresh, fresh_for, used}
-use Rattle.ls_desk.proofs.Grows.{Goes, enters, goes, holds, kept-room, seen}
+use Rattle.ls_desk.proofs.Grows.{Goes, enters, goes, holds, kept_room, seen}
 use Rattle.std.specs.Option.{option_map}
 use Rattle.ls_machine.specs.Machine.{document_of, asked, requests, id_waits}
 use Rattle.ls_desk.proofs.Events.{requested}
@@ -18,7 +18,7 @@ use Rattle.ls_desk.proofs.desk.Desk.request.Goals.{After-enter}
 pub invariant_of-self : goal.invariant_of-self
 invariant_of-self c =
     let e = c.room_for_job.ensures in
-    kept-room _ _ _ _ _ _ _ _ _ _ _ _ c.self.invariant refl e.waiting refl refl refl e.journal e.more
+    kept_room _ _ _ _ _ _ _ _ _ _ _ _ c.self.invariant refl e.waiting refl refl refl e.journal e.more
 
 abbrev now : After-enter → State
 now c = replay_from c.self.inside.history.base.state c.self.inside.history.events.items

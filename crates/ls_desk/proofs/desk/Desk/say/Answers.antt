@@ -5,7 +5,7 @@ use Rattle.ls_machine.specs.declared.event.Event.TheVariants.{Said}
 use Rattle.ls_machine.specs.Counts.{total}
 use Rattle.ls_desk.specs.Anew.{journal_after}
 use Rattle.ls_desk.specs.Stands.{Seen, Enters, fresh, fresh_for, used}
-use Rattle.ls_desk.proofs.Grows.{Goes, enters, goes, holds, kept-room, seen}
+use Rattle.ls_desk.proofs.Grows.{Goes, enters, goes, holds, kept_room, seen}
 use Rattle.ls_machine.specs.declared.event.Out.TheVariants as out
 use Rattle.ls_desk.proofs.Events.{said}
 use Rattle.ls_desk.proofs.desk.Desk.say.Goals as goal
@@ -14,7 +14,7 @@ use Rattle.ls_desk.proofs.desk.Desk.say.Goals.{After-enter}
 pub invariant_of-self : goal.invariant_of-self
 invariant_of-self c =
     let e = c.room_for_replies.ensures in
-    kept-room _ _ _ _ _ _ _ _ _ _ _ _ c.self.invariant refl refl refl refl e.outbox e.journal e.more
+    kept_room _ _ _ _ _ _ _ _ _ _ _ _ c.self.invariant refl refl refl refl e.outbox e.journal e.more
 
 grown_by : (c : After-enter) → c.push_back_reserved.new.self.items ≡ c.self.inside.outbox.items ++ out.Said c.args.body ∷ []
 grown_by c = c.push_back_reserved.ensures.items ∙ (λ i. c.room_for_replies.ensures.outbox i ++ out.Said (c.in_ok-copy.ensures.copy i) ∷ [])

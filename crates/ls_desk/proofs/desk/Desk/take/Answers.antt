@@ -7,11 +7,11 @@ use Rattle.ls_machine.specs.declared.state.State.{State}
 use Rattle.ls_machine.specs.Counts.{total}
 use Rattle.ls_machine.specs.Journal.{replay_from}
 use Rattle.ls_desk.specs.Stands.{Seen, Enters, state_of, used}
-use Rattle.ls_desk.proofs.Grows.{Goes, enters, goes, holds, kept-room, seen}
+use Rattle.ls_desk.proofs.Grows.{Goes, enters, goes, holds, kept_room, seen}
 use Rattle.ls_machine.specs.Machine.{is_queued}
 use Rattle.ls_desk.specs.Faults.{IsJobOf}
-use Rattle.ls_desk.proofs.Jobs.{found-job}
-use Rattle.ls_machine.proofs.Places.{position-find}
+use Rattle.ls_desk.proofs.Jobs.{found_job}
+use Rattle.ls_machine.proofs.Places.{position_find}
 use Rattle.ls_desk.proofs.Events.{taken}
 use Rattle.ls_desk.proofs.desk.Desk.take.Goals as goal
 use Rattle.ls_desk.proofs.desk.Desk.take.Goals.{After-enter}
@@ -19,7 +19,7 @@ use Rattle.ls_desk.proofs.desk.Desk.take.Goals.{After-enter}
 pub invariant_of-self : goal.invariant_of-self
 invariant_of-self c =
     let e = c.room_for_event.ensures in
-    kept-room _ _ _ _ _ _ _ _ _ _ _ _ c.self.invariant refl refl refl refl refl e.journal e.more
+    kept_room _ _ _ _ _ _ _ _ _ _ _ _ c.self.invariant refl refl refl refl refl e.journal e.more
 
 at_now : (c : After-enter) → position is_queued (state_of c.args.self.now).waiting ≡ Some c.in-Some.at
 at_now c = rw c.in-Some.is at c.in_ok-at.ensures.at
@@ -33,7 +33,7 @@ job_now : (c : After-enter) → IfSome (find is_queued (state_of c.args.self.now
 job_now c = rw c.in-Some.is at c.in_ok-at.ensures.job
 
 job_found : (c : After-enter) → (w : Waiting) × (find is_queued (state_of c.args.self.now).waiting ≡ Some w) × IsJobOf w c.in-Some.job
-job_found c = found-job is_queued (state_of c.args.self.now).waiting c.in-Some.at c.in-Some.job (at_now c) (job_now c)
+job_found c = found_job is_queued (state_of c.args.self.now).waiting c.in-Some.at c.in-Some.job (at_now c) (job_now c)
 
 -- ---- a refusal, where one is queued
 
@@ -42,7 +42,7 @@ on_err (Ok x) p = tt
 on_err (Err e) p = p
 
 queued_there : (ws : List Waiting) (i : ℕ) → position is_queued ws ≡ Some i → is_some (find is_queued ws) ≡ true
-queued_there ws i h = sym (position-find is_queued ws) ∙ ap is_some h
+queued_there ws i h = sym (position_find is_queued ws) ∙ ap is_some h
 
 pub returns-in_err-room_for_event-clause-queued : goal.returns-in_err-room_for_event-clause-queued
 returns-in_err-room_for_event-clause-queued c =

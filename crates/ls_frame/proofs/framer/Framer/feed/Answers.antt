@@ -1,9 +1,9 @@
 use Rattle.std.proofs.Common.{rules, ◌≡◌, length, refl, sym, ◌∙◌, ap, arith, Ok, Err}
 use Rattle.ls_frame.specs.Feeds.{contents_of}
-use Rattle.ls_frame.specs.Rests.{RestIs}
+use Rattle.ls_frame.specs.own.Rests.{RestIs}
 use Rattle.ls_frame.specs.declared.fault.FrameFault.TheVariants.{Memory}
 use Rattle.ls_frame.specs.declared.front.Rest.TheVariants.{Open, Faulty}
-use Rattle.ls_frame.proofs.Feeding.{refused, cut-back, kept, Longer, longer, feed-stuck, feed-waits, rest-waits, rest-behind, feed-open, feed-faulty, feed-stream}
+use Rattle.ls_frame.proofs.Feeding.{refused, cut_back, kept, Longer, longer, feed_stuck, feed_waits, rest_waits, rest_behind, feed_open, feed_faulty, feed_stream}
 use Rattle.ls_frame.proofs.framer.Framer.feed.Goals as goal
 
 pub same-self : goal.same-self
@@ -14,11 +14,11 @@ returns-in-Faulty-clause-taken c =
     let seen = c.self.view_is in
     let view : c.self.inside.pending.items ≡ c.args.self.now = cc in
     let known : RestIs c.args.self.now (Faulty c.in-Faulty.fault) = kept c.self.inside.pending.items c.args.self.now c.self.inside.rest (Faulty c.in-Faulty.fault) c.self.invariant c.in-Faulty.is view in
-    feed-stuck c.args.self.now c.args.piece.now (contents_of c.args.out.now.items) c.in-Faulty.fault known.0
+    feed_stuck c.args.self.now c.args.piece.now (contents_of c.args.out.now.items) c.in-Faulty.fault known.0
 
 pub returns-in-Faulty-clause-stream : goal.returns-in-Faulty-clause-stream
 returns-in-Faulty-clause-stream c seen given s =
-    feed-stream seen c.args.self.now c.args.piece.now c.args.self.now given (contents_of c.args.out.now.items) (contents_of c.args.out.now.items) (Err c.in-Faulty.fault) s (returns-in-Faulty-clause-taken c)
+    feed_stream seen c.args.self.now c.args.piece.now c.args.self.now given (contents_of c.args.out.now.items) (contents_of c.args.out.now.items) (Err c.in-Faulty.fault) s (returns-in-Faulty-clause-taken c)
 
 pub invariant_of-self : goal.invariant_of-self
 invariant_of-self c =
@@ -35,13 +35,13 @@ returns-then-is_err-clause-taken c =
 
 pub returns-then-is_err-clause-stream : goal.returns-then-is_err-clause-stream
 returns-then-is_err-clause-stream c seen given s =
-    feed-stream seen c.args.self.now c.args.piece.now c.extend_from_slice.new.self.items given (contents_of c.args.out.now.items) (contents_of c.args.out.now.items) (Err Memory) s (returns-then-is_err-clause-taken c)
+    feed_stream seen c.args.self.now c.args.piece.now c.extend_from_slice.new.self.items given (contents_of c.args.out.now.items) (contents_of c.args.out.now.items) (Err Memory) s (returns-then-is_err-clause-taken c)
 
 pub invariant_of-self-then-len-wanted : goal.invariant_of-self-then-len-wanted
 invariant_of-self-then-len-wanted c =
     let more : Longer c.self.inside.pending.items c.args.piece.now c.extend_from_slice.new.self.items c.in-Open.wanted =
     longer c.self.inside.pending.items c.self.inside.pending.items c.args.piece.now c.extend_from_slice.new.self.items c.self.inside.rest c.in-Open.wanted _ c.self.invariant c.in-Open.is refl c.extend_from_slice.ensures.items (search rules) in
-    rest-waits c.self.inside.pending.items c.args.piece.now c.extend_from_slice.new.self.items c.self.inside.rest c.in-Open.wanted more (search rules) c.in-Open.is
+    rest_waits c.self.inside.pending.items c.args.piece.now c.extend_from_slice.new.self.items c.self.inside.rest c.in-Open.wanted more (search rules) c.in-Open.is
 
 pub returns-then-len-wanted-clause-taken : goal.returns-then-len-wanted-clause-taken
 returns-then-len-wanted-clause-taken c =
@@ -49,16 +49,16 @@ returns-then-len-wanted-clause-taken c =
     let view : c.self.inside.pending.items ≡ c.args.self.now = cc in
     let more : Longer c.args.self.now c.args.piece.now c.extend_from_slice.new.self.items c.in-Open.wanted =
     longer c.self.inside.pending.items c.args.self.now c.args.piece.now c.extend_from_slice.new.self.items c.self.inside.rest c.in-Open.wanted _ c.self.invariant c.in-Open.is view c.extend_from_slice.ensures.items (search rules) in
-    feed-waits c.args.self.now c.args.piece.now c.extend_from_slice.new.self.items (contents_of c.args.out.now.items) c.in-Open.wanted more (search rules)
+    feed_waits c.args.self.now c.args.piece.now c.extend_from_slice.new.self.items (contents_of c.args.out.now.items) c.in-Open.wanted more (search rules)
 
 pub returns-then-len-wanted-clause-stream : goal.returns-then-len-wanted-clause-stream
 returns-then-len-wanted-clause-stream c seen given s =
-    feed-stream seen c.args.self.now c.args.piece.now c.extend_from_slice.new.self.items given (contents_of c.args.out.now.items) (contents_of c.args.out.now.items) (Ok 0) s (returns-then-len-wanted-clause-taken c)
+    feed_stream seen c.args.self.now c.args.piece.now c.extend_from_slice.new.self.items given (contents_of c.args.out.now.items) (contents_of c.args.out.now.items) (Ok 0) s (returns-then-len-wanted-clause-taken c)
 
 pub invariant_of-self-in_default : goal.invariant_of-self-in_default
 invariant_of-self-in_default c =
     let same : c.truncate.new.self.items ≡ c.self.inside.pending.items =
-    cut-back c.self.inside.pending.items c.args.piece.now c.extend_from_slice.new.self.items c.truncate.new.self.items c.len-had.result _ c.extend_from_slice.ensures.items (search rules) (search rules) c.truncate.ensures.items in
+    cut_back c.self.inside.pending.items c.args.piece.now c.extend_from_slice.new.self.items c.truncate.new.self.items c.len-had.result _ c.extend_from_slice.ensures.items (search rules) (search rules) c.truncate.ensures.items in
     kept c.self.inside.pending.items c.truncate.new.self.items c.self.inside.rest c.self.inside.rest c.self.invariant refl (sym same)
 
 pub returns-in_default-clause-taken : goal.returns-in_default-clause-taken
@@ -66,20 +66,20 @@ returns-in_default-clause-taken c =
     let seen = c.self.view_is in
     let view : c.self.inside.pending.items ≡ c.args.self.now = cc in
     let same : c.truncate.new.self.items ≡ c.self.inside.pending.items =
-    cut-back c.self.inside.pending.items c.args.piece.now c.extend_from_slice.new.self.items c.truncate.new.self.items c.len-had.result _ c.extend_from_slice.ensures.items (search rules) (search rules) c.truncate.ensures.items in
+    cut_back c.self.inside.pending.items c.args.piece.now c.extend_from_slice.new.self.items c.truncate.new.self.items c.len-had.result _ c.extend_from_slice.ensures.items (search rules) (search rules) c.truncate.ensures.items in
     let open_rest : RestIs c.args.self.now (Open c.in-Open.wanted) = kept c.self.inside.pending.items c.args.self.now c.self.inside.rest (Open c.in-Open.wanted) c.self.invariant c.in-Open.is view in
     (open_rest.0.0, same ∙ view, c.in_default.ensures)
 
 pub returns-in_default-clause-stream : goal.returns-in_default-clause-stream
 returns-in_default-clause-stream c seen given s =
-    feed-stream seen c.args.self.now c.args.piece.now c.truncate.new.self.items given (contents_of c.args.out.now.items) (contents_of c.take_frames.new.out.items) (Err Memory) s (returns-in_default-clause-taken c)
+    feed_stream seen c.args.self.now c.args.piece.now c.truncate.new.self.items given (contents_of c.args.out.now.items) (contents_of c.take_frames.new.out.items) (Err Memory) s (returns-in_default-clause-taken c)
 
 pub drop_front-requires : goal.drop_front-requires
 drop_front-requires c = let same : length c.deref.result.now ≡ length c.extend_from_slice.new.self.items = ap length c.deref.ensures.value in omega (arith, same, c.in-Ok.ensures.3.0)
 
 pub invariant_of-self-in-Faulty-rest : goal.invariant_of-self-in-Faulty-rest
 invariant_of-self-in-Faulty-rest c =
-    rest-behind c.extend_from_slice.new.self.items c.deref.result.now c.drop_front.new.bytes.items (contents_of c.args.out.now.items) (contents_of c.take_frames.new.out.items) c.in-Ok.field-0 c.deref.ensures.value c.in-Ok.ensures
+    rest_behind c.extend_from_slice.new.self.items c.deref.result.now c.drop_front.new.bytes.items (contents_of c.args.out.now.items) (contents_of c.take_frames.new.out.items) c.in-Ok.field-0 c.deref.ensures.value c.in-Ok.ensures
     c.drop_front.ensures
 
 pub returns-in-Faulty-rest-clause-taken : goal.returns-in-Faulty-rest-clause-taken
@@ -88,16 +88,16 @@ returns-in-Faulty-rest-clause-taken c =
     let view : c.self.inside.pending.items ≡ c.args.self.now = cc in
     let more : Longer c.args.self.now c.args.piece.now c.extend_from_slice.new.self.items c.in-Open.wanted =
     longer c.self.inside.pending.items c.args.self.now c.args.piece.now c.extend_from_slice.new.self.items c.self.inside.rest c.in-Open.wanted _ c.self.invariant c.in-Open.is view c.extend_from_slice.ensures.items (search rules) in
-    feed-faulty c.args.self.now c.args.piece.now c.extend_from_slice.new.self.items c.deref.result.now c.drop_front.new.bytes.items (contents_of c.args.out.now.items) (contents_of c.take_frames.new.out.items) c.in-Open.wanted
+    feed_faulty c.args.self.now c.args.piece.now c.extend_from_slice.new.self.items c.deref.result.now c.drop_front.new.bytes.items (contents_of c.args.out.now.items) (contents_of c.take_frames.new.out.items) c.in-Open.wanted
     c.in-Faulty-rest.fault c.in-Ok.field-0 more c.deref.ensures.value c.in-Ok.ensures c.in-Faulty-rest.is c.drop_front.ensures
 
 pub returns-in-Faulty-rest-clause-stream : goal.returns-in-Faulty-rest-clause-stream
 returns-in-Faulty-rest-clause-stream c seen given s =
-    feed-stream seen c.args.self.now c.args.piece.now c.drop_front.new.bytes.items given (contents_of c.args.out.now.items) (contents_of c.take_frames.new.out.items) (Err c.in-Faulty-rest.fault) s (returns-in-Faulty-rest-clause-taken c)
+    feed_stream seen c.args.self.now c.args.piece.now c.drop_front.new.bytes.items given (contents_of c.args.out.now.items) (contents_of c.take_frames.new.out.items) (Err c.in-Faulty-rest.fault) s (returns-in-Faulty-rest-clause-taken c)
 
 pub invariant_of-self-in-Open-rest : goal.invariant_of-self-in-Open-rest
 invariant_of-self-in-Open-rest c =
-    rest-behind c.extend_from_slice.new.self.items c.deref.result.now c.make_room.new.bytes.items (contents_of c.args.out.now.items) (contents_of c.take_frames.new.out.items) c.in-Ok.field-0 c.deref.ensures.value c.in-Ok.ensures
+    rest_behind c.extend_from_slice.new.self.items c.deref.result.now c.make_room.new.bytes.items (contents_of c.args.out.now.items) (contents_of c.take_frames.new.out.items) c.in-Ok.field-0 c.deref.ensures.value c.in-Ok.ensures
     (c.make_room.ensures ∙ c.drop_front.ensures)
 
 pub returns-in-Open-rest-clause-taken : goal.returns-in-Open-rest-clause-taken
@@ -106,9 +106,9 @@ returns-in-Open-rest-clause-taken c =
     let view : c.self.inside.pending.items ≡ c.args.self.now = cc in
     let more : Longer c.args.self.now c.args.piece.now c.extend_from_slice.new.self.items c.in-Open.wanted =
     longer c.self.inside.pending.items c.args.self.now c.args.piece.now c.extend_from_slice.new.self.items c.self.inside.rest c.in-Open.wanted _ c.self.invariant c.in-Open.is view c.extend_from_slice.ensures.items (search rules) in
-    feed-open c.args.self.now c.args.piece.now c.extend_from_slice.new.self.items c.deref.result.now c.make_room.new.bytes.items (contents_of c.args.out.now.items) (contents_of c.take_frames.new.out.items) c.in-Open.wanted
+    feed_open c.args.self.now c.args.piece.now c.extend_from_slice.new.self.items c.deref.result.now c.make_room.new.bytes.items (contents_of c.args.out.now.items) (contents_of c.take_frames.new.out.items) c.in-Open.wanted
     c.in-Open-rest.wanted c.in-Ok.field-0 more c.deref.ensures.value c.in-Ok.ensures c.in-Open-rest.is (c.make_room.ensures ∙ c.drop_front.ensures)
 
 pub returns-in-Open-rest-clause-stream : goal.returns-in-Open-rest-clause-stream
 returns-in-Open-rest-clause-stream c seen given s =
-    feed-stream seen c.args.self.now c.args.piece.now c.make_room.new.bytes.items given (contents_of c.args.out.now.items) (contents_of c.take_frames.new.out.items) (Ok c.in-Ok.field-0.count) s (returns-in-Open-rest-clause-taken c)
+    feed_stream seen c.args.self.now c.args.piece.now c.make_room.new.bytes.items given (contents_of c.args.out.now.items) (contents_of c.take_frames.new.out.items) (Ok c.in-Ok.field-0.count) s (returns-in-Open-rest-clause-taken c)

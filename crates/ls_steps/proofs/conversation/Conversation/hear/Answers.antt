@@ -1,5 +1,5 @@
-use Rattle.ls_session.proofs.Asks.{event-is-allowed}
+use Rattle.ls_session.proofs.Asks.{event_is_allowed}
 use Rattle.ls_steps.proofs.conversation.Conversation.hear.Goals as goal
 
 pub meet-requires : goal.meet-requires
-meet-requires c = event-is-allowed _ _ _ _ _ c.in_ok-event.ensures.turn c.in-Event.is
+meet-requires c = event_is_allowed _ _ _ _ _ c.in_ok-event.ensures.turn c.in-Event.is

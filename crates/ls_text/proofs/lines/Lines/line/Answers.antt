@@ -1,6 +1,6 @@
 use Rattle.std.proofs.Common.{◌+◌, ◌-◌, ◌<◌, ap, subst, arith, length}
 use Rattle.std.specs.List.{flat_map}
-use Rattle.ls_text.specs.Chunks.{lines_behind, IsLineAt}
+use Rattle.ls_text.specs.own.Chunks.{lines_behind, IsLineAt}
 use Rattle.ls_text.specs.declared.chunk.Chunk.{Chunk}
 use Rattle.ls_text.proofs.ChunkLaws.{spine_line, line_known, line_start_le}
 use Rattle.ls_text.proofs.lines.Lines.line.Goals as goal

@@ -1,7 +1,7 @@
 use Rattle.std.proofs.Common.{◌≡◌, ◌+◌, ◌-◌, ◌<◌, ap, ◌∙◌, subst, arith, length, get_or}
 use Rattle.std.specs.List.{flat_map}
 use Rattle.std.proofs.lemmas.List.{get_or_default}
-use Rattle.ls_text.specs.Chunks.{lines_behind, IsLineAt}
+use Rattle.ls_text.specs.own.Chunks.{lines_behind, IsLineAt}
 use Rattle.ls_text.specs.Cut.{start_of}
 use Rattle.ls_text.specs.declared.chunk.Chunk.{Chunk}
 use Rattle.ls_text.proofs.ChunkLaws.{spine_found, spine_last, line_known, start_none}

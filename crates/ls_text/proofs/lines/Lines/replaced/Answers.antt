@@ -2,7 +2,7 @@ use Rattle.std.proofs.Common.{◌≡◌, ◌+◌, ◌-◌, ◌++◌, ◌∙◌, 
 use Rattle.std.specs.List.{flat_map}
 use Rattle.std.proofs.lemmas.List.{take_rest}
 use Rattle.std.proofs.lemmas.Result.{IfOk-weaker, IfErr-weaker}
-use Rattle.ls_text.specs.Chunks.{lines_behind, byte_length}
+use Rattle.ls_text.specs.own.Chunks.{lines_behind, byte_length}
 use Rattle.ls_text.specs.Cut.{Row}
 use Rattle.ls_text.specs.declared.fault.TextFault.TheVariants.{TooLarge}
 use Rattle.ls_text.specs.declared.snapshot.TheConstants.{MAX_BYTES}

@@ -1,9 +1,9 @@
 use Rattle.std.proofs.Common.{◌≡◌, ◌+◌, ◌≤◌, ap, ◌∙◌, sym, subst, arith, length}
 use Rattle.std.specs.Arc.{arc_value}
 use Rattle.std.specs.List.{flat_map}
-use Rattle.ls_text.specs.Chunks.{lines_behind, char_length, byte_length, IsSpine}
+use Rattle.ls_text.specs.own.Chunks.{lines_behind, char_length, byte_length, IsSpine}
 use Rattle.ls_text.specs.declared.chunk.Chunk.{Chunk}
-use Rattle.ls_text.proofs.ChunkLaws.{spine_push, byte_length-append, chars_le_bytes}
+use Rattle.ls_text.proofs.ChunkLaws.{spine_push, byte_length_append, chars_le_bytes}
 use Rattle.ls_text.proofs.lines.Lines.with_chunk.Goals as goal
 
 pub returns-then-bytes_more-byte_count-clause-too_large :
@@ -12,7 +12,7 @@ returns-then-bytes_more-byte_count-clause-too_large c = λ e.
     omega (
       arith,
       c.if-bytes_more-byte_count.true,
-      byte_length-append c.args.self (lines_behind c.args.chunk),
+      byte_length_append c.args.self (lines_behind c.args.chunk),
       c.self.invariant.bytes_are ∙ ap byte_length c.self.view_is,
       ap (λ (k : Chunk). k.byte_count) c.deref-3.ensures ∙ (arc_value c.args.chunk).bytes_are,
       c.self.invariant.small,

@@ -1,6 +1,6 @@
 use Rattle.std.proofs.Common.{◌++◌, ◌∙◌, ap, sym, arith}
 use Rattle.std.proofs.lemmas.Result.{err_from_is_err_and}
-use Rattle.ls_text.specs.Chunks.{lines_behind}
+use Rattle.ls_text.specs.own.Chunks.{lines_behind}
 use Rattle.ls_text.specs.declared.chunk.Chunk.{Chunk}
 use Rattle.ls_text.proofs.ChunkLaws.{pieces_more, pieces_bytes}
 use Rattle.ls_text.proofs.lines.Lines.with_chunks.Goals as goal

@@ -2,7 +2,7 @@ use Rattle.std.proofs.Common.{◌≡◌, ◌∙◌, List, sym, subst, arith, len
 use Rattle.std.specs.String.{string_bytes}
 use Rattle.abnf_token.specs.declared.mark.TokenMark.{TokenMark}
 use Rattle.abnf_token.specs.Marks.{AreMarks}
-use Rattle.ls_text.specs.Parts.{AreHeld}
+use Rattle.ls_text.specs.own.Parts.{AreHeld}
 use Rattle.ls_text.proofs.PartLaws.{marks_more, drop_front}
 use Rattle.ls_text.proofs.part.Part.pushed.Goals as goal
 

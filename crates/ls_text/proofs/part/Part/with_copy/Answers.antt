@@ -3,7 +3,7 @@ use Rattle.std.specs.Str.{encode_utf8_all}
 use Rattle.std.specs.String.{string_bytes}
 use Rattle.abnf_token.specs.declared.mark.TokenMark.{TokenMark}
 use Rattle.abnf_token.specs.Marks.{AreMarks}
-use Rattle.ls_text.specs.Parts.{AreHeld}
+use Rattle.ls_text.specs.own.Parts.{AreHeld}
 use Rattle.ls_text.proofs.PartLaws.{marks_more, drop_front}
 use Rattle.ls_text.proofs.part.Part.with_copy.Goals as goal
 

@@ -5,7 +5,7 @@ use Rattle.std.specs.Char.{len_utf8}
 use Rattle.std.specs.Str.{chars}
 use Rattle.ls_text.specs.Lines.{lines, offset_of, units}
 use Rattle.ls_text.specs.Positions.{position_in, position_of, Measured}
-use Rattle.ls_text.specs.Counts.{IsCountedIn}
+use Rattle.ls_text.specs.own.Counts.{IsCountedIn}
 use Rattle.ls_text.specs.declared.position.Position.{Position}
 use Rattle.ls_text.specs.declared.ruler.Counted.{Counted}
 use Rattle.ls_text.proofs.PositionLaws.{same_position}

@@ -1,12 +1,12 @@
 use Rattle.std.proofs.Common.{rules, arith, Ok, None, [], take, refl, length-take}
-use Rattle.ls_devices.proofs.Known.{or-true}
-use Rattle.ls_devices.proofs.Input.{consumes-consumes, consumes-keeps, consumes-none}
-use Rattle.ls_threads.proofs.Input.{begins, by-fault, by-status, ended, piece-more}
+use Rattle.ls_devices.proofs.Known.{or_true}
+use Rattle.ls_devices.proofs.Input.{consumes_consumes, consumes_keeps, consumes_none}
+use Rattle.ls_threads.proofs.Input.{begins, by_fault, by_status, ended, piece_more}
 use Rattle.ls_threads.proofs.Spent.{spent}
 use Rattle.ls_threads.proofs.reading.Reader.read_with.Goals as goal
 
 pub loop-i-init : goal.loop-i-init
-loop-i-init g c = record { read = ([], consumes-none _, begins _ _ _ c.new-framer.ensures); reads = omega (arith, c.requires.none); good = c.requires.good }
+loop-i-init g c = record { read = ([], consumes_none _, begins _ _ _ c.new-framer.ensures); reads = omega (arith, c.requires.none); good = c.requires.good }
 
 pub read-requires : goal.read-requires
 read-requires g c = omega (arith, c.loop-i.invariant.reads, c.loop-i-test.true)
@@ -15,17 +15,17 @@ pub loop-i-preserved-in-Err-Interrupted : goal.loop-i-preserved-in-Err-Interrupt
 loop-i-preserved-in-Err-Interrupted g c =
     let before = c.loop-i.invariant.read in
     record {
-      read = (before.0, consumes-keeps _ _ _ before.0 before.1 c.in-Err-Interrupted.ensures.bytes, before.2);
+      read = (before.0, consumes_keeps _ _ _ before.0 before.1 c.in-Err-Interrupted.ensures.bytes, before.2);
       reads = omega (arith, c.loop-i.invariant.reads, c.read.ensures.counted);
       good = search rules;
     }
 
 pub returns-in-Err-Failed-clause-cause : goal.returns-in-Err-Failed-clause-cause
-returns-in-Err-Failed-clause-cause g c = rw (or-true _ (g.I.Source.failed c.loop-i.source) (rw c.in-Err-Failed.field-0-is at c.in-Err-Failed.ensures.failed)) refl
+returns-in-Err-Failed-clause-cause g c = rw (or_true _ (g.I.Source.failed c.loop-i.source) (rw c.in-Err-Failed.field-0-is at c.in-Err-Failed.ensures.failed)) refl
 
 pub returns-in-Err-Failed-clause-heard : goal.returns-in-Err-Failed-clause-heard
 returns-in-Err-Failed-clause-heard g c =
-    let before = c.loop-i.invariant.read in (before.0, _, consumes-keeps _ _ _ before.0 before.1 c.in-Err-Failed.ensures.bytes, before.2)
+    let before = c.loop-i.invariant.read in (before.0, _, consumes_keeps _ _ _ before.0 before.1 c.in-Err-Failed.ensures.bytes, before.2)
 
 pub returns-then-count-eq0-clause-heard : goal.returns-then-count-eq0-clause-heard
 returns-then-count-eq0-clause-heard g c =
@@ -42,13 +42,13 @@ slice_bounds-take_piece-end-in-loop-i g c = omega (arith, c.in-Ok.ensures.bound,
 pub returns-in-Ok-Some-clause-heard : goal.returns-in-Ok-Some-clause-heard
 returns-in-Ok-Some-clause-heard g c =
     let before = c.loop-i.invariant.read in
-    by-status _ _ _ before.0 (take c.in-Ok.count c.read.new.buf) c.loop-i.framer c.take_piece.new.framer _ c.loop-i.self.session c.take_piece.new.self.session _ _ _ c.in-Ok-Some.status
+    by_status _ _ _ before.0 (take c.in-Ok.count c.read.new.buf) c.loop-i.framer c.take_piece.new.framer _ c.loop-i.self.session c.take_piece.new.self.session _ _ _ c.in-Ok-Some.status
     before.1 before.2 c.in-Ok.ensures.bytes.0 (rw c.in-Ok-Some.field-0-is at c.in-Ok-Some.ensures before.2.stream.partial before.2.fault)
 
 pub returns-in-Err-clause-heard : goal.returns-in-Err-clause-heard
 returns-in-Err-clause-heard g c =
     let before = c.loop-i.invariant.read in
-    by-fault _ _ _ before.0 (take c.in-Ok.count c.read.new.buf) c.loop-i.framer c.take_piece.new.framer _ c.loop-i.self.session c.take_piece.new.self.session _ _ _ c.in-Err.early
+    by_fault _ _ _ before.0 (take c.in-Ok.count c.read.new.buf) c.loop-i.framer c.take_piece.new.framer _ c.loop-i.self.session c.take_piece.new.self.session _ _ _ c.in-Err.early
     before.1 before.2 c.in-Ok.ensures.bytes.0 (c.in-Err.ensures before.2.stream.partial before.2.fault)
 
 pub loop-i-preserved : goal.loop-i-preserved
@@ -57,8 +57,8 @@ loop-i-preserved g c =
     record {
       read = (
         _,
-        consumes-consumes _ _ _ before.0 (take c.in-Ok.count c.read.new.buf) before.1 c.in-Ok.ensures.bytes.0,
-        piece-more before.0 c.loop-i.framer (take c.in-Ok.count c.read.new.buf) c.take_piece.new.framer _ c.loop-i.self.session c.take_piece.new.self.session (Ok None) _ _ _
+        consumes_consumes _ _ _ before.0 (take c.in-Ok.count c.read.new.buf) before.1 c.in-Ok.ensures.bytes.0,
+        piece_more before.0 c.loop-i.framer (take c.in-Ok.count c.read.new.buf) c.take_piece.new.framer _ c.loop-i.self.session c.take_piece.new.self.session (Ok None) _ _ _
             before.2 (rw c.in-Ok-None.field-0-is at c.in-Ok-None.ensures before.2.stream.partial before.2.fault),
       );
       reads = omega (arith, c.loop-i.invariant.reads, c.read.ensures.counted);

@@ -7,19 +7,19 @@ use Rattle.ls_threads.specs.Reading.{IsTold}
 use Rattle.ls_threads.proofs.reading.Reader.tell.Goals as goal
 
 -- what whoever asked is told, by the body that was made
-by-body : (wanted : Option (List ℕ)) (made known : Option (Vec ℕ Global)) → option_map (λ (b : Vec ℕ Global). b.items) made ≡ wanted → made ≡ known
+by_body : (wanted : Option (List ℕ)) (made known : Option (Vec ℕ Global)) → option_map (λ (b : Vec ℕ Global). b.items) made ≡ wanted → made ≡ known
     → wanted ≡ option_map (λ (b : Vec ℕ Global). b.items) known
-by-body wanted made known said is = sym said ∙ ap (option_map (λ (b : Vec ℕ Global). b.items)) is
+by_body wanted made known said is = sym said ∙ ap (option_map (λ (b : Vec ℕ Global). b.items)) is
 
 pub returns-in_default-clause-ok : goal.returns-in_default-clause-ok
 returns-in_default-clause-ok g c =
     let seat : ToldClient = told_by c.args.self.now.seat.told in
-    subst (λ (body : Option (List ℕ)). IsTold body seat seat) (sym (by-body _ c.in_ok-body.field-0 None c.in_ok-body.ensures.body c.in_default.is)) refl
+    subst (λ (body : Option (List ℕ)). IsTold body seat seat) (sym (by_body _ c.in_ok-body.field-0 None c.in_ok-body.ensures.body c.in_default.is)) refl
 
 pub returns-clause-ok : goal.returns-clause-ok
 returns-clause-ok g c =
     subst
     (λ (body : Option (List ℕ)). IsTold body (told_by c.args.self.now.seat.told)
     (told_by c.client.new.seat.told))
-    (sym (by-body _ c.in_ok-body.field-0 (Some c.in-Some.body) c.in_ok-body.ensures.body c.in-Some.is ∙ ap Some (sym c.from_vec.ensures)))
+    (sym (by_body _ c.in_ok-body.field-0 (Some c.in-Some.body) c.in_ok-body.ensures.body c.in-Some.is ∙ ap Some (sym c.from_vec.ensures)))
     (c.in_ok-client.field-0, c.in_ok-client.ensures.heard)

@@ -1,7 +1,7 @@
 use Rattle.std.proofs.Common.{ap, sym, ◌∙◌, length, subst}
 use Rattle.std.specs.Str.{chars}
 use Rattle.std.proofs.lemmas.Str.{chars-nil}
-use Rattle.origins.specs.Runs.{origin_at, placed, AreRuns}
+use Rattle.origins.specs.own.Runs.{origin_at, placed, AreRuns}
 use Rattle.origins.proofs.RunLaws.{no_runs}
 use Rattle.origins.proofs.gathered.Gathered.new.Goals as goal
 

@@ -1,0 +1,11 @@
+pub mod Heads
+pub mod Names
+pub mod GistLaws
+pub mod SaidGists
+pub mod Rules
+pub mod SameItems
+pub mod SameFaults
+pub mod SameDigests
+pub mod RoleLaws
+pub mod Seams
+pub mod Keeps

@@ -1,0 +1,84 @@
+-- Digests of blocks: what a block says of names and of what is generated, without its tokens, its trees and its place in the text.
+use Rattle.std.specs.Prelude.{◌+◌, ℕ, List, [], ◌∷◌, ◌++◌, map, flat_map, filter_map, filter, fold, length, Option, None, option_map, Bool, false, not, if◌then◌else◌}
+use Rattle.std.specs.List.{list_any}
+use Rattle.std.specs.Option.{option_map_or}
+use Rattle.std.specs.Str.{bytes_eq}
+use Rattle.abnf_token.specs.Folded.{lowercase}
+use Rattle.abnf_syntax.specs.declared.block.Head.{Head}
+use Rattle.abnf_syntax.specs.Heads.{head_of}
+use Rattle.abnf_parts.specs.Part.{Part, alt}
+use Rattle.abnf_parts.specs.Tree.{parts}
+use Rattle.abnf_parts.specs.Names.{Name, with_name, rule_number}
+use Rattle.abnf_parts.specs.Core.{CoreRule, core_rules, core_name, is_needed}
+use Rattle.abnf_names.specs.Said.{Block, name_of}
+use Rattle.abnf_names.specs.Places.{Named, places_in}
+use Rattle.abnf_names.specs.Rules.{said_alternatives}
+use Rattle.abnf_digests.specs.Gists.{gist, relinked}
+
+-- the name that a block defines, and whether it adds to it; the names that it uses; the gists of the alternatives that it says,
+-- with names that stand for nothing yet
+pub record Digest : Type 0 where
+  pub head : Option (Name × Bool)
+  pub uses : List Name
+  pub said : List Part
+
+abbrev pub head_digest : Head → Name × Bool
+head_digest head = (name_of head, head.adds)
+
+-- the names at places that don't define them
+abbrev pub names_used : List Named → List Name
+names_used places = map (λ place. lowercase place.text) (filter (λ place. not place.defines) places)
+
+abbrev pub no_number : Name → Option ℕ
+no_number name = None
+
+abbrev pub digest_of : Block → Digest
+digest_of block = record {
+  head = option_map head_digest (head_of block.items);
+  uses = names_used (places_in block.items);
+  said = map gist (said_alternatives no_number block);
+}
+
+-- ---- what digests say of a text, as its blocks say it
+
+abbrev pub head_name_by : Digest → Option Name
+head_name_by digest = option_map (λ head. head.0) digest.head
+
+abbrev pub defines_by : Name → Digest → Bool
+defines_by name digest = option_map_or (λ head. bytes_eq head.0 name) digest.head false
+
+abbrev pub adds_by : Digest → Bool
+adds_by digest = option_map_or (λ head. head.1) digest.head false
+
+-- Of the digests of a name the first with `=` and all with `=/` count (RFC 5234 section 3.3).
+abbrev pub counted_by : List Digest → List Digest
+counted_by [] = []
+counted_by (digest ∷ digests) = digest ∷ (if adds_by digest then counted_by digests else filter adds_by digests)
+
+abbrev pub defined_by : List Digest → List Name
+defined_by digests = fold with_name [] (filter_map head_name_by digests)
+
+abbrev pub undefined_by : List Digest → List Name
+undefined_by digests = filter (λ name. not (list_any (bytes_eq name) (defined_by digests))) (flat_map (λ digest. digest.uses) digests)
+
+abbrev pub needed_by : List Digest → List CoreRule
+needed_by digests = filter (is_needed (undefined_by digests)) core_rules
+
+abbrev pub names_by : List Digest → List Name
+names_by digests = defined_by digests ++ map core_name (needed_by digests)
+
+abbrev pub core_number_by : List Digest → Name → Option ℕ
+core_number_by digests name = option_map (λ r. length (defined_by digests) + r) (rule_number (map core_name (needed_by digests)) name)
+
+abbrev pub said_by : (Name → Option ℕ) → Digest → List Part
+said_by number digest = map (relinked number) digest.said
+
+-- the gist of a name's rule
+abbrev pub rule_by : List Digest → Name → Part
+rule_by digests name = alt (parts (flat_map (said_by (rule_number (names_by digests))) (counted_by (filter (defines_by name) digests))))
+
+abbrev pub core_by : List Digest → CoreRule → Part
+core_by digests core = gist (core.tree (core_number_by digests))
+
+abbrev pub rules_by : List Digest → List Part
+rules_by digests = map (rule_by digests) (defined_by digests) ++ map (core_by digests) (needed_by digests)

@@ -1,0 +1,104 @@
+-- What the pass over a text's blocks holds. Only contracts of private functions speak of it.
+use Rattle.std.specs.Prelude.{◌≡◌, ◌<◌, ℕ, Bool, true, false, not, ◌&&◌, ◌||◌, List, [], ◌∷◌, ◌++◌, Contains, length, nat_lt, slice_get, slice_index_or, Some, None, if◌then◌else◌}
+use Rattle.std.specs.Option.{option_map_or}
+use Rattle.abnf_syntax.specs.declared.block.Head.{Head}
+use Rattle.abnf_syntax.specs.Faults.{place_of}
+use Rattle.abnf_syntax.specs.Heads.{head_of}
+use Rattle.abnf_parts.specs.declared.node.Node.{Node}
+use Rattle.abnf_parts.specs.declared.node.Node.TheVariants.{Ref, Rep, Span}
+use Rattle.abnf_parts.specs.Names.{Name, rule_number, with_name}
+use Rattle.abnf_parts.specs.Part.{Part, span, rep, ref, subparts}
+use Rattle.abnf_names.specs.Said.{name_of}
+use Rattle.abnf_names.specs.Excerpts.{Excerpt}
+use Rattle.abnf_lint.specs.declared.block.Seen.{Seen}
+use Rattle.abnf_lint.specs.declared.finding.Code.TheVariants as c
+use Rattle.abnf_lint.specs.declared.finding.Finding.{Finding}
+use Rattle.abnf_lint.specs.own.Findings.{block_findings, found_if, has_name, said_findings}
+
+-- the names of heads, and one more block's
+abbrev pub with_head : List Name → Excerpt → List Name
+with_head heads block = option_map_or (λ head. with_name heads (name_of head)) (head_of block.items) heads
+
+-- the same unless the block adds
+abbrev pub with_base : List Name → Excerpt → List Name
+with_base bases block = option_map_or (λ head. if head.adds then bases else with_name bases (name_of head)) (head_of block.items) bases
+
+-- of blocks behind those with these heads
+abbrev pub findings_behind : List Bool → List Name → List Name → List Name → List Excerpt → List Finding
+findings_behind marks names heads bases [] = []
+findings_behind marks names heads bases (block ∷ blocks) =
+    block_findings marks names heads bases block ++ findings_behind marks names (with_head heads block) (with_base bases block) blocks
+
+-- what blocks with these heads say of a name, where `=` blocks among them have those of `bases`
+abbrev pub seen_of : List Name → List Name → Name → Seen
+seen_of heads bases name = record { is_head = has_name heads name; is_base = has_name bases name }
+
+-- beside each rule stands what they say of its name
+abbrev pub AreSeen : List Name → List Name → List Name → List Seen → Type 0
+AreSeen names heads bases seen = (name : Name) (r : ℕ) → rule_number names name ≡ Some r → slice_get seen r ≡ Some (seen_of heads bases name)
+
+-- with one more head of the name
+abbrev pub seen_more : Seen → Head → Seen
+seen_more before head = record { is_head = true; is_base = before.is_base || not head.adds }
+
+-- of a head, by what the blocks before say of its name
+abbrev pub head_found : Seen → Bool → Head → List Finding
+head_found before marked head =
+    found_if (not head.adds && before.is_base) c.Duplicate (place_of head.name) head.name.text.now
+    ++ found_if (head.adds && not before.is_base) c.NoBase (place_of head.name) head.name.text.now
+    ++ found_if (not before.is_head && marked) c.Unproductive (place_of head.name) head.name.text.now
+
+-- the name of the block's head has a rule, beside which there is a mark
+abbrev pub HasMark : List Name → List Seen → Excerpt → Type 0
+HasMark names seen block = (head : Head) → head_of block.items ≡ Some head → (r : ℕ) × (rule_number names (name_of head) ≡ Some r) × (r < length seen)
+
+-- the names of the blocks' heads have rules
+abbrev pub HaveRules : List Name → List Excerpt → Type 0
+HaveRules names [] = Unit {0}
+HaveRules names (block ∷ blocks) = ((head : Head) → head_of block.items ≡ Some head → has_name names (name_of head) ≡ true) × HaveRules names blocks
+
+-- nothing is found at the node: its name stands for a rule, if it has one, and no range and no repetition is empty
+abbrev pub is_sound : Node → Bool
+is_sound (Ref name None) = false
+is_sound (Span low high) = not (nat_lt high low)
+is_sound (Rep least (Some most) body) = not (nat_lt most least)
+is_sound _ = true
+
+-- nothing is found where the part stands
+abbrev pub is_sound_part : Part → Bool
+is_sound_part (ref name None) = false
+is_sound_part (span low high) = not (nat_lt high low)
+is_sound_part (rep least (Some most) p) = not (nat_lt most least)
+is_sound_part _ = true
+
+-- nothing is found where the parts of a rule stand
+abbrev pub IsSoundRule : List Part → ℕ → Type 0
+IsSoundRule rules r = (tree : Part) → slice_get rules r ≡ Some tree → (p : Part) → Contains (subparts tree) p → is_sound_part p ≡ true
+
+-- a mark stands beside such rules alone
+abbrev pub AreSoundMarks : List Part → List Bool → Type 0
+AreSoundMarks rules marks = (r : ℕ) → slice_index_or marks r false ≡ true → IsSoundRule rules r
+
+-- the block counts among those of its name: it adds, or no block before defines the name with `=`
+abbrev pub counts : List Name → Excerpt → Bool
+counts bases block = option_map_or (λ head. head.adds || not (has_name bases (name_of head))) (head_of block.items) false
+
+-- nothing is found at the items of the block, if it has no fault
+abbrev pub IsSoundBlock : List Name → Excerpt → Type 0
+IsSoundBlock names block = block.fault ≡ None → said_findings names block ≡ []
+
+-- so if the block counts, by what the blocks before say of its head's name, and a mark stands beside the name's rule
+abbrev pub IsSoundIfMarked : List Bool → List Name → List Seen → Excerpt → Type 0
+IsSoundIfMarked marks names seen block =
+    (head : Head) → head_of block.items ≡ Some head → (r : ℕ) → rule_number names (name_of head) ≡ Some r → slice_index_or marks r false ≡ true
+    → (before : Seen) → slice_get seen r ≡ Some before → (head.adds || not before.is_base) ≡ true → IsSoundBlock names block
+
+-- of the block that counts nothing is found at its items, if a mark stands beside its rule
+abbrev pub IsSoundWhereMarked : List Bool → List Name → List Name → Excerpt → Type 0
+IsSoundWhereMarked marks names bases block =
+    counts bases block ≡ true → (head : Head) → head_of block.items ≡ Some head → (r : ℕ) → rule_number names (name_of head) ≡ Some r → slice_index_or marks r false ≡ true → IsSoundBlock names block
+
+-- so of each block
+abbrev pub AreSoundWhereMarked : List Bool → List Name → List Name → List Excerpt → Type 0
+AreSoundWhereMarked marks names bases [] = Unit {0}
+AreSoundWhereMarked marks names bases (block ∷ blocks) = IsSoundWhereMarked marks names bases block × AreSoundWhereMarked marks names (with_base bases block) blocks

@@ -1,0 +1,4 @@
+-- What this crate says for itself alone: no public contract names it, neither by itself nor through what it names.
+pub mod Asked
+pub mod Renamed
+pub mod Walk

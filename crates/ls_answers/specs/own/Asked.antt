@@ -1,0 +1,20 @@
+-- The questions that need a text's grammar. Only contracts of private functions speak of them.
+use Rattle.std.specs.Prelude.{◌≡◌, true}
+use Rattle.abnf_token.specs.Classes.{is_name}
+use Rattle.ls_answers.specs.declared.ask.Ask.{Ask}
+use Rattle.ls_answers.specs.declared.ask.Ask.TheVariants as ask
+use Rattle.ls_answers.specs.declared.job.GrammarAsk.{GrammarAsk}
+use Rattle.ls_answers.specs.declared.job.GrammarAsk.TheVariants as grammar
+
+-- the same among all questions
+abbrev pub asked : GrammarAsk → Ask
+asked (grammar.Hover at) = ask.Hover at
+asked (grammar.Rename at new) = ask.Rename at new.now
+asked (grammar.Action range) = ask.Action range
+asked grammar.Tokens = ask.Tokens
+asked grammar.Diagnose = ask.Diagnose
+
+-- a rename is asked to what is a name
+abbrev pub IsToAName : GrammarAsk → Type 0
+IsToAName (grammar.Rename at new) = is_name new.now ≡ true
+IsToAName _ = Unit {0}
