@@ -9,7 +9,7 @@ use Rattle.abnf_parts.specs.Part.{Part, Parts, quoted, series, span, seq, alt, r
 use Rattle.abnf_parts.specs.Generates.{UpTo}
 use Rattle.abnf_parts.specs.Reach.{ReachesBy, ReachesOpaque}
 use Rattle.abnf_productive.specs.Yields.{Yields, EachYields, SomeYields, RuleYields}
-use Rattle.abnf_digests.specs.Gists.{something, is_above, nothing, repeated_gist, gist, gists, Uses, IsLike}
+use Rattle.abnf_digests.specs.Gists.{something, is_above, nothing, repeated_gist, gist, gists, UsesRule, IsLike}
 
 -- ---- what yields something
 
@@ -189,10 +189,10 @@ opaque_to root c = has_to opaque root c
 opaque_from : (root : Part) → Contains (subparts (gist root)) opaque → Contains (subparts root) opaque
 opaque_from root c = let x = has_from opaque root c in subst (λ p. Contains (subparts root) p) (opaque_back x.0 x.2) x.1
 
-uses_to : (root : Part) (q : ℕ) → Uses root q → Uses (gist root) q
+uses_to : (root : Part) (q : ℕ) → UsesRule root q → UsesRule (gist root) q
 uses_to root q u = (lowercase u.0, has_to (ref u.0 (Some q)) root u.1)
 
-uses_from : (root : Part) (q : ℕ) → Uses (gist root) q → Uses root q
+uses_from : (root : Part) (q : ℕ) → UsesRule (gist root) q → UsesRule root q
 uses_from root q u =
     let x = has_from (ref u.0 (Some q)) root u.1 in
     let n = ref_back x.0 u.0 q x.2 in

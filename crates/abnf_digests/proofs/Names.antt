@@ -22,7 +22,7 @@ use Rattle.abnf_parts.proofs.NeededLaws.{any_folded}
 use Rattle.abnf_names.specs.Said.{Block, name_of}
 use Rattle.abnf_names.specs.Places.{Named, is_touched, named, places_in, places_of, use_after, uses_after}
 use Rattle.abnf_names.specs.Rules.{defined, head_name, undefined, needed, names_of}
-use Rattle.abnf_digests.specs.Digests.{Digest, names_used, digest_of, undefined_by, needed_by, names_by}
+use Rattle.abnf_digests.specs.Digests.{Digest, used_names, digest_of, undefined_by, needed_by, names_by}
 use Rattle.abnf_digests.proofs.Heads.{defined_is}
 
 -- ---- a place that defines has a name that is defined
@@ -97,12 +97,12 @@ module _ (own : List Name) where
   left_out name names known = ap (λ b. cond (not b) (name ∷ filter is_strange names) (filter is_strange names)) known
 
   strange_if : (b : Bool) (place : Named) (places : List Named) → place.defines ≡ b → (place.defines ≡ true → IsOwn (lower place))
-      → filter is_strange (map lower places) ≡ filter is_strange (names_used places)
+      → filter is_strange (map lower places) ≡ filter is_strange (used_names places)
       → filter is_strange (lower place ∷ map lower places) ≡ filter is_strange (map lower (cond (not b) (place ∷ filter (λ p. not p.defines) places) (filter (λ p. not p.defines) places)))
   strange_if true place places e known rest = left_out (lower place) (map lower places) (known e) ∙ rest
   strange_if false place places e known rest = ap (λ l. cond (is_strange (lower place)) (lower place ∷ l) l) rest
 
-  strange_used : (places : List Named) → AreKnown places → filter is_strange (map lower places) ≡ filter is_strange (names_used places)
+  strange_used : (places : List Named) → AreKnown places → filter is_strange (map lower places) ≡ filter is_strange (used_names places)
   strange_used [] known = refl
   strange_used (place ∷ places) known = strange_if place.defines place places refl known.0 (strange_used places known.1)
 
@@ -115,7 +115,7 @@ module _ (own : List Name) where
   strange_by [] all = refl
   strange_by (block ∷ blocks) all =
       let heads = heads_own block blocks (head_name block) all in
-      filter-append is_strange (names_used (places_in block.items)) (flat_map (λ (digest : Digest). digest.uses) (map digest_of blocks))
+      filter-append is_strange (used_names (places_in block.items)) (flat_map (λ (digest : Digest). digest.uses) (map digest_of blocks))
       ∙ ((λ i. sym (strange_used (places_in block.items) (places_known block.items heads.0)) i ++ strange_by blocks heads.1 i)
       ∙ (sym (filter-append is_strange (map lower (places_in block.items)) (map lower (places_of blocks)))
       ∙ ap (filter is_strange) (sym (map-append lower (places_in block.items) (places_of blocks)))))

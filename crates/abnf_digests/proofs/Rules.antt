@@ -12,7 +12,7 @@ use Rattle.abnf_lint.specs.Unproductive.{IsUnproductive}
 use Rattle.abnf_productive.specs.Yields.{RuleYields}
 use Rattle.abnf_productive.proofs.Law.{rule_yields, string_of_rule}
 use Rattle.abnf_digests.specs.Gists.{gist}
-use Rattle.abnf_digests.specs.Digests.{digest_of, defines_by, counted_by, said_by, rule_by, core_by, rules_by}
+use Rattle.abnf_digests.specs.Digests.{digest_of, defines_by, counted_by, said_with, rule_by, core_by, rules_by}
 use Rattle.abnf_digests.proofs.Heads.{defines_is, defined_is, filter_is, counted_is}
 use Rattle.abnf_digests.proofs.Names.{needed_is, names_are}
 use Rattle.abnf_digests.proofs.SaidGists.{gists_map, all_said}
@@ -31,7 +31,7 @@ module _ (blocks : List Block) where
       ap alt (gists_map (flat_map (said_alternatives (rule_number (names_of blocks))) (counted (filter (defines name) blocks))))
       ∙ ap (λ l. alt (parts l))
       (sym (all_said (rule_number (names_of blocks)) (counted (filter (defines name) blocks)))
-      ∙ (λ i. flat_map (said_by (rule_number (names_are blocks i))) (sym (counted_are name) i)))
+      ∙ (λ i. flat_map (said_with (rule_number (names_are blocks i))) (sym (counted_are name) i)))
 
   core_is : (core : CoreRule) → gist (core_tree blocks core) ≡ core_by (map digest_of blocks) core
   core_is core =

@@ -17,7 +17,7 @@ use Rattle.abnf_parts.specs.Tree.{ElementLayer, parts, join, element_part, repet
 use Rattle.abnf_names.specs.Said.{Block}
 use Rattle.abnf_names.specs.Rules.{alternatives_said, said_alternatives}
 use Rattle.abnf_digests.specs.Gists.{something, is_above, nothing, repeated_gist, gist, gists, relinked, all_relinked}
-use Rattle.abnf_digests.specs.Digests.{digest_of, no_number, said_by}
+use Rattle.abnf_digests.specs.Digests.{digest_of, no_number, said_with}
 
 -- ---- gists of rows
 
@@ -126,7 +126,7 @@ module _ (number : Name → Option ℕ) where
   said_agrees (Err fault) = refl
 
   -- of all blocks, by their digests
-  pub all_said : (blocks : List Block) → flat_map (said_by number) (map digest_of blocks) ≡ map gist (flat_map (said_alternatives number) blocks)
+  pub all_said : (blocks : List Block) → flat_map (said_with number) (map digest_of blocks) ≡ map gist (flat_map (said_alternatives number) blocks)
   all_said [] = refl
   all_said (block ∷ blocks) =
       (λ i. sym (said_agrees block.said) i ++ all_said blocks i)

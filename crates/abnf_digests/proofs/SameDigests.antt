@@ -31,7 +31,7 @@ use Rattle.abnf_rename.proofs.ItemShapes.{Shape, shape}
 use Rattle.abnf_rename.proofs.Rows.{TextLike, Alike, Agrees, derives_like}
 use Rattle.abnf_rename.proofs.Shapes.{shape_head, shape_places, places_by_shape}
 use Rattle.abnf_digests.specs.Gists.{gist}
-use Rattle.abnf_digests.specs.Digests.{head_digest, names_used, no_number, digest_of}
+use Rattle.abnf_digests.specs.Digests.{head_digest, used_names, no_number, digest_of}
 use Rattle.abnf_digests.specs.SameLines.{AreSameLines, placeless, fault_kind}
 use Rattle.abnf_digests.specs.Quiet.{is_empty_number, has_own_findings}
 use Rattle.abnf_digests.proofs.SameItems.{same_shapes}
@@ -56,12 +56,12 @@ used_if : (b : Bool) (n : Named) (ns : List Named) (ps : List (Text × Bool)) �
 used_if true n ns ps e = ap (λ l. lowercase n.text ∷ l) e
 used_if false n ns ps e = e
 
-used_by_told : (ns : List Named) → names_used ns ≡ told_used (map text_and_role ns)
+used_by_told : (ns : List Named) → used_names ns ≡ told_used (map text_and_role ns)
 used_by_told [] = refl
 used_by_told (n ∷ ns) =
     used_if (not n.defines) n (filter (λ (m : Named). not m.defines) ns) (filter (λ (p : Text × Bool). not p.1) (map text_and_role ns)) (used_by_told ns)
 
-used_by_shape : (xs : List Item) → names_used (places_in xs) ≡ told_used (shape_places (map shape xs))
+used_by_shape : (xs : List Item) → used_names (places_in xs) ≡ told_used (shape_places (map shape xs))
 used_by_shape xs = used_by_told (places_in xs) ∙ ap told_used (places_by_shape xs)
 
 -- ---- what is said
@@ -136,7 +136,7 @@ same_digests ls others bounds there block other same p q =
     let heads : option_map head_digest (head_of block.items) ≡ option_map head_digest (head_of other.items) =
     head_by_shape block.items ∙ (ap shape_head e ∙ sym (head_by_shape other.items))
     in
-    let used : names_used (places_in block.items) ≡ names_used (places_in other.items) =
+    let used : used_names (places_in block.items) ≡ used_names (places_in other.items) =
     used_by_shape block.items ∙ (ap (λ l. told_used (shape_places l)) e ∙ sym (used_by_shape other.items))
     in
     let said : alternatives_said no_number block.said ≡ alternatives_said no_number other.said = said_same block.items other.items block.said other.said e p.says q.says in

@@ -26,8 +26,8 @@ abbrev pub head_digest : Head → Name × Bool
 head_digest head = (name_of head, head.adds)
 
 -- the names at places that don't define them
-abbrev pub names_used : List Named → List Name
-names_used places = map (λ place. lowercase place.text) (filter (λ place. not place.defines) places)
+abbrev pub used_names : List Named → List Name
+used_names places = map (λ place. lowercase place.text) (filter (λ place. not place.defines) places)
 
 abbrev pub no_number : Name → Option ℕ
 no_number name = None
@@ -35,7 +35,7 @@ no_number name = None
 abbrev pub digest_of : Block → Digest
 digest_of block = record {
   head = option_map head_digest (head_of block.items);
-  uses = names_used (places_in block.items);
+  uses = used_names (places_in block.items);
   said = map gist (said_alternatives no_number block);
 }
 
@@ -70,12 +70,12 @@ names_by digests = defined_by digests ++ map core_name (needed_by digests)
 abbrev pub core_number_by : List Digest → Name → Option ℕ
 core_number_by digests name = option_map (λ r. length (defined_by digests) + r) (rule_number (map core_name (needed_by digests)) name)
 
-abbrev pub said_by : (Name → Option ℕ) → Digest → List Part
-said_by number digest = map (relinked number) digest.said
+abbrev pub said_with : (Name → Option ℕ) → Digest → List Part
+said_with number digest = map (relinked number) digest.said
 
 -- the gist of a name's rule
 abbrev pub rule_by : List Digest → Name → Part
-rule_by digests name = alt (parts (flat_map (said_by (rule_number (names_by digests))) (counted_by (filter (defines_by name) digests))))
+rule_by digests name = alt (parts (flat_map (said_with (rule_number (names_by digests))) (counted_by (filter (defines_by name) digests))))
 
 abbrev pub core_by : List Digest → CoreRule → Part
 core_by digests core = gist (core.tree (core_number_by digests))

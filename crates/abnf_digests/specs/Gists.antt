@@ -57,11 +57,11 @@ abbrev mutual
   all_relinked number (next p ps) = next (relinked number p) (all_relinked number ps)
 
 -- A use of rule q stands somewhere in the part.
-abbrev pub Uses : Part → ℕ → Type 0
-Uses p q = (name : List ℕ) × Contains (subparts p) (ref name (Some q))
+abbrev pub UsesRule : Part → ℕ → Type 0
+UsesRule p q = (name : List ℕ) × Contains (subparts p) (ref name (Some q))
 
 -- The other part yields something where the part does, whichever rules do, and has opaque parts and uses of the same rules.
 pub record IsLike (rules : List Part) (p other : Part) : Type 0 where
   pub yields : (k : ℕ) → Yields (RuleYields rules k) p ↔ Yields (RuleYields rules k) other
   pub has_opaque : Contains (subparts p) opaque ↔ Contains (subparts other) opaque
-  pub uses : (q : ℕ) → Uses p q ↔ Uses other q
+  pub uses : (q : ℕ) → UsesRule p q ↔ UsesRule other q

@@ -4,3 +4,5 @@ pub mod SameLines
 pub mod Roles
 pub mod Replaced
 pub mod Quiet
+pub mod Moved
+pub mod BareItems

@@ -1,14 +1,18 @@
 //! Laws of digests. The functions do nothing.
 
-ghost use Rattle.std.specs.Prelude.{◌≡◌, ◌↔◌, ℕ, List, [], map};
+ghost use Rattle.std.specs.Prelude.{◌≡◌, ◌↔◌, ℕ, ◌^◌, ◌<◌, List, [], length, map};
 ghost use Rattle.abnf_token.specs.Classes.{Text};
 ghost use Rattle.abnf_syntax.specs.Blocks.{line_texts};
 ghost use Rattle.abnf_parts.specs.Part.{Part};
 ghost use Rattle.abnf_names.specs.Said.{Block, IsWithin, AreSaid};
 ghost use Rattle.abnf_names.specs.Rules.{names_of, rules_of};
+ghost use Rattle.abnf_lint.specs.declared.finding.Finding.{Finding};
+ghost use Rattle.abnf_lint.specs.Rows.{AreRows};
 ghost use Rattle.abnf_lint.specs.Unproductive.{IsUnproductive};
 ghost use Rattle.abnf_digests.specs.Gists.{gist, IsLike};
 ghost use Rattle.abnf_digests.specs.Digests.{digest_of, names_by, rules_by};
+ghost use Rattle.abnf_digests.specs.BareItems.{AreBareItems, BareItem};
+ghost use Rattle.abnf_digests.specs.Moved.{NoneFound, moved_finding};
 ghost use Rattle.abnf_digests.specs.Quiet.{has_own_findings};
 ghost use Rattle.abnf_digests.specs.Replaced.{AreReplaced, KeepDigests};
 ghost use Rattle.abnf_digests.specs.Roles.{roles_after, roles_by, FindAlike};
@@ -60,4 +64,13 @@ pub fn one_part_is_read_anew()
     ensures { (text other : List ℕ) (front old new : ℕ) (blocks fresh : List Block) →
         AreReplaced (line_texts text) (line_texts other) front old new → AreSaid text blocks → AreSaid other fresh →
         KeepDigests (line_texts text) (line_texts other) front old new blocks fresh }
+{}
+
+/// Where a part of a text is replaced by other lines that say the same of blocks, and nothing is found in that part, all that is found
+/// in the text is found in the other one, moved with its lines, and nothing else.
+pub fn findings_move()
+    ensures { (text other : List ℕ) (front old new : ℕ) (bare_items : List BareItem) (rows : List Finding) →
+        length text < 2 ^ 62 → length other < 2 ^ 62 → AreReplaced (line_texts text) (line_texts other) front old new →
+        AreBareItems (line_texts text) front old bare_items → AreBareItems (line_texts other) front new bare_items →
+        NoneFound front old rows → AreRows text rows → AreRows other (map (moved_finding front old new) rows) }
 {}

@@ -12,5 +12,5 @@ mod laws;
 pub use laws::{
     digests_know_no_lines, digests_name_the_rules, digests_tell_roles,
     digests_tell_the_gists_of_rules, digests_tell_what_is_unproductive, equal_digests_find_alike,
-    gists_yield_alike, one_part_is_read_anew,
+    findings_move, gists_yield_alike, one_part_is_read_anew,
 };

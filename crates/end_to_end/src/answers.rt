@@ -16,7 +16,7 @@ pub(crate) fn outlined(alloc: Global, ticket: u64, text: &str) -> Result<Done, F
         encoding: Encoding::Utf16,
         ask: Ask::Symbols.copy()?,
     };
-    Ok(run(alloc, job))
+    Ok(run(alloc, &mut None, job))
 }
 
 /// Whether a symbol has this name of one character, its first line, and its last one up to this character.

@@ -16,6 +16,7 @@ use crate::outline::symbols;
 use crate::places::{definitions, references};
 use crate::rename::{is_name, rename};
 use crate::semantic_tokens::semantic_tokens;
+use abnf_kept::Diagnosed;
 use abnf_names::Grammar;
 use ls_lists::Text;
 use ls_text::{Encoding, Position, Range, Snapshot};
@@ -110,25 +111,25 @@ impl Done {
     }
 }
 
-/// A question that is asked of a text's grammar. All others need no rules.
+/// A question that is asked of a text's grammar. All others need no rules, but for the findings, which may be told by those of another text.
 #[derive(Clone, Copy)]
 enum GrammarAsk<'a> {
     Hover(Position),
     Rename(Position, &'a Text),
     Action(Range),
     Tokens,
-    Diagnose,
 }
 
 /// The answer to a question about a text. An outline and the places of a name need no rules, nor does a new name that is none; all
 /// else is asked of the text's grammar.
 fn answer_of(
     alloc: Global,
-    snapshot: &Snapshot,
+    last: &mut Option<Diagnosed>,
+    snapshot: &Arc<Snapshot>,
     encoding: Encoding,
     ask: &Ask,
 ) -> Result<Answer, Memory>
-    ensures answer { IfOk result (λ answer. IsAnswer encoding snapshot.now ask.now answer) }
+    ensures answer { IfOk result (λ answer. IsAnswer encoding (arc_value snapshot.now) ask.now answer) }
     ensures not_a_name { IsToNoName ask.now → result ≡ Ok (Answer.Refused RenameFault.NotAName) }
 {
     match ask {
@@ -150,7 +151,7 @@ fn answer_of(
         Ask::Hover(at) => by_grammar(alloc, snapshot, encoding, GrammarAsk::Hover(*at)),
         Ask::Action(range) => by_grammar(alloc, snapshot, encoding, GrammarAsk::Action(*range)),
         Ask::Tokens => by_grammar(alloc, snapshot, encoding, GrammarAsk::Tokens),
-        Ask::Diagnose => by_grammar(alloc, snapshot, encoding, GrammarAsk::Diagnose),
+        Ask::Diagnose => Ok(Answer::Findings(diagnostics(alloc, last, snapshot, encoding)?)),
     }
 }
 
@@ -197,7 +198,6 @@ fn answer_in(
             Ok(Answer::Insert(insertion(alloc, grammar, range, encoding)?))
         }
         GrammarAsk::Tokens => Ok(Answer::Numbers(semantic_tokens(alloc, grammar, encoding)?)),
-        GrammarAsk::Diagnose => Ok(Answer::Findings(diagnostics(alloc, grammar, encoding)?)),
     }
 }
 
@@ -205,7 +205,10 @@ fn answer_in(
 ///
 /// The edits of a rename that is granted keep the grammar of the text: line by line its tokens but at the places of the name, and its
 /// rules with what they generate. A rename to what is no name is refused as that, whatever memory there is.
-pub fn run(alloc: Global, job: Job) -> Done
+///
+/// The last text that was diagnosed is the caller's to keep from one run to the next, none at first: it may spare the findings of the
+/// next text much work, and no answer depends on it.
+pub fn run(alloc: Global, last: &mut Option<Diagnosed>, job: Job) -> Done
     ensures ticket { result.ticket ≡ job.ticket }
     ensures text { result.text ≡ arc_value job.snapshot }
     ensures encoding { result.encoding ≡ job.encoding }
@@ -220,7 +223,7 @@ pub fn run(alloc: Global, job: Job) -> Done
         ask,
     } = job;
     let _count = snapshot.char_count();
-    let answer = answer_of(alloc, &snapshot, encoding, &ask);
+    let answer = answer_of(alloc, last, &snapshot, encoding, &ask);
     Done {
         ticket,
         snapshot,

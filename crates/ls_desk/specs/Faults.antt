@@ -87,12 +87,12 @@ abbrev pub kept_of : Seen → Told → Kept
 kept_of d done = kept_at (is_none done.answer) (find (is_held done.ticket) (state_of d).waiting)
 
 -- the first whose cause holds, or want of memory where none does
-abbrev pub IsFirstFault : Option DeskFault → DeskFault → Type 0
-IsFirstFault first fault = (first ≡ Some fault) ⊎ ((first ≡ None) × (fault ≡ Memory))
+abbrev pub IsFirstCause : Option DeskFault → DeskFault → Type 0
+IsFirstCause first fault = (first ≡ Some fault) ⊎ ((first ≡ None) × (fault ≡ Memory))
 
 -- a refusal is the first whose cause holds, or for want of memory where none does, and nothing has changed
 pub record Refuses (first : Option DeskFault) (old new : Seen) (fault : DeskFault) : Type 0 where
-  pub cause : IsFirstFault first fault
+  pub cause : IsFirstCause first fault
   pub same : new ≡ old
 
 -- nothing stood against the call, the event is possible, and the journal has it at its end

@@ -11,7 +11,7 @@ ghost use Rattle.ls_machine.specs.Machine.{is_open, document_of, edited_at, meas
 ghost use Rattle.ls_machine.specs.Counts.{first, no_events};
 ghost use Rattle.ls_machine.specs.Same.{is_for};
 ghost use Rattle.ls_desk.specs.Stands.{Enters, Sends, IsSound, StandsAt, counts_of, failures, fresh, state_of, used};
-ghost use Rattle.ls_desk.specs.Faults.{Accepts, open_fault, open_shared_fault, sized_open_fault, Refuses, end_fault, is_full, finish_fault, request_fault, take_fault, give_back_fault, cancel_fault, full_fault, kept_of, IsFirstFault, IsJobOf, Takes};
+ghost use Rattle.ls_desk.specs.Faults.{Accepts, open_fault, open_shared_fault, sized_open_fault, Refuses, end_fault, is_full, finish_fault, request_fault, take_fault, give_back_fault, cancel_fault, full_fault, kept_of, IsFirstCause, IsJobOf, Takes};
 ghost use Rattle.ls_desk.specs.own.Puts.{next_of};
 
 use crate::history::History;
@@ -162,7 +162,7 @@ impl Desk {
         ensures none { OnOk result (end_fault self.now uri.now ≡ None) }
         ensures open { OnOk result (is_open uri.now (state_of self.now).documents ≡ true) }
         ensures room { IfOk result (λ replies. used self.now + (1 + length replies.items) ≤ self.now.max_events) }
-        ensures err { IfErr result (λ fault. IsFirstFault (end_fault self.now uri.now) fault) }
+        ensures err { IfErr result (λ fault. IsFirstCause (end_fault self.now uri.now) fault) }
     {
         if find::document_of(self.present.documents.as_slice(), uri).is_none() {
             return Err(DeskFault::NotOpen);
@@ -282,7 +282,7 @@ impl Desk {
         ensures none { OnOk result (request_fault self.now id.now uri.now ≡ None) }
         ensures possible { OnOk result ((requests (state_of self.now).waiting < 1024) × (id_waits id.now (state_of self.now).waiting ≡ false)) }
         ensures room { OnOk result (used self.now + 1 ≤ self.now.max_events) }
-        ensures err { IfErr result (λ fault. IsFirstFault (request_fault self.now id.now uri.now) fault) }
+        ensures err { IfErr result (λ fault. IsFirstCause (request_fault self.now id.now uri.now) fault) }
     {
         let Some(document) = find::document_of(self.present.documents.as_slice(), uri) else {
             return Err(DeskFault::NotOpen);
@@ -341,7 +341,7 @@ impl Desk {
         ensures within { IfOk result (λ next. IfSome next (λ n. n.0 < length (state_of self.now).waiting)) }
         ensures job { IfOk result (λ next. IfSome next (λ n. IfSome (find is_queued (state_of self.now).waiting) (λ w. IsJobOf w n.1))) }
         ensures room { IfOk result (λ next. IfSome next (λ _. used self.now + 1 ≤ self.now.max_events)) }
-        ensures err { IfErr result (λ fault. IsFirstFault (take_fault self.now) fault) }
+        ensures err { IfErr result (λ fault. IsFirstCause (take_fault self.now) fault) }
         ensures queued { OnErr result (is_some (find is_queued (state_of self.now).waiting) ≡ true) }
     {
         let Some((at, job)) = find::queued(self.present.waiting.as_slice()) else {
@@ -454,7 +454,7 @@ impl Desk {
         ensures copy { IfOk result (λ copy. copy ≡ body.now) }
         ensures none { OnOk result (full_fault self.now 2 ≡ None) }
         ensures room { OnOk result (used self.now + 2 ≤ self.now.max_events) }
-        ensures err { IfErr result (λ fault. IsFirstFault (full_fault self.now 2) fault) }
+        ensures err { IfErr result (λ fault. IsFirstCause (full_fault self.now 2) fault) }
     {
         if self.is_full(1) {
             return Err(DeskFault::SessionFull);

@@ -7,7 +7,7 @@ use Rattle.ls_frame.specs.Faults.{fault_of}
 use Rattle.ls_frame.specs.Feeds.{FeedIs, contents_of}
 use Rattle.ls_frame.proofs.Streams.{stream_append}
 use Rattle.ls_session.specs.declared.turn.Status.{Status}
-use Rattle.ls_devices.specs.Input.{BreaksOff, ComesToEnd, GoesOn}
+use Rattle.ls_devices.specs.Input.{BreaksOff, ComesToEnd, ComesMore}
 use Rattle.ls_devices.proofs.Input.{no_stream, stream_behind}
 use Rattle.ls_frame.specs.declared.fault.FrameFault.{FrameFault}
 use Rattle.ls_frame.specs.declared.fault.FrameFault.TheVariants.{HeaderTooLong, BadHeader, NoLength, TwoLengths, BadLength, TooLarge, Truncated, Memory as NoMemory}
@@ -87,8 +87,8 @@ breaks_off Made old piece new after p (inr e) made = breaks_before Made old piec
 
 -- ---- a piece comes behind what was read
 
-pub goes_more : (First Next All : List (List ℕ) → Type 0) (read rest piece last : List ℕ) → GoesOn First [] read rest → GoesOn Next rest piece last
-    → ((xs ys : List (List ℕ)) → First xs → Next ys → All (xs ++ ys)) → GoesOn All [] (read ++ piece) last
+pub goes_more : (First Next All : List (List ℕ) → Type 0) (read rest piece last : List ℕ) → ComesMore First [] read rest → ComesMore Next rest piece last
+    → ((xs ys : List (List ℕ)) → First xs → Next ys → All (xs ++ ys)) → ComesMore All [] (read ++ piece) last
 goes_more First Next All read rest piece last g p both = record {
   contents = g.contents ++ p.contents;
   stream = stream_append read piece rest last g.contents p.contents g.stream p.stream;
@@ -96,7 +96,7 @@ goes_more First Next All read rest piece last g p both = record {
   made = both g.contents p.contents g.made p.made;
 }
 
-pub ends_more : (First : List (List ℕ) → Type 0) (Next All : List (List ℕ) → Option Status → Type 0) (read rest piece : List ℕ) (status : Status) → GoesOn First [] read rest
+pub ends_more : (First : List (List ℕ) → Type 0) (Next All : List (List ℕ) → Option Status → Type 0) (read rest piece : List ℕ) (status : Status) → ComesMore First [] read rest
     → ComesToEnd Next rest piece status → ((xs ys : List (List ℕ)) (exit : Option Status) → First xs → Next ys exit → All (xs ++ ys) exit) → ComesToEnd All [] (read ++ piece) status
 ends_more First Next All read rest piece status g p both = record {
   contents = g.contents ++ p.contents;
@@ -107,7 +107,7 @@ ends_more First Next All read rest piece status g p both = record {
   made = both g.contents p.contents p.exit g.made p.made;
 }
 
-pub breaks_more : (First Next All : List (List ℕ) → Type 0) (read rest piece : List ℕ) → GoesOn First [] read rest → BreaksOff Next rest piece
+pub breaks_more : (First Next All : List (List ℕ) → Type 0) (read rest piece : List ℕ) → ComesMore First [] read rest → BreaksOff Next rest piece
     → ((xs ys : List (List ℕ)) → First xs → Next ys → All (xs ++ ys)) → BreaksOff All [] (read ++ piece)
 breaks_more First Next All read rest piece g p both = record {
   part = g.stream.frames ++ p.part;

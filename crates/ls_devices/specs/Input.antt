@@ -6,7 +6,7 @@ use Rattle.ls_devices.specs.Ends.{status_or}
 use Rattle.ls_session.specs.declared.turn.Status.{Status}
 
 -- Bytes come after a rest. This is made of the contents that they complete, and the input goes on with this rest.
-pub record GoesOn (Made : List (List ℕ) → Type 0) (rest bytes after_rest : List ℕ) : Type 0 where
+pub record ComesMore (Made : List (List ℕ) → Type 0) (rest bytes after_rest : List ℕ) : Type 0 where
   pub contents : List (List ℕ)
   pub stream : Stream (rest ++ bytes) contents after_rest
   pub fault : fault_of after_rest ≡ None

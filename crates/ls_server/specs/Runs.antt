@@ -11,7 +11,7 @@ use Rattle.ls_session.specs.declared.turn.Status.{Status}
 use Rattle.ls_session.specs.declared.turn.Status.TheVariants.{BadFrame, Unclean}
 use Rattle.ls_devices.specs.Devices.{AppendsFront}
 use Rattle.ls_devices.specs.Ends.{end_status}
-use Rattle.ls_devices.specs.Input.{BreaksOff, ComesToEnd, GoesOn}
+use Rattle.ls_devices.specs.Input.{BreaksOff, ComesToEnd, ComesMore}
 use Rattle.ls_devices.specs.declared.fault.ServeFault.{ServeFault}
 use Rattle.ls_devices.specs.declared.fault.ServeFault.TheVariants.{Read, Write, Strayed, Memory}
 
@@ -76,7 +76,7 @@ is_write (Err Memory) = false
 
 -- Bytes come after a rest, and the run goes on with this rest.
 abbrev pub RunGoesOn : List ℕ → List ℕ → Going → Option (List ℕ) → List ℕ → Going → Option (List ℕ) → Type 0
-RunGoesOn rest bytes state old after_rest after_state new = GoesOn (λ contents. AnswersIs state contents old (Ok None) after_state new) rest bytes after_rest
+RunGoesOn rest bytes state old after_rest after_state new = ComesMore (λ contents. AnswersIs state contents old (Ok None) after_state new) rest bytes after_rest
 
 -- Bytes come after a rest, and an exit or a fault in them gives this status.
 abbrev pub Ends : List ℕ → List ℕ → Going → Option (List ℕ) → Status → Option (List ℕ) → Type 0

@@ -22,7 +22,7 @@ use Rattle.ls_machine.specs.Journal.{IsCutAt, IsLegalFrom, replay_from}
 use Rattle.ls_machine.proofs.Replays.{past_first}
 use Rattle.ls_machine.specs.Machine.{IsPossible, first_ticket, is_queued, ticket_of}
 use Rattle.ls_desk.specs.Stands.{AreOutsFor, IsSound, Seen, Sends, state_of, ticket_of_out}
-use Rattle.ls_desk.specs.Faults.{IsFirstFault, IsJobOf, Refuses, Takes, is_full, or_else, take_fault}
+use Rattle.ls_desk.specs.Faults.{IsFirstCause, IsJobOf, Refuses, Takes, is_full, or_else, take_fault}
 use Rattle.ls_session.specs.Bodies.{body_of}
 use Rattle.ls_session.specs.Session.{turn_of}
 use Rattle.ls_machine.specs.declared.client.ClientEvent.{ClientEvent}
@@ -120,7 +120,7 @@ takes_one stage d new held status job e t =
     (one ∙ (sym (ap (took g t.0) a.none) ∙ sym (ap (takes g) t.1)))
 
 -- memory aside, a refusal is the first whose cause holds
-first_of : (cause : Option DeskFault) (x : DeskFault) → x ≢ fault.Memory → IsFirstFault cause x → cause ≡ Some x
+first_of : (cause : Option DeskFault) (x : DeskFault) → x ≢ fault.Memory → IsFirstCause cause x → cause ≡ Some x
 first_of cause x n (inl e) = e
 first_of cause x n (inr e) = absurd (n e.1)
 

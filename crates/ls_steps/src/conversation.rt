@@ -7,7 +7,7 @@ ghost use Rattle.ls_desk.specs.Stands.{IsSound};
 ghost use Rattle.ls_steps.specs.Runs.{Steps, begun, break_off, bytes_in, counts_at, finish_job, hear, is_filled, send, state_at, take_job};
 
 use crate::at_desk::{finish, meet};
-use ls_answers::{Job, run};
+use ls_answers::{Diagnosed, Job, run};
 use ls_desk::{Desk, DeskFault, Out};
 use ls_frame::FrameFault;
 use ls_session::{Session, Status, Turn, framed};
@@ -23,7 +23,7 @@ const MOST_EVENTS: u64 = 18_446_744_073_709_551_614;
 /// The number of the worker.
 const WORKER: u32 = 0;
 
-/// The session of one client, the desk with its documents, and the jobs that the worker holds. Its methods are the steps
+/// The session of one client, the desk with its documents, the jobs that the worker holds, and the last text that it diagnosed. Its methods are the steps
 /// that can come in any order.
 ///
 /// `Memory` says that an allocation was refused. The session is over then.
@@ -33,6 +33,7 @@ pub struct Conversation {
     session: Session,
     desk: Desk,
     held: Vec<Job>,
+    last: Option<Diagnosed>,
     status: Option<Status>,
 }
 
@@ -75,6 +76,7 @@ impl Conversation {
             session: Session::new(alloc),
             desk: Desk::new(alloc, max_journal, max_events),
             held: Vec::new(alloc),
+            last: None,
             status: None,
         }
     }
@@ -156,7 +158,7 @@ impl Conversation {
             return Ok(());
         }
         let job = self.held.remove(at);
-        if finish(&mut self.desk, run(self.alloc, job))? {
+        if finish(&mut self.desk, run(self.alloc, &mut self.last, job))? {
             self.status = Some(Status::Full);
         }
         Ok(())

@@ -4,7 +4,7 @@ use Rattle.std.specs.Io.KnownBytes.{Consumes, IsAtEnd}
 use Rattle.ls_frame.specs.declared.fault.FrameFault.{FrameFault}
 use Rattle.ls_frame.specs.declared.fault.FrameFault.TheVariants.{Memory as NoMemory}
 use Rattle.ls_devices.specs.Ends.{end_status}
-use Rattle.ls_devices.specs.Input.{BreaksOff, ComesToEnd, GoesOn}
+use Rattle.ls_devices.specs.Input.{BreaksOff, ComesToEnd, ComesMore}
 use Rattle.ls_session.specs.declared.turn.Status.{Status}
 use Rattle.ls_session.specs.declared.turn.Status.TheVariants.{BadFrame}
 use Rattle.ls_session.specs.declared.session.Stage.{Stage}
@@ -17,7 +17,7 @@ use Rattle.ls_threads.specs.declared.ending.Heard.TheVariants as heard
 
 -- Bytes come after a rest. Their messages were heard, none of which is an exit, and the input goes on with this rest.
 abbrev pub HearsMore : List ℕ → List ℕ → Stage → ToldClient → List ℕ → Stage → ToldClient → Type 0
-HearsMore rest bytes stage old after_rest after new = GoesOn (λ contents. HearsOn contents stage old after new) rest bytes after_rest
+HearsMore rest bytes stage old after_rest after new = ComesMore (λ contents. HearsOn contents stage old after new) rest bytes after_rest
 
 -- Bytes come after a rest. Their messages were heard, and an exit among them or a fault behind them gives this status.
 abbrev pub HearsLast : List ℕ → List ℕ → Stage → ToldClient → Status → Stage → ToldClient → Type 0

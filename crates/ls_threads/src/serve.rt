@@ -5,7 +5,7 @@ ghost use Rattle.std.specs.Io.KnownBytes.{Appends};
 ghost use Rattle.ls_session.specs.declared.session.Stage.TheVariants.{BeforeInitialize};
 ghost use Rattle.ls_workers.specs.Jobs.{HasLimits};
 ghost use Rattle.ls_workers.specs.Seats.{AreAll, told_by, told_nothing};
-ghost use Rattle.ls_threads.specs.own.Audit.{IsAnswered, left_by};
+ghost use Rattle.ls_threads.specs.own.Audit.{IsAnswered, left_by_threads};
 ghost use Rattle.ls_threads.specs.Ends.{has_cause, has_failed, worked_by, worse};
 ghost use Rattle.ls_threads.specs.Input.{HasHeard};
 ghost use Rattle.ls_threads.specs.Served.{IsServed};
@@ -315,7 +315,7 @@ fn closed<C: Crew, I: Source + Drop, W: Sink + Drop>(
     ensures flushed { W.unflushed begun.value ≡ false → W.failed result.sink ≡ false → W.unflushed result.sink ≡ false }
     ensures not_made { ran.done.made ≡ false → result.answer ≡ Err ServeFault.Memory }
     ensures causes { ran.done.made ≡ true → IsAnswered ((ran.done.read.seat.mark ≡ board.mark) × (ran.written.seat.mark ≡ board.mark)
-        × AreAll (λ seat. seat.mark) (λ seat. seat.number) board.mark board.workers ran.done.workers.items) C.max_journal C.max_events (left_by (ran.done.read.end, ran.written.end, ran.done.worked) (
+        × AreAll (λ seat. seat.mark) (λ seat. seat.number) board.mark board.workers ran.done.workers.items) C.max_journal C.max_events (left_by_threads (ran.done.read.end, ran.written.end, ran.done.worked) (
           ran.done.read.seat.asked.share.amount,
           sum_by (λ seat. seat.took.share.amount) ran.done.workers.items,
           sum_by (λ seat. seat.returned.share.amount) ran.done.workers.items,

@@ -69,7 +69,7 @@ impl Worker {
             return Ok(Kept::Nothing);
         };
         let job = copied(job)?;
-        let answer = handed_in(desk, run(alloc, job));
+        let answer = handed_in(desk, run(alloc, &mut None, job));
         if answer != Err(DeskFault::Memory) {
             drop(self.held.pop());
         }

@@ -37,7 +37,8 @@ fn push_finding(alloc: Global, finding: &Finding, told: &mut String) -> Result<(
     told.push_str("\n")
 }
 
-fn told(alloc: Global, found: &[Finding]) -> Result<String, AllocError> {
+/// Findings, a line each.
+pub(crate) fn told(alloc: Global, found: &[Finding]) -> Result<String, AllocError> {
     let mut told = String::new(alloc);
     for finding in found {
         push_finding(alloc, finding, &mut told)?;

@@ -16,6 +16,8 @@ mod found;
 #[cfg(test)]
 mod granted;
 #[cfg(test)]
+mod kept;
+#[cfg(test)]
 mod refused;
 #[cfg(test)]
 mod renames;

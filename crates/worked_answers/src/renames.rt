@@ -18,6 +18,7 @@ fn done(alloc: Global, text: Snapshot, encoding: Encoding, ask: Ask) -> Result<D
     let snapshot = Arc::new(alloc, text)?;
     Ok(run(
         alloc,
+        &mut None,
         Job {
             ticket: 1,
             snapshot,

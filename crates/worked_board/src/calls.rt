@@ -89,7 +89,7 @@ pub(crate) fn run_one<C: Crew, R: Wait>(
 ) -> Result<u64, DeskFault> {
     let job = board.take(rt, seat)?.ok_or(DeskFault::UnknownTicket)?;
     let ticket = job.ticket;
-    match board.finish(rt, seat, run(alloc, job)) {
+    match board.finish(rt, seat, run(alloc, &mut None, job)) {
         Ok(Kept::Reply) => Ok(ticket),
         Ok(Kept::Failure) => Err(DeskFault::Memory),
         Ok(Kept::Nothing) => Err(DeskFault::Memory),

@@ -124,7 +124,7 @@ fn other_run(alloc: Global, ticket: u64) -> Result<Done, DeskFault> {
         encoding: Encoding::Utf16,
         ask: Ask::Diagnose,
     };
-    Ok(run(alloc, job))
+    Ok(run(alloc, &mut None, job))
 }
 
 // Whether the run of another text with this ticket is refused and comes back.
@@ -165,7 +165,7 @@ fn strays<C: Crew, R: Wait>(
     let job = board.take(rt, worker)?.ok_or(DeskFault::UnknownTicket)?;
     let refused = is_refused(rt, alloc, board, worker, job.ticket);
     let none = worker.took.get() == 1 && worker.finished.get() == 0;
-    let kept = is_kept(board.finish(rt, worker, run(alloc, job)));
+    let kept = is_kept(board.finish(rt, worker, run(alloc, &mut None, job)));
     Ok(opened == ClientAnswer::Version(1) && refused? && none && kept)
 }
 

@@ -16,7 +16,7 @@ use std::test::Fail;
 // A run with a ticket, of a text and a question of its own.
 fn done(alloc: Global, ticket: u64, text: &str, ask: Ask) -> Result<Done, DeskFault> {
     let job = job_of(alloc, ticket, text, Encoding::Utf16, ask)?;
-    Ok(run(alloc, job))
+    Ok(run(alloc, &mut None, job))
 }
 
 // Whether a run of the first ticket after the findings is refused for this.
@@ -34,7 +34,7 @@ fn is_refused(
 // Whether a run of the first ticket after the findings is refused by its encoding alone.
 fn is_refused_in(desk: &mut Desk, alloc: Global, encoding: Encoding) -> Result<bool, DeskFault> {
     let job = job_of(alloc, 2, "a = \"x\"", encoding, Ask::Symbols)?;
-    Ok(comes_back(desk, run(alloc, job), DeskFault::OtherText))
+    Ok(comes_back(desk, run(alloc, &mut None, job), DeskFault::OtherText))
 }
 
 // An outline is asked for and taken.
@@ -102,7 +102,7 @@ fn is_full(desk: &mut Desk, alloc: Global) -> Result<bool, DeskFault> {
     let version = open(desk, alloc, "a = \"x\"")?;
     let ticket = symbols(desk, alloc, 2)?;
     let job = take(desk)?;
-    let refused = comes_back(desk, run(alloc, job), DeskFault::SessionFull);
+    let refused = comes_back(desk, run(alloc, &mut None, job), DeskFault::SessionFull);
     Ok(version == 1 && ticket == 2 && refused)
 }
 

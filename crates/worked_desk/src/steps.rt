@@ -116,7 +116,7 @@ pub(crate) fn take(desk: &mut Desk) -> Result<Job, DeskFault> {
 
 /// Runs a job, and says what its finish kept or why it was refused.
 pub(crate) fn finish(desk: &mut Desk, alloc: Global, job: Job) -> Result<Kept, DeskFault> {
-    match desk.finish(run(alloc, job)) {
+    match desk.finish(run(alloc, &mut None, job)) {
         Ok(kept) => Ok(kept),
         Err((fault, _)) => Err(fault),
     }

@@ -63,7 +63,7 @@ impl Hovered {
         alloc: Global,
         want: DeskFault,
     ) -> Result<bool, DeskFault> {
-        match desk.finish(run(alloc, self.job(alloc)?)) {
+        match desk.finish(run(alloc, &mut None, self.job(alloc)?)) {
             Ok(_) => Ok(false),
             Err((fault, done)) => Ok(fault == want && self.is_whole(&done)),
         }

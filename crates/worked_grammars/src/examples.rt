@@ -63,7 +63,7 @@ fn defines(
     line: u32,
     end: u32,
 ) -> Result<bool, TextFault> {
-    let done = run(alloc, asked(alloc, text, at)?);
+    let done = run(alloc, &mut None, asked(alloc, text, at)?);
     let is_led = is_led(&done, line, end);
     drop(done);
     is_led

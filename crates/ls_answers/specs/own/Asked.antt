@@ -12,7 +12,6 @@ asked (grammar.Hover at) = ask.Hover at
 asked (grammar.Rename at new) = ask.Rename at new.now
 asked (grammar.Action range) = ask.Action range
 asked grammar.Tokens = ask.Tokens
-asked grammar.Diagnose = ask.Diagnose
 
 -- a rename is asked to what is a name
 abbrev pub IsToAName : GrammarAsk → Type 0

@@ -16,7 +16,7 @@ use Rattle.ls_threads.specs.declared.ending.Wrote.{Wrote}
 
 -- what the threads of a run leave: how they ended, how many events of each kind their seats counted, what the client's seat was told, and what the
 -- writer's was given since the last checkpoint that it has seen
-pub record Left : Type 0 where
+pub record WhatThreadsLeft : Type 0 where
   pub heard : Heard
   pub wrote : Wrote
   pub worked : Worked
@@ -31,8 +31,8 @@ pub record Left : Type 0 where
   pub notes : List Noted
 
 -- by how the threads ended, how many events of each kind were counted, and what the client's seat and the writer's seat were told
-abbrev pub left_by : Heard × Wrote × Worked → ℕ × ℕ × ℕ × ℕ × ℕ → ToldClient → ℕ × List ℕ × List Noted → Left
-left_by (heard, wrote, worked) (client, took, returned, finished, sent) told (seen, tickets, notes) = record {
+abbrev pub left_by_threads : Heard × Wrote × Worked → ℕ × ℕ × ℕ × ℕ × ℕ → ToldClient → ℕ × List ℕ × List Noted → WhatThreadsLeft
+left_by_threads (heard, wrote, worked) (client, took, returned, finished, sent) told (seen, tickets, notes) = record {
   heard = heard;
   wrote = wrote;
   worked = worked;
@@ -48,12 +48,12 @@ left_by (heard, wrote, worked) (client, took, returned, finished, sent) told (se
 }
 
 -- there were as many events of each kind as the seats counted, and the desk has these limits
-abbrev pub HasCounts : ℕ → ℕ → Left → Seen → Type 0
+abbrev pub HasCounts : ℕ → ℕ → WhatThreadsLeft → Seen → Type 0
 HasCounts journal events left desk = Counts left.client left.took left.returned left.finished left.sent desk × HasLimits journal events desk
 
 -- The desk stands for what its legal journal leads to. There were as many events of each kind as the seats counted. Since the last checkpoint the
 -- client's events, with their answers, and the tickets that were sent are what the seats were told.
-pub record IsAudited (journal events : ℕ) (left : Left) (desk : Seen) : Type 0 where
+pub record IsAudited (journal events : ℕ) (left : WhatThreadsLeft) (desk : Seen) : Type 0 where
   pub sound : IsSound desk
   pub counts : HasCounts journal events left desk
   pub agrees : Agrees desk.journal left.told.list (since desk.base.checkpoints left.seen left.tickets)
@@ -61,7 +61,7 @@ pub record IsAudited (journal events : ℕ) (left : Left) (desk : Seen) : Type 0
 -- What a run answers whose threads could all be made, and why: by how they ended, with the writer's end that of the rest of the replies where the
 -- session was full; by whether the board could be closed with these seats, and if not, what the cause is; and by whether its audited desk is as
 -- such ends leave it.
-pub record IsAnswered (AreOwn : Type 0) (journal events : ℕ) (left : Left) (failed : Bool) (answer : Result Status ServeFault) : Type 0 where
+pub record IsAnswered (AreOwn : Type 0) (journal events : ℕ) (left : WhatThreadsLeft) (failed : Bool) (answer : Result Status ServeFault) : Type 0 where
   pub wrote : Wrote
   pub audited : Bool
   pub settled : Bool

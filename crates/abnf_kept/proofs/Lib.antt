@@ -1,0 +1,5 @@
+pub mod BlankLaws
+pub mod PartLaws
+pub mod WalkLaws
+pub mod MoveLaws
+pub mod FollowLaws

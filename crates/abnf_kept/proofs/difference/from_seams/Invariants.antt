@@ -1,0 +1,12 @@
+use Rattle.std.proofs.Common.{◌≤◌}
+use Rattle.abnf_kept.specs.own.Parts.{IsFront}
+use Rattle.abnf_kept.proofs.difference.from_seams.Given as goal
+
+abbrev pub invariant-loop-front : goal.invariant-loop-front
+invariant-loop-front l = record {
+  front : IsFront l.ours l.theirs l.front;
+  order : l.front ≤ l.part.front;
+}
+
+abbrev pub decreases-loop-front : goal.decreases-loop-front
+decreases-loop-front l = l.front

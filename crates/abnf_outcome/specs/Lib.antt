@@ -1,0 +1,12 @@
+pub mod Holding
+pub mod Leading
+pub mod Marked
+pub mod ToldOfBlock
+pub mod Found
+pub mod Words
+pub mod Stored
+pub mod Sections
+pub mod ByTable
+pub mod HeadRoles
+pub mod Ways
+pub mod Flags

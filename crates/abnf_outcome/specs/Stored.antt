@@ -1,0 +1,27 @@
+-- Digests as they are kept: names by their numbers in a table, and gists in words.
+use Rattle.std.specs.Prelude.{◌≡◌, ℕ, ◌≤◌, Bool, List, flat_map, length, Option, Some, None, Contains, slice_range}
+use Rattle.std.specs.List.{AllZip}
+use Rattle.abnf_parts.specs.Names.{Name, rule_number}
+use Rattle.abnf_digests.specs.Digests.{Digest}
+use Rattle.abnf_outcome.specs.declared.digest.HeadNumber.{HeadNumber}
+use Rattle.abnf_outcome.specs.declared.digest.BlockDigest.{BlockDigest}
+use Rattle.abnf_outcome.specs.declared.word.Word.{Word}
+use Rattle.abnf_outcome.specs.Words.{words_of, names_in, number_in_table}
+
+-- a head by its number in the table
+abbrev pub StandsFor : List Name → Option HeadNumber → Option (Name × Bool) → Type 0
+StandsFor table None None = Unit {0}
+StandsFor table (Some number) (Some head) = (rule_number table head.0 ≡ Some number.name) × (number.adds ≡ head.1)
+StandsFor table _ _ = ⊥
+
+-- This is kept of a digest, with this table and these words.
+pub record IsStored (table : List Name) (all : List Word) (kept : BlockDigest) (digest : Digest) : Type 0 where
+  pub head : StandsFor table kept.head digest.head
+  pub order : kept.start ≤ kept.end
+  pub within : kept.end ≤ length all
+  pub words : slice_range all kept.start kept.end ≡ flat_map (words_of (number_in_table table)) digest.said
+  pub known : (name : Name) → Contains (flat_map names_in digest.said) name → (number : ℕ) × (rule_number table name ≡ Some number)
+
+-- each is kept of its digest
+abbrev pub AreStored : List Name → List Word → List BlockDigest → List Digest → Type 0
+AreStored table words kept digests = AllZip (IsStored table words) kept digests

@@ -1,0 +1,16 @@
+//! Digests of blocks, as they are kept.
+
+/// The head of a block: the number of its name in a table, and whether `=/` follows it.
+#[derive(Clone, Copy)]
+pub struct HeadNumber {
+    pub name: usize,
+    pub adds: bool,
+}
+
+/// The digest of a block: its head, if it has one, and where the words of the gists of its alternatives stand in a list of words.
+#[derive(Clone, Copy)]
+pub struct BlockDigest {
+    pub head: Option<HeadNumber>,
+    pub start: usize,
+    pub end: usize,
+}

@@ -1,0 +1,61 @@
+//! The blocks of a text, each with its fault, and the rules that they say.
+
+ghost use Rattle.std.specs.Prelude.{◌<◌, length, Result, IfOk};
+ghost use Rattle.abnf_syntax.specs.declared.fault.SyntaxFault.{SyntaxFault};
+ghost use Rattle.abnf_syntax.specs.declared.tree.Rule.{Rule};
+ghost use Rattle.abnf_names.specs.Shown.{HasFault};
+ghost use Rattle.abnf_outcome.specs.Sections.{AreOfText, SaysTheRule, SectionSays};
+
+use abnf_names::Section;
+use abnf_syntax::{Block, Rule, Spare, SyntaxFault, blocks, check_block, read_block};
+use ls_lists::List;
+use ls_text::Snapshot;
+use std::alloc::{AllocError, Global};
+
+/// The fault that a block shows, if it says no rule.
+fn fault_shown(alloc: Global, block: &Block<'_>) -> Result<Option<SyntaxFault>, AllocError>
+    requires { 0 < length block.now.items }
+    ensures { IfOk result (λ fault. HasFault block.now.items fault) }
+{
+    match check_block(alloc, block) {
+        Ok(()) => Ok(None),
+        Err(fault) => match fault {
+            SyntaxFault::Memory => Err(AllocError),
+            _ => Ok(Some(fault)),
+        },
+    }
+}
+
+/// The blocks of a text, each with its fault if it says no rule.
+pub(crate) fn sections<'t>(
+    alloc: Global,
+    snapshot: &'t Snapshot,
+) -> Result<List<Section<'t>>, AllocError>
+    ensures { IfOk result (λ sections. AreOfText snapshot.entry.now sections) }
+{
+    let blocks = blocks(alloc, snapshot)?;
+    let mut sections = Vec::with_capacity(alloc, blocks.len())?;
+    for block in blocks {
+        let fault = fault_shown(alloc, &block)?;
+        sections.push(Section { block, fault })?;
+    }
+    Ok(List::from_vec(sections))
+}
+
+/// The rule that a section's block says, if it says one. A block without items says none.
+pub(crate) fn rule_of<'t>(
+    alloc: Global,
+    spare: &mut Spare<'t>,
+    section: &Section<'t>,
+) -> Result<Option<Rule<'t>>, AllocError>
+    ensures { IfOk result (λ rule. (said : Result Rule SyntaxFault) → SectionSays section.now said → SaysTheRule said rule) }
+{
+    if section.fault.is_some() {
+        return Ok(None);
+    }
+    if section.block.items.is_empty() {
+        return Ok(None);
+    }
+    let rule = read_block(alloc, spare, &section.block)?;
+    Ok(Some(rule))
+}

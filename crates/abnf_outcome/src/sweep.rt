@@ -1,0 +1,148 @@
+//! Marks of names by sweeps over the blocks.
+//!
+//! A sweep marks the name of each block that counts and says so by the names that are marked. Where it marks none, all are marked that are
+//! to be. A sweep goes forwards, the next one backwards: names are mostly defined further down than they are used, or further up.
+
+ghost use Rattle.std.specs.Prelude.{◌≡◌, ◌-◌, ◌<◌, ℕ, true, false, length, List, IfOk, IsTrue, flat_map, if◌then◌else◌};
+ghost use Rattle.std.specs.List.{list_any};
+ghost use Rattle.abnf_parts.specs.Names.{Name};
+ghost use Rattle.abnf_parts.specs.Part.{Part};
+ghost use Rattle.abnf_productive.specs.Marks.{mark_at};
+ghost use Rattle.abnf_outcome.specs.Words.{words_of};
+ghost use Rattle.abnf_outcome.specs.Ways as spec;
+
+use crate::digest::BlockDigest;
+use crate::evaluate::{hold, is_marked};
+use crate::heads::{HeadRole, mark};
+use crate::word::Word;
+use std::alloc::AllocError;
+
+/// How often all blocks are swept both ways before they are given up.
+const ROUNDS: usize = 8;
+
+/// Which names are marked: those that hold, or those that lead to something opaque.
+#[derive(Clone, Copy)]
+pub(crate) enum Way {
+    Holding,
+    Leading,
+}
+
+/// Whether a word is opaque, or a marked name.
+fn is_leading(word: Word, marks: &[bool]) -> bool
+    ensures { result ≡ spec.is_leading_word (mark_at marks.now) word }
+{
+    match word {
+        Word::Name(number) => is_marked(marks, number),
+        Word::Opaque => true,
+        _ => false,
+    }
+}
+
+/// Whether one of these words is opaque, or a marked name.
+fn one_leads(words: &[Word], marks: &[bool]) -> bool
+    ensures { result ≡ list_any (spec.is_leading_word (mark_at marks.now)) words.now }
+{
+    words.iter().any(|word| is_leading(*word, marks))
+}
+
+/// Whether one of the gists in these words is a reason to mark a name.
+fn says(way: Way, words: &[Word], marks: &[bool], stack: &mut Vec<bool>) -> Result<bool, AllocError>
+    ensures { IfOk result (λ answer. (number : Name → ℕ) (parts : List Part) → words.now ≡ flat_map (words_of number) parts →
+        list_any (spec.says way (λ name. mark_at marks.now (number name))) parts ≡ answer) }
+{
+    match way {
+        Way::Holding => hold(words, marks, stack),
+        Way::Leading => Ok(one_leads(words, marks)),
+    }
+}
+
+/// Marks the name of a block that counts, if it isn't marked and one of the block's gists is a reason. Says whether it does.
+fn visit(
+    way: Way,
+    words: &[Word],
+    block: BlockDigest,
+    role: HeadRole,
+    marks: &mut [bool],
+    stack: &mut Vec<bool>,
+) -> Result<bool, AllocError>
+    ensures marked { IfOk result (λ any. any ≡ true → spec.IsMarkedSo way words.now marks.old block role marks.new) }
+    ensures rest { IfOk result (λ any. any ≡ false → (marks.new ≡ marks.old) × spec.IsSwept way words.now marks.old block role) }
+{
+    let Some(head) = block.head else {
+        return Ok(false);
+    };
+    if role.is_duplicate || is_marked(marks, head.name) {
+        return Ok(false);
+    }
+    let Some(gists) = words.get(block.start..block.end) else {
+        return Ok(false);
+    };
+    if !says(way, gists, marks, stack)? {
+        return Ok(false);
+    }
+    mark(marks, head.name, true);
+    Ok(true)
+}
+
+/// The place to which a sweep comes after so many others.
+fn place_of(backwards: bool, count: usize, passed: usize) -> usize
+    requires { passed < count }
+    ensures is { result ≡ (if backwards then count - 1 - passed else passed) }
+    ensures within { result < count }
+{
+    if backwards {
+        count - 1 - passed
+    } else {
+        passed
+    }
+}
+
+/// Visits all blocks, forwards or backwards. Says whether a name was marked.
+fn sweep(
+    way: Way,
+    backwards: bool,
+    words: &[Word],
+    blocks: &[BlockDigest],
+    roles: &[HeadRole],
+    marks: &mut [bool],
+    stack: &mut Vec<bool>,
+) -> Result<bool, AllocError>
+    requires { length roles.now ≡ length blocks.now }
+    ensures sound { IfOk result (λ any. (table : List Name) → spec.AreSoundByWayFor way table words.now blocks.now roles.now marks.old →
+        spec.AreSoundByWayFor way table words.now blocks.now roles.now marks.new) }
+    ensures done { IfOk result (λ any. any ≡ false → spec.AreSwept way words.now blocks.now roles.now marks.new) }
+{
+    let mut any = false;
+    for passed in 0..blocks.len() {
+        let place = place_of(backwards, blocks.len(), passed);
+        if visit(way, words, blocks[place], roles[place], marks, stack)? {
+            any = true;
+        }
+    }
+    Ok(any)
+}
+
+/// Sweeps all blocks, forwards and backwards by turns, until nothing more is marked, which it says, or until some rounds are over.
+pub(crate) fn sweep_all(
+    way: Way,
+    words: &[Word],
+    blocks: &[BlockDigest],
+    roles: &[HeadRole],
+    marks: &mut [bool],
+    stack: &mut Vec<bool>,
+) -> Result<bool, AllocError>
+    requires { length roles.now ≡ length blocks.now }
+    ensures sound { IfOk result (λ settled. (table : List Name) → spec.AreSoundByWayFor way table words.now blocks.now roles.now marks.old →
+        spec.AreSoundByWayFor way table words.now blocks.now roles.now marks.new) }
+    ensures done { IfOk result (λ settled. IsTrue settled → spec.AreSwept way words.now blocks.now roles.now marks.new) }
+{
+    for _round in 0..ROUNDS {
+        if !sweep(way, false, words, blocks, roles, marks, stack)? {
+            return Ok(true);
+        }
+        if !sweep(way, true, words, blocks, roles, marks, stack)? {
+            return Ok(true);
+        }
+    }
+    Ok(false)
+}
