@@ -30,6 +30,15 @@ FLAGS = ("--edition", "2024", "-C", "opt-level=3", "-C", "target-cpu=x86-64-v2")
 CLOSED = notice("textDocument/didClose", textDocument={"uri": "file:///g"})
 
 
+def passed_by(uri, text):
+    """A document that is opened and closed."""
+    return opened(text, uri) + notice("textDocument/didClose", textDocument={"uri": uri})
+
+
+# The program keeps what it knows of the last two texts that it diagnosed. Once these two have passed by, a text is as new to it as at first.
+OTHERS = passed_by("file:///one", 'one = "1"\n') + passed_by("file:///two", 'two = "2"\n')
+
+
 class Timed(Server):
     """A server whose processor time is read."""
 
@@ -86,7 +95,7 @@ def questions(text, end=None, line=0):
     at this place in it or in another, and a character typed behind it and erased again."""
     at = {"line": line, "character": len(text.split("\n", 1)[0]) if end is None else end}
     return {
-        "opening": (CLOSED + opened(text), 1),
+        "opening": (CLOSED + OTHERS + opened(text), 1),
         "keystroke": (typed(**at) + erased(**at), 2),
         "hover": (about(3, "hover", position=at), 1),
         "references": (about(4, "references", position=at, context={"includeDeclaration": True}), 1),

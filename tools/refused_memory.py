@@ -30,8 +30,7 @@ MOST_JOURNAL = 4
 REPLIES = (b"Findings(1)", b"Replied(1)", b"Findings(3)", b"Replied(3)")
 # How many bodies the session by steps writes, and which of them are what a job gave: findings, a hover, findings twice and a rename.
 BODIES = 7
-# (the findings of the two changed texts go over from the text before, and need no memory)
-ANSWERS = (1, 2, 6)
+ANSWERS = (1, 2, 3, 5, 6)
 
 # It writes a line where it refuses one, since the program writes none to the standard error.
 LIBRARY = r"""

@@ -5,7 +5,7 @@ use Rattle.std.specs.Prelude.{Contains}
 use Rattle.std.specs.List.{AllByRecursion, AllZip}
 use Rattle.ls_text.specs.declared.position.Place.{Place}
 use Rattle.abnf_token.specs.Classes.{Text}
-use Rattle.abnf_syntax.specs.Blocks.{line_texts}
+use Rattle.abnf_syntax.specs.Blocks.{line_texts, AreBlocksUpTo}
 use Rattle.abnf_parts.specs.Names.{Name}
 use Rattle.abnf_names.specs.Said.{Block, IsWithin, AreWithin, AreSaid}
 use Rattle.abnf_names.specs.Shown.{fault_shown}
@@ -17,7 +17,7 @@ use Rattle.abnf_digests.specs.Digests.{digest_of}
 use Rattle.abnf_digests.specs.BareItems.{AreBareItems, BareItem}
 use Rattle.abnf_digests.specs.Moved.{moved_place, moved_code, moved_finding, NoneFound}
 use Rattle.abnf_digests.specs.Quiet.{has_own_findings}
-use Rattle.abnf_digests.specs.Replaced.{AreBlocksUpTo, AreReplaced}
+use Rattle.abnf_digests.specs.Replaced.{AreReplaced}
 use Rattle.abnf_digests.specs.Roles.{FindAlike}
 use Rattle.abnf_digests.proofs.Middles.{middles_alike}
 use Rattle.abnf_digests.proofs.MovedOrder.{moved_ascend}

@@ -10,13 +10,13 @@ use Rattle.abnf_token.specs.Renamed.{Piece, piece}
 use Rattle.abnf_token.specs.Tokens.{TokensOf}
 use Rattle.abnf_token.proofs.LineLaw.{cut_tokens, one_cut}
 use Rattle.abnf_syntax.specs.declared.item.Item.{Item}
-use Rattle.abnf_syntax.specs.Blocks.{begins_at, NoneBegins, IsBlock}
+use Rattle.abnf_syntax.specs.Blocks.{begins_at, NoneBegins, IsBlock, AreBlocksUpTo}
 use Rattle.abnf_syntax.specs.Items.{with_line_end, items_behind, items_of, AreTokens, AreItems, view}
 use Rattle.abnf_syntax.specs.Kinds.{is_item}
 use Rattle.abnf_syntax.proofs.ContentLaws.{some_items}
 use Rattle.abnf_names.specs.Said.{Block, IsWithin, AreWithin}
 use Rattle.abnf_digests.specs.BareItems.{bare_text, BareItem, bare_item, bare_items_behind, line_bare_items, bare_items_from, AreBareItems}
-use Rattle.abnf_digests.specs.Replaced.{AreBlocksUpTo, AreBetween}
+use Rattle.abnf_digests.specs.Replaced.{AreBetween}
 
 abbrev Seen : Type 0
 Seen = Token × Bool

@@ -4,27 +4,27 @@ use Rattle.std.proofs.Common.{◌≡◌, ℕ, ◌+◌, ◌<◌, ◌≤◌, List,
 use Rattle.std.specs.Prelude.{slice_index_or}
 use Rattle.std.specs.List.{AllZip}
 use Rattle.abnf_token.specs.Classes.{Text}
-use Rattle.abnf_syntax.specs.Blocks.{line_texts, begins_block, begins_at, AreBlocks}
+use Rattle.abnf_syntax.specs.Blocks.{line_texts, begins_block, begins_at, AreBlocks, AreBlocksUpTo}
 use Rattle.abnf_syntax.proofs.Bare.{one_list}
 use Rattle.abnf_names.specs.Said.{Block, IsWithin, AreWithin, AreSaid}
 use Rattle.abnf_digests.specs.Digests.{digest_of}
 use Rattle.abnf_digests.specs.Moved.{moved_line}
 use Rattle.abnf_digests.specs.SameLines.{AreSameLines}
-use Rattle.abnf_digests.specs.Replaced.{AreReplaced, AreBlocksUpTo, AreBetween}
+use Rattle.abnf_digests.specs.Replaced.{AreReplaced, AreBetween}
 use Rattle.abnf_digests.proofs.MovedOrder.{stays, moves}
 use Rattle.abnf_digests.proofs.SameDigests.{same_digests}
 use Rattle.abnf_digests.proofs.Seams.{IsMoved, AreMoved, further, cut, join, before_seam, moved}
 
 -- ---- blocks of bounds that are joined
 
-record Halves (ls : List Text) (xs ys : List (ℕ × ℕ)) (blocks : List Block) : Type 0 where
-  front : List Block
-  back : List Block
-  are : blocks ≡ front ++ back
-  fronts : AreWithin ls xs front
-  backs : AreWithin ls ys back
+pub record Halves (ls : List Text) (xs ys : List (ℕ × ℕ)) (blocks : List Block) : Type 0 where
+  pub front : List Block
+  pub back : List Block
+  pub are : blocks ≡ front ++ back
+  pub fronts : AreWithin ls xs front
+  pub backs : AreWithin ls ys back
 
-halves : (ls : List Text) (xs ys : List (ℕ × ℕ)) (blocks : List Block) → AreWithin ls (xs ++ ys) blocks → Halves ls xs ys blocks
+pub halves : (ls : List Text) (xs ys : List (ℕ × ℕ)) (blocks : List Block) → AreWithin ls (xs ++ ys) blocks → Halves ls xs ys blocks
 halves ls [] ys blocks h = record { front = []; back = blocks; are = refl; fronts = tt; backs = h }
 halves ls (x ∷ xs) ys [] h = absurd h
 halves ls (x ∷ xs) ys (block ∷ blocks) h =
@@ -55,7 +55,7 @@ module _ (ls others : List Text) (front old new : ℕ) where
   carried_digests (block ∷ blocks) [] h = absurd h
   carried_digests (block ∷ blocks) (other ∷ fresh) h = (λ i. carried_digest block other h.0 i ∷ carried_digests blocks fresh h.1 i)
 
-  carried_before : ((n : ℕ) → n < front → slice_index_or ls n [] ≡ slice_index_or others n []) → (from : ℕ) (bs : List (ℕ × ℕ)) → AreBlocksUpTo ls from front bs
+  pub carried_before : ((n : ℕ) → n < front → slice_index_or ls n [] ≡ slice_index_or others n []) → (from : ℕ) (bs : List (ℕ × ℕ)) → AreBlocksUpTo ls from front bs
       → (blocks fresh : List Block) → AreWithin ls bs blocks → AreWithin others bs fresh → AreCarried blocks fresh
   carried_before same from [] h [] [] p q = tt
   carried_before same from [] h [] (c ∷ fresh) p q = absurd q
@@ -70,7 +70,7 @@ module _ (ls others : List Text) (front old new : ℕ) where
       let one : IsCarried ls others front old new block other = record { bounds = b; there = b; same = lines; lines = at; within = p.0; other_within = q.0 } in
       (one, carried_before same b.1 bs h.4 blocks fresh p.1 q.1)
 
-  moved_lines : ((n : ℕ) → slice_index_or ls (old + n) [] ≡ slice_index_or others (new + n) []) → (b c : ℕ × ℕ) → IsMoved old new b c → AreSameLines ls others b c
+  pub moved_lines : ((n : ℕ) → slice_index_or ls (old + n) [] ≡ slice_index_or others (new + n) []) → (b c : ℕ × ℕ) → IsMoved old new b c → AreSameLines ls others b c
   moved_lines same b c m =
       let k = further old b.0 m.0 in
       record {
@@ -81,7 +81,7 @@ module _ (ls others : List Text) (front old new : ℕ) where
             ap (λ x. slice_index_or ls x []) here ∙ (same (k.0 + n) ∙ ap (λ x. slice_index_or others x []) there);
       }
 
-  carried_behind : front ≤ old → ((n : ℕ) → slice_index_or ls (old + n) [] ≡ slice_index_or others (new + n) []) → (bs cs : List (ℕ × ℕ)) → AreMoved old new bs cs
+  pub carried_behind : front ≤ old → ((n : ℕ) → slice_index_or ls (old + n) [] ≡ slice_index_or others (new + n) []) → (bs cs : List (ℕ × ℕ)) → AreMoved old new bs cs
       → (blocks fresh : List Block) → AreWithin ls bs blocks → AreWithin others cs fresh → AreCarried blocks fresh
   carried_behind order same [] [] m [] [] p q = tt
   carried_behind order same [] [] m [] (c ∷ fresh) p q = absurd q
@@ -121,10 +121,10 @@ rest_parted : (all front rest come last : List Block) → all ≡ front ++ rest 
 rest_parted all front rest come last e f = e ∙ ap (λ l. front ++ l) f
 
 module _ (ls others : List Text) (front old new : ℕ) (r : AreReplaced ls others front old new) where
-  begins_before : (n : ℕ) → n < front → begins_at ls n ≡ begins_at others n
+  pub begins_before : (n : ℕ) → n < front → begins_at ls n ≡ begins_at others n
   begins_before n less = (λ i. begins_block (r.base i) (r.before n less i))
 
-  begins_behind : (n : ℕ) → begins_at ls (old + n) ≡ begins_at others (new + n)
+  pub begins_behind : (n : ℕ) → begins_at ls (old + n) ≡ begins_at others (new + n)
   begins_behind n = (λ i. begins_block (r.base i) (r.behind n i))
 
   parted : (bs cs : List (ℕ × ℕ)) (blocks fresh : List Block) → AreBlocks ls 0 bs → AreBlocks others 0 cs → AreWithin ls bs blocks → AreWithin others cs fresh

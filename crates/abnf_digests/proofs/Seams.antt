@@ -2,9 +2,8 @@
 use Rattle.std.proofs.Common.{◌≡◌, ℕ, zero, suc, ◌+◌, ◌<◌, ◌≤◌, List, [], ◌∷◌, ◌++◌, length, refl, sym, ap, ◌∙◌, arith, inl, inr}
 use Rattle.std.proofs.lemmas.Bool.{cases_lt}
 use Rattle.abnf_token.specs.Classes.{Text}
-use Rattle.abnf_syntax.specs.Blocks.{begins_at, NoneBegins, IsBlock, AreBlocks}
+use Rattle.abnf_syntax.specs.Blocks.{begins_at, NoneBegins, IsBlock, AreBlocks, IsSeam, AreBlocksUpTo}
 use Rattle.abnf_parts.proofs.NameLaws.{never}
-use Rattle.abnf_digests.specs.Replaced.{IsSeam, AreBlocksUpTo}
 
 part_none : (ls : List Text) (from to at end : ℕ) → from ≤ at → end ≤ to → NoneBegins ls from to → NoneBegins ls at end
 part_none ls from to at end more less none n a b = none n (omega (arith, more, a)) (omega (arith, less, b))

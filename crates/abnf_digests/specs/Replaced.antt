@@ -1,14 +1,9 @@
 -- A text of which a part is replaced by other lines, and what is kept of its blocks.
-use Rattle.std.specs.Prelude.{◌≡◌, ℕ, ◌+◌, ◌<◌, ◌≤◌, true, List, [], ◌∷◌, ◌++◌, map, length, slice_index_or}
+use Rattle.std.specs.Prelude.{◌≡◌, ℕ, ◌+◌, ◌<◌, ◌≤◌, List, [], ◌++◌, map, length, slice_index_or}
 use Rattle.abnf_token.specs.Classes.{Text}
-use Rattle.abnf_syntax.specs.Blocks.{base_indent, begins_at, NoneBegins, IsBlock}
+use Rattle.abnf_syntax.specs.Blocks.{base_indent, IsSeam, AreBlocksUpTo}
 use Rattle.abnf_names.specs.Said.{Block, AreWithin}
 use Rattle.abnf_digests.specs.Digests.{digest_of}
-
--- No block goes over this place: the line there begins a block, unless it is the first, or there is none.
-pub record IsSeam (ls : List Text) (at : ℕ) : Type 0 where
-  pub within : at ≤ length ls
-  pub begins : 0 < at → at < length ls → begins_at ls at ≡ true
 
 -- The lines before `front` are the same, and those of the first text from `old` on are those of the other one from `new` on.
 pub record AreReplaced (ls others : List Text) (front old new : ℕ) : Type 0 where
@@ -19,11 +14,6 @@ pub record AreReplaced (ls others : List Text) (front old new : ℕ) : Type 0 wh
   pub order : (front ≤ old) × (front ≤ new)
   pub fronts : IsSeam ls front × IsSeam others front
   pub backs : IsSeam ls old × IsSeam others new
-
--- These are the first lines and ends of the blocks from a line up to a seam.
-abbrev pub AreBlocksUpTo : List Text → ℕ → ℕ → List (ℕ × ℕ) → Type 0
-AreBlocksUpTo ls from to [] = NoneBegins ls from to
-AreBlocksUpTo ls from to (b ∷ bs) = (from ≤ b.0) × NoneBegins ls from b.0 × IsBlock ls b.0 b.1 × (b.1 ≤ to) × AreBlocksUpTo ls b.1 to bs
 
 -- these are the blocks of a text's lines from one seam up to another
 pub record AreBetween (ls : List Text) (from to : ℕ) (blocks : List Block) : Type 0 where

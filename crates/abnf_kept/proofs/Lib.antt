@@ -1,5 +1,9 @@
-pub mod BlankLaws
 pub mod PartLaws
 pub mod WalkLaws
 pub mod MoveLaws
 pub mod FollowLaws
+pub mod SameBlocks
+pub mod KeptLists
+pub mod FollowedBlocks
+pub mod ReadLaws
+pub mod FindLaws

@@ -1,10 +1,40 @@
 -- Parts in which two texts differ.
-use Rattle.std.proofs.Common.{◌≡◌, ℕ, zero, suc, ◌+◌, ◌-◌, ◌<◌, ◌≤◌, List, [], length, sym, ap, ◌∙◌, arith, inl, inr, ◌⊎◌}
+use Rattle.std.proofs.Common.{◌≡◌, ℕ, zero, suc, ◌+◌, ◌-◌, ◌<◌, ◌≤◌, List, [], length, take, drop, get_or, sym, ap, subst, ◌∙◌, arith, inl, inr, ◌⊎◌}
+use Rattle.std.proofs.lemmas.List.{get_or-take, get_or-drop}
 use Rattle.std.specs.Prelude.{slice_index_or}
 use Rattle.std.proofs.lemmas.Bool.{cases_lt}
 use Rattle.abnf_token.specs.Classes.{Text}
-use Rattle.abnf_digests.specs.Replaced.{IsSeam}
-use Rattle.abnf_kept.specs.own.Parts.{IsBack}
+use Rattle.abnf_syntax.specs.Blocks.{IsSeam}
+use Rattle.abnf_kept.specs.own.Parts.{IsFront, IsBack}
+
+-- the lines that both texts have alike, as lists
+pub front_is : (ls others : List Text) (front : ℕ) → front ≤ length ls → front ≤ length others → take front ls ≡ take front others → IsFront ls others front
+front_is ls others front ours theirs e = record {
+  within = (ours, theirs);
+  same = λ n less. sym (get_or-take front ls n [] less) ∙ (ap (λ xs. get_or xs n []) e ∙ get_or-take front others n [] less);
+}
+
+pub back_is : (ls others : List Text) (back : ℕ) → back ≤ length ls → back ≤ length others
+    → drop (length ls - back) ls ≡ drop (length others - back) others → IsBack ls others (length ls - back) (length others - back)
+back_is ls others back ours theirs e = record {
+  within = (omega arith, omega arith);
+  same = λ n. sym (get_or-drop (length ls - back) ls n []) ∙ (ap (λ xs. get_or xs n []) e ∙ get_or-drop (length others - back) others n []);
+  count = omega (arith, ours, theirs);
+}
+
+-- one line more behind those that are the same
+pub front_more : (ls others : List Text) (front : ℕ) → front < length ls → front < length others → slice_index_or ls front [] ≡ slice_index_or others front []
+    → IsFront ls others front → IsFront ls others (front + 1)
+front_more ls others front ours theirs e h = record {
+  within = (omega (arith, ours), omega (arith, theirs));
+  same = λ n less.
+      elim (cases_lt n front) [
+        | inl before ↦ h.same n before
+        | inr more ↦
+            let is : front ≡ n = omega (arith, more, less) in
+            subst (λ k. slice_index_or ls k [] ≡ slice_index_or others k []) is e
+      ];
+}
 
 -- one line more before those that are the same
 pub back_more : (ls others : List Text) (old new : ℕ) → 0 < old → 0 < new → slice_index_or ls (old - 1) [] ≡ slice_index_or others (new - 1) []

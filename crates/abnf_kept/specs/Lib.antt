@@ -1,2 +1,3 @@
 pub mod own
 pub mod Known
+pub mod Recent

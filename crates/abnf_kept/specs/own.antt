@@ -1,6 +1,5 @@
 -- What this crate says for itself alone: no public contract names it, neither by itself nor through what it names.
-pub mod Blanks
 pub mod Parts
 pub mod Walks
 pub mod Moves
-pub mod Follows
+pub mod Reads

@@ -1,10 +1,11 @@
 //! The part in which two texts differ.
 
 ghost use Rattle.std.specs.Prelude.{◌≤◌, ◌<◌, ◌^◌, ◌↔◌, IfSome, IsTrue, length};
-ghost use Rattle.abnf_digests.specs.Replaced.{AreReplaced, IsSeam};
+ghost use Rattle.abnf_syntax.specs.Blocks.{IsSeam};
+ghost use Rattle.abnf_digests.specs.Replaced.{AreReplaced};
 ghost use Rattle.abnf_kept.specs.own.Parts as spec;
 
-use crate::sheet::Sheet;
+use abnf_syntax::Sheet;
 
 /// Lines of a text, and those that stand in their place in another one.
 #[derive(Clone, Copy)]
@@ -21,13 +22,12 @@ pub struct Difference {
 fn same_front(ours: &Sheet, theirs: &Sheet) -> usize
     ensures { spec.IsFront ours.now theirs.now result }
 {
-    let count = ours.count().min(theirs.count());
-    for at in 0..count {
-        if ours.line(at) != theirs.line(at) {
-            return at;
-        }
+    let most = ours.count().min(theirs.count());
+    let mut front = ours.same_front(theirs);
+    while front < most && ours.line(front) == theirs.line(front) {
+        front += 1;
     }
-    count
+    front
 }
 
 /// The part behind these lines at the front, up to lines that are the same to the end.
@@ -35,8 +35,10 @@ fn up_to_back(ours: &Sheet, theirs: &Sheet, front: usize) -> Difference
     requires { spec.IsFront ours.now theirs.now front }
     ensures { spec.IsPart ours.now theirs.now result }
 {
-    let mut old = ours.count();
-    let mut new = theirs.count();
+    let most = ours.count().min(theirs.count()) - front;
+    let back = ours.same_back(theirs, most);
+    let mut old = ours.count() - back;
+    let mut new = theirs.count() - back;
     while old > front && new > front && ours.line(old - 1) == theirs.line(new - 1) {
         old -= 1;
         new -= 1;

@@ -1,15 +1,18 @@
-//! What is kept of the text that was diagnosed last: the text, and what was found in it.
+//! What is kept of the text that was diagnosed last: the text, what was found in it, and the digests of its blocks.
 //!
-//! Where another text differs from it in a part in which nothing was found, and whose lines say the same of blocks before and after (they
-//! differ in layout, comments, the case of names, quoted texts and prose alone), what is found in the other text is what was found, moved
-//! with its lines. [`Diagnosed::follow`] goes over to such a text, without memory, and without a look at any rule.
+//! [`Diagnosed::followed`] goes over to another text, which differs from it in a part. Where nothing was found in the part, and its lines
+//! say the same of blocks before and after (they differ in layout, comments, the case of names, quoted texts and prose alone), what is
+//! found in the other text is what was found, moved with its lines, without a look at any rule. Else the part's blocks are read, and
+//! beside them only those in which something may be found, as the digests of all blocks say.
 #![tactic(auto)]
 
+mod blocks;
 mod diagnosed;
 mod difference;
 mod line_item;
 mod moved;
-mod sheet;
+mod recent;
 mod walk;
 
 pub use diagnosed::Diagnosed;
+pub use recent::Recent;

@@ -2,11 +2,10 @@
 
 ghost use Rattle.std.specs.Prelude.{◌≡◌, IsTrue, false, not, slice_range};
 ghost use Rattle.abnf_token.specs.Marks.{IsMarkOf};
-ghost use Rattle.abnf_syntax.specs.Kinds as kinds;
 ghost use Rattle.abnf_digests.specs.BareItems.{bare_text};
 ghost use Rattle.abnf_kept.specs.own.Walks as spec;
 
-use crate::sheet::Row;
+use abnf_syntax::Row;
 use abnf_token::{Folded, Kind, TokenMark, token_at};
 
 /// What the next item says besides its token, by what stands before it.
@@ -24,13 +23,6 @@ pub struct LineItem<'s> {
     pub stand: Stand,
     pub kind: Kind,
     pub text: &'s str,
-}
-
-/// Whether tokens of a kind are items.
-pub fn is_item(kind: Kind) -> bool
-    ensures { result ≡ kinds.is_item kind }
-{
-    !matches!(kind, Kind::Comment | Kind::Blank)
 }
 
 impl Stand {
@@ -62,18 +54,16 @@ impl Stand {
     }
 }
 
-impl<'s> Row<'s> {
-    /// The item with one of the line's marks.
-    pub fn item(&self, stand: Stand, mark: &TokenMark) -> LineItem<'s>
-        requires { IsMarkOf self.now.text.now mark.now }
-        ensures { spec.bare_item_of result ≡ spec.bare_item_at self.now.text.now stand mark.now }
-    {
-        let token = token_at(self.text, 0, mark);
-        LineItem {
-            stand,
-            kind: token.kind,
-            text: token.text,
-        }
+/// The item with one of a line's marks.
+pub fn item_at<'s>(row: &Row<'s>, stand: Stand, mark: &TokenMark) -> LineItem<'s>
+    requires { IsMarkOf row.now.text.now mark.now }
+    ensures { spec.bare_item_of result ≡ spec.bare_item_at row.now.text.now stand mark.now }
+{
+    let token = token_at(row.text, 0, mark);
+    LineItem {
+        stand,
+        kind: token.kind,
+        text: token.text,
     }
 }
 

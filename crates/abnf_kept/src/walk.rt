@@ -6,8 +6,8 @@ ghost use Rattle.abnf_digests.specs.BareItems.{BareItem, AreBareItems};
 ghost use Rattle.abnf_kept.specs.own.Walks as spec;
 
 use crate::difference::Difference;
-use crate::line_item::{LineItem, Stand, are_alike, is_item};
-use crate::sheet::{Row, Sheet};
+use crate::line_item::{LineItem, Stand, are_alike, item_at};
+use abnf_syntax::{Row, Sheet, is_item};
 
 /// A walk over the items of some lines.
 #[derive(Drop)]
@@ -57,7 +57,7 @@ impl<'w, 's> Walk<'w, 's> {
             let mark = &marks[self.next];
             self.next += 1;
             if is_item(mark.kind) {
-                let item = self.row.item(self.stand, mark);
+                let item = item_at(&self.row, self.stand, mark);
                 self.stand = Stand::behind_item();
                 return Some(item);
             }
@@ -119,7 +119,7 @@ impl<'w, 's> Walk<'w, 's> {
         let mut stand = Stand::at_line(begins);
         for mark in row.marks {
             if is_item(mark.kind) {
-                if !self.follows(&row.item(stand, mark)) {
+                if !self.follows(&item_at(row, stand, mark)) {
                     return false;
                 }
                 stand = Stand::behind_item();

@@ -128,10 +128,10 @@ block_run ls first end items h =
 
 -- ---- places
 
-abbrev name_point : Named → Point
+abbrev pub name_point : Named → Point
 name_point n = (n.place.line, n.place.start)
 
-abbrev name_points : List Named → List Point
+abbrev pub name_points : List Named → List Point
 name_points ns = map name_point ns
 
 if_run : (b : Bool) (p q : Point) (n : Named) (rest : List Named) → Run p (name_point n ∷ name_points rest) q → Run p (name_points ((if b then n ∷ [] else []) ++ rest)) q
@@ -150,7 +150,7 @@ uses_run before p q [] h = h
 uses_run before p q (item ∷ items) h =
     unless_run (is_touched before item) p q item (uses_after (kind_of item) items) (h.0, uses_run (kind_of item) (behind (item_point item)) q items h.1)
 
-places_run : (p q : Point) (items : List Item) → Run p (map item_point items) q → Run p (name_points (places_in items)) q
+pub places_run : (p q : Point) (items : List Item) → Run p (map item_point items) q → Run p (name_points (places_in items)) q
 places_run p q [] h = h
 places_run p q (item ∷ items) h =
     named_run (is_some (head_of (item ∷ items))) p q item (uses_after (kind_of item) items) (h.0, uses_run (kind_of item) (behind (item_point item)) q items h.1)

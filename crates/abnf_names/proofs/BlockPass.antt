@@ -12,8 +12,9 @@ use Rattle.abnf_names.specs.declared.section.Section.{Section}
 use Rattle.abnf_names.specs.Said.{IsWithin, AreWithin}
 use Rattle.abnf_names.specs.Said as said
 use Rattle.abnf_names.specs.Excerpts.{excerpt, excerpt_of}
-use Rattle.abnf_names.specs.own.Passes.{AreSections}
+use Rattle.abnf_names.specs.Sections.{AreSections}
 use Rattle.abnf_names.specs.Shown.{HasFault}
+use Rattle.abnf_names.proofs.SectionPass.{found_again}
 
 pub record IsPassed (text : List ℕ) (done rest : List Block) (sections : List Section) : Type 0 where
   pub all : AreBlocks (line_texts text) 0 (map bounds (done ++ rest))
@@ -41,8 +42,10 @@ passed_all text done rest sections now h none same = record {
 }
 
 pub passed_more : (text : List ℕ) (done : List Block) (b : Block) (rest : List Block) (sections now : List Section) (section : Section) →
-    IsPassed text done (b ∷ rest) sections → section.block ≡ b → HasFault b.items section.fault → now ≡ sections ++ section ∷ [] → IsPassed text (done ++ b ∷ []) rest now
-passed_more text done b rest sections now section h is shows e =
+    IsPassed text done (b ∷ rest) sections → section.block ≡ b → now ≡ sections ++ section ∷ [] → IsPassed text (done ++ b ∷ []) rest now
+passed_more text done b rest sections now section h is e =
+    let shows : HasFault b.items section.fault =
+    found_again b.items section.fault (All-head (λ x. 0 < length x.items) b rest h.some) (subst (λ (x : Block). ∥ HasFault x.items section.fault ∥₁) is section.says) in
     let block : said.Block = record { items = b.items; said = shows.said } in
     record {
       all = subst (λ bs. AreBlocks (line_texts text) 0 (map bounds bs)) (sym (append_assoc done (b ∷ []) rest)) h.all;

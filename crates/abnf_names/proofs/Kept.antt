@@ -15,7 +15,8 @@ use Rattle.abnf_names.specs.Places.{Named, named_at, places_of}
 use Rattle.abnf_parts.specs.Nodes.{trees_at, AreNumbered}
 use Rattle.abnf_parts.specs.Reach.{AreReaching}
 use Rattle.abnf_names.specs.Rules.{defined, needed, undefined, names_of, rules_of, faults_of, Grammar}
-use Rattle.abnf_names.specs.own.Passes.{stated, AreDefined, AreGrouped, AreNamesOfText, AreNames, AreRead, AreRules, AreSections, Grouped}
+use Rattle.abnf_names.specs.Sections.{AreSections}
+use Rattle.abnf_names.specs.own.Passes.{stated, AreDefined, AreGrouped, AreNamesOfText, AreNames, AreRead, AreRules, Grouped}
 use Rattle.abnf_names.specs.declared.own.NamesOfText.{NamesOfText}
 use Rattle.abnf_names.specs.declared.section.Section.{Section}
 use Rattle.abnf_token.specs.Classes.{Text}

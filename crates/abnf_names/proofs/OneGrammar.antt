@@ -108,7 +108,7 @@ uses_bare : (before : Kind) (xs : List Item) → uses_after before (map bare xs)
 uses_bare before [] = refl
 uses_bare before (x ∷ xs) = ap (λ l. use_after before x ++ l) (uses_bare (kind_of x) xs)
 
-places_bare : (xs : List Item) → places_in (map bare xs) ≡ places_in xs
+pub places_bare : (xs : List Item) → places_in (map bare xs) ≡ places_in xs
 places_bare [] = refl
 places_bare (x ∷ xs) = (λ i. named ((ap is_some (head_bare (x ∷ xs)) ∙ some_by (head_of (x ∷ xs))) i) x ++ uses_bare (kind_of x) xs i)
 

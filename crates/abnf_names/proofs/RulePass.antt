@@ -17,7 +17,8 @@ use Rattle.abnf_names.specs.Rules.{alternatives_said, counted, adds, defines, na
 use Rattle.abnf_parts.specs.CoreTable.{core_of, number_in}
 use Rattle.abnf_parts.specs.declared.core_rule.Core.{Core}
 use Rattle.abnf_parts.proofs.ApartLaws.{map_both}
-use Rattle.abnf_names.specs.own.Passes.{alternatives_of, counted_among, definition_of, Definition, defines_name, is_addition, is_adding, IsSaidBy, IsToldDefinition, members_in, tree_of, AllTold, AreBeside, AreDefined, AreNames, AreTold}
+use Rattle.abnf_names.specs.Sections.{IsSaidBy}
+use Rattle.abnf_names.specs.own.Passes.{alternatives_of, counted_among, definition_of, Definition, defines_name, is_addition, is_adding, IsToldDefinition, members_in, tree_of, AllTold, AreBeside, AreDefined, AreNames, AreTold}
 use Rattle.abnf_names.specs.Excerpts.{Excerpt, excerpt, excerpt_of}
 use Rattle.abnf_names.proofs.OwnPass.{grouped_defined}
 use Rattle.abnf_syntax.proofs.Cons.{cons_same}

@@ -10,8 +10,7 @@ use Rattle.std.specs.Prelude.{find, if◌then◌else◌}
 use Rattle.std.specs.Option.{option_or}
 use Rattle.ls_text.specs.declared.position.Place.{Place}
 use Rattle.abnf_names.specs.declared.place.Spot.{Spot}
-use Rattle.abnf_names.specs.Places.{Named, named_at, name_place, places_among, holds, ends_at, found_at, at_offset, place_and_text}
-use Rattle.abnf_names.specs.own.Passes.{spot_at}
+use Rattle.abnf_names.specs.Places.{Named, named_at, name_place, places_among, holds, ends_at, found_at, at_offset, place_and_text, spot_at}
 
 find_map : (test : Named → Bool) (spots : List Spot) → option_map named_at (find (λ spot. test (named_at spot)) spots) ≡ find test (map named_at spots)
 find_map test [] = refl

@@ -3,4 +3,5 @@ pub mod Shown
 pub mod Places
 pub mod Rules
 pub mod Excerpts
+pub mod Sections
 pub mod own

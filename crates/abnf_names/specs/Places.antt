@@ -73,7 +73,11 @@ ends_at at n = nat_eq n.place.line at.line && nat_eq n.place.end at.start
 abbrev pub found_at : Place → List Named → Option Named
 found_at at places = option_or (find (holds at) places) (find (ends_at at) places)
 
--- the same at an offset, which counts characters of the text
+-- the same among spots
+abbrev pub spot_at : Place → List Spot → Option Spot
+spot_at at spots = option_or (find (λ spot. holds at (named_at spot)) spots) (find (λ spot. ends_at at (named_at spot)) spots)
+
+-- the name that is found at an offset, which counts characters of the text
 abbrev pub at_offset : List ℕ → List Named → ℕ → Option Named
 at_offset text places offset = found_at (place_at text offset) places
 

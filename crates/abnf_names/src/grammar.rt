@@ -34,7 +34,6 @@ use std::marker::Model;
 ///
 /// Nodes are numbered from 0 too: rule after rule, each node before its parts, parts from left to right. The root of a rule is an
 /// `Alt`. Elsewhere a concatenation or a bracketed alternation of one part is that part, and `[e]` is a `Rep` of 0 to 1.
-#[derive(Drop)]
 pub struct Grammar<'t> {
     source: &'t Snapshot,
     nodes: Vec<Node<'t>>,
@@ -44,6 +43,22 @@ pub struct Grammar<'t> {
     faults: List<(Place, SyntaxFault)>,
     opaque: Vec<bool>,
     sections: List<Section<'t>>,
+}
+
+// Not derived, so that what lets one go is proved without its fields.
+impl Drop for Grammar<'_> {
+    fn drop(self) {
+        let Grammar {
+            source: _,
+            nodes: _,
+            roots: _,
+            names: _,
+            spots: _,
+            faults: _,
+            opaque: _,
+            sections: _,
+        } = self;
+    }
 }
 
 impl<'t> Model for Grammar<'t> {

@@ -2,7 +2,7 @@
 //!
 //! [`Grammar::of`] reads a text. Contracts see a grammar as its text, the names and trees of its rules, the places of names and the
 //! faults of blocks, all of which are functions of the text's blocks; the code has numbered nodes and hashed names, so that no call
-//! looks through all names. [`Places::of`] reads the places alone. A text has at most one grammar ([`grammars_are_unique`]).
+//! looks through all names. [`push_places`] reads the places of one block alone. A text has at most one grammar ([`grammars_are_unique`]).
 #![tactic(auto)]
 
 mod grammar;
@@ -10,7 +10,6 @@ mod groups;
 mod laws;
 mod own;
 mod place;
-mod places;
 mod range;
 mod reach;
 mod rules;
@@ -20,6 +19,6 @@ mod sections;
 pub use abnf_parts::{Node, NodeNo, RuleNo};
 pub use grammar::Grammar;
 pub use laws::{grammars_are_unique, grammars_exist, places_ascend};
-pub use place::{NamePlace, PlacesOfName, Spot, is_touched};
-pub use places::Places;
+pub use place::{NamePlace, PlacesOfName, Spot, found_at, is_touched, push_places};
 pub use section::Section;
+pub use sections::{rule_of, section_of, sections_of};

@@ -2,7 +2,6 @@
 
 ghost use Rattle.std.specs.Prelude.{◌≡◌, ◌++◌, ◌∷◌, [], drop, map, flat_map, find, option_map, IfOk, MatchOption, OnOk};
 ghost use Rattle.abnf_names.specs.Places as places;
-ghost use Rattle.abnf_names.specs.own.Passes as spec;
 ghost use Rattle.abnf_parts.specs.Names.{folded_text};
 
 use crate::section::Section;
@@ -69,11 +68,12 @@ fn push_use<'t>(spots: &mut List<Spot<'t>>, before: Kind, item: Item<'t>) -> Res
     }
 }
 
-/// Adds the places in a block.
-pub(crate) fn push_places<'t>(
-    spots: &mut List<Spot<'t>>,
-    block: &Block<'t>,
-) -> Result<(), AllocError>
+/// Adds the places of names in a block, which may be faulty, in its order.
+///
+/// # Errors
+///
+/// Where an allocation is refused.
+pub fn push_places<'t>(spots: &mut List<Spot<'t>>, block: &Block<'t>) -> Result<(), AllocError>
     ensures { OnOk result (map places.named_at spots.new ≡ map places.named_at spots.old ++ places.places_in block.now.items) }
 {
     let Some((first, rest)) = block.items.as_slice().split_first() else {
@@ -196,9 +196,9 @@ fn first_ending<'s, 't>(spots: &'s [Spot<'t>], at: Place) -> Option<&'s Spot<'t>
     spots.iter().find(|spot| ends_at(spot, at))
 }
 
-/// The first spot that holds what stands behind a point, else the first that ends there.
-pub(crate) fn found_at<'s, 't>(spots: &'s [Spot<'t>], at: Place) -> Option<&'s Spot<'t>>
-    ensures { option_map (λ spot. spot.now) result ≡ spec.spot_at at spots.now }
+/// The first spot that holds what stands behind a point, which is an empty place, else the first that ends there.
+pub fn found_at<'s, 't>(spots: &'s [Spot<'t>], at: Place) -> Option<&'s Spot<'t>>
+    ensures { option_map (λ spot. spot.now) result ≡ places.spot_at at spots.now }
 {
     match first_holding(spots, at) {
         Some(spot) => Some(spot),

@@ -8,6 +8,7 @@ ghost use Rattle.abnf_parts.specs.Tree.{parts};
 ghost use Rattle.abnf_parts.specs.Names.{all_names, rule_number};
 ghost use Rattle.abnf_names.specs.Said as said;
 ghost use Rattle.abnf_names.specs.Rules as rules;
+ghost use Rattle.abnf_names.specs.Sections.{IsSaidBy, alternatives_known};
 ghost use Rattle.abnf_names.specs.own.Passes as spec;
 ghost use Rattle.abnf_parts.specs.CoreTable as table;
 ghost use Rattle.abnf_parts.specs.Pushed.{AddsNodes, AddsTrees};
@@ -29,7 +30,7 @@ fn push_known<'t>(
     nodes: &mut Vec<Node<'t>>,
     numbers: &mut List<NodeNo>,
 ) -> Result<(), AllocError>
-    ensures alternatives { OnOk result (AddsTrees (spec.alternatives_known (rule_number (all_names names.now)) rule.now) nodes.old.items nodes.new.items numbers.old numbers.new) }
+    ensures alternatives { OnOk result (AddsTrees (alternatives_known (rule_number (all_names names.now)) rule.now) nodes.old.items nodes.new.items numbers.old numbers.new) }
     ensures kept { OnOk result (length nodes.old.items ≤ length nodes.new.items) }
 {
     match rule {
@@ -58,7 +59,7 @@ fn push_alternatives<'t>(
     nodes: &mut Vec<Node<'t>>,
     numbers: &mut List<NodeNo>,
 ) -> Result<(), AllocError>
-    ensures alternatives { OnOk result ((tells : Result Rule SyntaxFault) → spec.IsSaidBy section.now tells
+    ensures alternatives { OnOk result ((tells : Result Rule SyntaxFault) → IsSaidBy section.now tells
         → AddsTrees (rules.alternatives_said (rule_number (all_names names.now)) tells) nodes.old.items nodes.new.items numbers.old numbers.new) }
     ensures kept { OnOk result (length nodes.old.items ≤ length nodes.new.items) }
 {
@@ -80,7 +81,7 @@ fn push_if<'t>(
     nodes: &mut Vec<Node<'t>>,
     numbers: &mut List<NodeNo>,
 ) -> Result<(), AllocError>
-    ensures alternatives { OnOk result ((tells : Result Rule SyntaxFault) → spec.IsSaidBy section.now tells
+    ensures alternatives { OnOk result ((tells : Result Rule SyntaxFault) → IsSaidBy section.now tells
         → AddsTrees (if counts then rules.alternatives_said (rule_number (all_names names.now)) tells else []) nodes.old.items nodes.new.items numbers.old numbers.new) }
     ensures kept { OnOk result (length nodes.old.items ≤ length nodes.new.items) }
 {

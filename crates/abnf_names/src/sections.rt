@@ -1,9 +1,9 @@
 //! The sections of a text, and the rules that they say.
 
-ghost use Rattle.std.specs.Prelude.{◌≡◌, ◌<◌, ℕ, length, Option, Result, IfOk};
+ghost use Rattle.std.specs.Prelude.{◌≡◌, ◌<◌, length, Option, Result, IfOk};
 ghost use Rattle.abnf_syntax.specs.declared.fault.SyntaxFault.{SyntaxFault};
 ghost use Rattle.abnf_syntax.specs.declared.tree.Rule.{Rule};
-ghost use Rattle.abnf_names.specs.own.Passes as spec;
+ghost use Rattle.abnf_names.specs.Sections.{AreAlike, AreSections, IsSaidBy};
 ghost use Rattle.abnf_names.specs.Shown.{HasFault};
 
 use crate::section::Section;
@@ -26,30 +26,50 @@ fn fault_shown(alloc: Global, block: &Block<'_>) -> Result<Option<SyntaxFault>, 
     }
 }
 
+/// A block with its fault, if it says no rule.
+///
+/// # Errors
+///
+/// Where an allocation is refused.
+pub fn section_of<'t>(alloc: Global, block: Block<'t>) -> Result<Section<'t>, AllocError>
+    requires { 0 < length block.items }
+    ensures { IfOk result (λ section. section.block ≡ block.entry) }
+{
+    let fault = fault_shown(alloc, &block)?;
+    Ok(Section { block, fault })
+}
+
 /// The blocks of a text, each with its fault if it says no rule.
-pub(crate) fn sections_of<'t>(
+///
+/// # Errors
+///
+/// Where an allocation is refused.
+pub fn sections_of<'t>(
     alloc: Global,
     snapshot: &'t Snapshot,
 ) -> Result<List<Section<'t>>, AllocError>
-    ensures { IfOk result (λ sections. spec.AreSections snapshot.entry.now sections) }
+    ensures { IfOk result (λ sections. AreSections snapshot.entry.now sections) }
 {
     let blocks = blocks(alloc, snapshot)?;
     let mut sections = Vec::with_capacity(alloc, blocks.len())?;
     for block in blocks {
-        let fault = fault_shown(alloc, &block)?;
-        sections.push(Section { block, fault })?;
+        sections.push(section_of(alloc, block)?)?;
     }
     Ok(List::from_vec(sections))
 }
 
 /// The rule that the block of a section says, if it says one; a block without items says none.
-pub(crate) fn rule_of<'t>(
+///
+/// # Errors
+///
+/// Where an allocation is refused.
+pub fn rule_of<'t>(
     alloc: Global,
     spare: &mut Spare<'t>,
     section: &Section<'t>,
 ) -> Result<Option<Rule<'t>>, AllocError>
-    ensures { IfOk result (λ rule. (said : Result Rule SyntaxFault) → spec.IsSaidBy section.now said
-        → spec.AreAlike said rule) }
+    ensures { IfOk result (λ rule. (said : Result Rule SyntaxFault) → IsSaidBy section.now said
+        → AreAlike said rule) }
 {
     if section.fault.is_some() {
         return Ok(None);

@@ -1,49 +1,29 @@
--- What is told by flags and marks beside a table, and what is found by it.
-use Rattle.std.proofs.Common.{◌≡◌, ◌∙◌, ℕ, suc, ◌≤◌, Bool, false, Option, Some, List, [], ◌∷◌, ◌++◌, length, map, take, drop, refl, sym, ap, subst, append_assoc, append-nil, arith}
-use Rattle.std.specs.Prelude.{not, ◌&&◌, slice_get}
+-- What is told by flags and marks beside a table.
+use Rattle.std.proofs.Common.{◌≡◌, ◌∙◌, ℕ, suc, Bool, false, Option, Some, List, [], ◌∷◌, ◌++◌, length, take, refl, sym, ap, subst, append_assoc, append-nil, arith}
+use Rattle.std.specs.Prelude.{Contains, not, ◌&&◌, slice_get}
 use Rattle.std.specs.Option.{option_map_or}
-use Rattle.std.proofs.lemmas.List.{at_drop_all}
-use Rattle.abnf_parts.specs.Names.{Name}
 use Rattle.abnf_parts.specs.Core.{is_core_name}
-use Rattle.abnf_names.specs.declared.section.Section.{Section}
-use Rattle.abnf_names.specs.Said.{Block}
-use Rattle.abnf_names.specs.Shown.{fault_shown}
-use Rattle.abnf_names.specs.Excerpts.{excerpt, excerpt_of}
+use Rattle.abnf_parts.specs.Names.{Name}
 use Rattle.abnf_digests.specs.Digests.{Digest}
 use Rattle.abnf_digests.specs.Roles.{Role}
 use Rattle.abnf_outcome.specs.declared.found_in.BlockTold.{BlockTold}
-use Rattle.abnf_outcome.specs.Marked.{AreHoldingMarks, AreLeadingMarks}
-use Rattle.abnf_outcome.specs.ToldOfBlock.{ToldOfBlock, is_strange, IsToldOf}
-use Rattle.abnf_outcome.specs.Found.{AllAreTold, all_found, found_by}
-use Rattle.abnf_outcome.specs.ByTable.{AreDefinedMarks, AreFlagged, IsFlagged, all_told, excerpts_found, strange_by, told_of_flags}
+use Rattle.abnf_outcome.specs.ByTable.{AreDefinedMarks, AreFlagged, IsFlagged, all_told, strange_by, told_of_flags}
+use Rattle.abnf_outcome.specs.Found.{AllAreTold}
+use Rattle.abnf_outcome.specs.Marked.{AreHoldingMarks}
+use Rattle.abnf_outcome.specs.ToldOfBlock.{IsToldOf, is_strange}
+use Rattle.abnf_outcome.specs.own.Ways.{AreHeadsLed}
+use Rattle.abnf_outcome.proofs.Elements.{first_in, later_in}
 use Rattle.abnf_outcome.proofs.ToldMarks.{told_is}
 
--- excerpts of blocks tell as much as the blocks
-pub of_blocks : (tolds : List ToldOfBlock) (blocks : List Block) → excerpts_found tolds (map excerpt_of blocks) ≡ all_found tolds blocks
-of_blocks [] [] = refl
-of_blocks [] (block ∷ blocks) = refl
-of_blocks (told ∷ tolds) [] = refl
-of_blocks (told ∷ tolds) (block ∷ blocks) = ap (λ found. found_by told block.items (fault_shown block.said) ++ found) (of_blocks tolds blocks)
-
-none_left : (tolds : List ToldOfBlock) → excerpts_found tolds [] ≡ []
-none_left [] = refl
-none_left (told ∷ tolds) = refl
-
--- past the last section nothing is found
-pub past_last : (tolds : List ToldOfBlock) (sections : List Section) (n : ℕ) → length sections ≤ n → excerpts_found tolds (map excerpt (drop n sections)) ≡ []
-past_last tolds sections n past = at_drop_all (λ left. excerpts_found tolds (map excerpt left)) sections n past ∙ none_left tolds
-
--- ---- what is told by flags
-
-module _ (digests : List Digest) (held led : Name → Bool) (table : List Name) (defined : List Bool) (are_held : AreHoldingMarks digests held) (are_led : AreLeadingMarks digests led)
+module _ (digests : List Digest) (held led : Name → Bool) (table : List Name) (defined : List Bool) (are_held : AreHoldingMarks digests held) (are_led : AreHeadsLed digests held led)
     (are_defined : AreDefinedMarks digests table defined) where
   -- where the marks say which names are defined, they say which are strange
   strange_as : (name : Name) → strange_by table defined name ≡ is_strange digests name
   strange_as name = ap (λ mark. not (is_core_name name) && not mark) (are_defined name)
 
-  told_of_is : (before : List Digest) (digest : Digest) (told : BlockTold) → IsFlagged before held led digest told → IsToldOf digests before digest (told_of_flags told (strange_by table defined))
-  told_of_is before digest told flagged =
-      let by_marks = told_is digests before digest held led are_held are_led in
+  told_of_is : (before : List Digest) (digest : Digest) (told : BlockTold) → Contains digests digest → IsFlagged before held led digest told → IsToldOf digests before digest (told_of_flags told (strange_by table defined))
+  told_of_is before digest told among flagged =
+      let by_marks = told_is digests before digest held led are_held (λ head e. are_led digest head among e) in
       record {
         role = flagged.role;
         idle = λ head e first.
@@ -54,17 +34,17 @@ module _ (digests : List Digest) (held led : Name → Bool) (table : List Name) 
         strange = λ name used. let by = by_marks.strange name used in (λ h. by.0 (sym (strange_as name) ∙ h), λ h. strange_as name ∙ by.1 h);
       }
 
-  all_told_are : (before rest : List Digest) (tolds : List BlockTold) → length tolds ≡ length rest
+  all_told_are : (before rest : List Digest) (tolds : List BlockTold) → ((digest : Digest) → Contains rest digest → Contains digests digest) → length tolds ≡ length rest
       → ((k : ℕ) (digest : Digest) (told : BlockTold) → slice_get rest k ≡ Some digest → slice_get tolds k ≡ Some told → IsFlagged (before ++ take k rest) held led digest told)
       → AllAreTold digests before rest (all_told (strange_by table defined) tolds)
-  all_told_are before [] [] long each = tt
-  all_told_are before [] (told ∷ tolds) long each = absurd (omega (arith, long))
-  all_told_are before (digest ∷ rest) [] long each = absurd (omega (arith, long))
-  all_told_are before (digest ∷ rest) (told ∷ tolds) long each = (
-    told_of_is before digest told (subst (λ bs. IsFlagged bs held led digest told) (append-nil before) (each 0 digest told refl refl)),
-    all_told_are (before ++ digest ∷ []) rest tolds (omega (arith, long))
+  all_told_are before [] [] among long each = tt
+  all_told_are before [] (told ∷ tolds) among long each = absurd (omega (arith, long))
+  all_told_are before (digest ∷ rest) [] among long each = absurd (omega (arith, long))
+  all_told_are before (digest ∷ rest) (told ∷ tolds) among long each = (
+    told_of_is before digest told (among digest (first_in digest rest)) (subst (λ bs. IsFlagged bs held led digest told) (append-nil before) (each 0 digest told refl refl)),
+    all_told_are (before ++ digest ∷ []) rest tolds (λ d c. among d (later_in digest rest d c)) (omega (arith, long))
         (λ k d t in_rest in_tolds. subst (λ bs. IsFlagged bs held led d t) (sym (append_assoc before (digest ∷ []) (take k rest))) (each (suc k) d t in_rest in_tolds)),
   )
 
   pub flags_tell : (tolds : List BlockTold) → AreFlagged digests held led tolds → AllAreTold digests [] digests (all_told (strange_by table defined) tolds)
-  flags_tell tolds flagged = all_told_are [] digests tolds flagged.one_each flagged.each
+  flags_tell tolds flagged = all_told_are [] digests tolds (λ d c. c) flagged.one_each flagged.each

@@ -20,10 +20,10 @@ use Rattle.abnf_outcome.specs.declared.found_in.BlockTold.{BlockTold}
 use Rattle.abnf_outcome.specs.declared.heads.HeadRole.{HeadRole}
 use Rattle.abnf_outcome.specs.declared.word.Word.{Word}
 use Rattle.abnf_outcome.specs.ByTable.{AreDefinedMarks, AreFlagged, flagged_role, name_mark}
-use Rattle.abnf_outcome.specs.Flags.{is_idle, flag, flags}
-use Rattle.abnf_outcome.specs.HeadRoles.{AreRoles, kept_role, seen_with}
+use Rattle.abnf_outcome.specs.own.Flags.{is_idle, flag, flags}
+use Rattle.abnf_outcome.specs.own.HeadRoles.{AreRoles, kept_role, seen_with}
 use Rattle.abnf_outcome.specs.Stored.{StandsFor, IsStored, AreStored}
-use Rattle.abnf_outcome.specs.Ways.{held_at, heads_number}
+use Rattle.abnf_outcome.specs.own.Ways.{AreHeadMarks, held_at, heads_number}
 use Rattle.abnf_outcome.proofs.Counting.{any_defined}
 use Rattle.abnf_outcome.proofs.HeadMarks.{seen_step, seen_each, written}
 use Rattle.abnf_outcome.proofs.Kept.{head_kept, heads_same, stands_at, zip_back, zip_long}
@@ -54,6 +54,13 @@ one_seen_more count blocks passed marks upto d less on e long f =
           ap (list_any (heads_number n)) (take_more blocks passed d less) ∙ list_any-append (heads_number n) (take passed blocks) (block ∷ []) in
           seen_step block.head marks n (omega (arith, within, upto.one_each)) ∙ (ap (λ b. b || (heads_number n block || false)) (upto.each n within) ∙ sym more);
     }
+
+pub heads_are : (table : List Name) (blocks : List BlockDigest) (passed : ℕ) (marks : List Bool) → AreSeenUpTo (length table) blocks passed marks → length blocks ≤ passed
+    → AreHeadMarks table blocks marks
+heads_are table blocks passed marks upto all = record {
+  one_each = upto.one_each;
+  each = λ n within. upto.each n within ∙ ap (list_any (heads_number n)) (take_all passed blocks all);
+}
 
 module _ (table : List Name) (words : List Word) (name : Name) where
   -- a name that isn't in the table is the name of no head

@@ -14,9 +14,9 @@ use Rattle.abnf_outcome.specs.declared.digest.HeadNumber.{HeadNumber}
 use Rattle.abnf_outcome.specs.declared.digest.BlockDigest.{BlockDigest}
 use Rattle.abnf_outcome.specs.declared.heads.HeadRole.{HeadRole}
 use Rattle.abnf_outcome.specs.declared.word.Word.{Word}
-use Rattle.abnf_outcome.specs.HeadRoles.{AreRoles, head_role, role_in, seen_with, based_with}
+use Rattle.abnf_outcome.specs.own.HeadRoles.{AreRoles, head_role, role_in, seen_with, based_with}
 use Rattle.abnf_outcome.specs.Stored.{IsStored, AreStored}
-use Rattle.abnf_outcome.specs.Ways.{heads_number}
+use Rattle.abnf_outcome.specs.own.Ways.{heads_number}
 use Rattle.abnf_outcome.proofs.Counting.{among_defined, among_based}
 use Rattle.abnf_outcome.proofs.Elements.{get_front}
 use Rattle.abnf_outcome.proofs.Kept.{bases_number, zip_back, zip_long, stands_at, heads_same, bases_same, head_kept}

@@ -12,7 +12,7 @@ use Rattle.abnf_outcome.specs.declared.digest.HeadNumber.{HeadNumber}
 use Rattle.abnf_outcome.specs.declared.digest.BlockDigest.{BlockDigest}
 use Rattle.abnf_outcome.specs.declared.word.Word.{Word}
 use Rattle.abnf_outcome.specs.Stored.{StandsFor, IsStored, AreStored}
-use Rattle.abnf_outcome.specs.Ways.{heads_number}
+use Rattle.abnf_outcome.specs.own.Ways.{heads_number}
 use Rattle.abnf_outcome.proofs.Counting.{is_base}
 
 -- ---- two lists, place by place

@@ -20,6 +20,10 @@ pub mod TableLaws
 pub mod WordLaws
 pub mod UseLaws
 pub mod Storing
+pub mod Replacing
+pub mod MovedBlocks
+pub mod NamesOfItems
+pub mod NothingFound
 pub mod ByTableLaws
 pub mod Counting
 pub mod Kept
@@ -30,4 +34,5 @@ pub mod Sweeping
 pub mod CoreMarks
 pub mod Passing
 pub mod FlagLaws
-pub mod ByDigests
+pub mod Outcomes
+pub mod HeadsLed

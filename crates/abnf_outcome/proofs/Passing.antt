@@ -8,7 +8,7 @@ use Rattle.abnf_outcome.specs.declared.digest.BlockDigest.{BlockDigest}
 use Rattle.abnf_outcome.specs.declared.heads.HeadRole.{HeadRole}
 use Rattle.abnf_outcome.specs.declared.sweep.Way.{Way}
 use Rattle.abnf_outcome.specs.declared.word.Word.{Word}
-use Rattle.abnf_outcome.specs.Ways.{AreSwept, AreSoundByWayFor, IsSwept, IsMarkedSo}
+use Rattle.abnf_outcome.specs.own.Ways.{AreSwept, AreSoundByWayFor, IsSwept, IsMarkedSo}
 use Rattle.abnf_outcome.proofs.Sweeping.{sound_more}
 
 abbrev pub place_in : Bool → ℕ → ℕ → ℕ

@@ -14,7 +14,8 @@ use Rattle.abnf_digests.specs.Gists.{gist, gists, is_above, repeated_gist}
 use Rattle.abnf_outcome.specs.declared.word.Word.{Word}
 use Rattle.abnf_outcome.specs.declared.word.Word.TheVariants as w
 use Rattle.abnf_outcome.proofs.TableLaws.{later_fold}
-use Rattle.abnf_outcome.specs.Words.{AddsWords, IsLater, names_in, names_in_all, number_in_table, parts_count, repeat_words, words_of, words_of_all}
+use Rattle.abnf_outcome.specs.Words.{IsLater, names_in, names_in_all, number_in_table, parts_count, repeat_words, words_of, words_of_all}
+use Rattle.abnf_outcome.specs.own.Adding.{AddsWords}
 
 -- ---- what is added
 
@@ -69,7 +70,7 @@ words_listed : (number : Name → ℕ) (ps : List Part) → words_of_all number 
 words_listed number [] = refl
 words_listed number (p ∷ ps) = ap (λ it. words_of number (gist p) ++ it) (words_listed number ps)
 
-names_listed : (ps : List Part) → names_in_all (gists (parts ps)) ≡ flat_map names_in (map gist ps)
+pub names_listed : (ps : List Part) → names_in_all (gists (parts ps)) ≡ flat_map names_in (map gist ps)
 names_listed [] = refl
 names_listed (p ∷ ps) = ap (λ it. names_in (gist p) ++ it) (names_listed ps)
 
@@ -108,7 +109,7 @@ adds_more f xs i d table mid grown before middle after within first second =
 
 -- ---- repetitions
 
-repeated_names : (above : Bool) (least : ℕ) (body : Part) → names_in (repeated_gist above least body) ≡ names_in body
+pub repeated_names : (above : Bool) (least : ℕ) (body : Part) → names_in (repeated_gist above least body) ≡ names_in body
 repeated_names true least body = refl
 repeated_names false zero body = refl
 repeated_names false (suc n) body = refl

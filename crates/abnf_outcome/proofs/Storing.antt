@@ -1,31 +1,33 @@
 -- Digests that are kept stay so where the table of names and the words grow, and one more is kept behind them.
-use Rattle.std.proofs.Common.{◌≡◌, ℕ, zero, suc, ◌+◌, ◌-◌, ◌≤◌, ◌<◌, ⊎_elim, Option, Some, None, List, [], ◌∷◌, ◌++◌, length, take, drop, get_or, map, refl, sym, ap, subst, ◌∙◌, arith, add-one}
-use Rattle.std.specs.Prelude.{All, Bool, Contains, flat_map, fold, option_map, slice_range, unwrap_or}
-use Rattle.std.specs.List.{AllZip, position_or_len}
+use Rattle.std.proofs.Common.{◌≡◌, ℕ, ◌+◌, ◌-◌, ◌≤◌, ⊎_elim, Option, Some, None, List, [], ◌∷◌, ◌++◌, length, take, drop, refl, sym, ap, subst, ◌∙◌, arith}
+use Rattle.std.specs.Prelude.{Bool, Contains, flat_map, fold, option_map, slice_range, unwrap_or, ◌||◌}
+use Rattle.std.specs.List.{list_any, position_or_len}
+use Rattle.std.specs.Option.{is_some}
 use Rattle.std.specs.Str.{bytes_eq}
-use Rattle.std.proofs.lemmas.List.{drop_at, drop-append-le, length-append, length-drop, map_push, take_all, take-append-le}
-use Rattle.std.proofs.lemmas.List.Elements.{All-head, All-tail, Contains-append_left, Contains-append_right}
+use Rattle.std.proofs.lemmas.List.{drop_at, drop-append-le, length-append, length-drop, take_all, take-append-le}
+use Rattle.std.proofs.lemmas.List.Elements.{Contains-append_left, Contains-append_right}
+use Rattle.abnf_syntax.specs.Grammar.{kind_of}
 use Rattle.abnf_syntax.specs.Heads.{head_of}
-use Rattle.abnf_syntax.specs.Blocks.{line_texts}
-use Rattle.abnf_syntax.proofs.Cons.{cons_same}
 use Rattle.abnf_parts.specs.Names.{Name, rule_number, with_name}
 use Rattle.abnf_parts.specs.Part.{Part, Parts, quoted, series, span, seq, alt, rep, ref, opaque, end, next}
 use Rattle.abnf_names.specs.declared.section.Section.{Section}
-use Rattle.abnf_names.specs.Said.{AreSaid, Block, BlockSays}
-use Rattle.abnf_names.specs.Excerpts.{excerpt, excerpt_of}
-use Rattle.abnf_names.proofs.Kept.{each_says}
+use Rattle.abnf_names.specs.Said.{Block, BlockSays}
+use Rattle.abnf_names.specs.Excerpts.{Excerpt}
+use Rattle.abnf_names.specs.Sections.{IsSaidBy}
 use Rattle.abnf_digests.specs.Gists.{is_above}
 use Rattle.abnf_digests.specs.Digests.{Digest, digest_of, head_digest}
+use Rattle.abnf_digests.specs.Quiet.{has_own_findings, is_empty_number}
 use Rattle.abnf_outcome.specs.declared.digest.HeadNumber.{HeadNumber}
 use Rattle.abnf_outcome.specs.declared.digest.BlockDigest.{BlockDigest}
 use Rattle.abnf_outcome.specs.declared.word.Word.{Word}
 use Rattle.abnf_outcome.specs.declared.word.Word.TheVariants as w
-use Rattle.abnf_outcome.specs.Words.{AddsWords, IsLater, names_in, names_in_all, number_in_table, parts_count, repeat_words, words_of, words_of_all}
-use Rattle.abnf_outcome.specs.Stored.{AreStored, IsStored, StandsFor}
-use Rattle.abnf_outcome.specs.Sections.{IsBlockOf, SectionSays}
+use Rattle.abnf_outcome.specs.KeptBlocks.{AreEachKept, IsKept}
+use Rattle.abnf_outcome.specs.Words.{IsLater, names_in, names_in_all, number_in_table, parts_count, repeat_words, words_of, words_of_all}
+use Rattle.abnf_outcome.specs.own.Adding.{AddsWords}
+use Rattle.abnf_outcome.specs.Stored.{IsStored, StandsFor}
+use Rattle.abnf_outcome.specs.Sections.{IsBlockOf}
 use Rattle.abnf_outcome.proofs.Elements.{first_in, first_or_later, none_in}
-use Rattle.abnf_outcome.proofs.TableLaws.{later_fold}
-use Rattle.abnf_outcome.proofs.TableLaws.{place_is}
+use Rattle.abnf_outcome.proofs.TableLaws.{later_fold, place_is}
 
 -- ---- names that have numbers
 
@@ -109,39 +111,65 @@ still_stored table later all more l kept digest h = record {
   known = λ name c. (let k = h.known name c in (k.0, l name k.0 k.1));
 }
 
-module _ {A B : Type 0} (R S : A → B → Type 0) where
-  pub zip_push : ((x : A) (y : B) → R x y → S x y) → (xs : List A) (ys : List B) (x : A) (y : B) → AllZip R xs ys → S x y → AllZip S (xs ++ x ∷ []) (ys ++ y ∷ [])
-  zip_push still [] [] x y h s = (s, tt)
-  zip_push still [] (b ∷ ys) x y h s = absurd h
-  zip_push still (a ∷ xs) [] x y h s = absurd h
-  zip_push still (a ∷ xs) (b ∷ ys) x y h s = (still a b h.0, zip_push still xs ys x y h.1 s)
+-- the same of each that is kept, and of one more
+each_more : (table later : List Name) (all more : List Word) → IsLater table later → (kept : List BlockDigest) (bounds : List (ℕ × ℕ)) (blocks : List Block)
+    (k : BlockDigest) (b : ℕ × ℕ) (block : Block) → AreEachKept table all kept bounds blocks → IsKept later (all ++ more) k b block
+    → AreEachKept later (all ++ more) (kept ++ k ∷ []) (bounds ++ b ∷ []) (blocks ++ block ∷ [])
+each_more table later all more l [] [] [] k b block h one = (one, tt)
+each_more table later all more l [] [] (y ∷ blocks) k b block h one = absurd h
+each_more table later all more l [] (x ∷ bounds) blocks k b block h one = absurd h
+each_more table later all more l (z ∷ kept) [] blocks k b block h one = absurd h
+each_more table later all more l (z ∷ kept) (x ∷ bounds) [] k b block h one = absurd h
+each_more table later all more l (z ∷ kept) (x ∷ bounds) (y ∷ blocks) k b block h one = (
+  record {
+    digest = still_stored table later all more l z (digest_of y) h.0.digest;
+    first = h.0.first;
+    behind = h.0.behind;
+    own = h.0.own;
+  },
+  each_more table later all more l kept bounds blocks k b block h.1 one,
+)
 
 -- ---- one more
 
-pub one_more : (table mid grown : List Name) (before after : List Word) (kept now : List BlockDigest) (head : Option HeadNumber) (from to : ℕ) (digests : List Digest) (digest : Digest)
-    → IsLater table mid → StandsFor mid head digest.head → AddsWords digest.said mid grown before after → from ≡ length before → to ≡ length after
-    → now ≡ kept ++ record { head = head; start = from; end = to } ∷ [] → AreStored table before kept digests → AreStored grown after now (digests ++ digest ∷ [])
-one_more table mid grown before after kept now head from to digests digest early stands added begins ends is stored =
-    let block : BlockDigest = record { head = head; start = from; end = to } in
-    let more = flat_map (words_of (number_in_table grown)) digest.said in
-    let joined : after ≡ before ++ more = added.words grown (λ name number e. e) in
-    let late : IsLater mid grown = λ name number e. subst (λ it. rule_number it name ≡ Some number) (sym added.names) (later_fold (flat_map names_in digest.said) mid name number e) in
+-- This is told of a block whose words stand behind others.
+pub record IsNext (grown : List Name) (before after : List Word) (one : BlockDigest) (bounds : ℕ × ℕ) (block : Block) (mid : List Name) : Type 0 where
+  pub head : StandsFor mid one.head (digest_of block).head
+  pub added : AddsWords (digest_of block).said mid grown before after
+  pub begins : one.start ≡ length before
+  pub ends : one.end ≡ length after
+  pub first : one.first ≡ bounds.0
+  pub behind : one.behind ≡ bounds.1
+  pub own : one.has_own ≡ has_own_findings block
+
+pub one_more : (table mid grown : List Name) (before after : List Word) (kept now : List BlockDigest) (one : BlockDigest) (bounds : ℕ × ℕ) (block : Block)
+    → IsLater table mid → IsNext grown before after one bounds block mid → now ≡ kept ++ one ∷ [] → (bs : List (ℕ × ℕ)) (blocks : List Block)
+    → AreEachKept table before kept bs blocks → AreEachKept grown after now (bs ++ bounds ∷ []) (blocks ++ block ∷ [])
+one_more table mid grown before after kept now one bounds block early told is bs blocks each =
+    let said = (digest_of block).said in
+    let more = flat_map (words_of (number_in_table grown)) said in
+    let joined : after ≡ before ++ more = told.added.words grown (λ name number e. e) in
+    let late : IsLater mid grown = λ name number e. subst (λ it. rule_number it name ≡ Some number) (sym told.added.names) (later_fold (flat_map names_in said) mid name number e) in
     let count : length after ≡ length before + length more = ap length joined ∙ length-append before more in
-    let itself : IsStored grown after block digest = record {
-      head = still_stands mid grown late head digest.head stands;
-      order = omega (arith, begins, ends, count);
-      within = omega (arith, ends);
-      words = (λ i. slice_range after (begins i) (ends i)) ∙ new_slice before more after joined;
-      known = λ name c. subst (λ it. IsKnown it name) (sym added.names) (known_added (flat_map names_in digest.said) mid name c);
+    let itself : IsKept grown after one bounds block = record {
+      digest = record {
+        head = still_stands mid grown late one.head (digest_of block).head told.head;
+        order = omega (arith, told.begins, told.ends, count);
+        within = omega (arith, told.ends);
+        words = (λ i. slice_range after (told.begins i) (told.ends i)) ∙ new_slice before more after joined;
+        known = λ name c. subst (λ it. IsKnown it name) (sym told.added.names) (known_added (flat_map names_in said) mid name c);
+      };
+      first = told.first;
+      behind = told.behind;
+      own = told.own;
     } in
-    subst (λ it. AreStored grown after it (digests ++ digest ∷ [])) (sym is)
-    (zip_push (IsStored table before) (IsStored grown after)
-    (λ k d h. subst (λ it. IsStored grown it k d) (sym joined) (still_stored table grown before more (λ name number e. late name number (early name number e)) k d h))
-    kept digests block digest stored itself)
+    subst (λ (it : List BlockDigest × List Word). AreEachKept grown it.1 it.0 (bs ++ bounds ∷ []) (blocks ++ block ∷ [])) (λ i. (sym is i, sym joined i))
+    (each_more table grown before more (λ name number e. late name number (early name number e)) kept bs blocks one bounds block each
+    (subst (λ it. IsKept grown it one bounds block) joined itself))
 
 -- ---- sections and their blocks
 
-pub is_said : (section : Section) (block : Block) → IsBlockOf section block → SectionSays section block.said
+pub is_said : (section : Section) (block : Block) → IsBlockOf section block → IsSaidBy section block.said
 is_said section block h = record {
   says = subst (λ items. BlockSays items block.said) (sym (ap (λ e. e.items) h.same)) h.says;
   shown = ap (λ e. e.fault) h.same;
@@ -150,47 +178,6 @@ is_said section block h = record {
 pub head_is : (section : Section) (block : Block) → IsBlockOf section block → option_map head_digest (head_of section.block.items) ≡ (digest_of block).head
 head_is section block h = ap (λ e. option_map head_digest (head_of e.items)) h.same
 
-beside : (sections : List Section) (blocks : List Block) → All (λ block. BlockSays block.items block.said) blocks → map excerpt sections ≡ map excerpt_of blocks
-    → AllZip IsBlockOf sections blocks
-beside [] [] says e = tt
-beside [] (block ∷ blocks) says e = absurd (cc (e))
-beside (section ∷ sections) [] says e = absurd (cc (e))
-beside (section ∷ sections) (block ∷ blocks) says e =
-    let both = cons_same e in
-    let SaysSo : Block → Type 0 = λ it. BlockSays it.items it.said in
-    (record { says = All-head SaysSo block blocks says; same = both.0 }, beside sections blocks (All-tail SaysSo block blocks says) both.1)
-
-pub blocks_beside : (text : List ℕ) (sections : List Section) (blocks : List Block) → AreSaid text blocks → map excerpt sections ≡ map excerpt_of blocks
-    → AllZip IsBlockOf sections blocks
-blocks_beside text sections blocks said e = beside sections blocks (each_says (line_texts text) said.bounds blocks said.each) e
-
-module _ {A B : Type 0} (R : A → B → Type 0) where
-  zip_at : (xs : List A) (ys : List B) (i : ℕ) (d : A) → AllZip R xs ys → i < length xs → (y : B) × R (get_or xs i d) y × (take (suc i) ys ≡ take i ys ++ y ∷ [])
-  zip_at [] ys i d h lt = absurd (omega arith)
-  zip_at (x ∷ xs) [] i d h lt = absurd h
-  zip_at (x ∷ xs) (y ∷ ys) zero d h lt = (y, h.0, refl)
-  zip_at (x ∷ xs) (y ∷ ys) (suc i) d h lt =
-      let rest = zip_at xs ys i d h.1 (omega arith) in
-      (rest.0, rest.1, ap (λ it. y ∷ it) rest.2)
-
-  zip_length : (xs : List A) (ys : List B) → AllZip R xs ys → length xs ≡ length ys
-  zip_length [] [] h = refl
-  zip_length [] (y ∷ ys) h = absurd h
-  zip_length (x ∷ xs) [] h = absurd h
-  zip_length (x ∷ xs) (y ∷ ys) h = ap suc (zip_length xs ys h.1)
-
-pub next_stored : (sections : List Section) (blocks : List Block) (i : ℕ) (section : Section) (Before After : List Digest → Type 0) → AllZip IsBlockOf sections blocks
-    → i < length sections → section ≡ get_or sections i section → Before (map digest_of (take i blocks))
-    → ((block : Block) → IsBlockOf section block → (digests : List Digest) → Before digests → After (digests ++ digest_of block ∷ []))
-    → After (map digest_of (take (i + 1) blocks))
-next_stored sections blocks i section Before After zip within is before push =
-    let found = zip_at IsBlockOf sections blocks i section zip within in
-    let more : map digest_of (take (i + 1) blocks) ≡ map digest_of (take i blocks) ++ digest_of found.0 ∷ [] =
-    ap (λ n. map digest_of (take n blocks)) (add-one i) ∙ (ap (map digest_of) found.2 ∙ map_push digest_of (take i blocks) found.0) in
-    subst After (sym more) (push found.0 (subst (λ it. IsBlockOf it found.0) (sym is) found.1) (map digest_of (take i blocks)) before)
-
-pub all_stored : (sections : List Section) (blocks : List Block) (i : ℕ) (Holds : List Digest → Type 0) → AllZip IsBlockOf sections blocks → length sections ≤ i
-    → Holds (map digest_of (take i blocks)) → Holds (map digest_of blocks)
-all_stored sections blocks i Holds zip past h =
-    let same = zip_length IsBlockOf sections blocks zip in
-    subst (λ it. Holds (map digest_of it)) (take_all i blocks (omega (arith, same, past))) h
+pub own_is : (section : Section) (block : Block) → IsBlockOf section block
+    → (is_some section.fault || list_any (λ item. is_empty_number (kind_of item) item.token.text.now) section.block.items) ≡ has_own_findings block
+own_is section block h = ap (λ (e : Excerpt). is_some e.fault || list_any (λ item. is_empty_number (kind_of item) item.token.text.now) e.items) h.same

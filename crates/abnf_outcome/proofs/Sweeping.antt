@@ -20,12 +20,12 @@ use Rattle.abnf_outcome.specs.declared.sweep.Way.{Way}
 use Rattle.abnf_outcome.specs.declared.sweep.Way.TheVariants.{Holding, Leading}
 use Rattle.abnf_outcome.specs.declared.word.Word.{Word}
 use Rattle.abnf_outcome.specs.ByTable.{name_mark}
-use Rattle.abnf_outcome.specs.HeadRoles.{AreRoles, kept_role}
+use Rattle.abnf_outcome.specs.own.HeadRoles.{AreRoles, kept_role}
 use Rattle.abnf_outcome.specs.Holding.{IsAlternative, IsOfCore}
 use Rattle.abnf_outcome.specs.Marked.{AreHoldingMarks, AreLeadingMarks}
 use Rattle.abnf_outcome.specs.Stored.{IsStored, AreStored}
 use Rattle.abnf_outcome.specs.Words.{number_in_table}
-use Rattle.abnf_outcome.specs.Ways.{AreCoreMarks, AreSwept, AreSoundByWay, AreSoundByWayFor, IsMarkedSo, IsSo, heads_number, held_at, marked_at, says}
+use Rattle.abnf_outcome.specs.own.Ways.{AreCoreMarks, AreHoldingMarksFor, AreLeadingMarksFor, AreSwept, AreSoundByWay, AreSoundByWayFor, IsMarkedSo, IsSo, heads_number, held_at, marked_at, says}
 use Rattle.abnf_outcome.proofs.Counting.{Counts, any_defined, among_based, counts_there, counts_back, is_base}
 use Rattle.abnf_outcome.proofs.Elements.{any_back, any_there}
 use Rattle.abnf_outcome.proofs.Kept.{zip_there, zip_back, stands_at, same_number, heads_same, head_kept, head_back}
@@ -246,27 +246,20 @@ none_at_first table words blocks roles marks e digests stored are = subst (AreSo
 
 -- ---- marks that are handed out
 
-module _ {V : Type 0} (items : V → List Bool) (table : List Name) (words : List Word) (blocks : List BlockDigest) (roles : List HeadRole) (swept : V) (found : Option V)
-    (is : found ≡ Some swept) (marks : List Bool) (has : items swept ≡ marks) where
-  abbrev Found : (List Bool → List Digest → Type 0) → Option V → Type 0
-  Found P o = IfSome o (λ v. (digests : List Digest) → AreStored table words blocks digests → AreRoles digests roles → P (items v) digests)
+module _ (words : List Word) (blocks : List BlockDigest) (roles : List HeadRole) (marks : List Bool) where
+  pub settled_are : (core : List Bool) → ((table : List Name) → AreSoundByWayFor Holding table words blocks roles core → AreSoundByWayFor Holding table words blocks roles marks)
+      → AreSwept Holding words blocks roles marks → (table : List Name) → AreCoreMarks table blocks core → AreHoldingMarksFor table words blocks roles marks
+  settled_are core sound done table cores digests stored are =
+      are_held table words blocks roles marks digests stored are (sound table (sound_at_first table words blocks roles core cores)) done
 
-  handed : (P : List Bool → List Digest → Type 0) → ((digests : List Digest) → AreStored table words blocks digests → AreRoles digests roles → P marks digests) → Found P found
-  handed P all = subst (Found P) (sym is) (λ digests stored are. subst (λ (m : List Bool). P m digests) (sym has) (all digests stored are))
+  pub led_are : (table : List Name) → AreSoundByWayFor Leading table words blocks roles marks → AreSwept Leading words blocks roles marks
+      → AreLeadingMarksFor table words blocks roles marks
+  led_are table sound done digests stored are = are_led table words blocks roles marks digests stored are sound done
 
-  pub held_found : AreSoundByWayFor Holding table words blocks roles marks → AreSwept Holding words blocks roles marks
-      → Found (λ m digests. AreHoldingMarks digests (held_at table m)) found
-  held_found sound done =
-      handed (λ m digests. AreHoldingMarks digests (held_at table m)) (λ digests stored are. are_held table words blocks roles marks digests stored are sound done)
+-- marks or none
+module _ {V : Type 0} (P : V → Type 0) (found : Option V) where
+  pub some_found : (v : V) → found ≡ Some v → P v → IfSome found P
+  some_found v is p = subst (λ (o : Option V). IfSome o P) (sym is) p
 
-  pub led_found : AreSoundByWayFor Leading table words blocks roles marks → AreSwept Leading words blocks roles marks
-      → Found (λ m digests. AreLeadingMarks digests (name_mark table m)) found
-  led_found sound done =
-      handed (λ m digests. AreLeadingMarks digests (name_mark table m)) (λ digests stored are. are_led table words blocks roles marks digests stored are sound done)
-
--- no marks are handed out
-pub none_found : {V : Type 0} (items : V → List Bool) (table : List Name) (words : List Word) (blocks : List BlockDigest) (roles : List HeadRole) (found : Option V)
-    → found ≡ None → (P : List Bool → List Digest → Type 0)
-    → IfSome found (λ v. (digests : List Digest) → AreStored table words blocks digests → AreRoles digests roles → P (items v) digests)
-none_found {V} items table words blocks roles found is P =
-    subst (λ (o : Option V). IfSome o (λ v. (digests : List Digest) → AreStored table words blocks digests → AreRoles digests roles → P (items v) digests)) (sym is) tt
+  pub none_found : found ≡ None → IfSome found P
+  none_found is = subst (λ (o : Option V). IfSome o P) (sym is) tt

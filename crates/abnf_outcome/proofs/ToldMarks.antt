@@ -1,4 +1,4 @@
--- Marks of names that are sound and closed tell of each block what is to be told of it.
+-- Marks that say which names hold, and which of the others lead to something opaque, tell of each block what is to be told of it.
 use Rattle.std.proofs.Common.{◌≡◌, Bool, true, false, not, List, Option, Some, refl, sym, ap, ◌∙◌}
 use Rattle.std.specs.Prelude.{◌↔◌, ◌&&◌}
 use Rattle.std.specs.List.{list_any}
@@ -11,6 +11,7 @@ use Rattle.abnf_digests.specs.Digests.{Digest, defined_by}
 use Rattle.abnf_digests.specs.Roles.{role_by}
 use Rattle.abnf_outcome.specs.Holding.{IsStrange}
 use Rattle.abnf_outcome.specs.Marked.{AreHoldingMarks, AreLeadingMarks}
+use Rattle.abnf_outcome.specs.own.Ways.{AreHeadsLed, IsLedRightly}
 use Rattle.abnf_outcome.specs.ToldOfBlock.{IsIdleBy, is_strange, no_role, told_by_marks, IsToldOf}
 use Rattle.abnf_outcome.proofs.Marks.{held, led}
 
@@ -22,16 +23,19 @@ pub not_has : (b : Bool) → (b ≡ true → ⊥) → not b ≡ true
 not_has true f = absurd (f refl)
 not_has false f = refl
 
-module _ (digests before : List Digest) (digest : Digest) (holding leading : Name → Bool) (are_held : AreHoldingMarks digests holding) (are_led : AreLeadingMarks digests leading) where
-  idle_is : (name : Name) → ((not (holding name) && not (leading name)) ≡ true) ↔ IsIdleBy digests name
-  idle_is name =
-      let of_held = held digests holding are_held name in
-      let of_led = led digests leading are_led name in (
+module _ (digests before : List Digest) (digest : Digest) (holding leading : Name → Bool) (are_held : AreHoldingMarks digests holding)
+    (is_led : (head : Name × Bool) → digest.head ≡ Some head → IsLedRightly digests holding leading head.0) where
+  idle_is : (name : Name) → IsLedRightly digests holding leading name → ((not (holding name) && not (leading name)) ≡ true) ↔ IsIdleBy digests name
+  idle_is name of_led =
+      let of_held = held digests holding are_held name in (
         λ h.
             let k = and_parts (not (holding name)) (not (leading name)) h in
-            (λ n holds. has_not (holding name) k.0 (of_held.1 (n, holds)), λ n leads. has_not (leading name) k.1 (of_led.1 (n, leads))),
-        λ h. and_from (not (holding name)) (not (leading name))
-            (not_has (holding name) (λ e. let k = of_held.0 e in h.0 k.0 k.1)) (not_has (leading name) (λ e. let k = of_led.0 e in h.1 k.0 k.1)),
+            let none = not-true (holding name) k.0 in
+            (λ n holds. has_not (holding name) k.0 (of_held.1 (n, holds)), λ n leads. has_not (leading name) k.1 ((of_led none).1 (n, leads))),
+        λ h.
+            let not_held = not_has (holding name) (λ e. let k = of_held.0 e in h.0 k.0 k.1) in
+            let none = not-true (holding name) not_held in
+            and_from (not (holding name)) (not (leading name)) not_held (not_has (leading name) (λ e. let k = (of_led none).0 e in h.1 k.0 k.1)),
       )
 
   strange_is : (name : Name) → (is_strange digests name ≡ true) ↔ IsStrange digests name
@@ -50,6 +54,12 @@ module _ (digests before : List Digest) (digest : Digest) (holding leading : Nam
   pub told_is : IsToldOf digests before digest (told_by_marks digests before holding leading digest)
   told_is = record {
     role = role_by_head;
-    idle = λ head e first. (λ h. (idle_is head.0).0 (sym (idle_by_head head e) ∙ h), λ h. idle_by_head head e ∙ (idle_is head.0).1 h);
+    idle = λ head e first.
+        let idle = idle_is head.0 (is_led head e) in
+        (λ h. idle.0 (sym (idle_by_head head e) ∙ h), λ h. idle_by_head head e ∙ idle.1 h);
     strange = λ name used. strange_is name;
   }
+
+-- marks that are sound and closed say it of all names
+pub all_led : (digests : List Digest) (holding leading : Name → Bool) → AreLeadingMarks digests leading → AreHeadsLed digests holding leading
+all_led digests holding leading are_led digest head among e none = led digests leading are_led head.0

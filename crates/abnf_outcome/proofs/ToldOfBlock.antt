@@ -41,6 +41,11 @@ use Rattle.abnf_outcome.proofs.Everywhere.{Everywhere, AllEverywhere, at_each}
 
 -- ---- the names of the items
 
+pub used_both : (ps qs : List Named) → used_names (ps ++ qs) ≡ used_names ps ++ used_names qs
+used_both ps qs =
+    ap (map (λ place. lowercase place.text)) (filter-append (λ place. not place.defines) ps qs)
+    ∙ map-append (λ place. lowercase place.text) (filter (λ place. not place.defines) ps) (filter (λ place. not place.defines) qs)
+
 module _ (Used : Name → Type 0) where
   abbrev IsToldOf : Item → Type 0
   IsToldOf x = kind_of x ≡ k.Name → Used (lowercase x.token.text.now)
@@ -48,11 +53,6 @@ module _ (Used : Name → Type 0) where
   abbrev AllAreTold : List Item → Type 0
   AllAreTold [] = Unit {0}
   AllAreTold (x ∷ xs) = IsToldOf x × AllAreTold xs
-
-  used_both : (ps qs : List Named) → used_names (ps ++ qs) ≡ used_names ps ++ used_names qs
-  used_both ps qs =
-      ap (map (λ place. lowercase place.text)) (filter-append (λ place. not place.defines) ps qs)
-      ∙ map-append (λ place. lowercase place.text) (filter (λ place. not place.defines) ps) (filter (λ place. not place.defines) qs)
 
   and_true : (b : Bool) → (b && true) ≡ b
   and_true true = refl
@@ -243,9 +243,9 @@ body_told head defined body free =
     let rest = uses_after (kind_of defined) body in
     told_after (IsUsed items) (kind_of defined) body free.1.1
     (λ n c.
-    subst (λ l. Contains l n) (sym (used_both (IsUsed items) first (second ++ rest)))
+    subst (λ l. Contains l n) (sym (used_both first (second ++ rest)))
     (Contains-append_right (used_names first) (used_names (second ++ rest)) n
-    (subst (λ l. Contains l n) (sym (used_both (IsUsed items) second rest)) (Contains-append_right (used_names second) (used_names rest) n c))))
+    (subst (λ l. Contains l n) (sym (used_both second rest)) (Contains-append_right (used_names second) (used_names rest) n c))))
 
 derived_told : (items : List Item) (rule : Rule) (d : Derives items rule) → AllAreTold (IsUsed items) d.body
 derived_told items rule d =

@@ -14,7 +14,7 @@ use Rattle.abnf_outcome.specs.declared.word.Word.{Word}
 use Rattle.abnf_outcome.specs.declared.word.Word.TheVariants as w
 use Rattle.abnf_outcome.specs.Marked.{holds, each_holds, some_holds}
 use Rattle.abnf_outcome.specs.Words.{names_in, names_in_all, parts_count, repeat_words, words_of, words_of_all}
-use Rattle.abnf_outcome.specs.Ways.{is_lead, is_leading_word, leads, says}
+use Rattle.abnf_outcome.specs.own.Ways.{is_lead, is_leading_word, leads, says}
 use Rattle.abnf_outcome.proofs.Elements.{first_in, any_back, any_there}
 
 -- ---- words that lead

@@ -1,19 +1,15 @@
 -- What is told of a block by flags of its own and marks beside a table of names.
-use Rattle.std.specs.Prelude.{◌≡◌, ℕ, Bool, true, false, not, ◌&&◌, List, [], ◌∷◌, ◌++◌, length, map, take, Some, slice_get}
+use Rattle.std.specs.Prelude.{◌≡◌, ℕ, Bool, true, false, not, ◌&&◌, List, length, map, take, Some, slice_get}
 use Rattle.std.specs.List.{list_any}
 use Rattle.std.specs.Option.{option_map_or}
 use Rattle.std.specs.Str.{bytes_eq}
 use Rattle.abnf_parts.specs.Names.{Name, rule_number}
 use Rattle.abnf_parts.specs.Core.{is_core_name}
-use Rattle.abnf_names.specs.Said.{Block}
-use Rattle.abnf_names.specs.Excerpts.{Excerpt, excerpt_of}
-use Rattle.abnf_lint.specs.declared.finding.Finding.{Finding}
 use Rattle.abnf_productive.specs.Marks.{mark_at}
 use Rattle.abnf_digests.specs.Digests.{Digest, defined_by}
 use Rattle.abnf_digests.specs.Roles.{Role, role_by}
 use Rattle.abnf_outcome.specs.declared.found_in.BlockTold.{BlockTold}
 use Rattle.abnf_outcome.specs.ToldOfBlock.{ToldOfBlock}
-use Rattle.abnf_outcome.specs.Found.{all_found, found_by}
 
 -- the mark at the name's number, none if the name isn't in the table
 abbrev pub name_mark : List Name → List Bool → Name → Bool
@@ -29,18 +25,9 @@ flagged_role told = record { is_duplicate = told.is_duplicate; has_no_base = tol
 abbrev pub told_of_flags : BlockTold → (Name → Bool) → ToldOfBlock
 told_of_flags told strange = record { role = flagged_role told; idle = told.is_idle; strange = strange }
 
--- what is found in excerpts of blocks, of each of which something is told, one after the other
-abbrev pub excerpts_found : List ToldOfBlock → List Excerpt → List Finding
-excerpts_found (told ∷ tolds) (block ∷ blocks) = found_by told block.items block.fault ++ excerpts_found tolds blocks
-excerpts_found _ _ = []
-
 -- what is told by these flags
 abbrev pub all_told : (Name → Bool) → List BlockTold → List ToldOfBlock
 all_told strange tolds = map (λ told. told_of_flags told strange) tolds
-
--- these are found in the blocks that have these excerpts
-abbrev pub AreFound : List ToldOfBlock → List Excerpt → List Finding → Type 0
-AreFound tolds excerpts found = (blocks : List Block) → excerpts ≡ map excerpt_of blocks → found ≡ all_found tolds blocks
 
 -- ---- flags and marks that are told rightly
 

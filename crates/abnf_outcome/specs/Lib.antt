@@ -5,8 +5,8 @@ pub mod ToldOfBlock
 pub mod Found
 pub mod Words
 pub mod Stored
+pub mod KeptBlocks
 pub mod Sections
 pub mod ByTable
-pub mod HeadRoles
-pub mod Ways
-pub mod Flags
+pub mod Outcomes
+pub mod own

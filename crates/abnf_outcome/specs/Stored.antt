@@ -25,3 +25,13 @@ pub record IsStored (table : List Name) (all : List Word) (kept : BlockDigest) (
 -- each is kept of its digest
 abbrev pub AreStored : List Name → List Word → List BlockDigest → List Digest → Type 0
 AreStored table words kept digests = AllZip (IsStored table words) kept digests
+
+-- a table of names, words, and what is kept of each block
+pub record Stored : Type 0 where
+  pub table : List Name
+  pub words : List Word
+  pub kept : List BlockDigest
+
+-- each is kept of its digest
+abbrev pub AreDigests : Stored → List Digest → Type 0
+AreDigests s digests = AreStored s.table s.words s.kept digests

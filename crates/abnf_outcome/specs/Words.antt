@@ -1,7 +1,7 @@
 -- Gists in words, and a machine with a stack that says whether they hold.
-use Rattle.std.specs.Prelude.{◌≡◌, ℕ, zero, suc, nat_le, Bool, true, false, Some, unwrap_or, List, [], ◌∷◌, ◌++◌, flat_map, fold, length, take, drop, if◌then◌else◌}
+use Rattle.std.specs.Prelude.{◌≡◌, ℕ, zero, suc, nat_le, Bool, true, false, Some, unwrap_or, List, [], ◌∷◌, ◌++◌, length, take, drop, if◌then◌else◌}
 use Rattle.std.specs.List.{list_all, list_any}
-use Rattle.abnf_parts.specs.Names.{Name, rule_number, with_name}
+use Rattle.abnf_parts.specs.Names.{Name, rule_number}
 use Rattle.abnf_parts.specs.Part.{Part, Parts, quoted, series, span, seq, alt, rep, ref, opaque, end, next}
 use Rattle.abnf_digests.specs.Gists.{is_above}
 use Rattle.abnf_outcome.specs.declared.word.Word.{Word}
@@ -58,11 +58,6 @@ number_in_table table name = unwrap_or (rule_number table name) (length table)
 -- a table in which the names of another have the numbers that they had there
 abbrev pub IsLater : List Name → List Name → Type 0
 IsLater table later = (name : Name) (number : ℕ) → rule_number table name ≡ Some number → rule_number later name ≡ Some number
-
--- Parts are added to words, and their names to a table. The words have the names by their numbers in this table, and so in each later one.
-pub record AddsWords (added : List Part) (table grown : List Name) (before after : List Word) : Type 0 where
-  pub names : grown ≡ fold with_name table (flat_map names_in added)
-  pub words : (later : List Name) → IsLater grown later → after ≡ before ++ flat_map (words_of (number_in_table later)) added
 
 -- ---- the machine, whose stack has the last value first
 

@@ -7,10 +7,16 @@ pub struct HeadNumber {
     pub adds: bool,
 }
 
-/// The digest of a block: its head, if it has one, and where the words of the gists of its alternatives stand in a list of words.
+/// The digest of a block: its head, if it has one, and where the words of the gists of its alternatives stand in a list of words. Beside it
+/// stand the block's lines, and whether it has findings of its own, whatever other blocks say.
 #[derive(Clone, Copy)]
 pub struct BlockDigest {
     pub head: Option<HeadNumber>,
     pub start: usize,
     pub end: usize,
+    /// The block's first line.
+    pub first: usize,
+    /// The line behind its last one.
+    pub behind: usize,
+    pub has_own: bool,
 }

@@ -1,6 +1,6 @@
 //! Whether gists hold, by their words.
 
-ghost use Rattle.std.specs.Prelude.{◌≡◌, ◌∷◌, ◌++◌, ℕ, Bool, List, IfOk, OnOk, drop, flat_map, reverse, take};
+ghost use Rattle.std.specs.Prelude.{◌≡◌, ◌∷◌, ◌++◌, ℕ, Bool, List, IfOk, drop, flat_map, reverse, take};
 ghost use Rattle.std.specs.List.{list_all, list_any};
 ghost use Rattle.abnf_parts.specs.Names.{Name};
 ghost use Rattle.abnf_parts.specs.Part.{Part};
@@ -84,7 +84,11 @@ fn value_of(word: Word, marks: &[bool], stack: &mut Vec<bool>) -> bool
 /// # Errors
 ///
 /// Where an allocation is refused.
-pub fn hold(words: &[Word], marks: &[bool], stack: &mut Vec<bool>) -> Result<bool, AllocError>
+pub(crate) fn hold(
+    words: &[Word],
+    marks: &[bool],
+    stack: &mut Vec<bool>,
+) -> Result<bool, AllocError>
     ensures one { IfOk result (λ answer. (number : Name → ℕ) (part : Part) → words.now ≡ words_of number part →
         answer ≡ holds (λ name. mark_at marks.now (number name)) part) }
     ensures several { IfOk result (λ answer. (number : Name → ℕ) (parts : List Part) → words.now ≡ flat_map (words_of number) parts →

@@ -1,19 +1,18 @@
 //! What is found in blocks by what is told of them.
 
-ghost use Rattle.std.specs.Prelude.{◌≡◌, ◌++◌, Bool, false, List, [], IfOk, OnOk, flat_map, map, nat_lt};
+ghost use Rattle.std.specs.Prelude.{◌≡◌, ◌++◌, Bool, false, List, [], IfOk, OnOk, flat_map};
 ghost use Rattle.std.specs.Option.{option_map_or};
 ghost use Rattle.abnf_syntax.specs.Faults.{place_of};
 ghost use Rattle.abnf_syntax.specs.Heads.{head_of};
 ghost use Rattle.abnf_parts.specs.Names.{Name, folded_text};
-ghost use Rattle.abnf_names.specs.Excerpts.{excerpt};
 ghost use Rattle.abnf_names.specs.Places.{use_after};
 ghost use Rattle.abnf_digests.specs.Digests.{Digest};
-ghost use Rattle.abnf_digests.specs.Gists.{is_above};
-ghost use Rattle.abnf_outcome.specs.ByTable.{AreDefinedMarks, AreFlagged, AreFound, all_told, excerpts_found, name_mark, strange_by, told_of_flags};
+ghost use Rattle.abnf_outcome.specs.ByTable.{AreDefinedMarks, AreFlagged, all_told, name_mark, strange_by, told_of_flags};
 ghost use Rattle.abnf_outcome.specs.Found.{AllAreTold, body_found, fault_found, found_by, finding_if, found_at_head, number_found, use_found};
 ghost use Rattle.abnf_outcome.specs.Marked.{AreHoldingMarks, AreLeadingMarks};
 
 use crate::evaluate::is_marked;
+use crate::own::{is_empty_range, is_empty_repeat};
 use crate::table::NameTable;
 use abnf_lint::{Code, Finding};
 use abnf_names::{Section, is_touched};
@@ -170,26 +169,6 @@ fn push_if_use(
     }
 }
 
-/// Whether the minimum of a repeat is above its maximum.
-fn is_empty_repeat(least: u32, most: Option<u32>) -> bool
-    ensures { result ≡ is_above least most }
-{
-    match most {
-        Some(most) => most < least,
-        None => false,
-    }
-}
-
-/// Whether the low end of a range is above its high end.
-fn is_empty_range(ends: Option<(u32, u32)>) -> bool
-    ensures { result ≡ option_map_or (λ ends. nat_lt ends.1 ends.0) ends false }
-{
-    match ends {
-        Some((low, high)) => high < low,
-        None => false,
-    }
-}
-
 /// Adds what is found at a repeat or a number.
 fn push_number(alloc: Global, token: Token<'_>, found: &mut List<Finding>) -> Result<(), AllocError>
     ensures { OnOk result (found.new ≡ found.old ++ number_found token.entry.kind (place_of token.entry) token.entry.text.now) }
@@ -270,7 +249,7 @@ fn push_behind(
 /// # Errors
 ///
 /// Where an allocation is refused. What was found before stays.
-pub fn push_found(
+pub(crate) fn push_found(
     alloc: Global,
     names: &NameTable,
     defined: &[bool],
@@ -282,48 +261,6 @@ pub fn push_found(
 {
     push_at_head(alloc, told, &section.block, found)?;
     push_behind(alloc, names, defined, section, found)
-}
-
-/// Adds what is found in blocks, of each of which something is told.
-fn push_all(
-    alloc: Global,
-    names: &NameTable,
-    defined: &[bool],
-    tolds: &[BlockTold],
-    sections: &[Section<'_>],
-    found: &mut List<Finding>,
-) -> Result<(), AllocError>
-    ensures { OnOk result (found.new ≡ found.old ++ excerpts_found (all_told (strange_by names.now defined.now) tolds.now) (map excerpt sections.now)) }
-{
-    let mut left = tolds;
-    for section in sections {
-        let Some((told, rest)) = left.split_first() else {
-            return Ok(());
-        };
-        push_found(alloc, names, defined, *told, section, found)?;
-        left = rest;
-    }
-    Ok(())
-}
-
-/// All that is found in the blocks of a text, in its order, where something is told of each. Beside the number of each name stands
-/// whether a block defines it.
-///
-/// # Errors
-///
-/// Where an allocation is refused.
-pub fn all_found(
-    alloc: Global,
-    names: &NameTable,
-    defined: &[bool],
-    tolds: &[BlockTold],
-    sections: &[Section<'_>],
-) -> Result<List<Finding>, AllocError>
-    ensures { IfOk result (λ found. AreFound (all_told (strange_by names.now defined.now) tolds.now) (map excerpt sections.now) found) }
-{
-    let mut found = List::new(alloc);
-    push_all(alloc, names, defined, tolds, sections, &mut found)?;
-    Ok(found)
 }
 
 /// Flags by marks of names that are sound and closed tell of each block what is to be told of it.

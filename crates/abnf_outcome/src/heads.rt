@@ -3,7 +3,7 @@
 ghost use Rattle.std.specs.Prelude.{◌≡◌, true, length, List, IfOk, slice_set};
 ghost use Rattle.abnf_digests.specs.Digests.{Digest};
 ghost use Rattle.abnf_outcome.specs.declared.word.Word.{Word};
-ghost use Rattle.abnf_outcome.specs.HeadRoles as spec;
+ghost use Rattle.abnf_outcome.specs.own.HeadRoles as spec;
 ghost use Rattle.abnf_outcome.specs.Stored.{AreStored};
 
 use crate::digest::{BlockDigest, HeadNumber};
@@ -14,18 +14,18 @@ use std::alloc::{AllocError, Global};
 /// Whether a head is a duplicate, whether it adds to nothing, and whether it is the first of its name. Of a block without head it is none
 /// of these.
 #[derive(Clone, Copy)]
-pub struct HeadRole {
+pub(crate) struct HeadRole {
     pub is_duplicate: bool,
     pub has_no_base: bool,
     pub is_first: bool,
 }
 
-/// Marks the name with this number, or takes its mark off.
-pub(crate) fn mark(marks: &mut [bool], number: usize, value: bool)
-    ensures { marks.new ≡ slice_set marks.old number value }
+/// Marks the name with this number.
+pub(crate) fn mark(marks: &mut [bool], number: usize)
+    ensures { marks.new ≡ slice_set marks.old number true }
 {
     if number < marks.len() {
-        marks[number] = value;
+        marks[number] = true;
     }
 }
 
@@ -56,7 +56,7 @@ pub(crate) fn see(head: Option<HeadNumber>, seen: &mut [bool])
     ensures { seen.new ≡ spec.seen_with head seen.old }
 {
     if let Some(head) = head {
-        mark(seen, head.name, true);
+        mark(seen, head.name);
     }
 }
 
@@ -66,7 +66,7 @@ fn base(head: Option<HeadNumber>, based: &mut [bool])
 {
     if let Some(head) = head {
         if !head.adds {
-            mark(based, head.name, true);
+            mark(based, head.name);
         }
     }
 }
@@ -76,7 +76,7 @@ fn base(head: Option<HeadNumber>, based: &mut [bool])
 /// # Errors
 ///
 /// Where an allocation is refused.
-pub fn roles(
+pub(crate) fn roles(
     alloc: Global,
     names: &NameTable,
     blocks: &[BlockDigest],

@@ -1,6 +1,6 @@
 //! Laws of what digests tell of names. The functions do nothing.
 
-ghost use Rattle.std.specs.Prelude.{◌≡◌, ◌↔◌, ℕ, Bool, true, List, [], ◌∷◌, ◌++◌, Option, Some, None, Contains, map};
+ghost use Rattle.std.specs.Prelude.{◌≡◌, ◌↔◌, ℕ, Bool, true, List, [], ◌∷◌, ◌++◌, Option, Some, None, Contains, flat_map, map};
 ghost use Rattle.ls_text.specs.declared.position.Place.{Place};
 ghost use Rattle.abnf_token.specs.Classes.{Text};
 ghost use Rattle.abnf_token.specs.Folded.{lowercase};
@@ -8,7 +8,7 @@ ghost use Rattle.abnf_syntax.specs.Items.{AreItems};
 ghost use Rattle.abnf_syntax.specs.declared.item.Item.{Item};
 ghost use Rattle.abnf_syntax.specs.declared.fault.SyntaxFault.{SyntaxFault};
 ghost use Rattle.abnf_parts.specs.Names.{Name, rule_number};
-ghost use Rattle.abnf_names.specs.Said.{Block, AreSaid};
+ghost use Rattle.abnf_names.specs.Said.{Block, BlockSays, AreSaid};
 ghost use Rattle.abnf_names.specs.Places.{Named, places_in};
 ghost use Rattle.abnf_names.specs.Rules.{names_of, rules_of};
 ghost use Rattle.abnf_names.specs.Shown.{fault_shown, HasFault};
@@ -23,6 +23,7 @@ ghost use Rattle.abnf_outcome.specs.Leading.{LeadsToOpaqueBy};
 ghost use Rattle.abnf_outcome.specs.Marked.{AreHoldingMarks, AreLeadingMarks};
 ghost use Rattle.abnf_outcome.specs.Found.{found_by, AllAreTold, all_found};
 ghost use Rattle.abnf_outcome.specs.ToldOfBlock.{ToldOfBlock, told_by_marks, IsToldOf, RowTold};
+ghost use Rattle.abnf_outcome.specs.Words.{names_in};
 
 /// A rule generates nothing and leads to no opaque part exactly where its name neither holds nor leads to something opaque.
 pub fn names_tell_what_is_unproductive()
@@ -76,4 +77,10 @@ pub fn blocks_are_found_in_order()
 pub fn texts_are_found_by_told()
     ensures { (text : List ℕ) (blocks : List Block) (tolds : List ToldOfBlock) → AreSaid text blocks →
         AllAreTold (map digest_of blocks) [] (map digest_of blocks) tolds → AreRows text (all_found tolds blocks) }
+{}
+
+/// A block that says a rule says alternatives whose gists have each name that its items use.
+pub fn rules_use_the_names_of_their_items()
+    ensures { (block : Block) → BlockSays block.items block.said → fault_shown block.said ≡ None → (name : Name) → Contains (digest_of block).uses name →
+        Contains (flat_map names_in (digest_of block).said) name }
 {}

@@ -1,22 +1,28 @@
 //! What the digests of a text's blocks tell of its names, and so what is found in the text.
 //!
+//! [`Digests`] keeps what each block says of names: its head, and the gists of its alternatives as words, in which names stand by their
+//! numbers. Beside each digest stand the block's lines, and whether it has findings of its own, whatever other blocks say. A block is read
+//! only to be pushed ([`Digests::push`]). Where a part of the text is replaced its new blocks are pushed, and come in place of those that
+//! go ([`Digests::replace`]).
+//!
+//! The [`Outcome`] says what the blocks tell of each other: the role of each block's head, whether the head's name generates nothing, and
+//! which names stand for nothing. By it and by its digest a block may be known to have no findings ([`Digests::is_quiet`]), so that it
+//! needn't be read. The findings of the others are told by their items and the outcome ([`Digests::push_found`]).
+//!
 //! A name holds where its rule would generate something if all that is opaque did. A rule generates nothing that is known to generate
 //! nothing exactly where its name neither holds nor leads to something opaque ([`names_tell_what_is_unproductive`]). So what is found in
-//! a text is found in its blocks by what is told of each ([`texts_are_found_by_told`]).
-//!
-//! The gists of a block's alternatives are kept as words ([`push_words`]), which say without a tree whether they hold ([`hold`]).
-//!
-//! What is told of blocks is kept as flags and as marks of names by their numbers, by which all is found ([`push_found`], [`all_found`]).
-//! All of this together is [`findings_by_digests`].
+//! a text is found in its blocks by what is told of each ([`texts_are_found_by_told`]). A block that says a rule uses no name that its
+//! digest hasn't ([`rules_use_the_names_of_their_items`]).
 #![tactic(auto)]
 
 mod digest;
 mod evaluate;
-mod findings;
 mod found_in;
 mod heads;
 mod laws;
-mod sections;
+mod outcome;
+mod own;
+mod quiet;
 mod settling;
 mod store;
 mod sweep;
@@ -24,16 +30,15 @@ mod table;
 mod word;
 
 pub use digest::{BlockDigest, HeadNumber};
-pub use evaluate::{hold, words_tell_what_holds};
-pub use findings::findings_by_digests;
-pub use found_in::{BlockTold, all_found, flags_tell_of_blocks, push_found};
-pub use heads::{HeadRole, roles};
+pub use evaluate::words_tell_what_holds;
+pub use found_in::{BlockTold, flags_tell_of_blocks};
 pub use laws::{
     blocks_are_found_by_told, blocks_are_found_in_order, marks_tell_of_blocks,
     marks_tell_what_holds, marks_tell_what_leads, names_stand_for_nothing,
-    names_tell_what_is_unproductive, rows_by_told, texts_are_found_by_told,
+    names_tell_what_is_unproductive, rows_by_told, rules_use_the_names_of_their_items,
+    texts_are_found_by_told,
 };
-pub use settling::{lead, settle};
+pub use outcome::Outcome;
 pub use store::Digests;
-pub use table::{NameTable, tables_keep_numbers};
-pub use word::{Word, push_words, words_tell_what_is_used};
+pub use table::tables_keep_numbers;
+pub use word::{Word, words_tell_what_is_used};

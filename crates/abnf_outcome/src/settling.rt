@@ -1,75 +1,69 @@
 //! Which names hold, and which lead to something opaque.
 
 ghost use Rattle.std.specs.Prelude.{◌≡◌, length, List, IfOk, IfSome};
-ghost use Rattle.abnf_digests.specs.Digests.{Digest};
-ghost use Rattle.abnf_outcome.specs.ByTable.{name_mark};
-ghost use Rattle.abnf_outcome.specs.HeadRoles.{AreRoles};
-ghost use Rattle.abnf_outcome.specs.Marked.{AreHoldingMarks, AreLeadingMarks};
-ghost use Rattle.abnf_outcome.specs.Stored.{AreStored};
-ghost use Rattle.abnf_outcome.specs.Ways as spec;
+ghost use Rattle.std.specs.List.{list_any};
+ghost use Rattle.abnf_parts.specs.Names.{Name};
+ghost use Rattle.abnf_outcome.specs.own.Ways as spec;
 
 use crate::digest::{BlockDigest, HeadNumber};
-use crate::heads::{HeadRole, mark};
+use crate::evaluate::is_marked;
+use crate::heads::HeadRole;
 use crate::sweep::{Way, sweep_all};
 use crate::table::NameTable;
 use crate::word::Word;
 use std::alloc::{AllocError, Global};
 
-/// Takes the mark off the name of a head.
-fn clear(head: Option<HeadNumber>, marks: &mut [bool])
-    ensures { marks.new ≡ spec.cleared_with head marks.old }
+/// Whether the name with this number isn't marked as one that a block defines, and a core rule has it.
+fn is_of_core(names: &NameTable, defined: &[bool], number: usize) -> bool
+    ensures { result ≡ spec.is_of_core names.now defined.now number }
 {
-    if let Some(head) = head {
-        mark(marks, head.name, false);
-    }
+    !is_marked(defined, number) && names.is_core(number)
 }
 
-/// Marks of the names of core rules that no block defines.
-fn core_marks(
-    alloc: Global,
-    names: &NameTable,
-    blocks: &[BlockDigest],
-) -> Result<Vec<bool>, AllocError>
-    ensures { IfOk result (λ marks. spec.AreCoreMarks names.now blocks.now marks.items) }
-{
-    let mut marks = Vec::with_capacity(alloc, names.len())?;
-    for number in 0..names.len() {
-        marks.push(names.is_core(number))?;
-    }
-    for block in blocks {
-        clear(block.head, &mut marks);
-    }
-    Ok(marks)
-}
-
-/// Marks of the names that hold; `None` where they aren't found within some rounds.
+/// Marks of the names of core rules that no block defines, by marks of the names that blocks define. Only a name that isn't marked there is
+/// compared with those of core rules.
 ///
 /// # Errors
 ///
 /// Where an allocation is refused.
-pub fn settle(
+pub(crate) fn core_marks(
     alloc: Global,
     names: &NameTable,
+    defined: &[bool],
+) -> Result<Vec<bool>, AllocError>
+    ensures { IfOk result (λ marks. (blocks : List BlockDigest) → spec.AreHeadMarks names.now blocks defined.now → spec.AreCoreMarks names.now blocks marks.items) }
+{
+    let mut marks = Vec::with_capacity(alloc, names.len())?;
+    for number in 0..names.len() {
+        marks.push(is_of_core(names, defined, number))?;
+    }
+    Ok(marks)
+}
+
+/// Marks of the names that hold, by those of core rules that no block defines; `None` where they aren't found within some rounds.
+///
+/// # Errors
+///
+/// Where an allocation is refused.
+pub(crate) fn settle(
+    alloc: Global,
     words: &[Word],
     blocks: &[BlockDigest],
     roles: &[HeadRole],
+    core: Vec<bool>,
 ) -> Result<Option<Vec<bool>>, AllocError>
     requires { length roles.now ≡ length blocks.now }
-    ensures { IfOk result (λ found. IfSome found (λ marks. (digests : List Digest) → AreStored names.now words.now blocks.now digests →
-        AreRoles digests roles.now → AreHoldingMarks digests (spec.held_at names.now marks.items))) }
+    ensures { IfOk result (λ found. IfSome found (λ marks. (table : List Name) → spec.AreCoreMarks table blocks.now core.items →
+        spec.AreHoldingMarksFor table words.now blocks.now roles.now marks.items)) }
 {
-    let mut marks = core_marks(alloc, names, blocks)?;
+    let mut marks = core;
     let mut stack = Vec::new(alloc);
     let settled = sweep_all(Way::Holding, words, blocks, roles, &mut marks, &mut stack)?;
     Ok(if settled { Some(marks) } else { None })
 }
 
 /// Marks of the names that lead to something opaque; `None` where they aren't found within some rounds.
-///
-/// # Errors
-///
-/// Where an allocation is refused.
-pub fn lead(
+fn leading_marks(
     alloc: Global,
     names: &NameTable,
     words: &[Word],
@@ -77,11 +71,51 @@ pub fn lead(
     roles: &[HeadRole],
 ) -> Result<Option<Vec<bool>>, AllocError>
     requires { length roles.now ≡ length blocks.now }
-    ensures { IfOk result (λ found. IfSome found (λ marks. (digests : List Digest) → AreStored names.now words.now blocks.now digests →
-        AreRoles digests roles.now → AreLeadingMarks digests (name_mark names.now marks.items))) }
+    ensures { IfOk result (λ found. IfSome found (λ marks. spec.AreLeadingMarksFor names.now words.now blocks.now roles.now marks.items)) }
 {
     let mut marks = vec![in alloc; false; names.len()]?;
     let mut stack = Vec::new(alloc);
     let settled = sweep_all(Way::Leading, words, blocks, roles, &mut marks, &mut stack)?;
     Ok(if settled { Some(marks) } else { None })
+}
+
+/// Whether the name of a head isn't marked.
+fn is_unmarked(head: Option<HeadNumber>, marks: &[bool]) -> bool
+    ensures { result ≡ spec.is_unmarked marks.now head }
+{
+    match head {
+        Some(head) => !is_marked(marks, head.name),
+        None => false,
+    }
+}
+
+/// Whether the name of one of the heads isn't marked.
+fn one_is_unmarked(blocks: &[BlockDigest], marks: &[bool]) -> bool
+    ensures { result ≡ list_any (λ block. spec.is_unmarked marks.now block.head) blocks.now }
+{
+    blocks.iter().any(|block| is_unmarked(block.head, marks))
+}
+
+/// Marks by which it is known of each head's name that doesn't hold whether it leads to something opaque; `None` where they aren't found
+/// within some rounds. Where the names of all heads hold, as they mostly do, nothing is marked and no memory is taken.
+///
+/// # Errors
+///
+/// Where an allocation is refused.
+pub(crate) fn lead(
+    alloc: Global,
+    names: &NameTable,
+    words: &[Word],
+    blocks: &[BlockDigest],
+    roles: &[HeadRole],
+    held: &[bool],
+) -> Result<Option<Vec<bool>>, AllocError>
+    requires { length roles.now ≡ length blocks.now }
+    ensures { IfOk result (λ found. IfSome found (λ marks. spec.AreHeadsLedFor names.now words.now blocks.now roles.now held.now marks.items)) }
+{
+    if one_is_unmarked(blocks, held) {
+        leading_marks(alloc, names, words, blocks, roles)
+    } else {
+        Ok(Some(Vec::new(alloc)))
+    }
 }

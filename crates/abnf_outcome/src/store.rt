@@ -1,26 +1,30 @@
 //! The digests of a text's blocks, as they are kept.
 
-ghost use Rattle.std.specs.Prelude.{◌≡◌, ◌++◌, ◌∷◌, [], ℕ, List, Result, IfOk, OnOk, map, option_map};
+ghost use Rattle.std.specs.Prelude.{◌≡◌, ◌+◌, ◌-◌, ◌≤◌, ◌++◌, [], All, Result, IfOk, OnOk, drop, length, map, option_map, slice_range, take};
 ghost use Rattle.abnf_syntax.specs.declared.fault.SyntaxFault.{SyntaxFault};
 ghost use Rattle.abnf_syntax.specs.declared.tree.Rule.{Rule};
+ghost use Rattle.abnf_syntax.specs.Bounds.{bounds};
 ghost use Rattle.abnf_syntax.specs.Heads.{head_of};
 ghost use Rattle.abnf_names.specs.Said as said;
-ghost use Rattle.abnf_names.specs.Excerpts.{excerpt, excerpt_of};
 ghost use Rattle.abnf_names.specs.Rules.{alternatives_said};
 ghost use Rattle.abnf_digests.specs.Gists.{gist};
-ghost use Rattle.abnf_digests.specs.Digests.{Digest, digest_of, head_digest, no_number};
-ghost use Rattle.abnf_outcome.specs.Words.{AddsWords, IsLater};
-ghost use Rattle.abnf_outcome.specs.Stored.{AreStored, StandsFor};
-ghost use Rattle.abnf_outcome.specs.Sections.{IsBlockOf, SectionSays};
+ghost use Rattle.abnf_digests.specs.Digests.{head_digest, no_number};
+ghost use Rattle.abnf_outcome.specs.Words.{IsLater};
+ghost use Rattle.abnf_outcome.specs.own.Adding.{AddsWords};
+ghost use Rattle.abnf_outcome.specs.KeptBlocks.{AddsBlock, CanMove, moved_block, replaced_by_last};
+ghost use Rattle.abnf_outcome.specs.Stored.{StandsFor};
+ghost use Rattle.abnf_names.specs.Sections.{IsSaidBy};
+ghost use Rattle.abnf_outcome.specs.Sections.{IsBlockOf};
 
 use crate::digest::{BlockDigest, HeadNumber};
-use crate::sections::rule_of;
+use crate::own::has_own_findings;
 use crate::table::NameTable;
 use crate::word::{Word, push_words};
-use abnf_names::Section;
+use abnf_names::{Section, rule_of};
 use abnf_syntax::{Block, Spare};
 use abnf_token::Folded;
 use std::alloc::{AllocError, Global};
+use std::marker::Model;
 
 /// The head of a block with the number of its name, which is added unless it is there.
 fn head_number<'t>(
@@ -50,7 +54,7 @@ fn push_said<'t>(
     section: &Section<'t>,
     words: &mut Vec<Word>,
 ) -> Result<(), AllocError>
-    ensures { OnOk result ((tells : Result Rule SyntaxFault) → SectionSays section.now tells
+    ensures { OnOk result ((tells : Result Rule SyntaxFault) → IsSaidBy section.now tells
         → AddsWords (map gist (alternatives_said no_number tells)) names.old names.new words.old.items words.new.items) }
 {
     match rule_of(alloc, spare, section)? {
@@ -63,7 +67,7 @@ fn push_said<'t>(
     Ok(())
 }
 
-/// The digests of a text's blocks: a table of names, words, and one digest a block.
+/// The digests of blocks: a table of names, words, and one digest a block. Contracts see all of it as it is kept.
 #[derive(Drop)]
 pub struct Digests {
     pub(crate) names: NameTable,
@@ -71,44 +75,151 @@ pub struct Digests {
     pub(crate) blocks: Vec<BlockDigest>,
 }
 
+impl Model for Digests {
+    ghost use Rattle.abnf_outcome.specs.Stored.{Stored};
+
+    ghost Value = { Stored };
+
+    ghost view = { λ d. record { table = d.names; words = d.words.items; kept = d.blocks.items } };
+}
+
 impl Digests {
+    /// Those of no blocks. Where anybody may choose the names that come, the seed should be one that they don't know.
+    pub fn new(alloc: Global, seed: u64) -> Digests
+        ensures { result ≡ record { table = []; words = []; kept = [] } }
+    {
+        Digests {
+            names: NameTable::new(alloc, seed),
+            words: Vec::new(alloc),
+            blocks: Vec::new(alloc),
+        }
+    }
+
+    /// What is kept of each block, in order.
+    pub fn blocks(&self) -> &[BlockDigest]
+        ensures { result.now ≡ self.now.kept }
+    {
+        self.blocks.as_slice()
+    }
+
+    /// How many names there are, those that no block has any more among them.
+    pub fn name_count(&self) -> usize
+        ensures { result ≡ length self.now.table }
+    {
+        self.names.len()
+    }
+
+    /// How many words there are, those that no block has any more among them.
+    pub fn word_count(&self) -> usize
+        ensures { result ≡ length self.now.words }
+    {
+        self.words.len()
+    }
+
     /// Keeps the digest of a section's block, behind the others.
-    fn push<'t>(
+    ///
+    /// # Errors
+    ///
+    /// Where an allocation is refused. Then no more is known of what is kept.
+    pub fn push<'t>(
         &mut self,
         alloc: Global,
         spare: &mut Spare<'t>,
         section: &Section<'t>,
     ) -> Result<(), AllocError>
-        ensures { OnOk result ((block : said.Block) → IsBlockOf section.now block
-            → (digests : List Digest) → AreStored self.old.names self.old.words.items self.old.blocks.items digests
-            → AreStored self.new.names self.new.words.items self.new.blocks.items (digests ++ digest_of block ∷ [])) }
+        ensures { OnOk result ((block : said.Block) → IsBlockOf section.now block → AddsBlock (bounds section.now.block) block self.old self.new) }
     {
         let head = head_number(&mut self.names, &section.block)?;
         let start = self.words.len();
         push_said(alloc, spare, &mut self.names, section, &mut self.words)?;
         let end = self.words.len();
-        self.blocks.push(BlockDigest { head, start, end })?;
+        self.blocks.push(BlockDigest {
+            head,
+            start,
+            end,
+            first: section.block.first,
+            behind: section.block.end,
+            has_own: has_own_findings(section),
+        })?;
         Ok(())
     }
 
-    /// The digests of the blocks of these sections. Where anybody may choose names the seed should be one that they don't know.
-    ///
-    /// # Errors
-    ///
-    /// Where an allocation is refused.
-    pub fn of<'t>(alloc: Global, sections: &[Section<'t>], seed: u64) -> Result<Digests, AllocError>
-        ensures { IfOk result (λ d. (text : List ℕ) (blocks : List said.Block) → said.AreSaid text blocks
-            → map excerpt sections.now ≡ map excerpt_of blocks → AreStored d.names d.words.items d.blocks.items (map digest_of blocks)) }
+    /// Puts the last blocks, so many, in place of those from one place up to another. Those behind them move by some lines: what began at
+    /// the line `old` begins at the line `new`.
+    pub fn replace(&mut self, from: usize, to: usize, count: usize, old: usize, new: usize)
+        requires order { from ≤ to }
+        requires within { to + count ≤ length self.old.kept }
+        requires lines { All (CanMove old new) (slice_range self.old.kept to (length self.old.kept - count)) }
+        ensures { self.new ≡ record { table = self.old.table; words = self.old.words; kept = replaced_by_last from to count old new self.old.kept } }
     {
-        let mut digests = Digests {
-            names: NameTable::new(alloc, seed),
-            words: Vec::new(alloc),
-            blocks: Vec::with_capacity(alloc, sections.len())?,
-        };
-        let mut spare = Spare::new(alloc);
-        for section in sections {
-            digests.push(alloc, &mut spare, section)?;
-        }
-        Ok(digests)
+        replace_blocks(&mut self.blocks, from, to, count, old, new);
     }
+}
+
+/// Puts the last blocks, so many, in place of those from one place up to another. Those behind them move by some lines.
+fn replace_blocks(
+    blocks: &mut Vec<BlockDigest>,
+    from: usize,
+    to: usize,
+    count: usize,
+    old: usize,
+    new: usize,
+)
+    requires order { from ≤ to }
+    requires within { to + count ≤ length blocks.old.items }
+    requires lines { All (CanMove old new) (slice_range blocks.old.items to (length blocks.old.items - count)) }
+    ensures { blocks.new.items ≡ replaced_by_last from to count old new blocks.old.items }
+{
+    let last = blocks.len() - count;
+    if old != new {
+        move_part(blocks, to, last, old, new);
+    }
+    replace_by_last(blocks, from, to, count);
+}
+
+/// Moves blocks by some lines: what began at the line `old` begins at the line `new`.
+fn move_lines(blocks: &mut [BlockDigest], old: usize, new: usize)
+    requires { All (CanMove old new) blocks.old }
+    ensures { blocks.new ≡ map (moved_block old new) blocks.old }
+{
+    for block in blocks.iter_mut() {
+        block.first = block.first - old + new;
+        block.behind = block.behind - old + new;
+    }
+}
+
+/// Moves the blocks from one place up to another by some lines.
+fn move_part(blocks: &mut [BlockDigest], from: usize, to: usize, old: usize, new: usize)
+    requires order { from ≤ to }
+    requires within { to ≤ length blocks.old }
+    requires lines { All (CanMove old new) (slice_range blocks.old from to) }
+    ensures { blocks.new ≡ take from blocks.old ++ (map (moved_block old new) (slice_range blocks.old from to) ++ drop to blocks.old) }
+{
+    move_lines(&mut blocks[from..to], old, new);
+}
+
+/// Puts the last items, so many, before those from one place on.
+fn move_last(items: &mut [BlockDigest], from: usize, count: usize)
+    requires { from + count ≤ length items.old }
+    ensures { items.new ≡ take from items.old ++ (drop (length items.old - count) items.old ++ slice_range items.old from (length items.old - count)) }
+{
+    items[from..].rotate_right(count);
+}
+
+/// Puts the last items, so many, in place of those from one place up to another.
+fn replace_by_last(items: &mut Vec<BlockDigest>, from: usize, to: usize, count: usize)
+    requires order { from ≤ to }
+    requires within { to + count ≤ length items.old.items }
+    ensures { items.new.items ≡ take from items.old.items ++ (drop (length items.old.items - count) items.old.items ++ slice_range items.old.items to (length items.old.items - count)) }
+{
+    let start = items.len() - count;
+    if to - from == count {
+        items.copy_within(start.., from);
+        items.truncate(start);
+        return;
+    }
+    move_last(items, from, count);
+    items.copy_within(to + count.., from + count);
+    let kept = items.len() - (to - from);
+    items.truncate(kept);
 }

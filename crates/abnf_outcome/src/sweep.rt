@@ -1,7 +1,8 @@
 //! Marks of names by sweeps over the blocks.
 //!
 //! A sweep marks the name of each block that counts and says so by the names that are marked. Where it marks none, all are marked that are
-//! to be. A sweep goes forwards, the next one backwards: names are mostly defined further down than they are used, or further up.
+//! to be. A sweep goes backwards, the next one forwards: most grammars define a name further down than they use it, so that the first sweep
+//! marks nearly all names; in the others the second one does.
 
 ghost use Rattle.std.specs.Prelude.{◌≡◌, ◌-◌, ◌<◌, ℕ, true, false, length, List, IfOk, IsTrue, flat_map, if◌then◌else◌};
 ghost use Rattle.std.specs.List.{list_any};
@@ -9,7 +10,7 @@ ghost use Rattle.abnf_parts.specs.Names.{Name};
 ghost use Rattle.abnf_parts.specs.Part.{Part};
 ghost use Rattle.abnf_productive.specs.Marks.{mark_at};
 ghost use Rattle.abnf_outcome.specs.Words.{words_of};
-ghost use Rattle.abnf_outcome.specs.Ways as spec;
+ghost use Rattle.abnf_outcome.specs.own.Ways as spec;
 
 use crate::digest::BlockDigest;
 use crate::evaluate::{hold, is_marked};
@@ -80,7 +81,7 @@ fn visit(
     if !says(way, gists, marks, stack)? {
         return Ok(false);
     }
-    mark(marks, head.name, true);
+    mark(marks, head.name);
     Ok(true)
 }
 
@@ -97,7 +98,7 @@ fn place_of(backwards: bool, count: usize, passed: usize) -> usize
     }
 }
 
-/// Visits all blocks, forwards or backwards. Says whether a name was marked.
+/// Visits all blocks, backwards or forwards. Says whether a name was marked.
 fn sweep(
     way: Way,
     backwards: bool,
@@ -122,7 +123,7 @@ fn sweep(
     Ok(any)
 }
 
-/// Sweeps all blocks, forwards and backwards by turns, until nothing more is marked, which it says, or until some rounds are over.
+/// Sweeps all blocks, backwards and forwards by turns, until nothing more is marked, which it says, or until some rounds are over.
 pub(crate) fn sweep_all(
     way: Way,
     words: &[Word],
@@ -137,10 +138,10 @@ pub(crate) fn sweep_all(
     ensures done { IfOk result (λ settled. IsTrue settled → spec.AreSwept way words.now blocks.now roles.now marks.new) }
 {
     for _round in 0..ROUNDS {
-        if !sweep(way, false, words, blocks, roles, marks, stack)? {
+        if !sweep(way, true, words, blocks, roles, marks, stack)? {
             return Ok(true);
         }
-        if !sweep(way, true, words, blocks, roles, marks, stack)? {
+        if !sweep(way, false, words, blocks, roles, marks, stack)? {
             return Ok(true);
         }
     }

@@ -9,37 +9,11 @@ ghost use Rattle.abnf_parts.specs.Names.{Name, folded_text, rule_number, with_na
 ghost use Rattle.abnf_parts.specs.Part.{Part, ref, subparts};
 ghost use Rattle.abnf_outcome.specs.Words.{IsLater, names_in};
 
-use abnf_parts::is_core_name;
+use abnf_parts::{Seeded, is_core_name};
 use abnf_token::Folded;
 use indexmap::IndexSet;
 use std::alloc::{AllocError, Global};
-use std::hash::{BuildHasher, FoldHasher, Hasher};
 use std::marker::Model;
-
-/// How a table hashes its names: each by a hasher to which a number, the seed, was fed before. Which names meet in the table depends on
-/// the seed, so nobody can choose names that do without knowing it.
-#[derive(Clone, Copy)]
-pub struct Seeded {
-    seeded: FoldHasher,
-}
-
-impl Seeded {
-    fn by(seed: u64) -> Seeded {
-        let mut seeded = FoldHasher::default();
-        seeded.write_u64(seed);
-        Seeded { seeded }
-    }
-}
-
-impl BuildHasher for Seeded {
-    type Hasher = FoldHasher;
-
-    ghost build_hasher = { λ s. s.seeded };
-
-    fn build_hasher(&self) -> FoldHasher {
-        self.seeded
-    }
-}
 
 /// Whether a text has no capitals.
 fn is_small(text: &str) -> bool
@@ -52,7 +26,7 @@ fn is_small(text: &str) -> bool
 
 /// Names in small letters, each once, in the order in which they came. A name's number is its place. Contracts see the list of names.
 #[derive(Drop)]
-pub struct NameTable {
+pub(crate) struct NameTable {
     alloc: Global,
     names: IndexSet<String, Seeded>,
 }
@@ -67,7 +41,7 @@ impl Model for NameTable {
 
 impl NameTable {
     /// No names. Where anybody may choose those that come, the seed should be one that they don't know.
-    pub fn new(alloc: Global, seed: u64) -> NameTable
+    pub(crate) fn new(alloc: Global, seed: u64) -> NameTable
         ensures { result ≡ [] }
     {
         NameTable {
@@ -77,7 +51,7 @@ impl NameTable {
     }
 
     /// How many names there are.
-    pub fn len(&self) -> usize
+    pub(crate) fn len(&self) -> usize
         ensures { result ≡ length self.now }
     {
         self.names.len()
@@ -88,7 +62,7 @@ impl NameTable {
     /// # Errors
     ///
     /// Where an allocation is refused.
-    pub fn number_of<'t>(&mut self, name: Folded<'t>) -> Result<usize, AllocError>
+    pub(crate) fn number_of<'t>(&mut self, name: Folded<'t>) -> Result<usize, AllocError>
         ensures names { OnOk result (self.new ≡ with_name self.old (folded_text name.entry)) }
         ensures number { IfOk result (λ number. rule_number self.new (folded_text name.entry) ≡ Some number) }
     {
@@ -102,7 +76,7 @@ impl NameTable {
     /// # Errors
     ///
     /// Where an allocation is refused. Only a name with capitals needs one.
-    pub fn find(&self, name: Folded<'_>) -> Result<Option<usize>, AllocError>
+    pub(crate) fn find(&self, name: Folded<'_>) -> Result<Option<usize>, AllocError>
         ensures { IfOk result (λ number. number ≡ rule_number self.now (folded_text name.entry)) }
     {
         let Folded(text) = name;

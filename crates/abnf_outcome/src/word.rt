@@ -1,15 +1,15 @@
 //! Gists in words, as a machine with a stack reads them.
 
 ghost use Rattle.std.specs.Prelude.{◌≡◌, ◌∷◌, ◌++◌, ◌↔◌, [], ℕ, Contains, Option, map, OnOk};
-ghost use Rattle.std.specs.Option.{option_map_or};
 ghost use Rattle.abnf_parts.specs.Names.{Name};
 ghost use Rattle.abnf_syntax.specs.declared.tree.Element.{out-Element};
 ghost use Rattle.abnf_parts.specs.Part.{Part, opaque, ref, subparts};
-ghost use Rattle.abnf_parts.specs.Leaf.{number_part, repeat_limits};
+ghost use Rattle.abnf_parts.specs.Leaf.{number_part};
 ghost use Rattle.abnf_parts.specs.Tree.{alternatives, concatenation_part, element_part, repetition_part, tree_inside};
 ghost use Rattle.abnf_digests.specs.Digests.{no_number};
 ghost use Rattle.abnf_digests.specs.Gists.{gist, is_above};
-ghost use Rattle.abnf_outcome.specs.Words.{AddsWords, repeat_words, words_of};
+ghost use Rattle.abnf_outcome.specs.Words.{repeat_words, words_of};
+ghost use Rattle.abnf_outcome.specs.own.Adding.{AddsWords};
 
 use crate::table::NameTable;
 use abnf_parts::{range_of, repeat_bounds};
@@ -201,7 +201,7 @@ fn push_element<'t>(
 /// # Errors
 ///
 /// Where an allocation is refused. What was pushed before stays.
-pub fn push_words<'t>(
+pub(crate) fn push_words<'t>(
     names: &mut NameTable,
     rule: &Rule<'t>,
     words: &mut Vec<Word>,

@@ -15,6 +15,7 @@ pub mod laws;
 mod leaf;
 mod names;
 mod node;
+mod seeded;
 mod tree;
 
 pub use core_rule::{Core, core_names, is_core_name, needed_rules};
@@ -22,4 +23,5 @@ pub use core_tree::push_needed;
 pub use leaf::{range_of, repeat_bounds};
 pub use names::{Names, RuleNames};
 pub use node::{Node, NodeNo, RuleNo};
+pub use seeded::Seeded;
 pub use tree::{fill, push_concatenations};

@@ -6,36 +6,11 @@ ghost use Rattle.std.specs.Str.{bytes_eq};
 ghost use Rattle.abnf_parts.specs.Names.{rule_number, with_name, folded_text, all_names};
 
 use crate::node::RuleNo;
+use crate::seeded::Seeded;
 use abnf_token::Folded;
 use indexmap::IndexSet;
 use std::alloc::{AllocFailed, Global};
-use std::hash::{BuildHasher, FoldHasher, Hasher};
 use std::marker::Model;
-
-/// How a table hashes its names: each by a hasher to which a number, the seed, was fed before. Which names meet in the table depends on
-/// the seed, so nobody can choose names that do without knowing it.
-#[derive(Clone, Copy)]
-pub struct Seeded {
-    seeded: FoldHasher,
-}
-
-impl Seeded {
-    fn by(seed: u64) -> Seeded {
-        let mut seeded = FoldHasher::default();
-        seeded.write_u64(seed);
-        Seeded { seeded }
-    }
-}
-
-impl BuildHasher for Seeded {
-    type Hasher = FoldHasher;
-
-    ghost build_hasher = { λ s. s.seeded };
-
-    fn build_hasher(&self) -> FoldHasher {
-        self.seeded
-    }
-}
 
 /// Names, each once, in the order in which they came. Contracts see the list of names with their letters made small.
 #[derive(Drop)]

@@ -12,8 +12,7 @@ use Rattle.ls_text.specs.Marks.{AreMarksOf}
 use Rattle.abnf_token.specs.declared.mark.TokenMark.{TokenMark}
 use Rattle.abnf_token.specs.Marks.{AreMarks}
 use Rattle.abnf_token.specs.Classes.{Text}
-use Rattle.abnf_syntax.specs.Blocks.{line_texts, begins_at, NoneBegins, AreBlocks}
-use Rattle.abnf_syntax.specs.own.Gather.{IsNextBlock}
+use Rattle.abnf_syntax.specs.Blocks.{line_texts, begins_at, NoneBegins, IsBlock, IsSeam, AreBlocks, AreBlocksUpTo, IsNextBlock}
 use Rattle.abnf_syntax.specs.Bounds.{bounds}
 use Rattle.abnf_syntax.specs.declared.block.Block.{Block}
 
@@ -46,30 +45,65 @@ pub none_both : (ls : List Text) (from mid to : ℕ) → NoneBegins ls from mid 
 none_both ls from mid to first second at reached before = elim (cases_lt at mid) [ inl less ↦ first at reached less | inr more ↦ second at more before ]
 
 -- The blocks from the next line that begins one are those from here.
-pub from_next : (ls : List Text) (from next : ℕ) → from ≤ next → NoneBegins ls from next → (bs : List (ℕ × ℕ)) → AreBlocks ls next bs → AreBlocks ls from bs
-from_next ls from next reached none [] are = none_both ls from next (length ls) none are
-from_next ls from next reached none (b ∷ bs) are = (omega (arith, reached, are.0), none_both ls from next b.0 none are.1, are.2, are.3)
+pub from_next : (ls : List Text) (from to next : ℕ) → from ≤ next → NoneBegins ls from next → (bs : List (ℕ × ℕ)) → AreBlocksUpTo ls next to bs → AreBlocksUpTo ls from to bs
+from_next ls from to next reached none [] are = none_both ls from next to none are
+from_next ls from to next reached none (b ∷ bs) are = (omega (arith, reached, are.0), none_both ls from next b.0 none are.1, are.2, are.3, are.4)
+
+-- where the next block begins, or there is a seam
+next_begins : (ls : List Text) (from to next : ℕ) → 0 < next → IsSeam ls to → IsNextBlock ls from to next → next < length ls → begins_at ls next ≡ true
+next_begins ls from to next some seam is within =
+    elim (cases_lt next to) [
+      | inl less ↦ is.begins less
+      | inr more ↦
+          let same : to ≡ next = omega (arith, more, is.within) in
+          subst (λ n. begins_at ls n ≡ true) same (seam.begins (omega arith) (omega arith))
+    ]
+
+-- from a line that begins a block up to the next one
+pub block_at : (ls : List Text) (first to end : ℕ) → IsSeam ls to → begins_at ls first ≡ true → IsNextBlock ls (first + 1) to end → IsBlock ls first end
+block_at ls first to end seam begins next = record {
+  some = omega (arith, next.reached);
+  within = omega (arith, next.within, seam.within);
+  begins = begins;
+  rest = λ at reached before. next.none at (omega arith) before;
+  ends = next_begins ls (first + 1) to end (omega (arith, next.reached)) seam next;
+}
 
 -- a block, and those behind it
-pub block_first : (ls : List Text) (first end : ℕ) → first < length ls → begins_at ls first ≡ true → IsNextBlock ls (first + 1) end → (bs : List (ℕ × ℕ)) → AreBlocks ls end bs → AreBlocks ls first ((first, end) ∷ bs)
-block_first ls first end within begins next bs are =
-    (omega arith, none_at ls first, record { some = omega (arith, next.reached); within = next.within; begins = begins; rest = λ at reached before. next.none at (omega arith) before; ends = next.begins }, are)
+pub block_first : (ls : List Text) (first to end : ℕ) → IsSeam ls to → begins_at ls first ≡ true → IsNextBlock ls (first + 1) to end → (bs : List (ℕ × ℕ)) → AreBlocksUpTo ls end to bs →
+    AreBlocksUpTo ls first to ((first, end) ∷ bs)
+block_first ls first to end seam begins next bs are = (omega arith, none_at ls first, block_at ls first to end seam begins next, next.within, are)
+
+-- The blocks up to the end are all blocks.
+pub all_blocks : (ls : List Text) (from : ℕ) (bs : List (ℕ × ℕ)) → AreBlocksUpTo ls from (length ls) bs → AreBlocks ls from bs
+all_blocks ls from [] are = are
+all_blocks ls from (b ∷ bs) are = (are.0, are.1, are.2, all_blocks ls b.1 bs are.4)
+
+pub text_blocks : (ls texts : List Text) (count : ℕ) → ls ≡ texts → count ≡ length ls → (bs : List (ℕ × ℕ)) → AreBlocksUpTo ls 0 count bs → AreBlocks texts 0 bs
+text_blocks ls texts count same all bs are = subst (λ (xs : List Text). AreBlocks xs 0 bs) same (all_blocks ls 0 bs (subst (λ (n : ℕ). AreBlocksUpTo ls 0 n bs) all are))
+
+-- No block goes over the end.
+pub end_seam : (ls : List Text) → IsSeam ls (length ls)
+end_seam ls = record { within = omega arith; begins = λ some less. absurd (omega arith) }
 
 -- the blocks where none is found yet
-pub none_found : (ls : List Text) (first : ℕ) (found : List Block) → found ≡ [] → IsNextBlock ls 0 first → (bs : List (ℕ × ℕ)) → AreBlocks ls first bs → AreBlocks ls 0 (map bounds found ++ bs)
-none_found ls first found none next bs are = subst (λ (x : List Block). AreBlocks ls 0 (map bounds x ++ bs)) (sym none) (from_next ls 0 first next.reached next.none bs are)
+pub none_found : (ls : List Text) (from to first : ℕ) (found : List Block) → found ≡ [] → IsNextBlock ls from to first →
+    (bs : List (ℕ × ℕ)) → AreBlocksUpTo ls first to bs → AreBlocksUpTo ls from to (map bounds found ++ bs)
+none_found ls from to first found none next bs are =
+    subst (λ (x : List Block). AreBlocksUpTo ls from to (map bounds x ++ bs)) (sym none) (from_next ls from to first next.reached next.none bs are)
 
 -- one block more behind those found
-pub found_more : (ls : List Text) (found : List Block) (block : Block) (new : List Block) → new ≡ found ++ block ∷ [] → block.first < length ls → begins_at ls block.first ≡ true → IsNextBlock ls (block.first + 1) block.end →
-    ((bs : List (ℕ × ℕ)) → AreBlocks ls block.first bs → AreBlocks ls 0 (map bounds found ++ bs)) →
-    (bs : List (ℕ × ℕ)) → AreBlocks ls block.end bs → AreBlocks ls 0 (map bounds new ++ bs)
-found_more ls found block new e within begins next all bs are =
-    subst (AreBlocks ls 0) (sym (ap (λ xs. map bounds xs ++ bs) e ∙ ap (λ xs. xs ++ bs) (map-append bounds found (block ∷ [])) ∙ append_assoc (map bounds found) (bounds block ∷ []) bs))
-    (all (bounds block ∷ bs) (block_first ls block.first block.end within begins next bs are))
+pub found_more : (ls : List Text) (from to : ℕ) (found : List Block) (block : Block) (new : List Block) → new ≡ found ++ block ∷ [] → IsSeam ls to → begins_at ls block.first ≡ true →
+    IsNextBlock ls (block.first + 1) to block.end → ((bs : List (ℕ × ℕ)) → AreBlocksUpTo ls block.first to bs → AreBlocksUpTo ls from to (map bounds found ++ bs)) →
+    (bs : List (ℕ × ℕ)) → AreBlocksUpTo ls block.end to bs → AreBlocksUpTo ls from to (map bounds new ++ bs)
+found_more ls from to found block new e seam begins next all bs are =
+    subst (AreBlocksUpTo ls from to) (sym (ap (λ xs. map bounds xs ++ bs) e ∙ ap (λ xs. xs ++ bs) (map-append bounds found (block ∷ [])) ∙ append_assoc (map bounds found) (bounds block ∷ []) bs))
+    (all (bounds block ∷ bs) (block_first ls block.first to block.end seam begins next bs are))
 
 -- no block is left
-pub all_found : (ls : List Text) (first : ℕ) (found : List Block) → length ls ≤ first → ((bs : List (ℕ × ℕ)) → AreBlocks ls first bs → AreBlocks ls 0 (map bounds found ++ bs)) → AreBlocks ls 0 (map bounds found)
-all_found ls first found none all = subst (AreBlocks ls 0) (append-nil (map bounds found)) (all [] (λ at reached before. absurd (omega arith)))
+pub all_found : (ls : List Text) (from to first : ℕ) (found : List Block) → to ≤ first → ((bs : List (ℕ × ℕ)) → AreBlocksUpTo ls first to bs → AreBlocksUpTo ls from to (map bounds found ++ bs)) →
+    AreBlocksUpTo ls from to (map bounds found)
+all_found ls from to first found none all = subst (AreBlocksUpTo ls from to) (append-nil (map bounds found)) (all [] (λ at reached before. absurd (omega arith)))
 
 pub All_none : {A : Type 0} (P : A → Type 0) (xs : List A) → xs ≡ [] → All P xs
 All_none P [] h k d less = absurd (omega arith)

@@ -58,7 +58,7 @@ next_item t left ts next content behind false e =
           no_item t ts e (behind (sym (blanks_skipped (length t.text.now) left (sym (ap (list_all is_blank_byte) next.front) ∙ blank_all t.text.now fits.0)) ∙ content))
     ]
 
-content_item : (n start : ℕ) (left : Text) (ts : List Token) (more : List (Option Token)) → TokensOf n start left ts → is_content left ≡ true → 0 < length (items_of (with_line_end ts ++ more))
+pub content_item : (n start : ℕ) (left : Text) (ts : List Token) (more : List (Option Token)) → TokensOf n start left ts → is_content left ≡ true → 0 < length (items_of (with_line_end ts ++ more))
 content_item n start left [] more none content = never (sym (ap is_content none) ∙ content)
 content_item n start left (t ∷ ts) more are content =
     next_item t left (with_line_end ts ++ more) are.0.next content (λ h. content_item n (start + length t.text.now) (drop (length t.text.now) left) ts more are.1 h) (is_item t.kind) refl

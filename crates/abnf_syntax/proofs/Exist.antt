@@ -14,11 +14,10 @@ use Rattle.abnf_token.proofs.Exist.{tokens_of}
 use Rattle.abnf_syntax.specs.declared.block.Block.{Block}
 use Rattle.abnf_syntax.specs.declared.item.Item.{Item}
 use Rattle.abnf_syntax.specs.Kinds.{is_item}
-use Rattle.abnf_syntax.specs.Blocks.{line_texts, begins_at, NoneBegins, AreBlocks}
+use Rattle.abnf_syntax.specs.Blocks.{line_texts, begins_at, NoneBegins, AreBlocks, AreBlocksUpTo, IsNextBlock}
 use Rattle.abnf_syntax.specs.Bounds.{bounds}
 use Rattle.abnf_syntax.specs.Items.{with_line_end, items_behind, items_of, AreTokens, AreItems, view}
-use Rattle.abnf_syntax.specs.own.Gather.{IsNextBlock}
-use Rattle.abnf_syntax.proofs.BlockLaws.{none_at, none_both, from_next, block_first}
+use Rattle.abnf_syntax.proofs.BlockLaws.{none_at, none_both, from_next, block_first, all_blocks, end_seam}
 use Rattle.abnf_syntax.proofs.ContentLaws.{some_items}
 
 -- ---- lines are no longer than their text
@@ -111,7 +110,7 @@ block_items ls has first end le =
 -- ---- blocks
 
 abbrev HasNext : List Text → ℕ → Type 0
-HasNext ls from = (next : ℕ) × IsNextBlock ls from next
+HasNext ls from = (next : ℕ) × IsNextBlock ls from (length ls) next
 
 none_here : (ls : List Text) (from : ℕ) → begins_at ls from ≡ false → NoneBegins ls from (suc from)
 none_here ls from e at reached before = let same : from ≡ at = omega arith in subst (λ n. begins_at ls n ≡ false) same e
@@ -136,9 +135,9 @@ next_from : (ls : List Text) (from : ℕ) → from ≤ length ls → HasNext ls 
 next_from ls from le = next_begin ls (length ls - from) from (omega arith)
 
 abbrev HasBlocks : List Text → ℕ → Type 0
-HasBlocks ls from = (bs : List (ℕ × ℕ)) × AreBlocks ls from bs
+HasBlocks ls from = (bs : List (ℕ × ℕ)) × AreBlocksUpTo ls from (length ls) bs
 
-no_more : (ls : List Text) (from next : ℕ) → IsNextBlock ls from next → length ls ≤ next → HasBlocks ls from
+no_more : (ls : List Text) (from next : ℕ) → IsNextBlock ls from (length ls) next → length ls ≤ next → HasBlocks ls from
 no_more ls from next is le = let same : next ≡ length ls = omega (arith, is.within) in ([], subst (NoneBegins ls from) same is.none)
 
 blocks_from : (fuel : ℕ) (ls : List Text) (from : ℕ) → length ls ≤ from + fuel → from ≤ length ls → HasBlocks ls from
@@ -149,12 +148,14 @@ blocks_from (suc fuel) ls from enough le =
     (λ less.
     let end = next_from ls (next.0 + 1) (omega (arith, less)) in
     let rest = blocks_from fuel ls end.0 (omega (arith, enough, next.1.reached, end.1.reached)) end.1.within in
-    ((next.0, end.0) ∷ rest.0, from_next ls from next.0 next.1.reached next.1.none ((next.0, end.0) ∷ rest.0) (block_first ls next.0 end.0 less (next.1.begins less) end.1 rest.0 rest.1)))
+    let bs : List (ℕ × ℕ) = (next.0, end.0) ∷ rest.0 in
+    let are : AreBlocksUpTo ls next.0 (length ls) bs = block_first ls next.0 (length ls) end.0 (end_seam ls) (next.1.begins less) end.1 rest.0 rest.1 in
+    (bs, from_next ls from (length ls) next.0 next.1.reached next.1.none bs are))
     (λ ge. no_more ls from next.0 next.1 ge)
     (cases_lt next.0 (length ls))
 
-pub text_blocks : (ls : List Text) → HasBlocks ls 0
-text_blocks ls = blocks_from (length ls) ls 0 (omega arith) (omega arith)
+pub text_blocks : (ls : List Text) → (bs : List (ℕ × ℕ)) × AreBlocks ls 0 bs
+text_blocks ls = let found = blocks_from (length ls) ls 0 (omega arith) (omega arith) in (found.0, all_blocks ls 0 found.0 found.1)
 
 -- ---- blocks with their items
 

@@ -17,3 +17,5 @@ pub mod Cons
 pub mod CheckLaws
 pub mod Plain
 pub mod Goes
+pub mod BlankLaws
+pub mod SameLines

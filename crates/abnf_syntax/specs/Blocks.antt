@@ -40,6 +40,13 @@ HasBlock ls = (at : ℕ) × (begins_at ls at ≡ true)
 abbrev pub NoneBegins : List Text → ℕ → ℕ → Type 0
 NoneBegins ls from to = (at : ℕ) → from ≤ at → at < to → begins_at ls at ≡ false
 
+-- the next line from a place on that begins a block, or the line `to`
+pub record IsNextBlock (ls : List Text) (from to next : ℕ) : Type 0 where
+  pub reached : from ≤ next
+  pub within : next ≤ to
+  pub none : NoneBegins ls from next
+  pub begins : next < to → begins_at ls next ≡ true
+
 -- The lines of a block: one that begins it and all that follow, up to the next that begins one, or to the end.
 pub record IsBlock (ls : List Text) (first end : ℕ) : Type 0 where
   pub some : first < end
@@ -52,3 +59,13 @@ pub record IsBlock (ls : List Text) (first end : ℕ) : Type 0 where
 abbrev pub AreBlocks : List Text → ℕ → List (ℕ × ℕ) → Type 0
 AreBlocks ls from [] = NoneBegins ls from (length ls)
 AreBlocks ls from (b ∷ bs) = (from ≤ b.0) × NoneBegins ls from b.0 × IsBlock ls b.0 b.1 × AreBlocks ls b.1 bs
+
+-- No block goes over this place: the line there begins a block, unless it is the first, or there is none.
+pub record IsSeam (ls : List Text) (at : ℕ) : Type 0 where
+  pub within : at ≤ length ls
+  pub begins : 0 < at → at < length ls → begins_at ls at ≡ true
+
+-- These are the first lines and ends of the blocks from a line up to a seam.
+abbrev pub AreBlocksUpTo : List Text → ℕ → ℕ → List (ℕ × ℕ) → Type 0
+AreBlocksUpTo ls from to [] = NoneBegins ls from to
+AreBlocksUpTo ls from to (b ∷ bs) = (from ≤ b.0) × NoneBegins ls from b.0 × IsBlock ls b.0 b.1 × (b.1 ≤ to) × AreBlocksUpTo ls b.1 to bs

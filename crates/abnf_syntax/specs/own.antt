@@ -1,3 +1,4 @@
 -- What this crate says for itself alone: no public contract names it, neither by itself nor through what it names.
 pub mod Check
 pub mod Gather
+pub mod Blanks

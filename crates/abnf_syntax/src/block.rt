@@ -1,14 +1,15 @@
 //! The blocks of a text.
 
-ghost use Rattle.std.specs.Prelude.{◌≡◌, ◌<◌, ◌≤◌, [], All, IfOk, OnOk, OnErr, Some, None, true, if◌then◌else◌, length, map, slice_index_or};
+ghost use Rattle.std.specs.Prelude.{◌≡◌, ◌<◌, ◌≤◌, All, IfOk, OnOk, OnErr, Some, true, length, map};
 ghost use Rattle.abnf_token.specs.Marks.{AreMarks};
-ghost use Rattle.abnf_syntax.specs.Blocks.{line_texts, indent, is_content, base_indent, begins_at, AreBlocks, HasBlock};
+ghost use Rattle.abnf_syntax.specs.Blocks.{line_texts, begins_at, AreBlocks, AreBlocksUpTo, HasBlock, IsSeam};
 ghost use Rattle.abnf_syntax.specs.Items.{AreItems};
 ghost use Rattle.abnf_syntax.specs.Bounds.{bounds};
 ghost use Rattle.abnf_syntax.specs.own.Gather as spec;
 
 use crate::item::Item;
 use crate::kinds::{is_adds, is_defined_as, is_item, is_name};
+use crate::sheet::Sheet;
 use abnf_token::{Token, TokenMark, token_at};
 use ls_lists::List;
 use ls_text::Snapshot;
@@ -34,7 +35,28 @@ pub struct Head<'t> {
 }
 
 impl<'t> Block<'t> {
+    ghost use Rattle.abnf_syntax.specs.Blocks.{IsBlock};
     ghost use Rattle.abnf_syntax.specs.Heads.{head_of};
+
+    /// The block of these lines.
+    ///
+    /// # Errors
+    ///
+    /// Where an allocation is refused.
+    pub fn of(
+        alloc: Global,
+        sheet: &Sheet<'t>,
+        first: usize,
+        end: usize,
+    ) -> Result<Block<'t>, AllocError>
+        requires { IsBlock sheet.now first end }
+        ensures lines { IfOk result (λ block. (block.first ≡ first) × (block.end ≡ end)) }
+        ensures items { IfOk result (λ block. AreItems sheet.now first end block.items) }
+        ensures some { IfOk result (λ block. 0 < length block.items) }
+    {
+        let items = items_of(alloc, sheet, first, end)?;
+        Ok(Block { first, end, items })
+    }
 
     /// The head: its first item, where that is a name and `=` or `=/` follows. A faulty block may have one too.
     pub fn head(&self) -> Option<Head<'t>>
@@ -62,86 +84,6 @@ pub struct Gathered<'t> {
     pub items: Vec<Item<'t>>,
     /// Whether something stands between the last item and the next one.
     pub apart: bool,
-}
-
-/// The indent of a line, if it has content.
-fn content_indent(line: &str) -> Option<usize>
-    ensures { result ≡ (if is_content line.now then Some (indent line.now) else None) }
-{
-    let bytes = line.as_bytes();
-    for i in 0..bytes.len() {
-        match bytes[i] {
-            b' ' | b'\t' => {}
-            b';' => return None,
-            _ => return Some(i),
-        }
-    }
-    None
-}
-
-/// How many lines a text has.
-fn line_count(snapshot: &Snapshot) -> usize
-    ensures { result ≡ length (line_texts snapshot.now) }
-{
-    snapshot.line_count()
-}
-
-/// A line of a text, empty behind the last line.
-fn line_at<'t>(snapshot: &'t Snapshot, at: usize) -> &'t str
-    ensures { result.now ≡ slice_index_or (line_texts snapshot.now) at [] }
-{
-    match snapshot.line(at) {
-        Some(line) => line,
-        None => "",
-    }
-}
-
-/// The marks of a line's tokens, none behind the last line.
-fn marks_at<'t>(snapshot: &'t Snapshot, at: usize) -> &'t [TokenMark]
-    ensures { AreMarks (slice_index_or (line_texts snapshot.now) at []) result.now }
-{
-    match snapshot.marks(at) {
-        Some(marks) => marks,
-        None => &[],
-    }
-}
-
-/// The indent of the first line with content.
-fn first_indent(snapshot: &Snapshot) -> usize
-    ensures { result ≡ base_indent (line_texts snapshot.now) }
-{
-    for at in 0..line_count(snapshot) {
-        if let Some(indent) = content_indent(line_at(snapshot, at)) {
-            return indent;
-        }
-    }
-    0
-}
-
-/// Whether a line begins a block.
-fn begins(snapshot: &Snapshot, base: usize, at: usize) -> bool
-    requires { base ≡ base_indent (line_texts snapshot.now) }
-    ensures { result ≡ begins_at (line_texts snapshot.now) at }
-{
-    match content_indent(line_at(snapshot, at)) {
-        Some(indent) => indent <= base,
-        None => false,
-    }
-}
-
-/// The next line that begins a block, or the number of lines.
-fn next_block(snapshot: &Snapshot, base: usize, from: usize) -> usize
-    requires base { base ≡ base_indent (line_texts snapshot.now) }
-    requires within { from ≤ length (line_texts snapshot.now) }
-    ensures { spec.IsNextBlock (line_texts snapshot.now) from result }
-{
-    let count = line_count(snapshot);
-    for at in from..count {
-        if begins(snapshot, base, at) {
-            return at;
-        }
-    }
-    count
 }
 
 impl<'t> Gathered<'t> {
@@ -195,13 +137,13 @@ impl<'t> Gathered<'t> {
 /// The items of these lines.
 fn items_of<'t>(
     alloc: Global,
-    snapshot: &'t Snapshot,
+    sheet: &Sheet<'t>,
     first: usize,
     end: usize,
 ) -> Result<List<Item<'t>>, AllocError>
     requires some { first < end }
-    requires begins { begins_at (line_texts snapshot.now) first ≡ true }
-    ensures items { IfOk result (λ items. AreItems (line_texts snapshot.entry.now) first end items) }
+    requires begins { begins_at sheet.now first ≡ true }
+    ensures items { IfOk result (λ items. AreItems sheet.now first end items) }
     ensures some { IfOk result (λ items. 0 < length items) }
 {
     let mut gathered = Gathered {
@@ -209,9 +151,41 @@ fn items_of<'t>(
         apart: false,
     };
     for at in first..end {
-        gathered.add_line(line_at(snapshot, at), at, marks_at(snapshot, at))?;
+        let row = sheet.row(at);
+        gathered.add_line(row.text, at, row.marks)?;
     }
     Ok(List::from_vec(gathered.items))
+}
+
+/// The blocks of the lines from one place of a text up to another, where no block goes over either place.
+///
+/// # Errors
+///
+/// Where an allocation is refused.
+pub fn blocks_between<'t>(
+    alloc: Global,
+    sheet: &Sheet<'t>,
+    from: usize,
+    to: usize,
+) -> Result<Vec<Block<'t>>, AllocError>
+    requires order { from ≤ to }
+    requires seams { IsSeam sheet.now from × IsSeam sheet.now to }
+    ensures all { IfOk result (λ found. AreBlocksUpTo sheet.now from to (map bounds found.items)) }
+    ensures items { IfOk result (λ found. All (λ b. AreItems sheet.now b.first b.end b.items) found.items) }
+    ensures some { IfOk result (λ found. All (λ b. 0 < length b.items) found.items) }
+
+    // Lines without blocks need no memory.
+    ensures memory { OnErr result (HasBlock sheet.now) }
+{
+    let mut found = Vec::new(alloc);
+    let mut first = sheet.next_block(from, to);
+    'blocks: while first < to {
+        let end = sheet.next_block(first + 1, to);
+        let items = items_of(alloc, sheet, first, end)?;
+        found.push(Block { first, end, items })?;
+        first = end;
+    }
+    Ok(found)
 }
 
 /// The blocks of a text.
@@ -219,6 +193,10 @@ fn items_of<'t>(
 /// A line that isn't blank and has no comment alone begins a block, if it is indented no deeper than the first such line. All
 /// lines up to the next one belong to it. Lines before the first block belong to none. A block has at least one item. This is
 /// the left alignment of rules of RFC 5234 section 2.2. An indent counts SP and HTAB alike.
+///
+/// # Errors
+///
+/// Where an allocation is refused.
 pub fn blocks<'t>(alloc: Global, snapshot: &'t Snapshot) -> Result<Vec<Block<'t>>, AllocError>
     ensures all { IfOk result (λ found.
         AreBlocks (line_texts snapshot.entry.now) 0 (map bounds found.items)) }
@@ -229,15 +207,6 @@ pub fn blocks<'t>(alloc: Global, snapshot: &'t Snapshot) -> Result<Vec<Block<'t>
     // A text without blocks needs no memory.
     ensures memory { OnErr result (HasBlock (line_texts snapshot.entry.now)) }
 {
-    let base = first_indent(snapshot);
-    let count = line_count(snapshot);
-    let mut found = Vec::new(alloc);
-    let mut first = next_block(snapshot, base, 0);
-    'blocks: while first < count {
-        let end = next_block(snapshot, base, first + 1);
-        let items = items_of(alloc, snapshot, first, end)?;
-        found.push(Block { first, end, items })?;
-        first = end;
-    }
-    Ok(found)
+    let sheet = Sheet::of(snapshot);
+    blocks_between(alloc, &sheet, 0, sheet.count())
 }

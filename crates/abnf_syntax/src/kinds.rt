@@ -5,7 +5,7 @@ ghost use Rattle.abnf_syntax.specs.Kinds as kinds;
 
 use abnf_token::Kind;
 
-pub(crate) fn is_item(kind: Kind) -> bool
+pub fn is_item(kind: Kind) -> bool
     ensures { result ≡ kinds.is_item kind }
 {
     match kind {

@@ -31,7 +31,7 @@ use Rattle.ls_answers.specs.Hover.{shown_text}
 use Rattle.ls_answers.specs.Hovers.{IsHover, IsHoverAt, IsHoverOfRule}
 use Rattle.ls_answers.specs.Insertions.{IsInsertedBefore, IsInsertion, IsInsertionBy, IsInsertionThere, comment_of, first_head, name_at_start}
 use Rattle.ls_answers.specs.Outline.{IsOutline}
-use Rattle.ls_answers.specs.Places.{ArePlaces, is_wanted, name_at, name_range, places_alike, wanted_with}
+use Rattle.ls_answers.specs.Places.{ArePlaces, name_at, name_range, places_alike, wanted_with}
 use Rattle.ls_answers.specs.Renames.{IsRename, rename_fault, rename_answer}
 use Rattle.ls_answers.specs.SemanticTokens.{AreSemanticTokens, origin, relative, told}
 use Rattle.ls_answers.specs.declared.answer.Answer.{Answer}
@@ -42,8 +42,9 @@ use Rattle.ls_answers.specs.declared.answer.Insertion.{Insertion}
 use Rattle.ls_answers.specs.declared.answer.Symbol.{Symbol}
 use Rattle.ls_answers.specs.declared.ask.Ask.{Ask}
 use Rattle.ls_answers.specs.declared.ask.Ask.TheVariants as ask
-use Rattle.ls_answers.specs.declared.places.Wanted.{Wanted}
-use Rattle.ls_answers.specs.declared.places.Wanted.TheVariants.{Definitions}
+use Rattle.abnf_places.specs.declared.wanted.Wanted.{Wanted}
+use Rattle.abnf_places.specs.declared.wanted.Wanted.TheVariants.{Definitions}
+use Rattle.abnf_places.specs.Wanted.{is_wanted}
 use Rattle.ls_answers.proofs.Outlines.{outline as outlined}
 
 module _ (encoding : Encoding) where

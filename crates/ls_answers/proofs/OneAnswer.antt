@@ -43,12 +43,13 @@ use Rattle.ls_answers.specs.declared.ask.Ask.TheVariants as ask
 use Rattle.ls_answers.specs.Outline.{symbol_with, symbol_of, IsOutline}
 use Rattle.ls_answers.proofs.Outlines.{outline}
 use Rattle.ls_answers.specs.Insertions.{IsComment, IsInsertedBefore, IsInsertion, IsInsertionBy, IsInsertionThere, first_head, name_at_start}
-use Rattle.ls_answers.specs.Places.{AreDefinitions, ArePlaces, AreReferences, is_wanted, name_at, name_range, places_alike, wanted_with}
+use Rattle.ls_answers.specs.Places.{AreDefinitions, ArePlaces, AreReferences, name_at, name_range, places_alike, wanted_with}
 use Rattle.ls_answers.specs.Renames.{IsRename, rename_fault, rename_answer}
 use Rattle.ls_answers.specs.SemanticTokens.{AreSemanticTokens}
 use Rattle.ls_answers.specs.declared.answer.Insertion.{Insertion}
-use Rattle.ls_answers.specs.declared.places.Wanted.{Wanted}
-use Rattle.ls_answers.specs.declared.places.Wanted.TheVariants.{Definitions}
+use Rattle.abnf_places.specs.declared.wanted.Wanted.{Wanted}
+use Rattle.abnf_places.specs.declared.wanted.Wanted.TheVariants.{Definitions}
+use Rattle.abnf_places.specs.Wanted.{is_wanted}
 use Rattle.ls_answers.proofs.OneList.{one_list_of_numbers}
 use Rattle.ls_answers.specs.Answers.{IsAnswer, hover_without_cert, insertion_without_cert, without_cert}
 

@@ -13,14 +13,15 @@ use Rattle.abnf_parts.specs.Names.{Name, folded_text}
 use Rattle.abnf_names.specs.Places.{Named, at_offset, named_at, place_and_text, places_of_name}
 use Rattle.abnf_names.specs.Rules.{Grammar, IsGrammar}
 use Rattle.abnf_names.specs.declared.place.Spot.{Spot}
-use Rattle.ls_answers.specs.Places.{is_wanted, name_at, name_range, places_alike, ranges_of}
+use Rattle.abnf_places.specs.Wanted.{is_wanted}
+use Rattle.ls_answers.specs.Places.{name_at, name_range, places_alike, ranges_of}
 use Rattle.ls_answers.specs.Renames.{IsRename, fault_of_name, fault_there, rename_answer}
 use Rattle.ls_answers.specs.own.Renamed.{answer_for_name}
 use Rattle.ls_answers.specs.declared.answer.Answer.{Answer}
 use Rattle.ls_answers.specs.declared.answer.Answer.TheVariants as answer
 use Rattle.ls_answers.specs.declared.answer.RenameFault.{RenameFault}
 use Rattle.ls_answers.specs.declared.answer.RenameFault.TheVariants.{NotAName, NothingToRename}
-use Rattle.ls_answers.specs.declared.places.Wanted.TheVariants.{Both}
+use Rattle.abnf_places.specs.declared.wanted.Wanted.TheVariants.{Both}
 use Rattle.ls_answers.proofs.Definitions.{found, none}
 
 module _ (encoding : Encoding) where

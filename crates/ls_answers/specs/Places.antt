@@ -1,17 +1,17 @@
 -- The places of the name at a position (LSP 3.17, "Goto Definition Request" and "Find References Request").
-use Rattle.std.specs.Prelude.{◌≡◌, ℕ, List, [], map, filter, Bool, true, false, not, Option, Some, None}
+use Rattle.std.specs.Prelude.{◌≡◌, ℕ, List, [], map, filter, Bool, true, false, Option, Some, None}
 use Rattle.abnf_token.specs.Folded.{lowercase}
 use Rattle.ls_text.specs.Lines.{offset_of, units}
 use Rattle.ls_text.specs.Positions.{place_range}
 use Rattle.ls_text.specs.declared.position.Position.{Position}
 use Rattle.ls_text.specs.declared.position.Range.{Range}
-use Rattle.ls_text.specs.declared.position.Place.{Place}
 use Rattle.ls_text.specs.declared.position.Encoding.{Encoding}
 use Rattle.abnf_parts.specs.Names.{Name}
 use Rattle.abnf_names.specs.Places.{Named, at_offset, places_of_name}
 use Rattle.abnf_names.specs.Rules.{Grammar, IsGrammar}
-use Rattle.ls_answers.specs.declared.places.Wanted.{Wanted}
-use Rattle.ls_answers.specs.declared.places.Wanted.TheVariants.{Definitions, Uses, Both}
+use Rattle.abnf_places.specs.declared.wanted.Wanted.{Wanted}
+use Rattle.abnf_places.specs.declared.wanted.Wanted.TheVariants.{Definitions, Uses, Both}
+use Rattle.abnf_places.specs.Wanted.{is_wanted}
 
 -- the name whose place holds the position, else the one whose place ends there
 abbrev pub name_at : Encoding → Grammar → Position → Option Named
@@ -21,12 +21,6 @@ name_at encoding g at = at_offset g.text g.places (offset_of (units encoding) g.
 abbrev pub places_alike : Grammar → Option Named → List Named
 places_alike g None = []
 places_alike g (Some named) = places_of_name (lowercase named.text) g.places
-
--- whether a place that defines its name, or one that doesn't, is wanted
-abbrev pub is_wanted : Wanted → Bool → Bool
-is_wanted Definitions defines = defines
-is_wanted Uses defines = not defines
-is_wanted Both defines = true
 
 -- the range of a name
 abbrev pub name_range : Encoding → List ℕ → Named → Range
@@ -54,8 +48,3 @@ AreReferences encoding text at declarations ranges = ArePlaces encoding (wanted_
 -- the ranges of the wanted places of a name
 abbrev pub ranges_of : Encoding → Wanted → List ℕ → Name → List Named → List Range
 ranges_of encoding wanted text name places = map (name_range encoding text) (filter (λ named. is_wanted wanted named.defines) (places_of_name name places))
-
--- the same of a name with its place, if there is one
-abbrev pub ranges_alike : Encoding → Wanted → List ℕ → List Named → Option (Place × List ℕ) → List Range
-ranges_alike encoding wanted text places None = []
-ranges_alike encoding wanted text places (Some found) = ranges_of encoding wanted text (lowercase found.1) places

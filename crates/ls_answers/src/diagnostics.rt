@@ -5,7 +5,7 @@ ghost use Rattle.abnf_lint.specs.Rows.{AreRows};
 ghost use Rattle.ls_answers.specs.Diagnostics.{AreDiagnostics, diagnostic_of};
 
 use crate::answer::Diagnostic;
-use abnf_kept::Diagnosed;
+use abnf_kept::{Diagnosed, Recent};
 use abnf_lint::Finding;
 use abnf_names::Grammar;
 use abnf_productive::findings_in;
@@ -16,39 +16,42 @@ use std::sync::Arc;
 
 /// What is found in a text, in its order, by positions that count these units.
 ///
-/// Where the last text that was diagnosed tells it, its grammar isn't asked. The text is the last one then, unless memory is refused:
-/// then none is.
+/// Where one of the texts that were diagnosed last helps to tell it, only a part of this text is read. The text is one of these then,
+/// unless memory is refused.
 ///
 /// `Memory` says that an allocation was refused.
 pub fn diagnostics(
     alloc: Global,
-    last: &mut Option<Diagnosed>,
+    recent: &mut Recent,
     snapshot: &Arc<Snapshot>,
     encoding: Encoding,
 ) -> Result<List<Diagnostic>, Memory>
     ensures { IfOk result (λ diagnostics. AreDiagnostics encoding (arc_value snapshot.now) diagnostics) }
 {
-    if let Some(diagnosed) = followed(last.take(), snapshot) {
-        let diagnostics = told(alloc, snapshot, encoding, diagnosed.findings());
-        *last = Some(diagnosed);
-        return diagnostics;
-    }
-    let found = found_in(alloc, snapshot)?;
-    let diagnostics = told(alloc, snapshot, encoding, found.as_slice());
-    *last = match snapshot.clone() {
-        Ok(shared) => Some(Diagnosed::new(shared, found)),
-        Err(_) => None,
-    };
+    let diagnosed = diagnosed(alloc, recent.take_near(snapshot), snapshot)?;
+    let diagnostics = told(alloc, snapshot, encoding, diagnosed.findings());
+    recent.keep(diagnosed);
     diagnostics
 }
 
-/// The last text that was diagnosed, gone over to this one, if it tells what is found there.
-fn followed(last: Option<Diagnosed>, snapshot: &Arc<Snapshot>) -> Option<Diagnosed>
-    ensures { IfSome result (λ diagnosed. diagnosed.text ≡ arc_value snapshot.now) }
+/// A text with what is found in it: as a text near to it helps to tell, or else as its own blocks do, or else by its grammar.
+fn diagnosed(
+    alloc: Global,
+    near: Option<Diagnosed>,
+    snapshot: &Arc<Snapshot>,
+) -> Result<Diagnosed, Memory>
+    ensures { IfOk result (λ diagnosed. diagnosed.text ≡ arc_value snapshot.now) }
 {
-    let mut diagnosed = last?;
-    let shared = snapshot.clone().ok()?;
-    diagnosed.follow(shared).then_some(diagnosed)
+    if let Some(near) = near {
+        if let Some(diagnosed) = near.followed(alloc, snapshot.clone()?)? {
+            return Ok(diagnosed);
+        }
+    }
+    if let Some(diagnosed) = Diagnosed::of(alloc, snapshot.clone()?)? {
+        return Ok(diagnosed);
+    }
+    let found = found_in(alloc, snapshot)?;
+    Ok(Diagnosed::new(snapshot.clone()?, found))
 }
 
 /// What is found in a text, by its grammar, which is let go here.

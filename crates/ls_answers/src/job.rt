@@ -16,7 +16,7 @@ use crate::outline::symbols;
 use crate::places::{definitions, references};
 use crate::rename::{is_name, rename};
 use crate::semantic_tokens::semantic_tokens;
-use abnf_kept::Diagnosed;
+use abnf_kept::Recent;
 use abnf_names::Grammar;
 use ls_lists::Text;
 use ls_text::{Encoding, Position, Range, Snapshot};
@@ -36,13 +36,25 @@ pub struct Job {
 }
 
 /// A job that has run. Its answer is the definition's for its own text, encoding and ask, or memory was refused.
-#[derive(Drop)]
 pub struct Done {
     ticket: u64,
     snapshot: Arc<Snapshot>,
     encoding: Encoding,
     ask: Ask,
     answer: Result<Answer, Memory>,
+}
+
+// Not derived, so that what lets one go is proved without its fields.
+impl Drop for Done {
+    fn drop(self) {
+        let Done {
+            ticket: _,
+            snapshot: _,
+            encoding: _,
+            ask: _,
+            answer: _,
+        } = self;
+    }
 }
 
 impl Model for Done {
@@ -124,7 +136,7 @@ enum GrammarAsk<'a> {
 /// else is asked of the text's grammar.
 fn answer_of(
     alloc: Global,
-    last: &mut Option<Diagnosed>,
+    recent: &mut Recent,
     snapshot: &Arc<Snapshot>,
     encoding: Encoding,
     ask: &Ask,
@@ -151,7 +163,7 @@ fn answer_of(
         Ask::Hover(at) => by_grammar(alloc, snapshot, encoding, GrammarAsk::Hover(*at)),
         Ask::Action(range) => by_grammar(alloc, snapshot, encoding, GrammarAsk::Action(*range)),
         Ask::Tokens => by_grammar(alloc, snapshot, encoding, GrammarAsk::Tokens),
-        Ask::Diagnose => Ok(Answer::Findings(diagnostics(alloc, last, snapshot, encoding)?)),
+        Ask::Diagnose => Ok(Answer::Findings(diagnostics(alloc, recent, snapshot, encoding)?)),
     }
 }
 
@@ -206,9 +218,9 @@ fn answer_in(
 /// The edits of a rename that is granted keep the grammar of the text: line by line its tokens but at the places of the name, and its
 /// rules with what they generate. A rename to what is no name is refused as that, whatever memory there is.
 ///
-/// The last text that was diagnosed is the caller's to keep from one run to the next, none at first: it may spare the findings of the
-/// next text much work, and no answer depends on it.
-pub fn run(alloc: Global, last: &mut Option<Diagnosed>, job: Job) -> Done
+/// The texts that were diagnosed last are the caller's to keep from one run to the next, none at first: they may spare the findings of the
+/// next text much work, and no answer depends on them.
+pub fn run(alloc: Global, recent: &mut Recent, job: Job) -> Done
     ensures ticket { result.ticket ≡ job.ticket }
     ensures text { result.text ≡ arc_value job.snapshot }
     ensures encoding { result.encoding ≡ job.encoding }
@@ -223,7 +235,7 @@ pub fn run(alloc: Global, last: &mut Option<Diagnosed>, job: Job) -> Done
         ask,
     } = job;
     let _count = snapshot.char_count();
-    let answer = answer_of(alloc, last, &snapshot, encoding, &ask);
+    let answer = answer_of(alloc, recent, &snapshot, encoding, &ask);
     Done {
         ticket,
         snapshot,

@@ -23,7 +23,7 @@ mod places;
 mod rename;
 mod semantic_tokens;
 
-pub use abnf_kept::Diagnosed;
+pub use abnf_kept::Recent;
 pub use answer::{Answer, Diagnostic, HoverText, Insertion, RenameFault, Symbol};
 pub use ask::Ask;
 pub use hover::hover_text;

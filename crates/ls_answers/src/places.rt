@@ -1,46 +1,25 @@
 //! Where names stand in a text.
-ghost use Rattle.std.specs.Prelude.{◌≡◌, map, option_map, IfOk};
-ghost use Rattle.abnf_names.specs.Places.{named_at, place_and_name};
+ghost use Rattle.std.specs.Prelude.{◌≡◌, List, map, IfOk};
+ghost use Rattle.abnf_names.specs.Places.{Named, named_at};
+ghost use Rattle.abnf_names.specs.Rules.{HasPlaces};
 ghost use Rattle.abnf_parts.specs.Names.{folded_text};
-ghost use Rattle.ls_answers.specs.Places.{AreDefinitions, ArePlaces, AreReferences, is_wanted, ranges_alike, ranges_of, wanted_with};
+ghost use Rattle.ls_answers.specs.Places.{AreDefinitions, ArePlaces, AreReferences, name_range, ranges_of, wanted_with};
 
-use abnf_names::{Places, Spot};
+use abnf_names::Spot;
+use abnf_places::{Wanted, name_at, places_of};
 use abnf_token::Folded;
 use ls_lists::List;
-use ls_text::{Encoding, Place, Position, Range, Ruler, Snapshot};
+use ls_text::{Encoding, Position, Range, Ruler, Snapshot};
 use std::alloc::{AllocError as Memory, Global};
 
-/// Which places of a name are wanted.
-#[derive(Clone, Copy, Debug, PartialEq, Eq)]
-pub enum Wanted {
-    /// Those that define it.
-    Definitions,
-    /// Those that don't.
-    Uses,
-    Both,
-}
-
-impl Wanted {
-    /// The places that refer to a name: with its definitions or without them.
-    fn with(declarations: bool) -> Wanted
-        ensures { result ≡ wanted_with declarations }
-    {
-        if declarations {
-            Wanted::Both
-        } else {
-            Wanted::Uses
-        }
-    }
-
-    /// Whether a place is wanted that defines its name, or one that doesn't.
-    fn takes(self, defines: bool) -> bool
-        ensures { result ≡ is_wanted self defines }
-    {
-        match self {
-            Wanted::Definitions => defines,
-            Wanted::Uses => !defines,
-            Wanted::Both => true,
-        }
+/// The places that refer to a name: with its definitions or without them.
+fn wanted_with(declarations: bool) -> Wanted
+    ensures { result ≡ wanted_with declarations }
+{
+    if declarations {
+        Wanted::Both
+    } else {
+        Wanted::Uses
     }
 }
 
@@ -71,10 +50,10 @@ pub fn references(
 ) -> Result<List<Range>, Memory>
     ensures { IfOk result (λ ranges. AreReferences encoding snapshot.now at declarations ranges) }
 {
-    ranges_at(alloc, snapshot, at, encoding, Wanted::with(declarations))
+    ranges_at(alloc, snapshot, at, encoding, wanted_with(declarations))
 }
 
-/// The wanted places of the name at a position, in the order of the text. None where no name stands there. They need no rules.
+/// The wanted places of the name at a position, in the order of the text. None where no name stands there.
 fn ranges_at(
     alloc: Global,
     snapshot: &Snapshot,
@@ -84,45 +63,46 @@ fn ranges_at(
 ) -> Result<List<Range>, Memory>
     ensures { IfOk result (λ ranges. ArePlaces encoding wanted snapshot.now at ranges) }
 {
-    let places = Places::of(alloc, snapshot)?;
-    let ranges = ranges_among(alloc, &places, at, encoding, wanted);
-    drop(places);
-    ranges
-}
-
-/// The same, where the places of the text are known.
-fn ranges_among(
-    alloc: Global,
-    places: &Places,
-    at: Position,
-    encoding: Encoding,
-    wanted: Wanted,
-) -> Result<List<Range>, Memory>
-    ensures { IfOk result (λ ranges. ArePlaces encoding wanted places.now.0 at ranges) }
-{
-    let snapshot = places.source();
-    let found = places.name_at(snapshot.offset_of(at, encoding));
-    ranges_alike(alloc, snapshot, encoding, places.spots(), found, wanted)
-}
-
-/// The ranges of the wanted places of a name, if there is one.
-fn ranges_alike(
-    alloc: Global,
-    snapshot: &Snapshot,
-    encoding: Encoding,
-    spots: &[Spot<'_>],
-    found: Option<(Place, Folded<'_>)>,
-    wanted: Wanted,
-) -> Result<List<Range>, Memory>
-    ensures { IfOk result (λ ranges. ranges ≡ ranges_alike encoding wanted snapshot.now (map named_at spots.now) (option_map place_and_name found.entry)) }
-{
-    match found {
-        Some((_, name)) => ranges_of(alloc, snapshot, encoding, spots, name, wanted),
+    let offset = snapshot.offset_of(at, encoding);
+    match name_at(alloc, snapshot, offset)? {
+        Some((_, name)) => ranges_of_name(alloc, snapshot, encoding, name, wanted),
         None => Ok(List::new(alloc)),
     }
 }
 
-/// The ranges of the wanted places of a name.
+/// The ranges of the wanted places of a name in a text.
+fn ranges_of_name(
+    alloc: Global,
+    snapshot: &Snapshot,
+    encoding: Encoding,
+    name: Folded<'_>,
+    wanted: Wanted,
+) -> Result<List<Range>, Memory>
+    ensures { IfOk result (λ ranges. (places : List Named) → HasPlaces snapshot.now places
+        → ranges ≡ ranges_of encoding wanted snapshot.now (folded_text name.entry) places) }
+{
+    let spots = places_of(alloc, snapshot, name, wanted)?;
+    ranges_of_spots(alloc, snapshot, encoding, spots.as_slice())
+}
+
+/// The ranges of these places of names.
+fn ranges_of_spots(
+    alloc: Global,
+    snapshot: &Snapshot,
+    encoding: Encoding,
+    spots: &[Spot<'_>],
+) -> Result<List<Range>, Memory>
+    ensures { IfOk result (λ ranges. ranges ≡ map (name_range encoding snapshot.now) (map named_at spots.now)) }
+{
+    let mut ruler = Ruler::new(snapshot, encoding);
+    let mut ranges = List::new(alloc);
+    for spot in spots {
+        ranges.push(ruler.range_of(&spot.place))?;
+    }
+    Ok(ranges)
+}
+
+/// The ranges of the wanted places of a name among these.
 pub fn ranges_of(
     alloc: Global,
     snapshot: &Snapshot,

@@ -12,9 +12,10 @@ ghost use Rattle.ls_answers.specs.Renames as spec;
 ghost use Rattle.ls_answers.specs.own.Renamed as own;
 
 use crate::answer::{Answer, RenameFault};
-use crate::places::{Wanted, ranges_of};
+use crate::places::ranges_of;
 use abnf_names::{Grammar, Spot};
 use abnf_parts::is_core_name;
+use abnf_places::Wanted;
 use abnf_token::Folded;
 use ls_lists::{List, Text};
 use ls_text::{Encoding, Position, Range};

@@ -7,7 +7,7 @@ ghost use Rattle.ls_desk.specs.Stands.{IsSound};
 ghost use Rattle.ls_steps.specs.Runs.{Steps, begun, break_off, bytes_in, counts_at, finish_job, hear, is_filled, send, state_at, take_job};
 
 use crate::at_desk::{finish, meet};
-use ls_answers::{Diagnosed, Job, run};
+use ls_answers::{Job, Recent, run};
 use ls_desk::{Desk, DeskFault, Out};
 use ls_frame::FrameFault;
 use ls_session::{Session, Status, Turn, framed};
@@ -23,18 +23,31 @@ const MOST_EVENTS: u64 = 18_446_744_073_709_551_614;
 /// The number of the worker.
 const WORKER: u32 = 0;
 
-/// The session of one client, the desk with its documents, the jobs that the worker holds, and the last text that it diagnosed. Its methods are the steps
+/// The session of one client, the desk with its documents, the jobs that the worker holds, and the texts that it diagnosed last. Its methods are the steps
 /// that can come in any order.
 ///
 /// `Memory` says that an allocation was refused. The session is over then.
-#[derive(Drop)]
 pub struct Conversation {
     alloc: Global,
     session: Session,
     desk: Desk,
     held: Vec<Job>,
-    last: Option<Diagnosed>,
+    recent: Recent,
     status: Option<Status>,
+}
+
+// Not derived, so that what lets one go is proved without its fields.
+impl Drop for Conversation {
+    fn drop(self) {
+        let Conversation {
+            alloc: _,
+            session: _,
+            desk: _,
+            held: _,
+            recent: _,
+            status: _,
+        } = self;
+    }
 }
 
 impl Model for Conversation {
@@ -76,7 +89,7 @@ impl Conversation {
             session: Session::new(alloc),
             desk: Desk::new(alloc, max_journal, max_events),
             held: Vec::new(alloc),
-            last: None,
+            recent: Recent::new(),
             status: None,
         }
     }
@@ -158,7 +171,7 @@ impl Conversation {
             return Ok(());
         }
         let job = self.held.remove(at);
-        if finish(&mut self.desk, run(self.alloc, &mut self.last, job))? {
+        if finish(&mut self.desk, run(self.alloc, &mut self.recent, job))? {
             self.status = Some(Status::Full);
         }
         Ok(())
@@ -183,6 +196,14 @@ impl Conversation {
         ensures most { (result.max_journal ≡ self.max_journal) × (result.max_events ≡ self.max_events) }
         ensures sound { IsSound result }
     {
-        self.desk
+        let Conversation {
+            alloc: _,
+            session: _,
+            desk,
+            held: _,
+            recent: _,
+            status: _,
+        } = self;
+        desk
     }
 }

@@ -12,5 +12,7 @@ pub mod PlaceLaws
 pub mod ChunkLaws
 pub mod ScalarLaws
 pub mod PartLaws
+pub mod CopyLaws
+pub mod AlikeLaws
 pub mod RulerLaws
 pub mod SizeLaws

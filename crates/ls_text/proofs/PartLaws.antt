@@ -1,13 +1,13 @@
 -- Laws of lines whose texts and marks stand in one text and one list of marks.
-use Rattle.std.proofs.Common.{◌≡◌, ℕ, zero, suc, ◌+◌, ◌-◌, ◌<◌, ◌≤◌, List, [], ◌∷◌, ◌++◌, length, take, drop, get_or, map, refl, sym, ap, subst, ◌∙◌, arith, append_assoc, length-append, length-drop}
+use Rattle.std.proofs.Common.{◌≡◌, ℕ, zero, suc, ◌-◌, ◌<◌, ◌≤◌, List, [], ◌∷◌, ◌++◌, length, take, drop, get_or, map, refl, sym, ap, subst, ◌∙◌, arith, length-append, length-drop}
 use Rattle.std.specs.List.{slice_range}
 use Rattle.std.specs.Str.{chars, IsUtf8, IsCharBoundary}
-use Rattle.std.proofs.lemmas.List.{append-nil, take-append-le, drop-append-le, take_all, take_more, get_or-drop, length-map, map-append}
+use Rattle.std.proofs.lemmas.List.{take-append-le, drop-append-le, take_all, length-map, map-append}
 use Rattle.std.proofs.lemmas.Str.{IsUtf8-append, IsUtf8-drop, IsCharBoundary-from_drop, IsCharBoundary-at_seam, IsCharBoundary-end}
 use Rattle.abnf_token.specs.declared.mark.TokenMark.{TokenMark}
 use Rattle.abnf_token.specs.Marks.{AreMarks}
 use Rattle.ls_text.specs.Cut.{Row, row}
-use Rattle.ls_text.specs.own.Parts.{held_text, held_row, IsHeldLine, AreHeld}
+use Rattle.ls_text.specs.own.Parts.{held_text, held_row, IsHeldLine, AreHeld, AreInOrder, IsPart}
 use Rattle.ls_text.specs.declared.part.Held.{Held}
 
 -- ---- a line that stands in a text still does where something follows
@@ -57,65 +57,66 @@ marks_more bs marks more (h ∷ hs) are = (
   marks_more bs marks more hs are.1,
 )
 
--- ---- one more line
-pub all_push : (bs : List ℕ) (marks : List TokenMark) (hs : List Held) (h : Held) → AreHeld bs marks hs → IsHeldLine bs marks h → AreHeld bs marks (hs ++ h ∷ [])
-all_push bs marks [] h are is = (is, tt)
-all_push bs marks (x ∷ hs) h are is = (are.0, all_push bs marks hs h are.1 is)
+-- ---- lines in order
+pub order_within : (hs : List Held) (s k t m u n v w : ℕ) → s ≤ t → k ≤ m → u ≤ v → n ≤ w → AreInOrder t m hs u n → AreInOrder s k hs v w
+order_within [] s k t m u n v w from_le from_le' to_le to_le' o =
+    (omega (arith, from_le, to_le, o.0), omega (arith, from_le', to_le', o.1))
+order_within (h ∷ hs) s k t m u n v w from_le from_le' to_le to_le' o =
+    (omega (arith, from_le, o.0), omega (arith, from_le', o.1), order_within hs h.text_end h.marks_end h.text_end h.marks_end u n v w (omega arith) (omega arith) to_le to_le' o.2)
+
+pub order_append : (xs ys : List Held) (t m u n v w : ℕ) → AreInOrder t m xs u n → AreInOrder u n ys v w → AreInOrder t m (xs ++ ys) v w
+order_append [] ys t m u n v w o p = order_within ys t m u n v w v w o.0 o.1 (omega arith) (omega arith) p
+order_append (x ∷ xs) ys t m u n v w o p = (o.0, o.1, order_append xs ys x.text_end x.marks_end u n v w o.2 p)
+
+-- ---- more lines
+pub held_append : (bs : List ℕ) (marks : List TokenMark) (xs ys : List Held) → AreHeld bs marks xs → AreHeld bs marks ys → AreHeld bs marks (xs ++ ys)
+held_append bs marks [] ys are also = also
+held_append bs marks (x ∷ xs) ys are also = (are.0, held_append bs marks xs ys are.1 also)
 
 pub drop_front : {X : Type 0} (xs ys : List X) → drop (length xs) (xs ++ ys) ≡ ys
 drop_front [] ys = refl
 drop_front (x ∷ xs) ys = drop_front xs ys
 
-range_behind : {X : Type 0} (xs ys : List X) → slice_range (xs ++ ys) (length xs) (length (xs ++ ys)) ≡ ys
-range_behind xs ys = ap (take (length (xs ++ ys) - length xs)) (drop_front xs ys) ∙ take_all (length (xs ++ ys) - length xs) ys (omega (arith, length-append xs ys))
+range_behind : {X : Type 0} (xs ys : List X) (i j : ℕ) → i ≡ length xs → j ≡ length (xs ++ ys) → slice_range (xs ++ ys) i j ≡ ys
+range_behind xs ys i j from to =
+    (λ k. slice_range (xs ++ ys) (from k) (to k)) ∙ ap (take (length (xs ++ ys) - length xs)) (drop_front xs ys) ∙ take_all (length (xs ++ ys) - length xs) ys (omega (arith, length-append xs ys))
 
-range_from : {X : Type 0} (xs : List X) (i : ℕ) → slice_range xs i (length xs) ≡ drop i xs
-range_from xs i = take_all (length xs - i) (drop i xs) (omega (arith, length-drop i xs))
-
-module _ (bs text : List ℕ) (marks : List TokenMark) (hs : List Held) (u : IsUtf8 bs) (v : IsUtf8 text) (are : AreHeld bs marks hs) (h : Held) (start_is : h.text_start ≡ length bs) (end_is : h.text_end ≡ length (bs ++ text)) (first : ℕ) (first_is : h.marks_start ≡ first) (first_le : first ≤ length marks) (last_is : h.marks_end ≡ length marks) (marks_are : AreMarks text (drop first marks)) (count_is : h.char_count ≡ length (chars text)) where
+module _ (bs text : List ℕ) (marks more : List TokenMark) (hs : List Held) (u : IsUtf8 bs) (v : IsUtf8 text) (is : IsPart bs marks hs) (h : Held) (start_is : h.text_start ≡ length bs) (end_is : h.text_end ≡ length (bs ++ text)) (first_is : h.marks_start ≡ length marks) (last_is : h.marks_end ≡ length (marks ++ more)) (marks_are : AreMarks text more) (count_is : h.char_count ≡ length (chars text)) where
   last_text : held_text (bs ++ text) h ≡ text
-  last_text = (λ i. slice_range (bs ++ text) (start_is i) (end_is i)) ∙ range_behind bs text
+  last_text = range_behind bs text h.text_start h.text_end start_is end_is
 
-  last_marks : slice_range marks h.marks_start h.marks_end ≡ drop first marks
-  last_marks = (λ i. slice_range marks (first_is i) (last_is i)) ∙ range_from marks first
+  last_marks : slice_range (marks ++ more) h.marks_start h.marks_end ≡ more
+  last_marks = range_behind marks more h.marks_start h.marks_end first_is last_is
 
-  last_held : IsHeldLine (bs ++ text) marks h
+  last_held : IsHeldLine (bs ++ text) (marks ++ more) h
   last_held = record {
     order = omega (arith, start_is, end_is, length-append bs text);
     from = subst (IsCharBoundary (bs ++ text)) (sym start_is) (IsCharBoundary-at_seam (bs ++ text) bs text refl v);
     to = subst (IsCharBoundary (bs ++ text)) (sym end_is) (IsCharBoundary-end (bs ++ text));
-    marks_order = omega (arith, first_is, first_le, last_is);
+    marks_order = omega (arith, first_is, last_is, length-append marks more);
     marks_within = omega (arith, last_is);
-    marks_are = subst (AreMarks (held_text (bs ++ text) h)) (sym last_marks) (subst (λ (t : List ℕ). AreMarks t (drop first marks)) (sym last_text) marks_are);
+    marks_are = subst (AreMarks (held_text (bs ++ text) h)) (sym last_marks) (subst (λ (t : List ℕ). AreMarks t more) (sym last_text) marks_are);
     count_is = count_is ∙ ap (λ t. length (chars t)) (sym last_text);
   }
 
-  pub with_last : AreHeld (bs ++ text) marks (hs ++ h ∷ [])
-  with_last = all_push (bs ++ text) marks hs h (all_more bs text marks hs u v are) last_held
+  pub part_last : IsPart (bs ++ text) (marks ++ more) (hs ++ h ∷ [])
+  part_last = (
+    held_append (bs ++ text) (marks ++ more) hs (h ∷ []) (marks_more (bs ++ text) marks more hs (all_more bs text marks hs u v is.0)) (last_held, tt),
+    order_append hs (h ∷ []) 0 0 (length bs) (length marks) (length (bs ++ text)) (length (marks ++ more)) is.1 (
+      omega (arith, start_is),
+      omega (arith, first_is),
+      (omega (arith, end_is), omega (arith, last_is)),
+    ),
+  )
 
   pub rows_last : map (held_row (bs ++ text)) (hs ++ h ∷ []) ≡ map (held_row bs) hs ++ row (chars text) h.end ∷ []
-  rows_last = map-append (held_row (bs ++ text)) hs (h ∷ []) ∙ (λ i. rows_more bs text marks hs are i ++ row (chars (last_text i)) h.end ∷ [])
+  rows_last = map-append (held_row (bs ++ text)) hs (h ∷ []) ∙ (λ i. rows_more bs text marks hs is.0 i ++ row (chars (last_text i)) h.end ∷ [])
 
 -- ---- a line among them
 pub held_at : (bs : List ℕ) (marks : List TokenMark) (hs : List Held) → AreHeld bs marks hs → (i : ℕ) (h : Held) → i < length hs → h ≡ get_or hs i h → IsHeldLine bs marks h
 held_at bs marks [] are i h lt is = absurd (omega (arith, lt))
 held_at bs marks (x ∷ hs) are zero h lt is = subst (IsHeldLine bs marks) (sym is) are.0
 held_at bs marks (x ∷ hs) are (suc i) h lt is = held_at bs marks hs are.1 i h (omega (arith, lt)) is
-
--- ---- the lines of another part, from one up to another
-pub some_none : (ls init : List Row) (from : ℕ) → init ≡ init ++ take (from - from) (drop from ls)
-some_none ls init from =
-    let none : from - from ≡ 0 = omega arith in
-    sym (append-nil init) ∙ ap (λ n. init ++ take n (drop from ls)) (sym none)
-
-pub some_more : (ls : List Row) (from i : ℕ) (l : Row) → from ≤ i → i < length ls → l ≡ get_or ls i l → (init now next : List Row) → next ≡ now ++ l ∷ [] → now ≡ init ++ take (i - from) (drop from ls) → next ≡ init ++ take (i + 1 - from) (drop from ls)
-some_more ls from i l le lt is init now next next_is before =
-    let place : from + (i - from) ≡ i = omega (arith, le) in
-    let one : i + 1 - from ≡ i - from + 1 = omega (arith, le) in
-    let here : get_or (drop from ls) (i - from) l ≡ l = get_or-drop from ls (i - from) l ∙ ap (λ n. get_or ls n l) place ∙ sym is in
-    let more : take (i + 1 - from) (drop from ls) ≡ take (i - from) (drop from ls) ++ l ∷ [] =
-    ap (λ n. take n (drop from ls)) one ∙ take_more (drop from ls) (i - from) l (omega (arith, le, lt, length-drop from ls)) ∙ ap (λ z. take (i - from) (drop from ls) ++ z ∷ []) here in
-    next_is ∙ ap (λ z. z ++ l ∷ []) before ∙ append_assoc init (take (i - from) (drop from ls)) (l ∷ []) ∙ ap (λ z. init ++ z) (sym more)
 
 pub held_line : (bs : List ℕ) (marks : List TokenMark) (hs : List Held) → AreHeld bs marks hs → (ls : List Row) → map (held_row bs) hs ≡ ls → (i : ℕ) → i < length ls → (h : Held) → h ≡ get_or hs i h → IsHeldLine bs marks h
 held_line bs marks hs are ls ls_are i lt h is = held_at bs marks hs are i h (omega (arith, lt, ap length ls_are, length-map hs (held_row bs))) is

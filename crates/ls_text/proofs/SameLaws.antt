@@ -1,5 +1,5 @@
 -- Laws of lines that make the same text.
-use Rattle.std.proofs.Common.{◌≡◌, ℕ, zero, suc, ◌+◌, ◌<◌, true, false, not, List, [], ◌∷◌, ◌++◌, length, refl, sym, ap, ◌∙◌, arith, map}
+use Rattle.std.proofs.Common.{◌≡◌, ℕ, zero, suc, ◌+◌, ◌<◌, true, false, not, List, [], ◌∷◌, ◌++◌, length, get_or, drop, refl, sym, ap, ◌∙◌, arith, map}
 use Rattle.std.proofs.lemmas.List.{append_cancel_left}
 use Rattle.ls_text.specs.Lines.{starts_with_lf, lines, line_ends}
 use Rattle.ls_text.specs.Cut.{end_text, line_text, text_of, row, is_end_before, AreLines, text_at, end_at}
@@ -8,6 +8,7 @@ use Rattle.ls_text.specs.declared.line_end.LineEnd.TheVariants.{Eof, Lf, Cr, CrL
 use Rattle.ls_text.specs.Cut.{Row}
 use Rattle.ls_text.proofs.CutLaws.{lines_text_of, line_ends_text_of}
 use Rattle.ls_text.proofs.OffsetLaws.{text_found}
+use Rattle.ls_text.specs.own.Alike.{IsSameFront}
 use Rattle.ls_text.specs.own.Chunks.{IsLineAt}
 use Rattle.ls_text.proofs.SpotLaws.{end_found}
 
@@ -87,6 +88,18 @@ text_same (l ∷ ls) (m ∷ ms) e same =
     let first = same 0 (omega arith) in
     let rest = text_same ls ms (omega (arith, e)) (λ i lt. let there = same (suc i) (omega (arith, lt)) in record { text = there.text; end = there.end }) in
     λ i. first.text i ++ (end_text (first.end i) ++ rest i)
+
+-- ---- the same lines at the front are the same
+pub front_same : (n : ℕ) (ls ms : List Row) → IsSameFront ls ms n → (i : ℕ) → i < n → IsSameAt ls ms i
+front_same zero ls ms front i lt = absurd (omega (arith, lt))
+front_same (suc n) [] ms front i lt = absurd (omega (arith, front.ours))
+front_same (suc n) (l ∷ ls) [] front i lt = absurd (omega (arith, front.theirs))
+front_same (suc n) (l ∷ ls) (m ∷ ms) front zero lt =
+    let first : l ≡ m = ap (λ rows. get_or rows 0 l) front.same in
+    record { text = ap line_text first; end = ap (λ (r : Row). r.end) first }
+front_same (suc n) (l ∷ ls) (m ∷ ms) front (suc i) lt =
+    let rest = front_same n ls ms (record { ours = omega (arith, front.ours); theirs = omega (arith, front.theirs); same = ap (drop 1) front.same }) i (omega (arith, lt)) in
+    record { text = rest.text; end = rest.end }
 
 -- ---- lines found
 module _ (xs ys : List Row) (i : ℕ) (x y : Row) (x_start y_start : ℕ) (x_at : IsLineAt xs i x x_start) (y_at : IsLineAt ys i y y_start) where

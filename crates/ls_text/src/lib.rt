@@ -11,6 +11,7 @@
 //! - An offset is a number of characters (Unicode scalar values) from the start of the text.
 #![tactic(auto)]
 
+mod alike;
 mod chunk;
 mod cut;
 mod edit;

@@ -6,8 +6,10 @@ ghost use Rattle.std.specs.Char.{IsScalar};
 ghost use Rattle.std.specs.List.{flat_map};
 ghost use Rattle.std.specs.Str.{encode_utf8_all};
 ghost use Rattle.ls_text.specs.Cut.{text_of, start_of};
+ghost use Rattle.ls_text.specs.own.Alike.{IsSameFront, IsSameBack};
 ghost use Rattle.ls_text.specs.own.Chunks.{lines_behind, IsLineAt};
 
+use crate::alike::{same_back, same_front};
 use crate::chunk::{Chunk, MOST_LINES, chunk_of, push_number, start_before};
 use crate::fault::TextFault;
 use crate::line::Line;
@@ -337,6 +339,21 @@ impl Lines {
             line,
             start + chunk.starts[local],
         )
+    }
+
+    // How many lines at the front are the same in other lines. It may tell too few.
+    pub fn same_front(&self, other: &Lines) -> usize
+        ensures { IsSameFront self.now other.now result }
+    {
+        same_front(&self.chunks, &other.chunks)
+    }
+
+    // How many lines at the back are the same in other lines, at most so many. It may tell too few.
+    pub fn same_back(&self, other: &Lines, most: usize) -> usize
+        ensures most { result ≤ most }
+        ensures same { IsSameBack self.now other.now result }
+    {
+        same_back(&self.chunks, &other.chunks, most)
     }
 
     // These lines, with those from one up to another replaced. It shares the chunks that have none of them.

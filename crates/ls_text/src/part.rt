@@ -1,12 +1,11 @@
 //! Some lines that follow one another, in one text.
 
-ghost use Rattle.std.specs.Prelude.{◌≡◌, ◌-◌, ◌<◌, ◌≤◌, ◌^◌, ◌++◌, ◌∷◌, [], length, map, take, drop, IfOk, OnOk, slice_index_or};
+ghost use Rattle.std.specs.Prelude.{◌≡◌, ◌-◌, ◌<◌, ◌≤◌, ◌^◌, ◌++◌, ◌+◌, [], length, map, take, drop, All, IsTrue, IfOk, OnOk, slice_index_or};
 ghost use Rattle.std.specs.List.{slice_range};
-ghost use Rattle.std.specs.Str.{chars};
-ghost use Rattle.std.specs.String.{string_bytes};
-ghost use Rattle.abnf_token.specs.Marks.{AreMarks};
-ghost use Rattle.ls_text.specs.Cut.{row, IsPushedLine};
-ghost use Rattle.ls_text.specs.own.Parts.{held_row, AreHeld};
+ghost use Rattle.std.specs.Str.{IsCharBoundary};
+ghost use Rattle.ls_text.specs.Cut.{IsPushedLine};
+ghost use Rattle.ls_text.specs.own.Alike.{IsSameFront, IsSameBack};
+ghost use Rattle.ls_text.specs.own.Parts.{moved, IsMovable, IsBehind, IsAlike, AreAlike};
 
 use crate::line::Line;
 use crate::line_end::LineEnd;
@@ -49,11 +48,11 @@ impl Model for Part {
 
     ghost Value = { List Row };
 
-    ghost use Rattle.ls_text.specs.own.Parts.{held_row, AreHeld};
+    ghost use Rattle.ls_text.specs.own.Parts.{held_row, IsPart};
 
     ghost view = { λ p. map (held_row (string_bytes p.text)) p.lines.items };
 
-    ghost invariant = { λ p. AreHeld (string_bytes p.text) p.marks.items p.lines.items };
+    ghost invariant = { λ p. IsPart (string_bytes p.text) p.marks.items p.lines.items };
 }
 
 // A number in 32 bits.
@@ -67,14 +66,25 @@ fn narrow(number: usize) -> Result<u32, AllocError>
     Ok(number as u32)
 }
 
+// A text from one place up to another.
+#[inline(always)]
+fn piece(text: &str, from: u32, to: u32) -> &str
+    requires order { from ≤ to }
+    requires start { IsCharBoundary text.now from }
+    requires end { IsCharBoundary text.now to }
+    ensures { result.now ≡ slice_range text.now from to }
+{
+    &text[from as usize..to as usize]
+}
+
 // The marks from one up to another.
 #[inline(always)]
-fn between(marks: &[TokenMark], from: usize, to: usize) -> &[TokenMark]
+fn between(marks: &[TokenMark], from: u32, to: u32) -> &[TokenMark]
     requires order { from ≤ to }
     requires within { to ≤ length marks.now }
     ensures { result.now ≡ slice_range marks.now from to }
 {
-    &marks[from..to]
+    &marks[from as usize..to as usize]
 }
 
 // Where a line stands.
@@ -106,31 +116,61 @@ fn held_of(
     })
 }
 
-// The lines that stand in a text, and one more, whose marks are those from `first` on.
+// Where the text and the marks of some lines begin, and where their copies do.
+#[derive(Clone, Copy)]
+struct Shift {
+    text_from: u32,
+    text_to: u32,
+    marks_from: u32,
+    marks_to: u32,
+}
+
+// Adds the places of the copies of these lines.
 #[inline(always)]
-fn with_line(
-    text: String,
-    marks: Vec<TokenMark>,
-    lines: Vec<Held>,
-    first: usize,
-    line: &str,
-    char_count: usize,
-    end: LineEnd,
-) -> Result<Part, AllocError>
-    requires lines { AreHeld (string_bytes text) marks.items lines.items }
-    requires first { first ≤ length marks.items }
-    requires marks { AreMarks line.now (drop first marks.items) }
-    requires count { char_count ≡ length (chars line.now) }
-    ensures { IfOk result (λ part. part
-        ≡ map (held_row (string_bytes text)) lines.items ++ row (chars line.now) end ∷ []) }
+fn push_moved(lines: &mut Vec<Held>, some: &[Held], shift: Shift) -> Result<(), AllocError>
+    requires { All (IsMovable shift) some.now }
+    ensures { OnOk result (lines.new.items ≡ lines.old.items ++ map (moved shift) some.now) }
 {
-    let mut text = text;
-    let mut lines = lines;
-    let start = text.len();
-    text.push_str(line)?;
-    let held = held_of(start, text.len(), first, marks.len(), char_count, end)?;
-    lines.push(held)?;
-    Ok(Part { text, marks, lines })
+    lines.reserve(some.len())?;
+    for held in some {
+        lines.push(Held {
+            text_start: shift.text_to + (held.text_start - shift.text_from),
+            text_end: shift.text_to + (held.text_end - shift.text_from),
+            marks_start: shift.marks_to + (held.marks_start - shift.marks_from),
+            marks_end: shift.marks_to + (held.marks_end - shift.marks_from),
+            char_count: held.char_count,
+            end: held.end,
+        })?;
+    }
+    Ok(())
+}
+
+// Whether a line stands as far behind one place as another does behind another, and ends alike.
+#[inline(always)]
+fn is_alike(our: Held, place: u32, their: Held, there: u32) -> bool
+    requires our { IsBehind place our }
+    requires their { IsBehind there their }
+    ensures { IsTrue result → IsAlike place there our their }
+{
+    our.text_start - place == their.text_start - there
+        && our.text_end - place == their.text_end - there
+        && our.end == their.end
+}
+
+// Whether these lines stand as far behind one place as those do behind another, and end alike.
+#[inline(always)]
+fn are_alike(ours: &[Held], place: u32, theirs: &[Held], there: u32) -> bool
+    requires count { length ours.now ≡ length theirs.now }
+    requires ours { All (IsBehind place) ours.now }
+    requires theirs { All (IsBehind there) theirs.now }
+    ensures { IsTrue result → AreAlike place there ours.now theirs.now (length ours.now) }
+{
+    for at in 0..ours.len() {
+        if !is_alike(ours[at], place, theirs[at], there) {
+            return false;
+        }
+    }
+    true
 }
 
 impl Part {
@@ -170,12 +210,8 @@ impl Part {
         ensures { result ≡ slice_index_or self.now at result }
     {
         let held = self.lines[at];
-        let text = &self.text.as_str()[held.text_start as usize..held.text_end as usize];
-        let marks = between(
-            &self.marks,
-            held.marks_start as usize,
-            held.marks_end as usize,
-        );
+        let text = piece(self.text.as_str(), held.text_start, held.text_end);
+        let marks = between(&self.marks, held.marks_start, held.marks_end);
         Line::of(text, held.end, held.char_count as usize, marks)
     }
 
@@ -186,49 +222,131 @@ impl Part {
         ensures { IfOk result (λ part. IsPushedLine self text.now end part) }
     {
         let Part {
-            text: before,
+            text: mut before,
             mut marks,
-            lines,
+            mut lines,
         } = self;
-        let first = marks.len();
+        let text_start = before.len();
+        let marks_start = marks.len();
+        before.push_str(text)?;
         push_marks(&mut marks, text)?;
-        with_line(before, marks, lines, first, text, char_count(text), end)
-    }
-
-    // These lines, and a copy of one, with its marks.
-    #[inline(always)]
-    fn with_copy(self, line: &Line<'_>) -> Result<Part, AllocError>
-        ensures { IfOk result (λ part. part ≡ self ++ line.now ∷ []) }
-    {
-        let Part {
-            text,
-            mut marks,
-            lines,
-        } = self;
-        let first = marks.len();
-        marks.extend_from_slice(line.marks())?;
-        with_line(
-            text,
+        let held = held_of(
+            text_start,
+            before.len(),
+            marks_start,
+            marks.len(),
+            char_count(text),
+            end,
+        )?;
+        lines.push(held)?;
+        Ok(Part {
+            text: before,
             marks,
             lines,
-            first,
-            line.text(),
-            line.char_count(),
-            line.end(),
-        )
+        })
     }
 
-    // These lines, and copies of those of another part, from one up to another.
+    // Whether so many lines from one on are the same as those of another part. Their texts are compared in one piece.
+    pub fn are_same(&self, from: usize, other: &Part, there: usize, count: usize) -> bool
+        requires ours { from + count ≤ length self.now }
+        requires theirs { there + count ≤ length other.now }
+        ensures { IsTrue result → take count (drop from self.now) ≡ take count (drop there other.now) }
+    {
+        if count == 0 {
+            return true;
+        }
+        let first = self.lines[from];
+        let last = self.lines[from + count - 1];
+        let other_first = other.lines[there];
+        let other_last = other.lines[there + count - 1];
+        let ours = piece(self.text.as_str(), first.text_start, last.text_end);
+        let theirs = piece(
+            other.text.as_str(),
+            other_first.text_start,
+            other_last.text_end,
+        );
+        ours == theirs
+            && are_alike(
+                &self.lines[from..from + count],
+                first.text_start,
+                &other.lines[there..there + count],
+                other_first.text_start,
+            )
+    }
+
+    // How many lines at the front are the same in another part: all of the shorter, or found by halving.
+    pub fn same_front(&self, other: &Part) -> usize
+        ensures { IsSameFront self.now other.now result }
+    {
+        let mut low = 0;
+        let mut high = self.len().min(other.len());
+        if self.are_same(0, other, 0, high) {
+            return high;
+        }
+        'halves: while low < high {
+            let middle = high - (high - low) / 2;
+            if self.are_same(low, other, low, middle - low) {
+                low = middle;
+            } else {
+                high = middle - 1;
+            }
+        }
+        low
+    }
+
+    // How many lines at the back are the same in another part, at most so many.
+    pub fn same_back(&self, other: &Part, most: usize) -> usize
+        ensures most { result ≤ most }
+        ensures same { IsSameBack self.now other.now result }
+    {
+        let ours = self.len();
+        let theirs = other.len();
+        let mut low = 0;
+        let mut high = ours.min(theirs).min(most);
+        if self.are_same(ours - high, other, theirs - high, high) {
+            return high;
+        }
+        'halves: while low < high {
+            let middle = high - (high - low) / 2;
+            if self.are_same(ours - middle, other, theirs - middle, middle - low) {
+                low = middle;
+            } else {
+                high = middle - 1;
+            }
+        }
+        low
+    }
+
+    // These lines, and copies of those of another part, from one up to another. Their texts are copied in one piece, and
+    // their marks in another.
     pub fn with_some(self, part: &Part, from: usize, to: usize) -> Result<Part, AllocError>
         requires order { from ≤ to }
         requires within { to ≤ length part.now }
         ensures { IfOk result (λ lines. lines ≡ self ++ take (to - from) (drop from part.now)) }
     {
-        let mut lines = self;
-        for i in from..to {
-            lines = lines.with_copy(&part.line(i))?;
+        if from == to {
+            return Ok(self);
         }
-        Ok(lines)
+        let first = part.lines[from];
+        let last = part.lines[to - 1];
+        let Part {
+            mut text,
+            mut marks,
+            mut lines,
+        } = self;
+        let shift = Shift {
+            text_from: first.text_start,
+            text_to: narrow(text.len())?,
+            marks_from: first.marks_start,
+            marks_to: narrow(marks.len())?,
+        };
+        text.push_str(piece(part.text.as_str(), first.text_start, last.text_end))?;
+        marks.extend_from_slice(between(&part.marks, first.marks_start, last.marks_end))?;
+        if text.len() > MOST || marks.len() > MOST {
+            return Err(AllocError);
+        }
+        push_moved(&mut lines, &part.lines[from..to], shift)?;
+        Ok(Part { text, marks, lines })
     }
 
     // The same lines, without room to spare.

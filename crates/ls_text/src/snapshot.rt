@@ -1,6 +1,6 @@
 //! Texts that don't change.
 
-ghost use Rattle.std.specs.Prelude.{ℕ, ◌≡◌, ◌+◌, ◌<◌, ◌≤◌, ◌++◌, ◌↔◌, ◌∷◌, [], length, map, Option, true, false, Some, None, Err, All, IsTrue, OnOk, IfOk, IfErr, IfSome, slice_index};
+ghost use Rattle.std.specs.Prelude.{ℕ, ◌≡◌, ◌+◌, ◌-◌, ◌<◌, ◌≤◌, ◌++◌, ◌↔◌, ◌∷◌, [], length, map, take, drop, Option, true, false, Some, None, Err, All, IsTrue, OnOk, IfOk, IfErr, IfSome, slice_index};
 ghost use Rattle.std.specs.Char.{len_utf8, IsScalar};
 ghost use Rattle.std.specs.Str.{chars, encode_utf8_all, IsUtf8};
 ghost use Rattle.std.specs.String.{string_bytes, string_len};
@@ -62,7 +62,7 @@ fn same_line(a: &Line<'_>, b: &Line<'_>) -> bool
     a.end() == b.end() && a.text() == b.text()
 }
 
-// Whether the lines of two texts are the same.
+// Whether the lines of two texts are the same: those at the front by whole chunks, the others one by one.
 fn same_lines(a: &Lines, b: &Lines) -> bool
     requires a { AreLines a.now }
     requires b { AreLines b.now }
@@ -71,7 +71,7 @@ fn same_lines(a: &Lines, b: &Lines) -> bool
     if a.len() != b.len() {
         return false;
     }
-    for i in 0..a.len() {
+    for i in a.same_front(b)..a.len() {
         let (ours, _) = a.line(i);
         let (theirs, _) = b.line(i);
         if !same_line(&ours, &theirs) {
@@ -252,6 +252,25 @@ impl Snapshot {
         ensures { IsTrue result ↔ (self.now ≡ other.now) }
     {
         same_lines(&self.lines, &other.lines)
+    }
+
+    /// How many lines at the front are the same in another text, with their line ends: by whole chunks, and within the first
+    /// that differs. It may tell too few.
+    pub fn same_front(&self, other: &Snapshot) -> usize
+        ensures within { (result ≤ line_ends self.now + 1) × (result ≤ line_ends other.now + 1) }
+        ensures same { take result (lines self.now) ≡ take result (lines other.now) }
+    {
+        self.lines.same_front(&other.lines)
+    }
+
+    /// The same from the back, at most so many. It may tell too few.
+    pub fn same_back(&self, other: &Snapshot, most: usize) -> usize
+        ensures most { result ≤ most }
+        ensures within { (result ≤ line_ends self.now + 1) × (result ≤ line_ends other.now + 1) }
+        ensures same { drop (line_ends self.now + 1 - result) (lines self.now)
+            ≡ drop (line_ends other.now + 1 - result) (lines other.now) }
+    {
+        self.lines.same_back(&other.lines, most)
     }
 
     // The lines with a range replaced.

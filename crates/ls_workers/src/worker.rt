@@ -5,7 +5,7 @@ ghost use Rattle.ls_workers.specs.Refusals.{ends_work, may_refuse_run};
 use crate::board::Board;
 use crate::ledgers::Crew;
 use crate::seats::WorkerSeat;
-use ls_answers::{Diagnosed, Job, run};
+use ls_answers::{Job, Recent, run};
 use ls_desk::DeskFault;
 use std::alloc::Global;
 use std::sync::Wait;
@@ -33,7 +33,7 @@ fn run_one<C: Crew, R: Wait, G: Gate>(
     board: &Board<C>,
     seat: &mut WorkerSeat<C>,
     gate: &G,
-    last: &mut Option<Diagnosed>,
+    recent: &mut Recent,
     job: Job,
 ) -> Option<DeskFault>
     ensures seat { (seat.new.mark ≡ seat.old.mark) × (seat.new.number ≡ seat.old.number) }
@@ -43,7 +43,7 @@ fn run_one<C: Crew, R: Wait, G: Gate>(
     if !board.wanted(rt, job.ticket) {
         return None;
     }
-    let Err((fault, _)) = board.finish(rt, seat, run(alloc, last, job)) else {
+    let Err((fault, _)) = board.finish(rt, seat, run(alloc, recent, job)) else {
         return None;
     };
     ended_by(fault)
@@ -65,14 +65,14 @@ pub fn work<C: Crew, R: Wait, G: Gate>(
     ensures ended { IfSome result.1 (λ fault. ends_work fault ≡ true) }
 {
     let mut seat = seat;
-    let mut last = None;
+    let mut recent = Recent::new();
     for _ in rt.forever() {
         let job = match board.take(rt, &mut seat) {
             Ok(Some(job)) => job,
             Ok(None) => return (seat, None),
             Err(fault) => return (seat, Some(fault)),
         };
-        if let Some(fault) = run_one(rt, alloc, board, &mut seat, gate, &mut last, job) {
+        if let Some(fault) = run_one(rt, alloc, board, &mut seat, gate, &mut recent, job) {
             return (seat, Some(fault));
         }
     }

@@ -1,4 +1,4 @@
-//! Worked grammars: the tests of `abnf_names`, `abnf_cert` and `abnf_least`, and the grammars of `examples/` with their shortest sentences.
+//! Worked grammars: the tests of `abnf_names`, `abnf_places`, `abnf_cert` and `abnf_least`, and the grammars of `examples/` with their shortest sentences.
 //!
 //! They stand above the crates that they test, since a crate with tests is proved twice, and those take long.
 #![tactic(auto)]
@@ -13,6 +13,8 @@ mod grammars;
 mod lengths;
 #[cfg(test)]
 mod names;
+#[cfg(test)]
+mod one_name;
 #[cfg(test)]
 mod random;
 #[cfg(test)]

@@ -1,50 +1,29 @@
 -- What the passes over a text's blocks hold. Only contracts of private functions speak of it.
-use Rattle.std.specs.Prelude.{◌≡◌, ℕ, Bool, List, [], ◌∷◌, All, map, flat_map, fold, filter, filter_map, find, length, Option, Some, None, option_map, Result, false, if◌then◌else◌}
-use Rattle.std.specs.Option.{option_or, option_map_or}
+use Rattle.std.specs.Prelude.{◌≡◌, ℕ, Bool, List, [], ◌∷◌, All, map, flat_map, fold, filter, filter_map, length, Option, Some, None, option_map, Result, false, if◌then◌else◌}
+use Rattle.std.specs.Option.{option_map_or}
 use Rattle.ls_text.specs.declared.position.Place.{Place}
 use Rattle.abnf_syntax.specs.declared.item.Item.{Item}
 use Rattle.abnf_syntax.specs.declared.fault.SyntaxFault.{SyntaxFault}
 use Rattle.abnf_syntax.specs.declared.tree.Rule.{Rule}
 use Rattle.abnf_names.specs.declared.section.Section.{Section}
 use Rattle.abnf_names.specs.declared.section.Listed.{Listed}
-use Rattle.abnf_names.specs.declared.place.Spot.{Spot}
 use Rattle.abnf_token.specs.Folded.{lowercase}
 use Rattle.abnf_parts.specs.Names.{Name, with_name}
 use Rattle.std.specs.Str.{bytes_eq}
-use Rattle.abnf_names.specs.Said.{Block, BlockSays, AreSaid, name_of}
-use Rattle.abnf_names.specs.Places.{Named, named_at, holds, ends_at, places_of}
+use Rattle.abnf_names.specs.Said.{Block, BlockSays, name_of}
+use Rattle.abnf_names.specs.Places.{Named, named_at, places_of}
 use Rattle.abnf_names.specs.Rules.{adds, alternatives_said, defined, fault_place, needed, rules_of}
 use Rattle.abnf_names.specs.Excerpts.{Excerpt, excerpt, excerpt_of}
-use Rattle.abnf_names.specs.Shown.{fault_shown}
+use Rattle.abnf_names.specs.Sections.{IsSaidBy}
 use Rattle.abnf_syntax.specs.Heads.{head_of}
 use Rattle.abnf_names.specs.declared.own.NamesOfText.{NamesOfText}
 use Rattle.abnf_names.specs.declared.rules.Rules.{Rules}
 use Rattle.abnf_parts.specs.Nodes.{trees_at}
 use Rattle.abnf_parts.specs.Pushed.{AddsTrees}
 use Rattle.abnf_parts.specs.Reach.{AreReaching}
-use Rattle.abnf_parts.specs.Part.{Part, alt, opaque}
-use Rattle.abnf_parts.specs.Tree.{parts, alternatives}
+use Rattle.abnf_parts.specs.Part.{Part, alt}
+use Rattle.abnf_parts.specs.Tree.{parts}
 use Rattle.abnf_parts.specs.Core.{core_name, is_core_name}
-
--- the blocks of a text, all of them and in order
-pub record AreSections (text : List ℕ) (sections : List Section) : Type 0 where
-  pub blocks : List Block
-  pub of_text : AreSaid text blocks
-  pub excerpts : map excerpt sections ≡ map excerpt_of blocks
-
--- the section's block says this
-pub record IsSaidBy (section : Section) (said : Result Rule SyntaxFault) : Type 0 where
-  pub says : BlockSays section.block.items said
-  pub shown : section.fault ≡ fault_shown said
-
--- the alternatives of a rule, or an opaque one where none is known
-abbrev pub alternatives_known : (Name → Option ℕ) → Option Rule → List Part
-alternatives_known number None = opaque ∷ []
-alternatives_known number (Some rule) = alternatives number rule.body
-
--- both have the same alternatives
-abbrev pub AreAlike : Result Rule SyntaxFault → Option Rule → Type 0
-AreAlike said rule = (number : Name → Option ℕ) → alternatives_known number rule ≡ alternatives_said number said
 
 -- the fault of a section with its place
 abbrev pub section_fault : Section → Option (Place × SyntaxFault)
@@ -99,10 +78,6 @@ alternatives_of number d = alternatives_said number d.said
 -- the rule whose name has these definitions
 abbrev pub tree_of : (Name → Option ℕ) → List Definition → Part
 tree_of number definitions = alt (parts (flat_map (alternatives_of number) (counted_among definitions)))
-
--- the first spot that holds what stands behind that point, else the first that ends there
-abbrev pub spot_at : Place → List Spot → Option Spot
-spot_at at spots = option_or (find (λ spot. holds at (named_at spot)) spots) (find (λ spot. ends_at at (named_at spot)) spots)
 
 -- Names, and beside each the things that were put under it.
 abbrev pub Grouped : Type 0 → Type 0

@@ -1,12 +1,11 @@
 -- How the items of a block are gathered. No public contract speaks of it.
-use Rattle.std.specs.Prelude.{◌≡◌, ◌+◌, ◌≤◌, ◌<◌, ℕ, Bool, true, false, List, [], ◌∷◌, ◌++◌, length, Option, Some, None, map, if◌then◌else◌}
+use Rattle.std.specs.Prelude.{◌≡◌, ◌+◌, ℕ, Bool, true, false, List, [], ◌∷◌, ◌++◌, length, Option, Some, None, map, if◌then◌else◌}
 use Rattle.std.specs.List.{flat_map}
 use Rattle.abnf_token.specs.declared.token.Token.{Token}
 use Rattle.abnf_token.specs.Classes.{Text}
 use Rattle.abnf_token.specs.Tokens.{TokensOf}
 use Rattle.abnf_syntax.specs.declared.block.Gathered.{Gathered}
 use Rattle.abnf_syntax.specs.Kinds.{is_item}
-use Rattle.abnf_syntax.specs.Blocks.{begins_at, NoneBegins}
 use Rattle.abnf_syntax.specs.Items.{with_line_end, view, AreTokens}
 
 -- the items so far, and whether the next one is apart
@@ -48,10 +47,3 @@ pub record HasLines (ls : List Text) (first end : ℕ) (now : Gathering) : Type 
   pub all : first + length tokens ≡ end
   pub tokens_are : AreTokens ls first tokens
   pub state : now ≡ after_all nothing_gathered (flat_map with_line_end tokens)
-
--- the next line from a place on that begins a block, or the number of lines
-pub record IsNextBlock (ls : List Text) (from next : ℕ) : Type 0 where
-  pub reached : from ≤ next
-  pub within : next ≤ length ls
-  pub none : NoneBegins ls from next
-  pub begins : next < length ls → begins_at ls next ≡ true

@@ -1,6 +1,9 @@
-use Rattle.std.proofs.Common.{◌≡◌, ℕ, ◌<◌, []}
-use Rattle.std.specs.Prelude.{slice_index_or}
+use Rattle.std.proofs.Common.{◌-◌}
+use Rattle.abnf_kept.specs.own.Parts.{IsFront}
 use Rattle.abnf_kept.proofs.difference.same_front.Given as goal
 
-abbrev pub invariant-loop-at : goal.invariant-loop-at
-invariant-loop-at l = (n : ℕ) → n < l.at → slice_index_or l.ours n [] ≡ slice_index_or l.theirs n []
+abbrev pub invariant-loop-front : goal.invariant-loop-front
+invariant-loop-front l = IsFront l.ours l.theirs l.front
+
+abbrev pub decreases-loop-front : goal.decreases-loop-front
+decreases-loop-front l = l.most - l.front

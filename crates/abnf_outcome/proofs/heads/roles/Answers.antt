@@ -1,6 +1,6 @@
 use Rattle.std.proofs.Common.{◌∙◌, length, arith, ap}
 use Rattle.std.specs.Prelude.{replicate, false}
-use Rattle.abnf_outcome.specs.HeadRoles.{seen_with, based_with}
+use Rattle.abnf_outcome.specs.own.HeadRoles.{seen_with, based_with}
 use Rattle.abnf_outcome.proofs.HeadMarks.{no_roles_of, one_more_of, role_read, roles_are}
 use Rattle.abnf_outcome.proofs.heads.roles.Goals as goal
 

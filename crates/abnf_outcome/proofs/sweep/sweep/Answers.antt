@@ -1,5 +1,5 @@
 use Rattle.std.proofs.Common.{◌≡◌, ◌+◌, ◌∙◌, List, Bool, true, false, sym, subst, arith}
-use Rattle.abnf_outcome.specs.Ways.{AreSoundByWayFor}
+use Rattle.abnf_outcome.specs.own.Ways.{AreSoundByWayFor}
 use Rattle.abnf_outcome.proofs.Passing.{AreDoneUpTo, all_done, one_done_more, step_sound}
 use Rattle.abnf_outcome.proofs.sweep.sweep.Goals as goal
 use Rattle.abnf_outcome.proofs.sweep.sweep.Goals.{then-branch, else-branch}

@@ -1,6 +1,6 @@
 use Rattle.std.proofs.Common.{◌≡◌, List, false}
 use Rattle.abnf_parts.specs.Names.{Name}
-use Rattle.abnf_outcome.specs.Ways.{AreSoundByWayFor}
+use Rattle.abnf_outcome.specs.own.Ways.{AreSoundByWayFor}
 use Rattle.abnf_outcome.proofs.Passing.{AreDoneUpTo}
 use Rattle.abnf_outcome.proofs.sweep.sweep.Given as goal
 

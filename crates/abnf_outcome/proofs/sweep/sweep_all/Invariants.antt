@@ -1,6 +1,6 @@
 use Rattle.std.proofs.Common.{List}
 use Rattle.abnf_parts.specs.Names.{Name}
-use Rattle.abnf_outcome.specs.Ways.{AreSoundByWayFor}
+use Rattle.abnf_outcome.specs.own.Ways.{AreSoundByWayFor}
 use Rattle.abnf_outcome.proofs.sweep.sweep_all.Given as goal
 
 abbrev pub invariant-loop-round : goal.invariant-loop-round

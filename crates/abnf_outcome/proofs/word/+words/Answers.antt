@@ -6,7 +6,7 @@ use Rattle.abnf_syntax.specs.declared.tree.Element.{out-Element}
 use Rattle.abnf_syntax.specs.declared.tree.Repetition.{out-Repetition}
 use Rattle.abnf_digests.specs.Digests.{no_number}
 use Rattle.abnf_digests.specs.Gists.{gist}
-use Rattle.abnf_outcome.specs.Words.{AddsWords}
+use Rattle.abnf_outcome.specs.own.Adding.{AddsWords}
 use Rattle.abnf_outcome.proofs.Pushing.{adds_alt, adds_more, adds_one, adds_repeat, adds_seq}
 use Rattle.abnf_outcome.proofs.word.+words.Goals as goal
 

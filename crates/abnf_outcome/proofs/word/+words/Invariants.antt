@@ -2,7 +2,7 @@ use Rattle.std.proofs.Common.{map, take, ◌+◌, ◌*◌}
 use Rattle.abnf_parts.specs.Tree.{repetition_part, concatenation_part, tree_inside}
 use Rattle.abnf_digests.specs.Digests.{no_number}
 use Rattle.abnf_digests.specs.Gists.{gist}
-use Rattle.abnf_outcome.specs.Words.{AddsWords}
+use Rattle.abnf_outcome.specs.own.Adding.{AddsWords}
 use Rattle.abnf_outcome.proofs.word.+words.Given as goal
 
 abbrev pub invariant-push_concatenations-loop-concatenation : goal.invariant-push_concatenations-loop-concatenation

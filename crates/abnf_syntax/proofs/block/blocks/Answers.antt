@@ -1,47 +1,12 @@
-use Rattle.std.proofs.Common.{◌<◌, length, arith, Result, Ok, Err}
-use Rattle.std.specs.Prelude.{OnErr}
-use Rattle.abnf_syntax.specs.declared.block.Block.{Block}
-use Rattle.abnf_syntax.specs.Blocks.{line_texts}
-use Rattle.abnf_syntax.specs.Items.{AreItems}
-use Rattle.abnf_syntax.proofs.BlockLaws.{none_found, found_more, all_found, All_none, All_snoc}
+use Rattle.std.proofs.Common.{map}
+use Rattle.std.proofs.lemmas.Result.{IfOk-weaker}
+use Rattle.abnf_syntax.specs.Blocks.{line_texts, AreBlocks}
+use Rattle.abnf_syntax.specs.Bounds.{bounds}
+use Rattle.abnf_syntax.proofs.BlockLaws.{text_blocks}
 use Rattle.abnf_syntax.proofs.block.blocks.Goals as goal
 
-pub blocks-2-init : goal.blocks-2-init
-blocks-2-init c = record {
-  within = omega (arith, c.line_count-count.ensures, c.next_block-first.ensures.within);
-  begins = λ less. c.next_block-first.ensures.begins (omega (arith, less, c.line_count-count.ensures));
-  all = none_found (line_texts c.args.snapshot.now) c.next_block-first.result c.new-found.result.items c.new-found.ensures.items c.next_block-first.ensures;
-  items = All_none (λ (b : Block). AreItems (line_texts c.args.snapshot.now) b.first b.end b.items) _ c.new-found.ensures.items;
-  some = All_none (λ (b : Block). 0 < length b.items) _ c.new-found.ensures.items;
-}
-
-pub blocks-2-preserved : goal.blocks-2-preserved
-blocks-2-preserved c = record {
-  within = omega (arith, c.line_count-count.ensures, c.next_block-end.ensures.within);
-  begins = λ less. c.next_block-end.ensures.begins (omega (arith, less, c.line_count-count.ensures));
-  all = found_more (line_texts c.args.snapshot.now) c.blocks-2.found.items (record { first = c.blocks-2.first; end = c.next_block-end.result; items = c.in_ok-items.items }) c.push.new.self.items c.in_ok-push.ensures.items (omega (arith, c.line_count-count.ensures, c.blocks-2-test.true)) (c.blocks-2.invariant.begins c.blocks-2-test.true) c.next_block-end.ensures c.blocks-2.invariant.all;
-  items = All_snoc (λ (b : Block). AreItems (line_texts c.args.snapshot.now) b.first b.end b.items) _ _ _ c.in_ok-push.ensures.items c.blocks-2.invariant.items c.in_ok-items.ensures.items;
-  some = All_snoc (λ (b : Block). 0 < length b.items) _ _ _ c.in_ok-push.ensures.items c.blocks-2.invariant.some c.in_ok-items.ensures.some;
-}
-
 pub returns-clause-all : goal.returns-clause-all
-returns-clause-all c = all_found (line_texts c.args.snapshot.now) c.blocks-2.first c.blocks-2.found.items (omega (arith, c.line_count-count.ensures, c.blocks-2-test.false)) c.blocks-2.invariant.all
-
-pub returns-clause-items : goal.returns-clause-items
-returns-clause-items c = c.blocks-2.invariant.items
-
-pub returns-clause-some : goal.returns-clause-some
-returns-clause-some c = c.blocks-2.invariant.some
-
-pub returns-clause-memory : goal.returns-clause-memory
-returns-clause-memory c = tt
-
-on_err : {A E P : Type 0} (result : Result A E) → P → OnErr result P
-on_err (Ok a) p = tt
-on_err (Err e) p = p
-
-pub returns-in_err-items-clause-memory : goal.returns-in_err-items-clause-memory
-returns-in_err-items-clause-memory c = on_err c.from_residual.result (c.blocks-2.first, c.blocks-2.invariant.begins c.blocks-2-test.true)
-
-pub returns-in_err-push-clause-memory : goal.returns-in_err-push-clause-memory
-returns-in_err-push-clause-memory c = on_err c.from_residual-in_err-push.result (c.blocks-2.first, c.blocks-2.invariant.begins c.blocks-2-test.true)
+returns-clause-all c =
+    IfOk-weaker c.blocks_between.result _ (λ found. AreBlocks (line_texts c.args.snapshot.now) 0 (map bounds found.items))
+    (λ found. text_blocks c.of-sheet.result (line_texts c.args.snapshot.now) c.count.result c.of-sheet.ensures.lines c.count.ensures (map bounds found.items))
+    c.blocks_between.ensures.all

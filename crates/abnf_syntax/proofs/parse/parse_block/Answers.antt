@@ -1,4 +1,4 @@
-use Rattle.std.proofs.Common.{ap, inl, inr, Ok, Err}
+use Rattle.std.proofs.Common.{ap, inl, inr, Ok}
 use Rattle.abnf_syntax.proofs.Exact.{one_rule}
 use Rattle.abnf_syntax.proofs.parse.parse_block.Goals as goal
 

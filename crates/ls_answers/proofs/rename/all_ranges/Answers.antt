@@ -2,7 +2,7 @@ use Rattle.std.proofs.Common.{◌≡◌, ◌∙◌, IfOk, List, subst}
 use Rattle.ls_text.specs.declared.position.Range.{Range}
 use Rattle.abnf_parts.specs.Names.{folded_text}
 use Rattle.ls_answers.specs.Places.{ranges_of}
-use Rattle.ls_answers.specs.declared.places.Wanted.TheVariants.{Both}
+use Rattle.abnf_places.specs.declared.wanted.Wanted.TheVariants.{Both}
 use Rattle.ls_answers.proofs.RenameLaws.{all_ranges}
 use Rattle.ls_answers.proofs.rename.all_ranges.Goals as goal
 

@@ -1,5 +1,5 @@
 use Rattle.std.proofs.Common.{◌∙◌, refl, sym, arith, below_more}
-use Rattle.ls_text.proofs.SameLaws.{length_same, same_at, text_same, same_held, held_same}
+use Rattle.ls_text.proofs.SameLaws.{front_same, length_same, same_at, text_same, same_held, held_same}
 use Rattle.ls_text.proofs.snapshot.same_lines.Goals as goal
 
 pub returns-then-len : goal.returns-then-len
@@ -7,6 +7,9 @@ returns-then-len c = (
   λ f. cc,
   λ e. absurd (c.if-len.true (c.len.ensures ∙ length_same _ _ c.requires.a c.requires.b e ∙ sym c.len-2.ensures)),
 )
+
+pub loop-i-init : goal.loop-i-init
+loop-i-init c = front_same _ c.args.a.now c.args.b.now c.same_front-i.ensures
 
 pub loop-i-preserved : goal.loop-i-preserved
 loop-i-preserved c =

@@ -14,7 +14,7 @@ loop-mark-preserved c =
     elim c.if-is_item.branch [
       | then-is_item+else-not-follows w ↦
           followed_item _ c.loop-mark.self w.follows.new.self c.if-is_item.self _ line c.loop-mark.stand _ c.if-is_item.stand marks c.loop-mark.mark-index
-          _ _ c.loop-mark.invariant c.loop-mark-test.true (sym c.is_item.ensures ∙ w.if-is_item.true) w.item.ensures w.follows.ensures.walks (w.follows.ensures.gives w.if-not-follows.false)
+          _ _ c.loop-mark.invariant c.loop-mark-test.true (sym c.is_item.ensures ∙ w.if-is_item.true) w.item_at.ensures w.follows.ensures.walks (w.follows.ensures.gives w.if-not-follows.false)
           w.behind_item-stand.ensures w.self-is w.stand-is
       | else-is_item w ↦
           followed_gap _ c.loop-mark.self c.if-is_item.self _ line c.loop-mark.stand _ c.if-is_item.stand marks c.loop-mark.mark-index _

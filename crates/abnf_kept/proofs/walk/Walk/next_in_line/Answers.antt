@@ -6,7 +6,7 @@ pub returns-then-is_item-clause-some : goal.returns-then-is_item-clause-some
 returns-then-is_item-clause-some c = λ rest h.
     let w = c.loop-self.self in
     c.loop-self.invariant.leaves _ (item_gives _ _ _ w.row.text.now w.stand _ w.row.marks.now w.next _ _ rest c.loop-self-test.true
-    (sym c.is_item.ensures ∙ c.if-is_item.true) c.item-item.ensures c.behind_item-self.ensures h)
+    (sym c.is_item.ensures ∙ c.if-is_item.true) c.item_at-item.ensures c.behind_item-self.ensures h)
 
 pub loop-self-preserved : goal.loop-self-preserved
 loop-self-preserved c =

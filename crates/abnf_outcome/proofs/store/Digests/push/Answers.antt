@@ -1,14 +1,23 @@
-use Rattle.std.proofs.Common.{◌∙◌, subst}
-use Rattle.abnf_digests.specs.Digests.{digest_of}
-use Rattle.abnf_outcome.specs.Stored.{StandsFor}
-use Rattle.abnf_outcome.proofs.Storing.{head_is, is_said, one_more}
+use Rattle.std.proofs.Common.{◌∙◌, refl, subst}
+use Rattle.abnf_outcome.specs.KeptBlocks.{AddsBlock}
+use Rattle.abnf_outcome.specs.Stored.{StandsFor, Stored}
+use Rattle.abnf_outcome.proofs.Storing.{head_is, is_said, one_more, own_is}
 use Rattle.abnf_outcome.proofs.store.Digests.push.Goals as goal
 
 pub returns : goal.returns
-returns c = λ block of digests stored.
+returns c = λ block of.
     let section = c.args.section.now in
+    let digests = c.self.inside in
     let mid = c.head_number.new.names in
-    one_more c.args.self.now.names mid c.push_said.new.names c.args.self.now.words.items c.push_said.new.words.items c.args.self.now.blocks.items c.push.new.self.items
-    c.in_ok-head.head c.len-start.result c.len-end.result digests (digest_of block) c.in_ok-head.ensures.later
-    (subst (λ head. StandsFor mid c.in_ok-head.head head) (head_is section block of) c.in_ok-head.ensures.head)
-    (c.in_ok-push_said.ensures block.said (is_said section block of)) (c.len-start.ensures ∙ c.args.self.now.words.ok.0) (c.len-end.ensures ∙ c.push_said.new.words.ok.0) c.in_ok-push.ensures.items stored
+    let grown : Stored = record { table = c.push_said.new.names; words = c.push_said.new.words.items; kept = c.push.new.self.items } in
+    subst (λ s. AddsBlock (section.block.first, section.block.end) block s grown) c.self.view_is
+    (one_more digests.names mid c.push_said.new.names digests.words.items c.push_said.new.words.items digests.blocks.items c.push.new.self.items
+    _ (section.block.first, section.block.end) block c.in_ok-head.ensures.later (record {
+      head = subst (λ head. StandsFor mid c.in_ok-head.head head) (head_is section block of) c.in_ok-head.ensures.head;
+      added = c.in_ok-push_said.ensures block.said (is_said section block of);
+      begins = c.len-start.ensures ∙ digests.words.ok.0;
+      ends = c.len-end.ensures ∙ c.push_said.new.words.ok.0;
+      first = refl;
+      behind = refl;
+      own = c.has_own_findings.ensures ∙ own_is section block of;
+    }) c.in_ok-push.ensures.items)

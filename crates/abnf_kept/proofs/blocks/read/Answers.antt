@@ -1,0 +1,28 @@
+use Rattle.std.proofs.Common.{◌≡◌, ◌+◌, ℕ, arith, subst, sym}
+use Rattle.abnf_syntax.specs.Blocks.{IsNextBlock}
+use Rattle.abnf_syntax.specs.Items.{AreItems}
+use Rattle.abnf_syntax.proofs.BlockLaws.{block_at}
+use Rattle.abnf_kept.proofs.ReadLaws.{HasRead, none_read, read_more, all_read}
+use Rattle.abnf_kept.proofs.blocks.read.Goals as goal
+
+pub blocks-2-init : goal.blocks-2-init
+blocks-2-init c = none_read c.args.sheet.now c.args.from c.args.to c.args.digests.now c.next_block-first.result c.next_block-first.ensures
+
+pub of-requires : goal.of-requires
+of-requires c =
+    block_at c.args.sheet.now c.blocks-2.first c.args.to c.next_block-end.result c.requires.seams.1 (c.blocks-2.invariant.begins c.blocks-2-test.true) c.next_block-end.ensures
+
+pub blocks-2-preserved : goal.blocks-2-preserved
+blocks-2-preserved c =
+    let block = c.in_ok-block.block in
+    let ends : block.end ≡ c.next_block-end.result = c.in_ok-block.ensures.lines.1 in
+    subst (λ (end : ℕ). HasRead c.args.sheet.now c.args.from c.args.to c.args.digests.now end c.push.new.self) ends
+    (read_more c.args.sheet.now c.args.from c.args.to c.args.digests.now c.blocks-2.first block c.blocks-2.digests c.push.new.self c.in_ok-section.section c.blocks-2.invariant
+    c.blocks-2-test.true c.requires.seams.1 c.in_ok-block.ensures.lines.0
+    (subst (λ (end : ℕ). IsNextBlock c.args.sheet.now (c.blocks-2.first + 1) c.args.to end) (sym ends) c.next_block-end.ensures)
+    (subst (λ (end : ℕ). AreItems c.args.sheet.now c.blocks-2.first end block.items) (sym ends) c.in_ok-block.ensures.items) c.in_ok-block.ensures.some c.in_ok-section.ensures
+    c.in_ok-push.ensures)
+
+pub returns : goal.returns
+returns c =
+    all_read c.args.sheet.now c.args.from c.args.to c.args.digests.now c.blocks-2.first c.blocks-2.digests c.blocks-2.invariant (omega (arith, c.blocks-2-test.false))

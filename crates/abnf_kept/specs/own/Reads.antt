@@ -1,0 +1,27 @@
+-- Blocks of some lines that are read, and what is found in one of them.
+use Rattle.std.specs.Prelude.{◌≡◌, ◌++◌, ℕ, List, Some, slice_get}
+use Rattle.abnf_token.specs.Classes.{Text}
+use Rattle.abnf_syntax.specs.Blocks.{AreBlocksUpTo, AreBlocks}
+use Rattle.abnf_names.specs.Said.{Block, AreWithin}
+use Rattle.abnf_names.specs.Shown.{fault_shown}
+use Rattle.abnf_lint.specs.declared.finding.Finding.{Finding}
+use Rattle.abnf_outcome.specs.declared.outcome.Outcome.{Outcome}
+use Rattle.abnf_outcome.specs.declared.found_in.BlockTold.{BlockTold}
+use Rattle.abnf_outcome.specs.Found.{found_by}
+use Rattle.abnf_outcome.specs.KeptBlocks.{AreKept}
+use Rattle.abnf_outcome.specs.Outcomes.{told_in}
+use Rattle.abnf_outcome.specs.Stored.{Stored}
+
+-- The blocks of the lines from one place up to another are kept, behind the others.
+pub record AddsBetween (ls : List Text) (from to : ℕ) (old new : Stored) : Type 0 where
+  pub bounds : List (ℕ × ℕ)
+  pub blocks : List Block
+  pub all : AreBlocksUpTo ls from to bounds
+  pub each : AreWithin ls bounds blocks
+  pub kept : (bs : List (ℕ × ℕ)) (others : List Block) → AreKept old bs others → AreKept new (bs ++ bounds) (others ++ blocks)
+
+-- What is found in the block at a place, whichever blocks these lines have, stands behind what was found.
+abbrev pub FindsIn : List Text → Stored → Outcome → ℕ → List Finding → List Finding → Type 0
+FindsIn ls s outcome at before after =
+    (bounds : List (ℕ × ℕ)) (blocks : List Block) (block : Block) (told : BlockTold) → AreBlocks ls 0 bounds → AreWithin ls bounds blocks → AreKept s bounds blocks →
+    slice_get blocks at ≡ Some block → slice_get outcome.tolds.items at ≡ Some told → after ≡ before ++ found_by (told_in s outcome told) block.items (fault_shown block.said)

@@ -1,0 +1,41 @@
+-- What blocks tell of each other, and blocks in which that finds nothing.
+use Rattle.std.specs.Prelude.{◌≡◌, ◌++◌, ℕ, Bool, List, [], Some, slice_get}
+use Rattle.abnf_parts.specs.Names.{Name, rule_number}
+use Rattle.abnf_names.specs.declared.section.Section.{Section}
+use Rattle.abnf_names.specs.Said.{Block, BlockSays}
+use Rattle.abnf_names.specs.Shown.{fault_shown}
+use Rattle.abnf_lint.specs.declared.finding.Finding.{Finding}
+use Rattle.abnf_productive.specs.Marks.{mark_at}
+use Rattle.abnf_digests.specs.Digests.{Digest}
+use Rattle.abnf_outcome.specs.declared.digest.BlockDigest.{BlockDigest}
+use Rattle.abnf_outcome.specs.declared.outcome.Outcome.{Outcome}
+use Rattle.abnf_outcome.specs.declared.found_in.BlockTold.{BlockTold}
+use Rattle.abnf_outcome.specs.ByTable.{all_told, strange_by, told_of_flags}
+use Rattle.abnf_outcome.specs.Found.{AllAreTold, found_by}
+use Rattle.abnf_outcome.specs.KeptBlocks.{IsKept}
+use Rattle.abnf_outcome.specs.Stored.{AreDigests, Stored}
+use Rattle.abnf_outcome.specs.ToldOfBlock.{ToldOfBlock}
+
+-- the names that no block defines and no core rule has, by the marks of an outcome
+abbrev pub strange_in : Stored → Outcome → Name → Bool
+strange_in s outcome = strange_by s.table outcome.defined.items
+
+-- what is told of the block with these flags
+abbrev pub told_in : Stored → Outcome → BlockTold → ToldOfBlock
+told_in s outcome told = told_of_flags told (strange_in s outcome)
+
+-- This is told of each block, and the marks say which names stand for nothing.
+pub record IsOutcome (s : Stored) (outcome : Outcome) : Type 0 where
+  pub told : (digests : List Digest) → AreDigests s digests → AllAreTold digests [] digests (all_told (strange_in s outcome) outcome.tolds.items)
+  pub strange : (number : ℕ) (name : Name) → rule_number s.table name ≡ Some number → mark_at outcome.strange.items number ≡ strange_in s outcome name
+
+-- Nothing is found in the block at a place, whichever it is.
+abbrev pub IsQuiet : Stored → Outcome → ℕ → Type 0
+IsQuiet s outcome at =
+    (kept : BlockDigest) (told : BlockTold) (bounds : ℕ × ℕ) (block : Block) → slice_get s.kept at ≡ Some kept → slice_get outcome.tolds.items at ≡ Some told →
+    IsKept s.table s.words kept bounds block → BlockSays block.items block.said → found_by (told_in s outcome told) block.items (fault_shown block.said) ≡ []
+
+-- What is found in the block at a place, whose section this is, stands behind what was found.
+abbrev pub FindsAt : Stored → Outcome → ℕ → Section → List Finding → List Finding → Type 0
+FindsAt s outcome at section before after =
+    (told : BlockTold) → slice_get outcome.tolds.items at ≡ Some told → after ≡ before ++ found_by (told_in s outcome told) section.block.items section.fault

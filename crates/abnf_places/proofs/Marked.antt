@@ -1,0 +1,63 @@
+-- The marks of a line say of its tokens what these say.
+use Rattle.std.proofs.Common.{◌≡◌, ℕ, ◌+◌, ◌-◌, ◌<◌, ◌≤◌, inl, inr, subst, false, List, [], ◌∷◌, length, map, take, drop, refl, sym, ap, ◌∙◌, arith, if◌then◌else◌}
+use Rattle.std.specs.Prelude.{◌&&◌, ◌||◌, ◌⊎◌, slice_index_or}
+use Rattle.std.proofs.lemmas.Bool.{cases_lt}
+use Rattle.std.specs.List.{list_any}
+use Rattle.std.specs.Str.{bytes_eq}
+use Rattle.abnf_token.specs.Classes.{Text}
+use Rattle.abnf_token.specs.Folded.{lowercase}
+use Rattle.abnf_token.specs.Marks.{AreMarks, mark_of}
+use Rattle.abnf_token.specs.Tokens.{AreSlices, TokensOf, view}
+use Rattle.abnf_token.specs.declared.mark.TokenMark.{TokenMark}
+use Rattle.abnf_token.specs.declared.token.Kind.{Kind}
+use Rattle.abnf_token.specs.declared.token.Token.{Token}
+use Rattle.abnf_token.proofs.Laws.{one_answer, slices}
+use Rattle.abnf_syntax.specs.Kinds.{is_item, is_name}
+use Rattle.abnf_parts.specs.Names.{Name}
+use Rattle.abnf_places.specs.own.Stated.{IsNowhere, is_called, is_called_at, is_first, is_first_at}
+
+abbrev viewed_mark : Kind × Text × ℕ × ℕ → TokenMark
+viewed_mark v = record { kind = v.0; start = v.3; end = v.3 + length v.1 }
+
+viewed : (ts : List Token) → map mark_of ts ≡ map viewed_mark (map view ts)
+viewed [] = refl
+viewed (t ∷ ts) = ap (λ l. mark_of t ∷ l) (viewed ts)
+
+-- a line's marks are those of its tokens, whichever list of these is taken
+marks_are : (line : Text) (marks : List TokenMark) (at : ℕ) (ts : List Token) → AreMarks line marks → TokensOf at 0 line ts → map mark_of ts ≡ marks
+marks_are line marks at ts are of =
+    let own = are at in
+    viewed ts ∙ (ap (map viewed_mark) (one_answer line at 0 ts own.0 of own.1) ∙ (sym (viewed own.0) ∙ own.2))
+
+module _ (name : Name) (line : Text) where
+  called : (t : Token) → t.text.now ≡ take (length t.text.now) (drop t.start line) → is_called name t ≡ is_called_at name line (mark_of t)
+  called t e =
+      let long : (t.start + length t.text.now) - t.start ≡ length t.text.now = omega arith in
+      let text : t.text.now ≡ take ((t.start + length t.text.now) - t.start) (drop t.start line) = e ∙ sym (ap (λ n. take n (drop t.start line)) long) in
+      ap (λ (x : Text). is_name t.kind && bytes_eq name (lowercase x)) text
+
+  any_called : (ts : List Token) → AreSlices line ts → list_any (is_called name) ts ≡ list_any (is_called_at name line) (map mark_of ts)
+  any_called [] p = refl
+  any_called (t ∷ ts) p = (λ i. called t p.0 i || any_called ts p.1 i)
+
+  first_called : (ts : List Token) → AreSlices line ts → is_first name ts ≡ is_first_at name line (map mark_of ts)
+  first_called [] p = refl
+  first_called (t ∷ ts) p = (λ i. if is_item t.kind then called t p.0 i else first_called ts p.1 i)
+
+  -- no token of a line is this name, where no mark says so
+  pub none_called : (marks : List TokenMark) (at : ℕ) → AreMarks line marks → list_any (is_called_at name line) marks ≡ false → (ts : List Token) → TokensOf at 0 line ts → list_any (is_called name) ts ≡ false
+  none_called marks at are none ts of = any_called ts (slices line at ts of) ∙ (ap (list_any (is_called_at name line)) (marks_are line marks at ts are of) ∙ none)
+
+  -- nor is the first item
+  pub other_first : (marks : List TokenMark) (at : ℕ) → AreMarks line marks → is_first_at name line marks ≡ false → (ts : List Token) → TokensOf at 0 line ts → is_first name ts ≡ false
+  other_first marks at are other ts of = first_called ts (slices line at ts of) ∙ (ap (is_first_at name line) (marks_are line marks at ts are of) ∙ other)
+
+-- one line more in which the name isn't written
+pub nowhere_more : (ls : List Text) (name : Name) (from at : ℕ) → IsNowhere ls name from at → ((tokens : List Token) → TokensOf at 0 (slice_index_or ls at []) tokens → list_any (is_called name) tokens ≡ false) → IsNowhere ls name from (at + 1)
+nowhere_more ls name from at none here k reached before = by (cases_lt k at)
+  where
+    by : (k < at) ⊎ (at ≤ k) → (tokens : List Token) → TokensOf k 0 (slice_index_or ls k []) tokens → list_any (is_called name) tokens ≡ false
+    by (inl less) = none k reached less
+    by (inr more) =
+        let same : at ≡ k = omega (arith, more, before) in
+        subst (λ n. (tokens : List Token) → TokensOf n 0 (slice_index_or ls n []) tokens → list_any (is_called name) tokens ≡ false) same here

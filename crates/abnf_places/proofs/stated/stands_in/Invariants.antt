@@ -1,0 +1,9 @@
+use Rattle.std.proofs.Common.{◌≡◌, drop}
+use Rattle.std.specs.List.{list_any}
+use Rattle.abnf_parts.specs.Names.{folded_text}
+use Rattle.abnf_places.specs.own.Stated.{is_called_at}
+use Rattle.abnf_places.proofs.stated.stands_in.Given as goal
+
+-- what is left tells
+abbrev pub invariant-loop-mark : goal.invariant-loop-mark
+invariant-loop-mark l = list_any (is_called_at (folded_text l.name) l.row.text.now) l.row.marks.now ≡ list_any (is_called_at (folded_text l.name) l.row.text.now) (drop l.mark-index l.row.marks.now)

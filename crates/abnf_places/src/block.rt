@@ -1,0 +1,92 @@
+//! The places of names in one block.
+
+ghost use Rattle.std.specs.Prelude.{◌≡◌, ◌++◌, [], false, map, flat_map, IfOk, OnOk, List};
+ghost use Rattle.abnf_names.specs.Places.{named_at, places_in};
+ghost use Rattle.abnf_parts.specs.Names.{folded_text};
+ghost use Rattle.abnf_syntax.specs.Blocks.{IsBlock};
+ghost use Rattle.abnf_syntax.specs.Items.{AreItems};
+ghost use Rattle.abnf_syntax.specs.declared.item.Item.{Item};
+ghost use Rattle.abnf_places.specs.Wanted.{wanted_places};
+
+use crate::stated::{begins_with, is_stated};
+use crate::wanted::Wanted;
+use abnf_names::{Spot, push_places};
+use abnf_syntax::{Block, Sheet, blocks_between};
+use abnf_token::Folded;
+use ls_lists::List;
+use std::alloc::{AllocError, Global};
+
+/// The places of names in some blocks.
+fn spots_in<'t>(alloc: Global, blocks: &[Block<'t>]) -> Result<List<Spot<'t>>, AllocError>
+    ensures { IfOk result (λ spots. map named_at spots ≡ flat_map (λ block. places_in block.items) blocks.now) }
+{
+    let mut spots = List::new(alloc);
+    for block in blocks {
+        push_places(&mut spots, block)?;
+    }
+    Ok(spots)
+}
+
+/// The places of names in the block of these lines.
+pub(crate) fn block_spots<'t>(
+    alloc: Global,
+    sheet: &Sheet<'t>,
+    first: usize,
+    end: usize,
+) -> Result<List<Spot<'t>>, AllocError>
+    requires { IsBlock sheet.now first end }
+    ensures { IfOk result (λ spots. (items : List Item) → AreItems sheet.now first end items → map named_at spots ≡ places_in items) }
+{
+    let blocks = blocks_between(alloc, sheet, first, end)?;
+    spots_in(alloc, blocks.as_slice())
+}
+
+/// Adds the wanted places of a name among these.
+fn push_alike<'t>(
+    spots: &mut List<Spot<'t>>,
+    all: &[Spot<'t>],
+    name: Folded<'_>,
+    wanted: Wanted,
+) -> Result<(), AllocError>
+    ensures { OnOk result (map named_at spots.new ≡ map named_at spots.old ++ wanted_places wanted (folded_text name.entry) (map named_at all.now)) }
+{
+    for spot in all {
+        if name == spot.name && wanted.takes(spot.defines) {
+            spots.push(*spot)?;
+        }
+    }
+    Ok(())
+}
+
+/// Whether the block of these lines may have a wanted place of a name: it begins with the name, or at least the name is written there.
+fn may_have(sheet: &Sheet<'_>, first: usize, end: usize, name: Folded<'_>, wanted: Wanted) -> bool
+    requires { IsBlock sheet.now first end }
+    ensures { result ≡ false → (items : List Item) → AreItems sheet.now first end items
+        → wanted_places wanted (folded_text name.entry) (places_in items) ≡ [] }
+{
+    match wanted {
+        Wanted::Definitions => begins_with(sheet, first, name),
+        Wanted::Uses | Wanted::Both => is_stated(sheet, first, end, name),
+    }
+}
+
+/// Adds the wanted places of a name in the block of these lines.
+pub(crate) fn push_wanted<'t>(
+    alloc: Global,
+    spots: &mut List<Spot<'t>>,
+    sheet: &Sheet<'t>,
+    first: usize,
+    end: usize,
+    name: Folded<'_>,
+    wanted: Wanted,
+) -> Result<(), AllocError>
+    requires { IsBlock sheet.now first end }
+    ensures { OnOk result ((items : List Item) → AreItems sheet.now first end items
+        → map named_at spots.new ≡ map named_at spots.old ++ wanted_places wanted (folded_text name.entry) (places_in items)) }
+{
+    if !may_have(sheet, first, end, name, wanted) {
+        return Ok(());
+    }
+    let all = block_spots(alloc, sheet, first, end)?;
+    push_alike(spots, all.as_slice(), name, wanted)
+}

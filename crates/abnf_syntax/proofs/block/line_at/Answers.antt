@@ -1,5 +1,0 @@
-use Rattle.abnf_syntax.proofs.BlockLaws.{no_line}
-use Rattle.abnf_syntax.proofs.block.line_at.Goals as goal
-
-pub returns-in-None : goal.returns-in-None
-returns-in-None c = no_line _ _ c.in-None.ensures.bytes
