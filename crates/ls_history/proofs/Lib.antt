@@ -1,0 +1,6 @@
+pub mod Fronts
+pub mod Histories
+pub mod Adding
+pub mod Leads
+pub mod Journals
+pub mod Tells

@@ -1,0 +1,73 @@
+-- When a history is legal: each entry may happen where those before it have led.
+use Rattle.std.specs.Prelude.{◌≡◌, ◌⊎◌, ◌+◌, ◌≤◌, length, List, [], ◌∷◌, Bool, true, false, Some, None, Result, Ok, Err, unwrap_or}
+use Rattle.ls_machine.specs.Counts.{total}
+use Rattle.ls_machine.specs.Client.{entry_of}
+use Rattle.ls_machine.specs.Machine.{IsPossible}
+use Rattle.ls_machine.specs.declared.client.ClientAnswer.{ClientAnswer}
+use Rattle.ls_machine.specs.declared.client.ClientEvent.{ClientEvent}
+use Rattle.ls_machine.specs.declared.event.DeskFault.{DeskFault}
+use Rattle.ls_machine.specs.declared.event.DeskFault.TheVariants.{Memory}
+use Rattle.ls_machine.specs.declared.event.Event.{Event}
+use Rattle.ls_machine.specs.declared.event.Event.TheVariants.{Sent, Took, Returned, Finished}
+use Rattle.ls_machine.specs.declared.event.Out.{Out}
+use Rattle.ls_machine.specs.declared.state.Entry.{Entry}
+use Rattle.ls_desk.specs.Door.{client_fault, entered_at}
+use Rattle.ls_desk.specs.Stands.{IsOutFor, Seen, ticket_of_out}
+use Rattle.ls_history.specs.declared.happened.Happened.{Happened}
+use Rattle.ls_history.specs.declared.happened.Happened.TheVariants.{Began, Heard, Left, Worked}
+use Rattle.ls_history.specs.Places.{Place, beginning, desk_at, happens, place_of}
+
+-- An answer stands where nothing is against the event, and is the machine's. A refusal stands where it is the first whose cause holds. Memory may
+-- be refused anywhere.
+abbrev pub IsReply : Place → ClientEvent → Result ClientAnswer DeskFault → Type 0
+IsReply p e (Ok answer) = (client_fault (desk_at p) e ≡ None) × IsPossible p.state (entered_at p.state e) × (entry_of e answer ≡ Some (entered_at p.state e))
+IsReply p e (Err fault) = (fault ≡ Memory) ⊎ (client_fault (desk_at p) e ≡ Some fault)
+
+-- a reply is for the first unsent entry: a finished one's is the answer for the job's own text
+abbrev pub IsReplyOut : Place → Out → Type 0
+IsReplyOut p out = IsPossible p.state (Sent (ticket_of_out out)) × ((e : Entry) × (es : List Entry) × (p.state.unsent ≡ e ∷ es) × IsOutFor e out)
+
+-- a worker makes it
+abbrev pub is_workers : Event → Bool
+is_workers (Took worker) = true
+is_workers (Returned ticket) = true
+is_workers (Finished ticket failed) = true
+is_workers _ = false
+
+-- the entry is possible there
+abbrev pub IsNext : Place → Happened → Type 0
+IsNext p (Began most) = p ≡ beginning
+IsNext p (Heard e reply) = IsReply p e reply
+IsNext p (Left out) = IsReplyOut p out
+IsNext p (Worked event) = IsPossible p.state event × (is_workers event ≡ true)
+
+-- the events and the unsent entries are within the limit
+abbrev pub IsRoomy : Place → Type 0
+IsRoomy p = total p.counts + length p.state.unsent ≤ unwrap_or p.limit 0
+
+-- the entry is possible there, and leaves room
+abbrev pub MayHappen : Place → Happened → Type 0
+MayHappen p h = IsNext p h × IsRoomy (happens p h)
+
+-- where entries lead, one after the other
+abbrev pub replay : Place → List Happened → Place
+replay p [] = p
+replay p (h ∷ hs) = replay (happens p h) hs
+
+-- each entry may happen where it stands
+abbrev pub IsLegalFrom : Place → List Happened → Type 0
+IsLegalFrom p [] = Unit {0}
+IsLegalFrom p (h ∷ hs) = MayHappen p h × IsLegalFrom (happens p h) hs
+
+-- so it is from the beginning on
+abbrev pub IsLegal : List Happened → Type 0
+IsLegal log = IsLegalFrom beginning log
+
+-- the history has led to where the desk stands
+abbrev pub HasLedTo : Seen → List Happened → Type 0
+HasLedTo d log = place_of d ≡ replay beginning log
+
+-- it is legal, and has led to where the desk stands
+pub record IsHistoryOf (d : Seen) (log : List Happened) : Type 0 where
+  pub legal : IsLegal log
+  pub led : HasLedTo d log

@@ -1,0 +1,5 @@
+pub mod Places
+pub mod History
+pub mod Told
+pub mod Laws
+pub mod own

@@ -1,0 +1,54 @@
+-- What a history says of each kind of entry.
+use Rattle.std.specs.Prelude.{◌⊎◌, List, [], ◌∷◌, filter_map, Option, Some, None, Result, Ok, Err}
+use mathlib.Core.List.{IsPrefix}
+use Rattle.ls_machine.specs.Client.{entry_of}
+use Rattle.ls_machine.specs.declared.client.ClientAnswer.{ClientAnswer}
+use Rattle.ls_machine.specs.declared.client.ClientEvent.{ClientEvent}
+use Rattle.ls_machine.specs.declared.event.DeskFault.{DeskFault}
+use Rattle.ls_machine.specs.declared.event.Event.{Event}
+use Rattle.ls_machine.specs.declared.event.Event.TheVariants.{Sent}
+use Rattle.ls_machine.specs.declared.event.Out.{Out}
+use Rattle.ls_desk.specs.Stands.{ticket_of_out}
+use Rattle.ls_history.specs.declared.happened.Happened.{Happened}
+use Rattle.ls_history.specs.declared.happened.Happened.TheVariants.{Began, Heard, Left, Worked}
+
+abbrev pub heard_of_one : Happened → Option (ClientEvent × Result ClientAnswer DeskFault)
+heard_of_one (Heard e reply) = Some (e, reply)
+heard_of_one _ = None
+
+-- the client's events, each with its answer or its refusal
+abbrev pub heard_of : List Happened → List (ClientEvent × Result ClientAnswer DeskFault)
+heard_of log = filter_map heard_of_one log
+
+abbrev pub out_of_one : Happened → Option Out
+out_of_one (Left out) = Some out
+out_of_one _ = None
+
+-- the replies that left
+abbrev pub outs_of : List Happened → List Out
+outs_of log = filter_map out_of_one log
+
+-- what the machine entered for a client's event: nothing where it was refused
+abbrev pub event_of_reply : ClientEvent → Result ClientAnswer DeskFault → Option Event
+event_of_reply e (Ok answer) = entry_of e answer
+event_of_reply e (Err fault) = None
+
+-- the machine's event that an entry stands for, if there is one
+abbrev pub event_of : Happened → Option Event
+event_of (Began most) = None
+event_of (Heard e reply) = event_of_reply e reply
+event_of (Left out) = Some (Sent (ticket_of_out out))
+event_of (Worked event) = Some event
+
+abbrev pub with_event : Option Event → List Event → List Event
+with_event None events = events
+with_event (Some e) events = e ∷ events
+
+-- all events of the machine, one behind the other
+abbrev pub events_of : List Happened → List Event
+events_of [] = []
+events_of (h ∷ hs) = with_event (event_of h) (events_of hs)
+
+-- they are beginnings of one history: one begins the other
+abbrev pub LieBeside : List Happened → List Happened → Type 0
+LieBeside xs ys = IsPrefix xs ys ⊎ IsPrefix ys xs

@@ -1,0 +1,115 @@
+//! How each kind of entry comes into the history.
+ghost use Rattle.std.specs.Prelude.{◌≡◌, ◌++◌, ◌∷◌, []};
+ghost use Rattle.ls_history.specs.declared.happened.Happened.TheVariants.{Heard};
+ghost use Rattle.ls_history.specs.History.{MayHappen, replay};
+ghost use Rattle.ls_history.specs.Places.{beginning};
+
+use crate::book::{BookName, Front, HistoryBook};
+use crate::happened::Happened;
+use logbook::Plain;
+use ls_desk::{Desk, DeskFault, Out};
+use ls_machine::ClientAnswer;
+use std::marker::{Brand, PhantomData};
+use std::sync::Wait;
+
+/// Which event of the client an entry is about.
+pub trait Hearing {
+    ghost use Rattle.ls_machine.specs.declared.client.ClientEvent.{ClientEvent};
+
+    ghost event: { ClientEvent };
+}
+
+impl Hearing for Brand {
+    ghost use Rattle.std.specs.Prelude.{[]};
+    ghost use Rattle.ls_machine.specs.declared.client.ClientEvent.TheVariants.{Say};
+
+    ghost event = { Say [] };
+}
+
+/// The entry of a client's event, by its answer or its refusal.
+pub struct Hears<K: Hearing>(PhantomData<K>);
+
+impl<K: Hearing> Plain<Result<ClientAnswer, DeskFault>, Happened, u64> for Hears<K> {
+    ghost use Rattle.std.specs.Prelude.{None};
+    ghost use Rattle.ls_history.specs.declared.happened.Happened.TheVariants.{Heard};
+
+    ghost ask = { λ reply. Heard K.event reply };
+
+    ghost state = { λ reply. None };
+}
+
+/// The entry of a board that begins over a desk.
+pub struct Begins;
+
+impl Plain<Desk, Happened, u64> for Begins {
+    ghost use Rattle.std.specs.Prelude.{None};
+    ghost use Rattle.ls_history.specs.declared.happened.Happened.TheVariants.{Began};
+
+    ghost ask = { λ desk. Began desk.max_events };
+
+    ghost state = { λ desk. None };
+}
+
+/// The entry of a reply that leaves.
+pub struct Leaves;
+
+impl Plain<Out, Happened, u64> for Leaves {
+    ghost use Rattle.std.specs.Prelude.{None};
+    ghost use Rattle.ls_history.specs.declared.happened.Happened.TheVariants.{Left};
+
+    ghost ask = { λ out. Left out };
+
+    ghost state = { λ out. None };
+}
+
+/// The entry of a job that a worker takes.
+pub struct TakesJob;
+
+impl Plain<u32, Happened, u64> for TakesJob {
+    ghost use Rattle.std.specs.Prelude.{None};
+    ghost use Rattle.ls_machine.specs.declared.event.Event.TheVariants.{Took};
+    ghost use Rattle.ls_history.specs.declared.happened.Happened.TheVariants.{Worked};
+
+    ghost ask = { λ worker. Worked (Took worker) };
+
+    ghost state = { λ worker. None };
+}
+
+/// The entry of a job that is given back unrun, by its ticket.
+pub struct ReturnsJob;
+
+impl Plain<u64, Happened, u64> for ReturnsJob {
+    ghost use Rattle.std.specs.Prelude.{None};
+    ghost use Rattle.ls_machine.specs.declared.event.Event.TheVariants.{Returned};
+    ghost use Rattle.ls_history.specs.declared.happened.Happened.TheVariants.{Worked};
+
+    ghost ask = { λ ticket. Worked (Returned ticket) };
+
+    ghost state = { λ ticket. None };
+}
+
+/// The entry of a job that is brought back when it has run, by its ticket and whether memory was refused in it.
+pub struct BringsRun;
+
+impl Plain<(u64, bool), Happened, u64> for BringsRun {
+    ghost use Rattle.std.specs.Prelude.{None};
+    ghost use Rattle.ls_machine.specs.declared.event.Event.TheVariants.{Finished};
+    ghost use Rattle.ls_history.specs.declared.happened.Happened.TheVariants.{Worked};
+
+    ghost ask = { λ run. Worked (Finished run.0 run.1) };
+
+    ghost state = { λ run. None };
+}
+
+/// Adds a client's event with its answer or its refusal to the history.
+pub fn add_heard<K: Hearing, C: BookName>(
+    rt: &impl Wait,
+    book: &HistoryBook<C>,
+    front: &mut Front<C>,
+    reply: &Result<ClientAnswer, DeskFault>,
+)
+    requires { MayHappen (replay beginning front.old) (Heard K.event reply.now) }
+    ensures { front.new ≡ front.old ++ Heard K.event reply.now ∷ [] }
+{
+    front.add::<Result<ClientAnswer, DeskFault>, Hears<K>>(rt, book, reply);
+}

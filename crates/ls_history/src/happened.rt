@@ -1,0 +1,16 @@
+//! What happens at a desk.
+use ls_desk::{DeskFault, Event, Out};
+use ls_machine::{ClientAnswer, ClientEvent};
+
+/// One entry of a history. No value of it is made.
+#[derive(Drop)]
+pub enum Happened {
+    /// The history began, over a desk that may have so many events and unsent replies together.
+    Began(u64),
+    /// A client's event came, and had this answer, or this refusal.
+    Heard(ClientEvent, Result<ClientAnswer, DeskFault>),
+    /// A reply left.
+    Left(Out),
+    /// A worker took a job, gave one back, or brought one back that has run.
+    Worked(Event),
+}
