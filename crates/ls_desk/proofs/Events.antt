@@ -1,6 +1,6 @@
 -- What each event leaves.
 use Rattle.std.proofs.Common.{◌≡◌, ℕ, ◌+◌, ◌≤◌, ◌<◌, Bool, true, false, List, [], ◌∷◌, ◌++◌, length, refl, sym, ap, ◌∙◌, subst, arith}
-use Rattle.std.specs.Prelude.{ℤ, Option, Some, None, find, is_some, is_none, IfSome, ◌&&◌, ◌==◌, cond}
+use Rattle.std.specs.Prelude.{ℤ, Option, Some, None, find, is_some, is_none, IfSome, ◌==◌, cond}
 use Rattle.std.specs.Option.{option_map}
 use Rattle.std.proofs.lemmas.Bool.{and_parts, eqb-true}
 use Rattle.ls_text.specs.Edits.{is_too_large}

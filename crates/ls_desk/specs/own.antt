@@ -1,4 +1,5 @@
 -- What this crate says for itself alone: no public contract names it, neither by itself nor through what it names.
+pub mod Held
 pub mod Kept
 pub mod Puts
 pub mod Writes

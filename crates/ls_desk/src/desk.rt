@@ -27,7 +27,7 @@ use crate::texts::{Next, snapshot_of_text};
 use ls_answers::{Ask, Done, Job};
 use ls_lists::{List, Text};
 use ls_machine::{
-    Counts, DeskFault, Event, Kept, Out, SharedSnapshot, State, Waiting, find, state_of,
+    Boxed, Counts, DeskFault, Event, Kept, Out, SharedSnapshot, State, Waiting, find, state_of,
 };
 use ls_rpc::Id;
 use ls_text::{Edit, Encoding, MAX_BYTES};
@@ -68,7 +68,6 @@ impl Drop for Desk {
 }
 
 impl Model for Desk {
-    ghost use Rattle.std.specs.Prelude.{vec_capacity};
     ghost use Rattle.ls_desk.specs.Stands.{Seen};
     ghost use Rattle.ls_desk.specs.own.Kept.{IsKept};
 
@@ -76,7 +75,7 @@ impl Model for Desk {
 
     ghost view = { λ d. record { base = d.history.base; journal = d.history.events.items; outbox = d.outbox.items; max_journal = d.max_journal; max_events = d.max_events } };
 
-    ghost invariant = { λ d. IsKept d.history.base d.history.events.items d.history.counts d.present d.outbox.items d.max_journal d.max_events (vec_capacity d.history.events) };
+    ghost invariant = { λ d. IsKept d.history.base d.history.events.items d.history.counts d.present d.outbox.items d.max_journal d.max_events d.history.events.room };
 }
 
 impl Desk {
@@ -207,6 +206,7 @@ impl Desk {
     {
         let replies = self.ends(&uri)?;
         let next = self.changed(&uri, label, edits.as_slice())?;
+        let edits = Boxed::new(self.alloc, edits)?;
         let state = self.fresh()?;
         put_change(
             &mut self.present.waiting,
@@ -325,6 +325,8 @@ impl Desk {
         ensures err { IfErr result (λ fault. Refuses (request_fault self.old id uri) self.old self.new fault) }
     {
         let job = self.asked(&id, &uri, &question, links)?;
+        let id = Boxed::new(self.alloc, id)?;
+        let ask = Boxed::new(self.alloc, question)?;
         let state = self.fresh()?;
         room_for_job(
             &mut self.present.waiting,
@@ -338,7 +340,7 @@ impl Desk {
             Event::Asked {
                 id,
                 uri,
-                ask: question,
+                ask,
                 links,
                 ticket,
             },

@@ -2,6 +2,7 @@
 ghost use Rattle.std.specs.Prelude.{◌≡◌, []};
 ghost use Rattle.ls_machine.specs.Counts.{first, no_events};
 
+use crate::journal::Journal;
 use ls_machine::{Base, Counts, Event, State};
 use std::alloc::Global;
 
@@ -9,7 +10,7 @@ use std::alloc::Global;
 #[derive(Drop)]
 pub struct History {
     pub base: Base,
-    pub events: Vec<Event>,
+    pub events: Journal,
     pub counts: Counts,
 }
 
@@ -24,7 +25,7 @@ impl History {
     {
         History {
             base: Base::first(alloc),
-            events: Vec::new(alloc),
+            events: Journal::new(alloc),
             counts: Counts::none(),
         }
     }
@@ -35,7 +36,7 @@ impl History {
         ensures { Writes state self.old self.new event }
     {
         if let Some(state) = state {
-            self.events.clear();
+            self.events.begin_anew();
             self.base = Base {
                 state,
                 counts: self.counts,
@@ -43,6 +44,6 @@ impl History {
             };
         }
         self.counts = self.counts.with(&event);
-        self.events.push_reserved(event);
+        self.events.push(event);
     }
 }

@@ -13,14 +13,15 @@
 //! led to the base. What contracts see of a desk is its base, its journal, its unsent replies and its limits; its state is the replay of the
 //! journal from the base. So the desk can promise of each answer that it sends that it is right for the very text that was asked about.
 //!
-//! A call that is refused leaves the desk as it was. No call but a checkpoint and the first growth of a longer journal takes time in
-//! proportion to it, and no text is copied.
+//! A call that is refused leaves the desk as it was. No call waits for a whole journal: where there is memory a journal is moved only while it
+//! is short, and the one before a checkpoint is let go bit by bit. No text is copied.
 #![tactic(auto)]
 
 mod desk;
 mod door;
 mod history;
 mod job;
+mod journal;
 mod outs;
 mod present;
 mod room;

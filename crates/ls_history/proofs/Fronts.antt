@@ -1,5 +1,5 @@
 -- Beginnings of one list.
-use Rattle.std.proofs.Common.{◌≡◌, ◌≤◌, List, [], ◌∷◌, ◌⊎◌, inl, inr, length, refl, arith}
+use Rattle.std.proofs.Common.{◌≡◌, ◌≤◌, List, [], ◌∷◌, ◌⊎◌, inl, inr, length, refl, sym, ◌∙◌, append-nil, arith}
 use mathlib.Core.List.{IsPrefix}
 
 -- a beginning as long as the whole is the whole
@@ -9,6 +9,10 @@ prefix_whole [] (y ∷ ys) p le = absurd (omega arith)
 prefix_whole (x ∷ xs) [] p le = absurd (cc (p.1))
 prefix_whole (x ∷ xs) (y ∷ ys) p le =
     let rest = prefix_whole xs ys (p.0, cc (p.1)) (omega arith) in cc (p.1, rest)
+
+-- of two lists one of which begins the other the shorter one does
+pub shorter_begins : {A : Type 0} (xs ys : List A) → IsPrefix xs ys ⊎ IsPrefix ys xs → length xs ≤ length ys → IsPrefix xs ys
+shorter_begins xs ys beside le = elim beside [ inl p ↦ p | inr q ↦ ([], append-nil xs ∙ sym (prefix_whole ys xs q le)) ]
 
 -- of two beginnings of one list one begins the other
 pub prefix_either : {A : Type 0} (xs ys zs : List A) → IsPrefix xs zs → IsPrefix ys zs → IsPrefix ys xs ⊎ IsPrefix xs ys

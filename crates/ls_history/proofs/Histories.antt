@@ -9,7 +9,8 @@ use Rattle.ls_machine.specs.declared.event.DeskFault.{DeskFault}
 use Rattle.ls_machine.specs.declared.event.Event.{Event}
 use Rattle.ls_machine.specs.declared.event.Out.{Out}
 use Rattle.ls_history.specs.declared.happened.Happened.{Happened}
-use Rattle.ls_history.specs.declared.happened.Happened.TheVariants.{Heard, Left, Worked}
+use Rattle.ls_history.specs.declared.happened.Happened.TheVariants.{Heard, Left, Stopped, Worked}
+use Rattle.ls_history.specs.declared.happened.Stop.{Stop}
 use Rattle.ls_history.specs.History.{IsLegalFrom, MayHappen, replay}
 use Rattle.ls_history.specs.Places.{Place, beginning, happens}
 use Rattle.ls_history.specs.Told.{LieBeside, heard_of, heard_of_one, out_of_one, outs_of}
@@ -88,3 +89,9 @@ sends_keep_heard total log new e reply = keep_part out_of_one total log new (Hea
 
 pub sends_keep_worked : (total : ℕ) (log new : List Happened) (e : Event) → total ≡ length (outs_of log) → new ≡ log ++ Worked e ∷ [] → total ≡ length (outs_of new)
 sends_keep_worked total log new e = keep_part out_of_one total log new (Worked e) refl
+
+pub hears_keep_stopped : (total : ℕ) (log new : List Happened) (stop : Stop) → total ≡ length (heard_of log) → new ≡ log ++ Stopped stop ∷ [] → total ≡ length (heard_of new)
+hears_keep_stopped total log new stop = keep_part heard_of_one total log new (Stopped stop) refl
+
+pub sends_keep_stopped : (total : ℕ) (log new : List Happened) (stop : Stop) → total ≡ length (outs_of log) → new ≡ log ++ Stopped stop ∷ [] → total ≡ length (outs_of new)
+sends_keep_stopped total log new stop = keep_part out_of_one total log new (Stopped stop) refl

@@ -12,7 +12,7 @@ use Rattle.ls_machine.specs.declared.event.Event.{Event}
 use Rattle.ls_machine.proofs.Replays.{total_one}
 use Rattle.ls_desk.specs.Door.{entered_at}
 use Rattle.ls_history.specs.declared.happened.Happened.{Happened}
-use Rattle.ls_history.specs.declared.happened.Happened.TheVariants.{Began, Heard, Left, Worked}
+use Rattle.ls_history.specs.declared.happened.Happened.TheVariants.{Began, Heard, Left, Stopped, Worked}
 use Rattle.ls_history.specs.History as history
 use Rattle.ls_history.specs.History.{IsLegal, IsReply, IsRoomy, IsNext, replay}
 use Rattle.ls_history.specs.Places.{Place, beginning, entered, happens, heard_at}
@@ -76,6 +76,7 @@ journal_from most p (Worked event ∷ log) limit legal =
     let o : Option Event = Some event in
     goes_on most p (replay (entered p o) log) o (events_of log) (λ other is. subst (IsPossible p.state) (some_is event other is) legal.0.0.0)
     (fits_by most (entered p o) limit legal.0.1) (journal_from most (entered p o) log limit legal.1)
+journal_from most p (Stopped stop ∷ log) limit legal = journal_from most p log limit legal.1
 
 limit_kept : (most : ℕ) (p : Place) (log : List Happened) → p.limit ≡ Some most → history.IsLegalFrom p log → (replay p log).limit ≡ Some most
 limit_kept most p [] limit legal = limit
@@ -84,6 +85,7 @@ limit_kept most p (Heard e reply ∷ log) limit legal =
     limit_kept most (heard_at p e reply) log (ap (λ (q : Place). q.limit) (heard_is p e reply) ∙ (limit_stays p (event_of_reply e reply) ∙ limit)) legal.1
 limit_kept most p (Left out ∷ log) limit legal = limit_kept most (entered p (event_of (Left out))) log limit legal.1
 limit_kept most p (Worked event ∷ log) limit legal = limit_kept most (entered p (Some event)) log limit legal.1
+limit_kept most p (Stopped stop ∷ log) limit legal = limit_kept most p log limit legal.1
 
 -- before the board began no event has room
 no_room : (o : Option Event) (event : Event) → o ≡ Some event → IsRoomy (entered beginning o) → ⊥
@@ -101,6 +103,7 @@ from_beginning most (Heard e (Ok answer) ∷ log) legal limit = absurd (no_room 
 from_beginning most (Heard e (Err fault) ∷ log) legal limit = from_beginning most log legal.1 limit
 from_beginning most (Left out ∷ log) legal limit = absurd (no_room (event_of (Left out)) _ refl legal.0.1)
 from_beginning most (Worked event ∷ log) legal limit = absurd (no_room (Some event) event refl legal.0.1)
+from_beginning most (Stopped stop ∷ log) legal limit = from_beginning most log legal.1 limit
 
 pub histories_journals : HistoriesAreJournals
 histories_journals most log legal limit =

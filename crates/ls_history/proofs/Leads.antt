@@ -20,7 +20,7 @@ use Rattle.ls_desk.specs.Door.{Admits, client_fault, entered_at}
 use Rattle.ls_desk.specs.Faults.{Refuses, Takes}
 use Rattle.ls_desk.specs.Stands.{Enters, IsSound, Seen, Sends, counts_of, state_of, ticket_of_out}
 use Rattle.ls_history.specs.declared.happened.Happened.{Happened}
-use Rattle.ls_history.specs.declared.happened.Happened.TheVariants.{Began, Heard, Left, Worked}
+use Rattle.ls_history.specs.declared.happened.Happened.TheVariants.{Began, Heard, Left, Stopped, Worked}
 use Rattle.ls_history.specs.History.{HasLedTo, IsHistoryOf, IsReply, IsRoomy, IsNext, MayHappen, is_workers, replay}
 use Rattle.ls_history.specs.Places.{Place, beginning, desk_at, entered, happens, place_of}
 use Rattle.ls_history.specs.Laws.{HistoriesBegin, HistoriesGoOn, IsDone}
@@ -168,6 +168,7 @@ done_led old new (Heard e (Ok answer)) done = reply_led e (Ok answer) old new do
 done_led old new (Heard e (Err fault)) done = elim done [ inl refuses ↦ reply_led e (Err fault) old new refuses | inr short ↦ ap place_of short.1 ]
 done_led old new (Left out) done = sends_led old new out done
 done_led old new (Worked event) done = worked_led old new event done.0
+done_led old new (Stopped stop) done = ap place_of done
 
 done_next : (old new : Seen) (h : Happened) → IsDone h old new → IsNext (place_of old) h
 done_next old new (Began most) done = absurd done
@@ -175,6 +176,7 @@ done_next old new (Heard e (Ok answer)) done = reply_may e (Ok answer) old new d
 done_next old new (Heard e (Err fault)) done = elim done [ inl refuses ↦ reply_may e (Err fault) old new refuses | inr short ↦ inl short.0 ]
 done_next old new (Left out) done = sends_may old new out done
 done_next old new (Worked event) done = worked_may old new event done.0 done.1
+done_next old new (Stopped stop) done = tt
 
 pub begins_history : (d : Seen) → IsSound d → d.journal ≡ [] → counts_of d ≡ no_events → IsHistoryOf d (Began d.max_events ∷ [])
 begins_history d sound journal counts =

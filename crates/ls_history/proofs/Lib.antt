@@ -4,3 +4,4 @@ pub mod Adding
 pub mod Leads
 pub mod Journals
 pub mod Tells
+pub mod Stops

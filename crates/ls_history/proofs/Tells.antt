@@ -15,7 +15,7 @@ use Rattle.ls_machine.specs.declared.event.Event.TheVariants.{Opened, Changed, C
 use Rattle.ls_machine.specs.declared.state.State.{State}
 use Rattle.ls_desk.specs.Door.{client_fault, entered_at}
 use Rattle.ls_history.specs.declared.happened.Happened.{Happened}
-use Rattle.ls_history.specs.declared.happened.Happened.TheVariants.{Began, Heard, Left, Worked}
+use Rattle.ls_history.specs.declared.happened.Happened.TheVariants.{Began, Heard, Left, Stopped, Worked}
 use Rattle.ls_history.specs.History.{IsLegalFrom, IsReply, is_workers, replay}
 use Rattle.ls_history.specs.Laws.{BeginningsAgree, HistoriesCount, RepliesAreUnique, answer_of_one}
 use Rattle.ls_history.specs.Places.{Place, beginning, desk_at, entered, happens, heard_at}
@@ -140,6 +140,7 @@ counted_from p (Worked event ∷ log) legal =
     let more = counted_from (happens p (Worked event)) log legal.1 in
     let none = none_of_workers event p.counts legal.0.0.1 in
     record { client = omega (arith, more.client, none.0); sent = omega (arith, more.sent, none.1) }
+counted_from p (Stopped stop ∷ log) legal = let more = counted_from p log legal.1 in record { client = more.client; sent = more.sent }
 
 pub histories_count : HistoriesCount
 unfolding answered

@@ -14,7 +14,7 @@ use Rattle.ls_machine.specs.declared.state.Entry.{Entry}
 use Rattle.ls_desk.specs.Door.{client_fault, entered_at}
 use Rattle.ls_desk.specs.Stands.{IsOutFor, Seen, ticket_of_out}
 use Rattle.ls_history.specs.declared.happened.Happened.{Happened}
-use Rattle.ls_history.specs.declared.happened.Happened.TheVariants.{Began, Heard, Left, Worked}
+use Rattle.ls_history.specs.declared.happened.Happened.TheVariants.{Began, Heard, Left, Stopped, Worked}
 use Rattle.ls_history.specs.Places.{Place, beginning, desk_at, happens, place_of}
 
 -- An answer stands where nothing is against the event, and is the machine's. A refusal stands where it is the first whose cause holds. Memory may
@@ -34,12 +34,13 @@ is_workers (Returned ticket) = true
 is_workers (Finished ticket failed) = true
 is_workers _ = false
 
--- the entry is possible there
+-- the entry is possible there: the board may always be told to end
 abbrev pub IsNext : Place → Happened → Type 0
 IsNext p (Began most) = p ≡ beginning
 IsNext p (Heard e reply) = IsReply p e reply
 IsNext p (Left out) = IsReplyOut p out
 IsNext p (Worked event) = IsPossible p.state event × (is_workers event ≡ true)
+IsNext p (Stopped stop) = Unit {0}
 
 -- the events and the unsent entries are within the limit
 abbrev pub IsRoomy : Place → Type 0

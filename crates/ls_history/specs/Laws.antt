@@ -1,5 +1,5 @@
 -- What holds of every history.
-use Rattle.std.specs.Prelude.{◌≡◌, ◌≢◌, ◌⊎◌, ◌++◌, ◌∷◌, [], ℕ, List, Result, Ok, Err, Option, Some, None, filter_map, length, true}
+use Rattle.std.specs.Prelude.{◌≡◌, ◌≢◌, ◌⊎◌, ◌++◌, ◌∷◌, [], ℕ, List, Result, Ok, Err, Option, Some, None, filter_map, is_some, length, true}
 use Rattle.ls_machine.specs.Counts.{counted, no_events}
 use Rattle.ls_machine.specs.Journal as journal
 use Rattle.ls_machine.specs.declared.client.ClientAnswer.{ClientAnswer}
@@ -10,7 +10,8 @@ use Rattle.ls_desk.specs.Door.{Admits, client_fault}
 use Rattle.ls_desk.specs.Faults.{Refuses}
 use Rattle.ls_desk.specs.Stands.{Enters, IsSound, Seen, Sends, counts_of}
 use Rattle.ls_history.specs.declared.happened.Happened.{Happened}
-use Rattle.ls_history.specs.declared.happened.Happened.TheVariants.{Began, Heard, Left, Worked}
+use Rattle.ls_history.specs.declared.happened.Happened.TheVariants.{Began, Heard, Left, Stopped, Worked}
+use Rattle.ls_history.specs.Ends.{is_over, stop_of}
 use Rattle.ls_history.specs.History.{IsHistoryOf, IsLegal, IsReply, is_workers, replay}
 use Rattle.ls_history.specs.Places.{Place, beginning}
 use Rattle.ls_history.specs.Told.{LieBeside, events_of, heard_of, outs_of}
@@ -35,6 +36,7 @@ IsDone (Heard e (Ok answer)) old new = Admits e answer old new
 IsDone (Heard e (Err fault)) old new = Refuses (client_fault old e) old new fault ⊎ ((fault ≡ Memory) × (new ≡ old))
 IsDone (Left out) old new = Sends old new out
 IsDone (Worked event) old new = Enters old new event × (is_workers event ≡ true)
+IsDone (Stopped stop) old new = new ≡ old
 
 -- of a desk on which nothing has happened
 abbrev pub HistoriesBegin : Type 0
@@ -64,3 +66,10 @@ HistoriesCount =
 abbrev pub BeginningsAgree : Type 0
 BeginningsAgree =
     (xs ys : List Happened) → LieBeside xs ys → (length (heard_of ys) ≡ length (heard_of xs) → heard_of ys ≡ heard_of xs) × (length (outs_of ys) ≡ length (outs_of xs) → outs_of ys ≡ outs_of xs)
+
+-- ---- a board that was told to end stays so
+
+-- A board that has ended has ended by all that comes later, and the end at once is final.
+abbrev pub EndsStay : Type 0
+EndsStay =
+    (xs ys : List Happened) → (is_some (stop_of xs) ≡ true → is_some (stop_of (xs ++ ys)) ≡ true) × (is_over (stop_of xs) ≡ true → stop_of (xs ++ ys) ≡ stop_of xs)

@@ -1,3 +1,4 @@
+pub mod Ends
 pub mod Places
 pub mod History
 pub mod Told

@@ -12,7 +12,7 @@ use Rattle.ls_machine.specs.declared.event.Event.TheVariants.{Sent}
 use Rattle.ls_machine.specs.declared.state.State.{State}
 use Rattle.ls_desk.specs.Stands.{Seen, counts_of, state_of, ticket_of_out}
 use Rattle.ls_history.specs.declared.happened.Happened.{Happened}
-use Rattle.ls_history.specs.declared.happened.Happened.TheVariants.{Began, Heard, Left, Worked}
+use Rattle.ls_history.specs.declared.happened.Happened.TheVariants.{Began, Heard, Left, Stopped, Worked}
 
 -- how many events and unsent replies there may be, the state that the desk is in, and how many events of each kind there were
 pub record Place : Type 0 where
@@ -48,3 +48,4 @@ happens p (Began most) = record { limit = Some most; state = p.state; counts = p
 happens p (Heard e reply) = heard_at p e reply
 happens p (Left out) = entered p (Some (Sent (ticket_of_out out)))
 happens p (Worked event) = entered p (Some event)
+happens p (Stopped stop) = p

@@ -10,7 +10,7 @@ use Rattle.ls_machine.specs.declared.event.Event.TheVariants.{Sent}
 use Rattle.ls_machine.specs.declared.event.Out.{Out}
 use Rattle.ls_desk.specs.Stands.{ticket_of_out}
 use Rattle.ls_history.specs.declared.happened.Happened.{Happened}
-use Rattle.ls_history.specs.declared.happened.Happened.TheVariants.{Began, Heard, Left, Worked}
+use Rattle.ls_history.specs.declared.happened.Happened.TheVariants.{Began, Heard, Left, Stopped, Worked}
 
 abbrev pub heard_of_one : Happened → Option (ClientEvent × Result ClientAnswer DeskFault)
 heard_of_one (Heard e reply) = Some (e, reply)
@@ -39,6 +39,7 @@ event_of (Began most) = None
 event_of (Heard e reply) = event_of_reply e reply
 event_of (Left out) = Some (Sent (ticket_of_out out))
 event_of (Worked event) = Some event
+event_of (Stopped stop) = None
 
 abbrev pub with_event : Option Event → List Event → List Event
 with_event None events = events

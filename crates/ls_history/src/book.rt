@@ -1,8 +1,9 @@
 //! The word that all threads share, and what each of them has seen of the history.
-ghost use Rattle.std.specs.Prelude.{◌≡◌, ◌++◌, ◌∷◌, [], MatchBool, None};
+ghost use Rattle.std.specs.Prelude.{◌≡◌, ◌++◌, ◌∷◌, [], MatchBool, None, length, nat_le};
 ghost use Rattle.ls_history.specs.History.{IsLegal, MayHappen, replay};
 ghost use Rattle.ls_history.specs.Places.{beginning};
 ghost use Rattle.ls_history.specs.Told.{LieBeside};
+ghost use mathlib.Core.List.{IsPrefix};
 ghost use Rattle.ls_history.specs.own.Rules.{head_of};
 
 use crate::happened::Happened;
@@ -118,6 +119,31 @@ impl<C: BookName> Front<C> {
     {
         let mut known = self.seen.again();
         known.learn(&other.seen);
+    }
+
+    /// Whether this has no more entries than another.
+    fn is_within(&self, other: &Front<C>) -> bool
+        ensures { result ≡ nat_le (length self.now) (length other.now) }
+    {
+        self.count <= other.count
+    }
+
+    /// Sees what another front has seen, which isn't behind this one.
+    ///
+    /// Whoever has the desk has all of the history, and nobody has seen more. No proof knows that, so the lengths are compared: were this the longer
+    /// one, this would go on comparing.
+    pub fn follow(&mut self, rt: &impl Wait, all: &Front<C>)
+        ensures seen { self.new ≡ all.now }
+        ensures grows { IsPrefix self.old all.now }
+    {
+        for _ in rt.forever() {
+            if self.is_within(all) {
+                all.beside(self);
+                *self = all.again();
+                return;
+            }
+        }
+        unreachable!()
     }
 
     /// What was seen of a history is legal. Nothing is done at run time.

@@ -5,7 +5,7 @@ ghost use Rattle.ls_history.specs.History.{MayHappen, replay};
 ghost use Rattle.ls_history.specs.Places.{beginning};
 
 use crate::book::{BookName, Front, HistoryBook};
-use crate::happened::Happened;
+use crate::happened::{Happened, Stop};
 use logbook::Plain;
 use ls_desk::{Desk, DeskFault, Out};
 use ls_machine::ClientAnswer;
@@ -99,6 +99,18 @@ impl Plain<(u64, bool), Happened, u64> for BringsRun {
     ghost ask = { λ run. Worked (Finished run.0 run.1) };
 
     ghost state = { λ run. None };
+}
+
+/// The entry of a board that is told to end.
+pub struct Stops;
+
+impl Plain<Stop, Happened, u64> for Stops {
+    ghost use Rattle.std.specs.Prelude.{None};
+    ghost use Rattle.ls_history.specs.declared.happened.Happened.TheVariants.{Stopped};
+
+    ghost ask = { λ stop. Stopped stop };
+
+    ghost state = { λ stop. None };
 }
 
 /// Adds a client's event with its answer or its refusal to the history.

@@ -2,6 +2,15 @@
 use ls_desk::{DeskFault, Event, Out};
 use ls_machine::{ClientAnswer, ClientEvent};
 
+/// How a board ends.
+#[derive(Clone, Copy, PartialEq, Eq, Debug, Drop)]
+pub enum Stop {
+    /// Once all that is there has run and is sent.
+    Drain,
+    /// At once. It is final.
+    Now,
+}
+
 /// One entry of a history. No value of it is made.
 #[derive(Drop)]
 pub enum Happened {
@@ -13,4 +22,6 @@ pub enum Happened {
     Left(Out),
     /// A worker took a job, gave one back, or brought one back that has run.
     Worked(Event),
+    /// The board was told to end.
+    Stopped(Stop),
 }

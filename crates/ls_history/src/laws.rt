@@ -1,5 +1,5 @@
 //! Laws of histories.
-ghost use Rattle.ls_history.specs.Laws.{BeginningsAgree, HistoriesAreJournals, HistoriesBegin, HistoriesCount, HistoriesGoOn, RepliesAreUnique};
+ghost use Rattle.ls_history.specs.Laws.{BeginningsAgree, EndsStay, HistoriesAreJournals, HistoriesBegin, HistoriesCount, HistoriesGoOn, RepliesAreUnique};
 
 /// A history is a run of the machine: its events are a legal journal from the start of a session, which leads where the history does.
 pub fn histories_are_journals()
@@ -18,4 +18,9 @@ pub fn histories_tell_once()
     ensures replies { RepliesAreUnique }
     ensures counts { HistoriesCount }
     ensures beginnings { BeginningsAgree }
+{}
+
+/// A board that was told to end has ended by all that comes later, and the end at once is final.
+pub fn ends_stay()
+    ensures { EndsStay }
 {}

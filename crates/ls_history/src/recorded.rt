@@ -8,11 +8,12 @@ ghost use Rattle.ls_machine.specs.declared.event.Event.TheVariants.{Finished, Re
 ghost use Rattle.ls_desk.specs.Door.{Admits, IsTextOf, client_fault};
 ghost use Rattle.ls_desk.specs.Faults.{Accepts, Refuses, Takes, finish_fault, give_back_fault, kept_of, take_fault};
 ghost use Rattle.ls_desk.specs.Stands.{Sends, state_of};
-ghost use Rattle.ls_history.specs.declared.happened.Happened.TheVariants.{Began, Heard, Left, Worked};
+ghost use Rattle.ls_history.specs.declared.happened.Happened.TheVariants.{Began, Heard, Left, Stopped, Worked};
 ghost use Rattle.ls_history.specs.History.{HasLedTo};
 
 use crate::book::{BookName, Front, HistoryBook};
-use crate::entries::{Begins, BringsRun, Leaves, ReturnsJob, TakesJob, add_heard};
+use crate::entries::{Begins, BringsRun, Leaves, ReturnsJob, Stops, TakesJob, add_heard};
+use crate::happened::Stop;
 use ls_answers::{Done, Job};
 use ls_desk::{Desk, DeskFault, Kept, Out, SharedSnapshot};
 use ls_machine::{ClientAnswer, ClientEvent};
@@ -175,5 +176,15 @@ impl<C: BookName> Front<C> {
         let _sound = desk.journal();
         self.add::<Out, Leaves>(rt, book, &out);
         Some(out)
+    }
+
+    /// The board is told to end. The history has it, and the desk stays as it is.
+    pub fn stop(&mut self, rt: &impl Wait, book: &HistoryBook<C>, desk: &Desk, stop: Stop)
+        requires { HasLedTo desk.now self.old }
+        ensures added { self.new ≡ self.old ++ Stopped stop ∷ [] }
+        ensures led { HasLedTo desk.now self.new }
+    {
+        let _sound = desk.journal();
+        self.add::<Stop, Stops>(rt, book, &stop);
     }
 }

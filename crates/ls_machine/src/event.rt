@@ -1,4 +1,5 @@
 //! What happens at a desk, and what it hands out.
+use crate::boxed::Boxed;
 use crate::shared::SharedSnapshot;
 use ls_answers::{Ask, Done};
 use ls_lists::{List, Text};
@@ -9,6 +10,9 @@ use thiserror::Error;
 
 /// One entry of the journal. A client's event has the answer that its call gave. Texts and lists are
 /// those of `ls_lists`.
+///
+/// Most entries of a journal are small ones, and each has the room of the largest kind: what would
+/// make it more than 64 bytes is in boxes.
 #[derive(Drop)]
 pub enum Event {
     /// A document was opened.
@@ -25,7 +29,7 @@ pub enum Event {
     Changed {
         uri: Text,
         label: i64,
-        edits: List<Edit>,
+        edits: Boxed<List<Edit>>,
         version: Option<u64>,
     },
     /// A document was closed.
@@ -34,9 +38,9 @@ pub enum Event {
     },
     /// A request waits from here on.
     Asked {
-        id: Id,
+        id: Boxed<Id>,
         uri: Text,
-        ask: Ask,
+        ask: Boxed<Ask>,
         links: bool,
         ticket: u64,
     },

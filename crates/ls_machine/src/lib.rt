@@ -13,6 +13,7 @@
 #![tactic(auto)]
 
 mod base;
+mod boxed;
 mod client;
 mod copies;
 mod event;
@@ -22,6 +23,7 @@ mod shared;
 mod state;
 
 pub use base::{Base, Counts};
+pub use boxed::Boxed;
 pub use client::{ClientAnswer, ClientEvent, copy_of};
 pub use copies::state_of;
 pub use event::{DeskFault, Event, Kept, Out};

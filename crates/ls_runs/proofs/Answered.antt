@@ -1,155 +1,122 @@
--- Requests, once all jobs have run and all replies are sent.
-use Rattle.std.proofs.Common.{◌≡◌, ◌∙◌, ℕ, ◌+◌, ◌≤◌, Bool, true, false, cond, List, [], ◌∷◌, ◌++◌, map, Option, None, Some, refl, sym, ap, subst, append_assoc, arith}
-use Rattle.std.specs.Prelude.{◌==◌, count_by, is_some}
-use Rattle.std.proofs.lemmas.Bool.Decides.{nat_tests}
-use Rattle.std.proofs.lemmas.List.Elements.{filter_map-append}
-use Rattle.std.specs.List.{AllByRecursion}
+-- Requests, once all jobs have run and all replies have left.
+use Rattle.std.proofs.Common.{◌≡◌, ◌∙◌, ℕ, Bool, List, [], ◌∷◌, ◌++◌, map, Option, None, Some, Result, Ok, Err, true, refl, sym, ap, subst, arith}
+use Rattle.std.specs.Prelude.{◌==◌, count_by}
 use Rattle.ls_rpc.specs.declared.message.Id.{Id}
 use Rattle.ls_answers.specs.declared.ask.Ask.{Ask}
-use Rattle.ls_machine.specs.Client.{client_event, client_events, sent_ticket, sent_tickets}
-use Rattle.ls_machine.specs.Journal.{IsLegal, replay}
+use Rattle.ls_machine.specs.Client.{sent_ticket, sent_tickets}
+use Rattle.ls_machine.specs.Journal as journal
 use Rattle.ls_machine.specs.Laws.{has_ticket, is_told_of, places}
-use Rattle.ls_machine.specs.Machine.{IsPossible, ask_at, asked, document_of, start, step}
+use Rattle.ls_machine.specs.declared.client.ClientAnswer.{ClientAnswer}
+use Rattle.ls_machine.specs.declared.client.ClientAnswer.TheVariants.{Ticket}
+use Rattle.ls_machine.specs.declared.client.ClientEvent.{ClientEvent}
+use Rattle.ls_machine.specs.declared.client.ClientEvent.TheVariants.{DidOpen, DidChange, DidClose, Request, Cancel, Say}
+use Rattle.ls_machine.specs.declared.event.DeskFault.{DeskFault}
 use Rattle.ls_machine.specs.declared.event.Event.{Event}
 use Rattle.ls_machine.specs.declared.event.Event.TheVariants.{Opened, Changed, Closed, Asked, Cancelled, Said, Took, Returned, Finished, Sent}
 use Rattle.ls_machine.specs.declared.event.Out.{Out}
-use Rattle.ls_machine.specs.declared.state.Document.{Document}
 use Rattle.ls_machine.specs.declared.state.Entry.{Entry}
 use Rattle.ls_machine.specs.declared.state.State.{State}
 use Rattle.ls_machine.specs.declared.state.Waiting.{Waiting}
-use Rattle.ls_machine.proofs.Once.{count_append, legal_at, legal_before, requests_once}
-use Rattle.ls_machine.proofs.Replays.{past_legal, past_state, replay_push}
-use Rattle.ls_desk.specs.Stands.{AreOutsFor, state_of, ticket_of_out}
-use Rattle.ls_workers.specs.Sent.{noted_of, sent_by, sent_from}
-use Rattle.ls_runs.proofs.Askers.{To, noted_ticket, notes_to, out_tickets, outs_to, tickets_of}
-use Rattle.ls_runs.specs.Laws.{RequestsAreAnsweredOnce}
+use Rattle.ls_machine.proofs.Once.{count_append, requests_once}
+use Rattle.ls_desk.specs.Door.{entered_at}
+use Rattle.ls_desk.specs.Stands.{ticket_of_out}
+use Rattle.ls_history.specs.declared.happened.Happened.{Happened}
+use Rattle.ls_history.specs.declared.happened.Happened.TheVariants.{Began, Heard, Left, Stopped, Worked}
+use Rattle.ls_history.specs.History.{IsLegal, IsLegalFrom, is_workers, replay}
+use Rattle.ls_history.specs.Places.{Place, beginning, happens}
+use Rattle.ls_history.specs.Told.{event_of_reply, events_of, heard_of, outs_of, with_event}
+use Rattle.ls_history.proofs.Journals.{histories_journals}
+use Rattle.ls_threads.specs.Reading.{Replies}
+use Rattle.ls_runs.proofs.Askers.{replies_to}
+use Rattle.ls_runs.specs.Laws.{EachRequest, IsAnsweredOnce}
 
--- ---- a request that has just been asked waits
+-- ---- what was sent has its ticket once, where nothing waits and nothing is unsent
 
-self_test : (n m : ℕ) → m ≡ n → (n == m) ≡ true
-self_test n m e = grind (arith, nat_tests)
+told : List Event → ℕ → ℕ
+told js t = count_by (λ sent. sent == t) (sent_tickets js)
 
-counts_one : (b : Bool) → b ≡ true → ◌≡◌ {A = ℕ} (cond b 1 0) 1
-counts_one true e = refl
-counts_one false e = absurd (cc)
-
-count_one : (p : Waiting → Bool) (w : Waiting) → p w ≡ true → count_by p (w ∷ []) ≡ 1
-count_one p w e = omega (arith, counts_one (p w) e)
-
-asked_waits : (s : State) (id : Id) (d : Option Document) (question : Ask) (links : Bool) (t : ℕ) → is_some d ≡ true → t ≡ s.next_ticket → 1 ≤ count_by (has_ticket t) (ask_at s id d question links).waiting
-asked_waits s id None question links t some is = absurd (cc)
-asked_waits s id (Some d) question links t some is =
-    let w = asked s.next_ticket id question links d in
-    let both = count_append (has_ticket t) s.waiting (w ∷ []) in
-    let one = count_one (has_ticket t) w (self_test s.next_ticket t is) in
-    omega (arith, both, one)
-
-step_waits : (s : State) (id : Id) (uri : List ℕ) (question : Ask) (links : Bool) (t : ℕ) → IsPossible s (Asked id uri question links t) → 1 ≤ count_by (has_ticket t) (step s (Asked id uri question links t)).waiting
-unfolding step IsPossible
-step_waits s id uri question links t possible = asked_waits s id (document_of uri s.documents) question links t possible.0 possible.3
-
--- ---- and before it was asked nothing had its ticket
-
-told_before : List Event → ℕ → ℕ
-told_before js t = count_by (λ sent. sent == t) (sent_tickets js)
-
-told_both : (es fs : List Event) (t : ℕ) → told_before (es ++ fs) t ≡ told_before es t + told_before fs t
-unfolding told_before
-told_both es fs t = ap (λ (ns : List ℕ). count_by (λ sent. sent == t) ns) (filter_map-append sent_ticket es fs) ∙ count_append (λ sent. sent == t) (sent_tickets es) (sent_tickets fs)
-
-three : (a b c d : ℕ) → a + b + c ≡ 1 → 1 ≤ a → b ≡ d → d ≡ 0
-three a b c d e l q = omega arith
-
-first_none : (a b : ℕ) → a + b ≡ 0 → a ≡ 0
-first_none a b e = omega arith
-
-untold : (most : ℕ) (es : List Event) (id : Id) (uri : List ℕ) (question : Ask) (links : Bool) (t : ℕ) → IsLegal most (es ++ Asked id uri question links t ∷ []) → told_before es t ≡ 0
-unfolding told_before
-untold most es id uri question links t legal =
-    let e = Asked id uri question links t in
-    let once : places (es ++ e ∷ []) t ≡ 1 = requests_once most es [] id uri question links t legal in
-    let now : replay (es ++ e ∷ []) ≡ step (replay es) e = replay_push start es e in
-    let waits : 1 ≤ count_by (has_ticket t) (replay (es ++ e ∷ [])).waiting
-    = subst (λ (s : State). 1 ≤ count_by (has_ticket t) s.waiting) (sym now) (step_waits (replay es) id uri question links t (legal_at most 0 start es e [] legal)) in
-    let both = told_both es (e ∷ []) t in
-    let sent : count_by (λ sent. sent == t) (sent_tickets (es ++ e ∷ [])) ≡ 0 = three (count_by (has_ticket t) (replay (es ++ e ∷ [])).waiting) (count_by (λ sent. sent == t) (sent_tickets (es ++ e ∷ [])))
-    (count_by (is_told_of t) (replay (es ++ e ∷ [])).unsent) (count_by (λ sent. sent == t) (sent_tickets (es ++ e ∷ []))) once waits refl in
-    first_none (count_by (λ sent. sent == t) (sent_tickets es)) (told_before (e ∷ []) t) (sym both ∙ sent)
-
--- ---- so what was sent from a base on has it once, where nothing waits and nothing is unsent
-
-none_left : (js : List Event) (t : ℕ) → (replay js).waiting ≡ [] → (replay js).unsent ≡ [] → places js t ≡ told_before js t
-unfolding told_before
+none_left : (js : List Event) (t : ℕ) → (journal.replay js).waiting ≡ [] → (journal.replay js).unsent ≡ [] → places js t ≡ told js t
+unfolding told
 none_left js t w u =
-    let a : count_by (has_ticket t) (replay js).waiting ≡ 0 = ap (λ (ws : List Waiting). count_by (has_ticket t) ws) w in
-    let b : count_by (is_told_of t) (replay js).unsent ≡ 0 = ap (λ (es : List Entry). count_by (is_told_of t) es) u in
+    let a : count_by (has_ticket t) (journal.replay js).waiting ≡ 0 = ap (λ (ws : List Waiting). count_by (has_ticket t) ws) w in
+    let b : count_by (is_told_of t) (journal.replay js).unsent ≡ 0 = ap (λ (es : List Entry). count_by (is_told_of t) es) u in
     omega (arith, a, b)
 
-told_once : (most : ℕ) (past before later : List Event) (id : Id) (uri : List ℕ) (question : Ask) (links : Bool) (t : ℕ) (js : List Event) → js ≡ before ++ Asked id uri question links t ∷ later
-    → IsLegal most (past ++ js) → (replay (past ++ js)).waiting ≡ [] → (replay (past ++ js)).unsent ≡ [] → told_before js t ≡ 1
-told_once most past before later id uri question links t js is legal w u =
-    let e = Asked id uri question links t in
-    let P : List Event → Type 0 = λ es. IsLegal most es in
-    let split : past ++ js ≡ (past ++ before) ++ e ∷ later = ap (λ l. past ++ l) is ∙ sym (append_assoc past before (e ∷ later)) in
-    let whole : IsLegal most ((past ++ before) ++ e ∷ later) = subst P split legal in
-    let once : places (past ++ js) t ≡ 1 = subst (λ es. places es t ≡ 1) (sym split) (requests_once most (past ++ before) later id uri question links t whole) in
-    let front : IsLegal most ((past ++ before) ++ e ∷ [])
-    = legal_before most 0 start ((past ++ before) ++ e ∷ []) later (subst P (sym (append_assoc (past ++ before) (e ∷ []) later)) whole) in
-    let none = untold most (past ++ before) id uri question links t front in
-    let earlier = told_both past before t in
-    let both = told_both past js t in
-    let all = none_left (past ++ js) t w u in
-    omega (arith, once, none, earlier, both, all)
+told_once : (most : ℕ) (js before later : List Event) (id : Id) (uri : List ℕ) (question : Ask) (links : Bool) (t : ℕ)
+    → journal.IsLegal most js → js ≡ before ++ Asked id uri question links t ∷ later → (journal.replay js).waiting ≡ [] → (journal.replay js).unsent ≡ [] → told js t ≡ 1
+told_once most js before later id uri question links t legal is w u =
+    let P : List Event → Type 0 = λ es. journal.IsLegal most es in
+    let once : places js t ≡ 1 = subst (λ es. places es t ≡ 1) (sym is) (requests_once most before later id uri question links t (subst P is legal)) in
+    sym (none_left js t w u) ∙ once
 
--- ---- among the client's events
-
-client_same : (e x : Event) → client_event e ≡ Some x → e ≡ x
-client_same (Opened uri label text encoding version) x q = cc
-client_same (Changed uri label edits version) x q = cc
-client_same (Closed uri) x q = cc
-client_same (Asked id uri ask links ticket) x q = cc
-client_same (Cancelled id found) x q = cc
-client_same (Said body) x q = cc
-client_same (Took worker) x q = cc
-client_same (Returned ticket) x q = cc
-client_same (Finished ticket failed) x q = cc
-client_same (Sent ticket) x q = cc
+-- ---- a request that was heard stands among the machine's events
 
 abbrev Splits : List Event → Event → Type 0
 Splits js y = (before : List Event) × (later : List Event) × (js ≡ before ++ y ∷ later)
 
-none_splits : (before later : List Event) (y : Event) → [] ≡ before ++ y ∷ later → ⊥
-none_splits [] later y e = cc
-none_splits (x ∷ before) later y e = cc
+split_on : (o : Option Event) (es : List Event) (y : Event) → Splits es y → Splits (with_event o es) y
+split_on None es y s = s
+split_on (Some e) es y s = (e ∷ s.0, s.1, ap (λ l. e ∷ l) s.2)
 
-split_on : (e : Event) (es : List Event) (y : Event) → Splits es y → Splits (e ∷ es) y
-split_on e es y s = (e ∷ s.0, s.1, ap (λ l. e ∷ l) s.2)
+abbrev accepted : Id → List ℕ → Ask → Bool → ℕ → ClientEvent × Result ClientAnswer DeskFault
+accepted id uri question links t = (Request id uri question links, Ok (Ticket t))
 
-split_some : (e x : Event) (es xs before later : List Event) (y : Event) → e ≡ x → ((bs ls : List Event) → xs ≡ bs ++ y ∷ ls → Splits es y) → x ∷ xs ≡ before ++ y ∷ later → Splits (e ∷ es) y
-split_some e x es xs [] later y same rec q = let h : x ≡ y = cc in ([], es, ap (λ z. z ∷ es) (same ∙ h))
-split_some e x es xs (b ∷ before) later y same rec q = let t : xs ≡ before ++ y ∷ later = cc in split_on e es y (rec before later t)
+none_heard : (before later : Replies) (id : Id) (uri : List ℕ) (question : Ask) (links : Bool) (t : ℕ) → [] ≡ before ++ accepted id uri question links t ∷ later → ⊥
+none_heard [] later id uri question links t q = cc
+none_heard (x ∷ before) later id uri question links t q = cc
 
-split_by : (e : Event) (o : Option Event) (es before later : List Event) (y : Event) → client_event e ≡ o → ((bs ls : List Event) → client_events es ≡ bs ++ y ∷ ls → Splits es y)
-    → client_events (e ∷ es) ≡ before ++ y ∷ later → Splits (e ∷ es) y
-split_by e None es before later y is rec q = split_on e es y (rec before later (sym (rw is refl) ∙ q))
-split_by e (Some x) es before later y is rec q = split_some e x es (client_events es) before later y (client_same e x is) rec (sym (rw is refl) ∙ q)
+heard_split : (log : List Happened) (before later : Replies) (id : Id) (uri : List ℕ) (question : Ask) (links : Bool) (t : ℕ)
+    → heard_of log ≡ before ++ accepted id uri question links t ∷ later → Splits (events_of log) (Asked id uri question links t)
+heard_split [] before later id uri question links t q = absurd (none_heard before later id uri question links t q)
+heard_split (Began most ∷ log) before later id uri question links t q = heard_split log before later id uri question links t q
+heard_split (Heard e reply ∷ log) [] later id uri question links t q =
+    let one : ClientEvent × Result ClientAnswer DeskFault = (e, reply) in
+    let same : one ≡ accepted id uri question links t = cc in
+    ([], events_of log, ap (λ (r : ClientEvent × Result ClientAnswer DeskFault). with_event (event_of_reply r.0 r.1) (events_of log)) same)
+heard_split (Heard e reply ∷ log) (x ∷ before) later id uri question links t q =
+    let rest : heard_of log ≡ before ++ accepted id uri question links t ∷ later = cc in
+    split_on (event_of_reply e reply) (events_of log) (Asked id uri question links t) (heard_split log before later id uri question links t rest)
+heard_split (Left out ∷ log) before later id uri question links t q =
+    split_on (Some (Sent (ticket_of_out out))) (events_of log) (Asked id uri question links t) (heard_split log before later id uri question links t q)
+heard_split (Stopped stop ∷ log) before later id uri question links t q = heard_split log before later id uri question links t q
+heard_split (Worked event ∷ log) before later id uri question links t q =
+    split_on (Some event) (events_of log) (Asked id uri question links t) (heard_split log before later id uri question links t q)
 
-client_split : (js before later : List Event) (y : Event) → client_events js ≡ before ++ y ∷ later → Splits js y
-client_split [] before later y q = absurd (none_splits before later y q)
-client_split (e ∷ es) before later y q = split_by e (client_event e) es before later y refl (λ bs ls r. client_split es bs ls y r) q
+-- ---- the tickets of the replies are those that the machine sent
 
--- ---- and among the replies
+none_sent : (e : Event) (es : List Event) → sent_ticket e ≡ None → sent_tickets (e ∷ es) ≡ sent_tickets es
+none_sent e es is = rw is refl
 
-abbrev Parts : {X : Type 0} → (Out → X) → List Out → List X → Type 0
-Parts word outs second = (earlier : List Out) × (last : List Out) × (outs ≡ earlier ++ last) × (map word last ≡ second)
+client_sends : (s : State) (e : ClientEvent) → sent_ticket (entered_at s e) ≡ None
+client_sends s (DidOpen uri label text encoding) = refl
+client_sends s (DidChange uri label edits) = refl
+client_sends s (DidClose uri) = refl
+client_sends s (Request id uri ask links) = refl
+client_sends s (Cancel id) = refl
+client_sends s (Say body) = refl
 
-parts : {X : Type 0} (word : Out → X) (outs : List Out) (first second : List X) → map word outs ≡ first ++ second → Parts word outs second
-parts word outs [] second q = ([], outs, refl, q)
-parts word [] (n ∷ first) second q = absurd (cc)
-parts word (o ∷ outs) (n ∷ first) second q =
-    let t : map word outs ≡ first ++ second = cc in
-    let p = parts word outs first second t in
-    (o ∷ p.0, p.1, ap (λ l. o ∷ l) p.2, p.3)
+worker_sends : (e : Event) → is_workers e ≡ true → sent_ticket e ≡ None
+worker_sends (Opened uri label text encoding version) is = absurd (cc (is))
+worker_sends (Changed uri label edits version) is = absurd (cc (is))
+worker_sends (Closed uri) is = absurd (cc (is))
+worker_sends (Asked id uri ask links ticket) is = absurd (cc (is))
+worker_sends (Cancelled id found) is = absurd (cc (is))
+worker_sends (Said body) is = absurd (cc (is))
+worker_sends (Took worker) is = refl
+worker_sends (Returned ticket) is = refl
+worker_sends (Finished ticket failed) is = refl
+worker_sends (Sent ticket) is = absurd (cc (is))
+
+tickets_of : (p : Place) (log : List Happened) → IsLegalFrom p log → sent_tickets (events_of log) ≡ map ticket_of_out (outs_of log)
+tickets_of p [] legal = refl
+tickets_of p (Began most ∷ log) legal = tickets_of (happens p (Began most)) log legal.1
+tickets_of p (Heard e (Ok answer) ∷ log) legal =
+    ap (λ (o : Option Event). sent_tickets (with_event o (events_of log))) legal.0.0.2
+    ∙ (none_sent (entered_at p.state e) (events_of log) (client_sends p.state e) ∙ tickets_of (happens p (Heard e (Ok answer))) log legal.1)
+tickets_of p (Heard e (Err fault) ∷ log) legal = tickets_of p log legal.1
+tickets_of p (Left out ∷ log) legal = ap (λ l. ticket_of_out out ∷ l) (tickets_of (happens p (Left out)) log legal.1)
+tickets_of p (Stopped stop ∷ log) legal = tickets_of p log legal.1
+tickets_of p (Worked event ∷ log) legal = none_sent event (events_of log) (worker_sends event legal.0.0.1) ∙ tickets_of (happens p (Worked event)) log legal.1
 
 count_map : (outs : List Out) (t : ℕ) → count_by (λ out. ticket_of_out out == t) outs ≡ count_by (λ sent. sent == t) (map ticket_of_out outs)
 count_map [] t = refl
@@ -159,36 +126,17 @@ count_map (o ∷ outs) t =
     let c = count_map outs t in
     omega (arith, a, b, c)
 
-no_entries : (es : List Entry) (outs : List Out) → outs ≡ [] → AreOutsFor es outs → es ≡ []
-unfolding AreOutsFor
-no_entries [] outs q h = refl
-no_entries (e ∷ es) [] q h = absurd h
-no_entries (e ∷ es) (o ∷ outs) q h = absurd (cc)
+-- ---- so a legal history that leaves nothing behind has answered each request that it heard and accepted
 
-pub answered_once : RequestsAreAnsweredOnce
-unfolding told_before
-answered_once = λ journal events status input left old new served waiting before later id uri question links ticket among.
-    let desk = served.desk in
-    let most = desk.max_events in
-    let past = served.sound.past.0 in
-    let is = served.sound.past.1 in
-    let split = client_split desk.journal before later (Asked id uri question links ticket) among in
-    let state : replay (past ++ desk.journal) ≡ state_of desk = past_state most desk.base past desk.journal is in
-    let unsent = no_entries (state_of desk).unsent desk.outbox served.settled.sent served.sound.outs in
-    let once = told_once most past split.0 split.1 id uri question links ticket desk.journal split.2 (past_legal most desk.base past desk.journal is served.sound.legal)
-    (ap (λ (s : State). s.waiting) state ∙ waiting) (ap (λ (s : State). s.unsent) state ∙ unsent) in
-    let p = parts noted_of served.outs served.notes_are.0 (sent_by desk) served.notes_are.1 in
-    let tickets : map ticket_of_out p.1 ≡ sent_tickets desk.journal
-    = sym (out_tickets p.1) ∙ (ap (map noted_ticket) p.3 ∙ tickets_of most _ desk.base.state desk.journal served.sound.legal) in
-    let notes = notes_to most past desk.journal split.0 split.1 id uri question links ticket (past_legal most desk.base past desk.journal is served.sound.legal) split.2 in
-    let from : sent_from (replay past) desk.journal ≡ sent_by desk = ap (λ (s : State). sent_from s desk.journal) is.state_is in
+pub history_answers : (most : ℕ) (log : List Happened) → IsLegal log → (replay beginning log).limit ≡ Some most
+    → (replay beginning log).state.waiting ≡ [] → (replay beginning log).state.unsent ≡ [] → EachRequest (IsAnsweredOnce (outs_of log)) (heard_of log)
+unfolding told
+history_answers most log legal limit waiting unsent = λ before later id uri question links ticket among.
+    let is = histories_journals most log legal limit in
+    let split = heard_split log before later id uri question links ticket among in
+    let once = told_once most (events_of log) split.0 split.1 id uri question links ticket is.legal split.2 (ap (λ (s : State). s.waiting) is.state_is ∙ waiting)
+    (ap (λ (s : State). s.unsent) is.state_is ∙ unsent) in
     record {
-      earlier = p.0;
-      last = p.1;
-      outs_are = p.2;
-      tickets_are = tickets;
-      answered = record {
-        once = count_map p.1 ticket ∙ (ap (λ (ns : List ℕ). count_by (λ sent. sent == ticket) ns) tickets ∙ once);
-        to = outs_to id ticket p.1 (subst (λ l. AllByRecursion (To id ticket) l) (from ∙ sym p.3) notes);
-      };
+      once = count_map (outs_of log) ticket ∙ (ap (λ (ns : List ℕ). count_by (λ sent. sent == ticket) ns) (sym (tickets_of beginning log legal)) ∙ once);
+      to = replies_to most log split.0 split.1 id uri question links ticket is.legal legal split.2;
     }

@@ -1,3 +1,3 @@
 pub mod Askers
 pub mod Answered
-pub mod Whole
+pub mod Runs

@@ -1,5 +1,5 @@
 -- What an answer says of how the threads ended.
-use Rattle.std.proofs.Common.{◌≡◌, ◌∙◌, Bool, true, false, not, OnOk, IfOk, Result, Ok, Err, refl, sym, if◌then◌else◌}
+use Rattle.std.proofs.Common.{◌≡◌, ◌∙◌, Bool, true, false, not, IfOk, Result, Ok, Err, refl, sym, if◌then◌else◌}
 use Rattle.ls_session.specs.declared.turn.Status.{Status}
 use Rattle.ls_session.specs.declared.turn.Status.TheVariants.{Full}
 use Rattle.ls_devices.specs.declared.fault.ServeFault.{ServeFault}
@@ -88,8 +88,3 @@ pub ended_is : (h : Heard) → is_ended h ≡ true → h ≡ heard.Ended (reader
 ended_is (heard.Ended s) e = refl
 ended_is heard.Failed e = false_true e
 ended_is (heard.Broken x) e = false_true e
-
--- who wrote before hasn't failed where nobody has
-pub not_failed_holds : (before after : Bool) → (before ≡ true → after ≡ true) → after ≡ false → before ≡ false
-not_failed_holds false after f e = refl
-not_failed_holds true after f e = true_false (sym (f refl) ∙ e)

@@ -3,5 +3,5 @@ pub mod Ends
 pub mod Hearing
 pub mod Pieces
 pub mod Input
-pub mod Told
+pub mod Written
 pub mod Settled

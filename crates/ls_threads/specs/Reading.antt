@@ -1,5 +1,5 @@
 -- What the reader makes of the messages that it hears.
-use Rattle.std.specs.Prelude.{◌≡◌, ◌⊎◌, ◌++◌, ◌∷◌, ℕ, List, [], true, false, Option, Some, None}
+use Rattle.std.specs.Prelude.{◌≡◌, ◌⊎◌, ◌++◌, ◌∷◌, ℕ, List, [], false, Option, Some, None, Result, Ok, Err}
 use Rattle.ls_rpc.specs.Message.{message_of}
 use Rattle.ls_machine.specs.Client.{asker_of}
 use Rattle.ls_machine.specs.declared.client.ClientAnswer.{ClientAnswer}
@@ -12,44 +12,70 @@ use Rattle.ls_session.specs.declared.turn.Status.{Status}
 use Rattle.ls_session.specs.declared.turn.Turn.{Turn}
 use Rattle.ls_session.specs.declared.turn.Turn.TheVariants.{Nothing, Event, Exit}
 use Rattle.ls_session.specs.declared.session.Stage.{Stage}
-use Rattle.ls_workers.specs.Refusals.{is_shortage, may_refuse}
-use Rattle.ls_workers.specs.Seats.{IsHeard, ToldClient}
+use Rattle.ls_workers.specs.Refusals.{is_shortage}
 
--- the event stands at the end of the seat's list, with the board's answer
-abbrev pub IsEntered : ClientEvent → ToldClient → ToldClient → Type 0
-IsEntered e old new = (answer : ClientAnswer) × IsHeard e answer old new
+-- the client's events, each with its answer or its refusal
+abbrev pub Replies : Type 0
+Replies = List (ClientEvent × Result ClientAnswer DeskFault)
+
+-- the event had an answer
+abbrev pub IsEntered : ClientEvent → Replies → Replies → Type 0
+IsEntered e old new = (answer : ClientAnswer) × (new ≡ old ++ (e, Ok answer) ∷ [])
 
 -- a refusal is told by its body, where it has one, and otherwise nothing is entered
-abbrev pub IsTold : Option (List ℕ) → ToldClient → ToldClient → Type 0
+abbrev pub IsTold : Option (List ℕ) → Replies → Replies → Type 0
 IsTold None old new = new ≡ old
 IsTold (Some body) old new = IsEntered (Say body) old new
 
--- An event of the client was entered; or the desk refused it by a fault after which it goes on, and whoever asked was told so.
-abbrev pub IsMet : ClientEvent → ToldClient → ToldClient → Type 0
+-- An event of the client had an answer; or it was refused by a fault after which the reader goes on, and whoever asked was told so. That there was
+-- cause for the refusal, a legal history says.
+abbrev pub IsMet : ClientEvent → Replies → Replies → Type 0
 IsMet e old new = IsEntered e old new
-    ⊎ ((fault : DeskFault) × ((may_refuse e fault ≡ true) × (is_shortage fault ≡ false) × IsTold (refusal_to (asker_of e) fault) old new))
+    ⊎ ((fault : DeskFault) × ((is_shortage fault ≡ false) × IsTold (refusal_to (asker_of e) fault) (old ++ (e, Err fault) ∷ []) new))
 
--- what a turn leaves at the seat, and the status of an exit
-abbrev pub LeavesAtSeat : Turn → ToldClient → Option Status → ToldClient → Type 0
+-- what a turn leaves of the client's events, and the status of an exit
+abbrev pub LeavesAtSeat : Turn → Replies → Option Status → Replies → Type 0
 LeavesAtSeat Nothing old status new = (status ≡ None) × (new ≡ old)
 LeavesAtSeat (Event e) old status new = (status ≡ None) × IsMet e old new
 LeavesAtSeat (Exit s) old status new = (status ≡ Some s) × (new ≡ old)
 
 -- A message is heard by its body: the session's turn on it, and what that leaves.
-abbrev pub Hears : List ℕ → Stage → ToldClient → Option Status → Stage → ToldClient → Type 0
+abbrev pub Hears : List ℕ → Stage → Replies → Option Status → Stage → Replies → Type 0
 Hears body stage old status after new = (turn : Turn) × (((turn, after) ≡ turn_of stage (message_of body)) × LeavesAtSeat turn old status new)
 
 -- messages are heard in their order, none of which is an exit
-abbrev pub HearsOn : List (List ℕ) → Stage → ToldClient → Stage → ToldClient → Type 0
+abbrev pub HearsOn : List (List ℕ) → Stage → Replies → Stage → Replies → Type 0
 HearsOn [] stage old after new = (after ≡ stage) × (new ≡ old)
-HearsOn (body ∷ bodies) stage old after new = (next : Stage) × (told : ToldClient) × (Hears body stage old None next told × HearsOn bodies next told after new)
+HearsOn (body ∷ bodies) stage old after new = (next : Stage) × (told : Replies) × (Hears body stage old None next told × HearsOn bodies next told after new)
 
 -- Messages are heard in their order: all of them, or up to an exit and not past it.
-abbrev pub HearsAll : List (List ℕ) → Stage → ToldClient → Option Status → Stage → ToldClient → Type 0
+abbrev pub HearsAll : List (List ℕ) → Stage → Replies → Option Status → Stage → Replies → Type 0
 HearsAll bodies stage old None after new = HearsOn bodies stage old after new
-HearsAll bodies stage old (Some status) after new = (before : List (List ℕ)) × (last : List ℕ) × (unheard : List (List ℕ)) × (next : Stage) × (told : ToldClient)
+HearsAll bodies stage old (Some status) after new = (before : List (List ℕ)) × (last : List ℕ) × (unheard : List (List ℕ)) × (next : Stage) × (told : Replies)
     × ((bodies ≡ before ++ last ∷ unheard) × HearsOn before stage old next told × Hears last next told (Some status) after new)
 
--- Where the reader breaks off, a front of the messages has been heard at the seat.
-abbrev pub HearsFront : List (List ℕ) → Stage → ToldClient → ToldClient → Type 0
-HearsFront bodies stage old new = (front : List (List ℕ)) × (left : List (List ℕ)) × (after : Stage) × ((bodies ≡ front ++ left) × HearsOn front stage old after new)
+-- ---- where the reader breaks off
+
+-- what should tell of a refusal was refused itself: by a shortage, as a legal history says
+abbrev pub IsUntold : Option (List ℕ) → Replies → Replies → Type 0
+IsUntold None old new = ⊥
+IsUntold (Some body) old new = (fault : DeskFault) × (new ≡ old ++ (Say body, Err fault) ∷ [])
+
+-- The event was refused, and whoever asked wasn't told; or what should tell it was refused too.
+abbrev pub IsLost : ClientEvent → Replies → Replies → Type 0
+IsLost e old new = (fault : DeskFault) × ((new ≡ old ++ (e, Err fault) ∷ [])
+    ⊎ ((is_shortage fault ≡ false) × IsUntold (refusal_to (asker_of e) fault) (old ++ (e, Err fault) ∷ []) new))
+
+-- Within a message: nothing was heard of it, or it has an event, which was lost.
+abbrev pub BreaksOff : List ℕ → Stage → Replies → Replies → Type 0
+BreaksOff body stage old new = (new ≡ old) ⊎ ((e : ClientEvent) × (after : Stage) × (((Event e, after) ≡ turn_of stage (message_of body)) × IsLost e old new))
+
+-- within the first of these messages, or before there is one
+abbrev pub BreaksOffIn : List (List ℕ) → Stage → Replies → Replies → Type 0
+BreaksOffIn [] stage old new = new ≡ old
+BreaksOffIn (body ∷ bodies) stage old new = BreaksOff body stage old new
+
+-- A front of the messages was heard, and the reader broke off in the rest.
+abbrev pub HearsFront : List (List ℕ) → Stage → Replies → Replies → Type 0
+HearsFront bodies stage old new = (front : List (List ℕ)) × (rest : List (List ℕ)) × (after : Stage) × (told : Replies)
+    × ((bodies ≡ front ++ rest) × HearsOn front stage old after told × BreaksOffIn rest after told new)

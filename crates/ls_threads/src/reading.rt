@@ -1,15 +1,15 @@
 //! What the reader does.
-ghost use Rattle.std.specs.Prelude.{◌≡◌, ◌<◌, length, IfOk, OnErr, OnOk, None, false, true};
+ghost use Rattle.std.specs.Prelude.{◌≡◌, ◌⊎◌, ◌<◌, length, IfOk, OnErr, OnOk, None, false, true};
 ghost use Rattle.ls_frame.specs.Feeds.{contents_of};
 ghost use Rattle.ls_frame.specs.Faults.{fault_of};
 ghost use Rattle.ls_frame.specs.Frames.{HasNoFrame};
 ghost use Rattle.ls_machine.specs.Client.{IsAllowed};
 ghost use Rattle.ls_devices.specs.Ends.{end_status};
+ghost use Rattle.ls_history.specs.Told.{heard_of};
 ghost use Rattle.ls_session.specs.Bodies.{refusal_to};
-ghost use Rattle.ls_workers.specs.Seats.{told_by};
 ghost use Rattle.ls_threads.specs.Ends.{has_cause};
 ghost use Rattle.ls_threads.specs.Input.{HearsInput, HearsPiece, end_of_piece};
-ghost use Rattle.ls_threads.specs.Reading.{Hears, HearsAll, HearsFront, IsMet, IsTold};
+ghost use Rattle.ls_threads.specs.Reading.{BreaksOff, Hears, HearsAll, HearsFront, IsLost, IsMet, IsTold, IsUntold};
 
 use crate::ending::{Early, Heard};
 use ls_desk::DeskFault;
@@ -61,8 +61,9 @@ impl<C: Crew> Reader<C> {
         asker: Option<Id>,
         fault: DeskFault,
     ) -> Result<(), Early>
-        ensures ok { OnOk result (IsTold (refusal_to asker fault) (told_by self.old.seat.told) (told_by self.new.seat.told)) }
-        ensures err { OnErr result (told_by self.new.seat.told ≡ told_by self.old.seat.told) }
+        ensures ok { OnOk result (IsTold (refusal_to asker fault) (heard_of self.old.seat.front) (heard_of self.new.seat.front)) }
+        ensures err { OnErr result ((heard_of self.new.seat.front ≡ heard_of self.old.seat.front)
+            ⊎ IsUntold (refusal_to asker fault) (heard_of self.old.seat.front) (heard_of self.new.seat.front)) }
         ensures session { self.new.session ≡ self.old.session }
     {
         let Some(body) = refusal_to(self.alloc, &asker, fault)? else {
@@ -75,8 +76,9 @@ impl<C: Crew> Reader<C> {
     /// Enters an event of the client. A refused request is told so.
     fn meet<R: Wait>(&mut self, rt: &R, board: &Board<C>, event: ClientEvent) -> Result<(), Early>
         requires { IsAllowed event }
-        ensures ok { OnOk result (IsMet event (told_by self.old.seat.told) (told_by self.new.seat.told)) }
-        ensures err { OnErr result (told_by self.new.seat.told ≡ told_by self.old.seat.told) }
+        ensures ok { OnOk result (IsMet event (heard_of self.old.seat.front) (heard_of self.new.seat.front)) }
+        ensures err { OnErr result ((heard_of self.new.seat.front ≡ heard_of self.old.seat.front)
+            ⊎ IsLost event (heard_of self.old.seat.front) (heard_of self.new.seat.front)) }
         ensures session { self.new.session ≡ self.old.session }
     {
         let asker = event.asker()?;
@@ -94,9 +96,9 @@ impl<C: Crew> Reader<C> {
         board: &Board<C>,
         body: &[u8],
     ) -> Result<Option<Status>, Early>
-        ensures ok { IfOk result (λ status. Hears body.now self.old.session (told_by self.old.seat.told)
-            status self.new.session (told_by self.new.seat.told)) }
-        ensures err { OnErr result (told_by self.new.seat.told ≡ told_by self.old.seat.told) }
+        ensures ok { IfOk result (λ status. Hears body.now self.old.session (heard_of self.old.seat.front)
+            status self.new.session (heard_of self.new.seat.front)) }
+        ensures err { OnErr result (BreaksOff body.now self.old.session (heard_of self.old.seat.front) (heard_of self.new.seat.front)) }
     {
         match self.session.event(body)? {
             Turn::Nothing => Ok(None),
@@ -116,10 +118,10 @@ impl<C: Crew> Reader<C> {
         bodies: &[Vec<u8>],
         halted: &AtomicU64,
     ) -> Result<Option<Status>, Early>
-        ensures ok { IfOk result (λ status. HearsAll (contents_of bodies.now) self.old.session (told_by self.old.seat.told)
-            status self.new.session (told_by self.new.seat.told)) }
-        ensures err { OnErr result (HearsFront (contents_of bodies.now) self.old.session (told_by self.old.seat.told)
-            (told_by self.new.seat.told)) }
+        ensures ok { IfOk result (λ status. HearsAll (contents_of bodies.now) self.old.session (heard_of self.old.seat.front)
+            status self.new.session (heard_of self.new.seat.front)) }
+        ensures err { OnErr result (HearsFront (contents_of bodies.now) self.old.session (heard_of self.old.seat.front)
+            (heard_of self.new.seat.front)) }
     {
         for body in bodies {
             if halted.load(Ordering::SeqCst) != 0 {
@@ -141,8 +143,8 @@ impl<C: Crew> Reader<C> {
         piece: &[u8],
         halted: &AtomicU64,
     ) -> Result<Option<Status>, Early>
-        ensures { HasNoFrame framer.old → fault_of framer.old ≡ None → HearsPiece framer.old piece.now self.old.session (told_by self.old.seat.told)
-            result framer.new self.new.session (told_by self.new.seat.told) }
+        ensures { HasNoFrame framer.old → fault_of framer.old ≡ None → HearsPiece framer.old piece.now self.old.session (heard_of self.old.seat.front)
+            result framer.new self.new.session (heard_of self.new.seat.front) }
     {
         let mut bodies = Vec::new(self.alloc);
         let fed = framer.feed(piece, &mut bodies);
@@ -166,8 +168,8 @@ impl<C: Crew> Reader<C> {
         requires none { I.reads source.old ≡ 0 }
         requires good { I.failed source.old ≡ false }
         ensures cause { has_cause result (I.failed source.new) (I.reads source.new) ≡ true }
-        ensures heard { HearsInput (I.remaining source.old) (I.remaining source.new) self.old.session (told_by self.old.seat.told)
-            result self.new.session (told_by self.new.seat.told) }
+        ensures heard { HearsInput (I.remaining source.old) (I.remaining source.new) self.old.session (heard_of self.old.seat.front)
+            result self.new.session (heard_of self.new.seat.front) }
     {
         let Ok(mut buffer) = vec![in self.alloc; 0u8; READ_MOST] else {
             return Heard::Broken(Early::Memory);
@@ -189,8 +191,8 @@ impl<C: Crew> Reader<C> {
         requires good { I.failed source.old ≡ false }
         requires room { 0 < length buffer.old }
         ensures cause { has_cause result (I.failed source.new) (I.reads source.new) ≡ true }
-        ensures heard { HearsInput (I.remaining source.old) (I.remaining source.new) self.old.session (told_by self.old.seat.told)
-            result self.new.session (told_by self.new.seat.told) }
+        ensures heard { HearsInput (I.remaining source.old) (I.remaining source.new) self.old.session (heard_of self.old.seat.front)
+            result self.new.session (heard_of self.new.seat.front) }
     {
         let mut framer = Framer::new(self.alloc);
         for i in 1..READS_END {

@@ -1,10 +1,11 @@
 //! The run: the threads are made, joined, and their board is closed.
 ghost use denote.Param.Send.{IsSend};
-ghost use Rattle.std.specs.Prelude.{◌≡◌, ◌+◌, ◌<◌, ◌≤◌, ◌==◌, ◌||◌, ◌++◌, ◌∷◌, IfOk, [], false, sum_by, true, vec_len, vec_capacity};
+ghost use Rattle.std.specs.Prelude.{◌≡◌, ◌+◌, ◌<◌, ◌≤◌, ◌==◌, ◌||◌, ◌++◌, ◌∷◌, ◌≢◌, IfOk, [], false, sum_by, true, vec_len, vec_capacity};
 ghost use Rattle.std.specs.Io.KnownBytes.{Appends};
 ghost use Rattle.ls_session.specs.declared.session.Stage.TheVariants.{BeforeInitialize};
+ghost use Rattle.ls_history.specs.Told.{heard_of, outs_of};
 ghost use Rattle.ls_workers.specs.Jobs.{HasLimits};
-ghost use Rattle.ls_workers.specs.Seats.{AreAll, told_by, told_nothing};
+ghost use Rattle.ls_workers.specs.Seats.{AreAll, told_by};
 ghost use Rattle.ls_threads.specs.own.Audit.{IsAnswered, left_by_threads};
 ghost use Rattle.ls_threads.specs.Ends.{has_cause, has_failed, worked_by, worse};
 ghost use Rattle.ls_threads.specs.Input.{HasHeard};
@@ -75,7 +76,7 @@ impl<C: Crew, I: Source> Unread<C, I> {
         board: &Board<C>,
         halted: &AtomicU64,
     ) -> ReadUp<C, I>
-        ensures { HasHeard (I.remaining self.source) (I.remaining result.source) self.reader.session (told_by self.reader.seat.told) result.end (told_by result.seat.told) }
+        ensures { HasHeard (I.remaining self.source) (I.remaining result.source) self.reader.session (heard_of self.reader.seat.front) result.end (heard_of result.seat.front) }
     {
         if !all_made {
             return self.given_up();
@@ -95,7 +96,7 @@ impl<C: Crew, I: Source> Unread<C, I> {
 
     /// Reads nothing.
     fn given_up(self) -> ReadUp<C, I>
-        ensures { HasHeard (I.remaining self.source) (I.remaining result.source) self.reader.session (told_by self.reader.seat.told) result.end (told_by result.seat.told) }
+        ensures { HasHeard (I.remaining self.source) (I.remaining result.source) self.reader.session (heard_of self.reader.seat.front) result.end (heard_of result.seat.front) }
     {
         let Unread { reader, source } = self;
         let Reader { seat, .. } = reader;
@@ -120,7 +121,7 @@ struct Done<C: Crew, I: Source> {
 impl<C: Crew, I: Source> Done<C, I> {
     /// Nothing was read, and nobody has worked.
     fn nothing(unread: Unread<C, I>, workers: Vec<WorkerSeat<C>>) -> Done<C, I>
-        ensures { HasHeard (I.remaining unread.source) (I.remaining result.read.source) unread.reader.session (told_by unread.reader.seat.told) result.read.end (told_by result.read.seat.told) }
+        ensures { HasHeard (I.remaining unread.source) (I.remaining result.read.source) unread.reader.session (heard_of unread.reader.seat.front) result.read.end (heard_of result.read.seat.front) }
     {
         Done {
             read: unread.given_up(),
@@ -164,13 +165,13 @@ fn read_and_work<
     gate: &'a G,
     halted: &'a AtomicU64,
 ) -> Done<C, I>
-    ensures { HasHeard (I.remaining unread.source) (I.remaining result.read.source) unread.reader.session (told_by unread.reader.seat.told) result.read.end (told_by result.read.seat.told) }
+    ensures { HasHeard (I.remaining unread.source) (I.remaining result.read.source) unread.reader.session (heard_of unread.reader.seat.front) result.read.end (heard_of result.read.seat.front) }
 {
     thread::scope(
         thread::scope_env(),
         rt,
         |scope| -> Done<C, I>
-            ensures { HasHeard (I.remaining unread.source) (I.remaining result.read.source) unread.reader.session (told_by unread.reader.seat.told) result.read.end (told_by result.read.seat.told) }
+            ensures { HasHeard (I.remaining unread.source) (I.remaining result.read.source) unread.reader.session (heard_of unread.reader.seat.front) result.read.end (heard_of result.read.seat.front) }
         {
             let (Ok(mut handles), Ok(mut workers)) = (
                 Vec::with_capacity(alloc, seats.len()),
@@ -232,18 +233,18 @@ fn run_threads<
     gate: &'a G,
     halted: &'a AtomicU64,
 ) -> Ran<C, I, W>
-    requires none { (writer.seat.sent.share.amount ≡ 0) × (writer.seat.tickets.items ≡ []) × (writer.seat.notes.items ≡ []) }
-    ensures written { HasWritten (W.contents writer.sink) (W.contents result.written.sink) (W.unflushed writer.sink) (W.unflushed result.written.sink) result.written.end result.written.seat.sent.share.amount result.written.seat.tickets.items result.written.seat.notes.items }
-    ensures heard { HasHeard (I.remaining unread.source) (I.remaining result.done.read.source) unread.reader.session (told_by unread.reader.seat.told) result.done.read.end (told_by result.done.read.seat.told) }
+    requires none { outs_of writer.seat.front ≡ [] }
+    ensures written { HasWritten (W.contents writer.sink) (W.contents result.written.sink) (W.unflushed writer.sink) (W.unflushed result.written.sink) result.written.end (outs_of result.written.seat.front) }
+    ensures heard { HasHeard (I.remaining unread.source) (I.remaining result.done.read.source) unread.reader.session (heard_of unread.reader.seat.front) result.done.read.end (heard_of result.done.read.seat.front) }
 {
     thread::scope(
         thread::scope_env(),
         rt,
         |scope| -> Ran<C, I, W>
             requires send { IsSend C.row }
-            requires none { (writer.seat.sent.share.amount ≡ 0) × (writer.seat.tickets.items ≡ []) × (writer.seat.notes.items ≡ []) }
-            ensures written { HasWritten (W.contents writer.sink) (W.contents result.written.sink) (W.unflushed writer.sink) (W.unflushed result.written.sink) result.written.end result.written.seat.sent.share.amount result.written.seat.tickets.items result.written.seat.notes.items }
-            ensures heard { HasHeard (I.remaining unread.source) (I.remaining result.done.read.source) unread.reader.session (told_by unread.reader.seat.told) result.done.read.end (told_by result.done.read.seat.told) }
+            requires none { outs_of writer.seat.front ≡ [] }
+            ensures written { HasWritten (W.contents writer.sink) (W.contents result.written.sink) (W.unflushed writer.sink) (W.unflushed result.written.sink) result.written.end (outs_of result.written.seat.front) }
+            ensures heard { HasHeard (I.remaining unread.source) (I.remaining result.done.read.source) unread.reader.session (heard_of unread.reader.seat.front) result.done.read.end (heard_of result.done.read.seat.front) }
         {
             let promise = Writes(Snapshot::of(&writer.sink));
             match scope.spawn_with(promise, move || writer.write_on(rt, alloc, board, halted)) {
@@ -263,41 +264,36 @@ fn run_threads<
     )
 }
 
-/// Writes what the desk of a full session still has unsent, unless the sink has failed. How that went is told with how the writer ended.
+/// Writes what the desk of a full session still has unsent, where the writer has written all that left it before. How that went is told with how
+/// the writer ended.
 fn finished<W: Sink>(alloc: Global, desk: Desk, sink: &mut W, full: bool, wrote: Wrote) -> Wrote
     requires { W.failed sink.old ≡ has_failed wrote }
     ensures failed { W.failed sink.new ≡ has_failed result }
-    ensures all { result ≡ Wrote.All → (wrote ≡ Wrote.All) × SaysTheRest full desk (W.contents sink.old) (W.contents sink.new) }
+    ensures told { wrote ≡ Wrote.All → SaysTheRest full result desk (W.contents sink.old) (W.contents sink.new) }
     ensures kept { full ≡ false → result ≡ wrote }
-    ensures frames { WritesFrames (has_failed result) (W.contents sink.old) (W.contents sink.new) }
-    ensures still { has_failed wrote ≡ true → (result ≡ Wrote.Failed) × Appends (W.contents sink.old) (W.contents sink.new) [] }
+    ensures still { wrote ≢ Wrote.All → (result ≡ wrote) × Appends (W.contents sink.old) (W.contents sink.new) [] }
     ensures flushed { W.unflushed sink.old ≡ false → has_failed result ≡ false → W.unflushed sink.new ≡ false }
 {
     let mut desk = desk;
-    let _sound = desk.journal();
     if !full {
         drop(desk);
         return wrote;
     }
     match wrote {
-        Wrote::Failed => {
+        Wrote::Failed | Wrote::Memory => {
             drop(desk);
-            return Wrote::Failed;
+            return wrote;
         }
-        Wrote::All | Wrote::Memory => {}
+        Wrote::All => {}
     }
     let rest = write_rest(alloc, &mut desk, sink);
-    let _sound = desk.journal();
     drop(desk);
-    match (wrote, rest) {
-        (_, Wrote::Failed) => Wrote::Failed,
-        (Wrote::All, Wrote::All) => Wrote::All,
-        _ => Wrote::Memory,
-    }
+    rest
 }
 
 /// Closes the board, and answers for the run: `Strayed` only where the board can't be closed with these seats, its desk isn't as these ends leave
-/// it, or a worker has strayed. Once the session is full the desk's unsent replies are written, whatever else was met, unless the sink has failed.
+/// it, or a worker has strayed. Once the session is full the desk's unsent replies are written, whatever else was met, unless the writer has broken
+/// off.
 fn closed<C: Crew, I: Source + Drop, W: Sink + Drop>(
     alloc: Global,
     board: Board<C>,
@@ -307,8 +303,8 @@ fn closed<C: Crew, I: Source + Drop, W: Sink + Drop>(
 ) -> Served<I, W>
     requires parts { (C.workers ≡ C.parts) × (0 < C.parts) }
     requires limit { C.max_events ≡ MOST_EVENTS }
-    requires written { HasWritten (W.contents begun.value) (W.contents ran.written.sink) (W.unflushed begun.value) (W.unflushed ran.written.sink) ran.written.end ran.written.seat.sent.share.amount ran.written.seat.tickets.items ran.written.seat.notes.items }
-    requires heard { HasHeard (I.remaining input.value) (I.remaining ran.done.read.source) BeforeInitialize told_nothing ran.done.read.end (told_by ran.done.read.seat.told) }
+    requires written { HasWritten (W.contents begun.value) (W.contents ran.written.sink) (W.unflushed begun.value) (W.unflushed ran.written.sink) ran.written.end (outs_of ran.written.seat.front) }
+    requires heard { HasHeard (I.remaining input.value) (I.remaining ran.done.read.source) BeforeInitialize [] ran.done.read.end (heard_of ran.done.read.seat.front) }
     ensures read { result.answer ≡ Err ServeFault.Read → (I.failed result.source || (I.reads result.source + 1 == 1099511627776)) ≡ true }
     ensures write { result.answer ≡ Err ServeFault.Write → W.failed result.sink ≡ true }
     ensures frames { WritesFrames (W.failed result.sink) (W.contents begun.value) (W.contents result.sink) }
@@ -322,7 +318,7 @@ fn closed<C: Crew, I: Source + Drop, W: Sink + Drop>(
           sum_by (λ seat. seat.finished.share.amount) ran.done.workers.items,
           ran.written.seat.sent.share.amount,
         ) (told_by ran.done.read.seat.told)
-        (ran.written.seat.checkpoints, ran.written.seat.tickets.items, ran.written.seat.notes.items)) (W.failed result.sink) result.answer }
+        (ran.written.seat.checkpoints, ran.written.seat.tickets.items)) (W.failed result.sink) result.answer }
     ensures served { IfOk result.answer (λ status. IsServed C.max_journal C.max_events status (I.remaining input.value) (I.remaining result.source) (W.contents begun.value) (W.contents result.sink)) }
 {
     let Ran { done, written } = ran;
@@ -338,6 +334,7 @@ fn closed<C: Crew, I: Source + Drop, W: Sink + Drop>(
         mut sink,
         end: wrote,
     } = written;
+    writer.front.legal();
     if !made {
         return Served {
             answer: Err(ServeFault::Memory),
@@ -380,6 +377,8 @@ fn run_session<
     sink: W,
     gate: &G,
 ) -> Served<I, W>
+    requires book { blanks.history ≡ C.book }
+    requires heard { (blanks.heard.name ≡ C.heard) × (blanks.heard.parts ≡ 1) }
     requires names { (blanks.client.name ≡ C.client) × (blanks.took.name ≡ C.took) × (blanks.returned.name ≡ C.returned) × (blanks.finished.name ≡ C.finished) × (blanks.sent.name ≡ C.sent) }
     requires parts { (blanks.client.parts ≡ 1) × (blanks.took.parts ≡ C.parts) × (blanks.returned.parts ≡ C.parts) × (blanks.finished.parts ≡ C.parts) × (blanks.sent.parts ≡ 1) }
     requires workers { (workers ≡ C.workers) × (workers ≡ C.parts) × (0 < workers) × (workers ≤ 8) }
@@ -395,7 +394,7 @@ fn run_session<
     ensures served { IfOk result.answer (λ status. IsServed max_journal MOST_EVENTS status (I.remaining source) (I.remaining result.source) (W.contents sink) (W.contents result.sink)) }
 {
     let desk = Desk::new(alloc, max_journal, MOST_EVENTS);
-    let Ok((board, client, writer, seats)) = Board::<C>::new(alloc, blanks, MARK, desk, workers)
+    let Ok((board, client, writer, seats)) = Board::<C>::new(rt, alloc, blanks, MARK, desk, workers)
     else {
         return Served {
             answer: Err(ServeFault::Memory),
@@ -420,14 +419,15 @@ fn run_session<
 
 /// Serves one client with 1 to 8 workers, each in a thread of its own, and gives the source and the sink back.
 ///
-/// With `Ok` there is a desk with a legal journal. Its client's events since its last checkpoint are what the messages of the input left, in
-/// their order. What was written are the frames of as many replies as it sent, of which the last are its own but for their answers. The status
-/// is how the reader ended, no job waits and no reply is unsent; or it says that the session is full, and this desk nearly is.
+/// With `Ok` there is one legal history of all that the board did, from its beginning to the end of the run ([`ls_history`]). Its client's events are
+/// the messages of the input, in order: each has the answer or the refusal that the state at that place gives. What was written are the frames of the
+/// replies that left in it, whole and in order: the k-th frame is that of the k-th reply. The status is how the reader ended, no job waits and no
+/// reply is unsent; or it says that the session is full, and the desk that the history led to nearly is.
 ///
 /// `Read`: the source failed, or was read one time less than [`ls_devices::READS_END`]. `Write`: the sink failed. `Strayed`: the board wasn't
 /// closed, the desk didn't know what ran, or something was left undone. `Memory`: an allocation was refused, or a thread couldn't be made.
-/// With any answer what was written are whole frames, and a front of one more only where the sink failed; and where it held nothing back and
-/// hasn't failed, it holds nothing back.
+/// With any answer what was written are the frames of the replies of one legal history, whole and in order, but at most the last one's; of that one
+/// a front may be written where the sink failed. And where the sink held nothing back and hasn't failed, it holds nothing back.
 ///
 /// Each worker passes the gate between the take of a job and its run.
 pub fn serve_threads<

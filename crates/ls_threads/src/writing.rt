@@ -2,6 +2,7 @@
 ghost use Rattle.std.specs.Prelude.{◌≡◌, [], false};
 ghost use Rattle.std.specs.Io.KnownBytes.{Appends};
 ghost use Rattle.ls_devices.specs.Devices.{AppendsFront};
+ghost use Rattle.ls_history.specs.Told.{outs_of};
 ghost use Rattle.ls_threads.specs.Ends.{has_failed};
 ghost use Rattle.ls_threads.specs.Writing.{HasTold, HasWritten, frame_for};
 
@@ -34,12 +35,12 @@ pub struct Written<C: Crew, W: Sink> {
     pub ghost failed: { W.failed sink ≡ has_failed end },
 }
 
-/// What a writer's thread promises of a sink that it was given: what it wrote there are the frames of as many replies as its seat was given.
+/// What a writer's thread promises of a sink that it was given: what it wrote there are the frames of the replies that its seat was given.
 #[derive(Drop)]
 pub struct Writes<W>(pub Snapshot<W>);
 
 impl<C: Crew, W: Sink> Promise<Written<C, W>> for Writes<W> {
-    ghost kept_by = { λ promise left. HasWritten (W.contents promise.0.value) (W.contents left.sink) (W.unflushed promise.0.value) (W.unflushed left.sink) left.end left.seat.sent.share.amount left.seat.tickets.items left.seat.notes.items };
+    ghost kept_by = { λ promise left. HasWritten (W.contents promise.0.value) (W.contents left.sink) (W.unflushed promise.0.value) (W.unflushed left.sink) left.end (outs_of left.seat.front) };
 }
 
 /// Writes the frame of a reply, and flushes it. `All`: all of it was written. `Failed`: a front of it was. `Memory`: nothing was. A sink that held
@@ -77,8 +78,8 @@ impl<C: Crew, W: Sink> Writer<C, W> {
         board: &Board<C>,
         halted: &AtomicU64,
     ) -> Written<C, W>
-        requires none { (self.seat.sent.share.amount ≡ 0) × (self.seat.tickets.items ≡ []) × (self.seat.notes.items ≡ []) }
-        ensures { HasWritten (W.contents self.sink) (W.contents result.sink) (W.unflushed self.sink) (W.unflushed result.sink) result.end result.seat.sent.share.amount result.seat.tickets.items result.seat.notes.items }
+        requires none { outs_of self.seat.front ≡ [] }
+        ensures { HasWritten (W.contents self.sink) (W.contents result.sink) (W.unflushed self.sink) (W.unflushed result.sink) result.end (outs_of result.seat.front) }
     {
         let Writer { mut seat, mut sink } = self;
         for _ in rt.forever() {

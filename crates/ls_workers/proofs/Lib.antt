@@ -3,5 +3,5 @@ pub mod Entered
 pub mod Entering
 pub mod FirstWaiting
 pub mod Numbers
+pub mod Placed
 pub mod Refused
-pub mod SentLaws

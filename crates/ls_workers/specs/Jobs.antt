@@ -1,30 +1,67 @@
--- What a call about a job has done at a desk, and the limits of a desk.
-use Rattle.std.specs.Prelude.{◌≡◌, ℕ, is_none, Some}
+-- What a call about a job has done by the history that its seat has seen, and the limits of a desk.
+use Rattle.std.specs.Prelude.{◌≡◌, ◌⊎◌, ◌++◌, ◌∷◌, [], ℕ, List, Option, Some, None, find, is_none}
+use mathlib.Core.List.{IsPrefix}
 use Rattle.ls_answers.specs.Told.{Told}
 use Rattle.ls_answers.specs.declared.job.Job.{Job}
-use Rattle.ls_machine.specs.declared.event.Event.TheVariants.{Finished, Returned}
+use Rattle.ls_machine.specs.Machine.{is_queued}
+use Rattle.ls_machine.specs.declared.event.DeskFault.{DeskFault}
+use Rattle.ls_machine.specs.declared.event.Event.TheVariants.{Finished, Returned, Took}
 use Rattle.ls_machine.specs.declared.event.Kept.{Kept}
-use Rattle.ls_desk.specs.Faults.{Accepts, Takes, finish_fault, give_back_fault, kept_of}
+use Rattle.ls_machine.specs.declared.state.Waiting.{Waiting}
+use Rattle.ls_desk.specs.Faults.{IsFirstCause, IsJobOf, finish_fault, give_back_fault, kept_of}
 use Rattle.ls_desk.specs.Stands.{Seen}
+use Rattle.ls_history.specs.declared.happened.Happened.{Happened}
+use Rattle.ls_history.specs.declared.happened.Happened.TheVariants.{Worked}
+use Rattle.ls_history.specs.declared.happened.Stop.{Stop}
+use Rattle.ls_history.specs.declared.happened.Stop.TheVariants.{Drain, Now}
+use Rattle.ls_history.specs.Ends.{stop_of}
+use Rattle.ls_history.specs.History.{replay}
+use Rattle.ls_history.specs.Places.{Place, beginning, desk_at}
 
--- the first queued job was handed out: there are the desk before and the desk after
-abbrev pub IsTaken : ℕ → Job → Type 0
-IsTaken worker job = (old new : Seen) × Takes worker old new (Some job)
+-- where a history has led
+abbrev pub led_by : List Happened → Place
+led_by log = replay beginning log
+
+-- The history had come on from what a seat had seen of it when this entry was added, and this held of where it had led by then. The seat has seen
+-- the entry too, and nothing behind it.
+pub record HasEntered (entry : Happened) (Holds : Place → Type 0) (old new : List Happened) : Type 0 where
+  pub before : List Happened
+  pub begins : IsPrefix old before
+  pub ends : new ≡ before ++ entry ∷ []
+  pub holds : Holds (led_by before)
+
+-- the job is that of the first queued entry
+abbrev pub IsFirstJob : Job → Place → Type 0
+IsFirstJob job p = (w : Waiting) × (find is_queued p.state.waiting ≡ Some w) × IsJobOf w job
+
+-- the first queued job was handed out to this worker
+abbrev pub IsTakenAt : ℕ → List Happened → List Happened → Job → Type 0
+IsTakenAt worker old new job = HasEntered (Worked (Took worker)) (IsFirstJob job) old new
 
 -- a job was given back, and is queued again
-abbrev pub Returns : ℕ → Seen → Seen → Type 0
-Returns ticket old new = Accepts (give_back_fault old ticket) old new (Returned ticket)
-
-abbrev pub IsReturned : ℕ → Type 0
-IsReturned ticket = (old new : Seen) × Returns ticket old new
+abbrev pub IsReturnedAt : ℕ → List Happened → List Happened → Type 0
+IsReturnedAt ticket old new = HasEntered (Worked (Returned ticket)) (λ p. give_back_fault (desk_at p) ticket ≡ None) old new
 
 -- this very run was taken back, and left what the desk keeps of it
-pub record Finishes (done : Told) (kept : Kept) (old new : Seen) : Type 0 where
-  pub accepts : Accepts (finish_fault old done) old new (Finished done.ticket (is_none done.answer))
-  pub kept_is : kept ≡ kept_of old done
+abbrev pub IsFinishedAt : Told → Kept → List Happened → List Happened → Type 0
+IsFinishedAt done kept old new =
+    HasEntered (Worked (Finished done.ticket (is_none done.answer))) (λ p. (finish_fault (desk_at p) done ≡ None) × (kept ≡ kept_of (desk_at p) done)) old new
 
-abbrev pub IsFinished : Told → Kept → Type 0
-IsFinished done kept = (old new : Seen) × Finishes done kept old new
+-- where the history has led, a refusal has its cause
+abbrev pub IsRefusedAt : (Seen → Option DeskFault) → DeskFault → List Happened → Type 0
+IsRefusedAt first fault log = IsFirstCause (first (desk_at (led_by log))) fault
+
+-- the board has ended by then: at once, or by `Drain`, where this is so
+abbrev pub HasEnded : Option Stop → Type 0 → Type 0
+HasEnded stop IsDrained = (stop ≡ Some Now) ⊎ ((stop ≡ Some Drain) × IsDrained)
+
+-- a worker has nothing more to do: by `Drain` no job is queued
+abbrev pub HasNoJob : List Happened → Type 0
+HasNoJob log = HasEnded (stop_of log) (find is_queued (led_by log).state.waiting ≡ None)
+
+-- the writer has nothing more to do: by `Drain` no reply is unsent, and no job waits
+abbrev pub HasNothingMore : List Happened → Type 0
+HasNothingMore log = HasEnded (stop_of log) (((led_by log).state.unsent ≡ []) × ((led_by log).state.waiting ≡ []))
 
 -- a desk has these limits
 pub record HasLimits (journal events : ℕ) (desk : Seen) : Type 0 where

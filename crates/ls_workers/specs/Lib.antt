@@ -3,4 +3,3 @@ pub mod Ends
 pub mod Jobs
 pub mod Refusals
 pub mod Seats
-pub mod Sent

@@ -1,14 +1,17 @@
 -- The seats that a board is closed with.
-use Rattle.std.specs.Prelude.{◌≡◌, ◌<◌, ◌==◌, ◌⊎◌, ◌↔◌, ℕ, List, [], length, Bool, true, false, IsTrue, count_by, if◌then◌else◌}
+use Rattle.std.specs.Prelude.{◌≡◌, ◌<◌, ◌-◌, ◌==◌, ◌⊎◌, ◌↔◌, ℕ, List, [], length, Bool, true, false, IsTrue, Result, count_by, if◌then◌else◌, slice_get, vec_len, vec_capacity}
 use Rattle.std.specs.List.{list_all}
 use Rattle.ls_machine.specs.declared.event.Event.{Event}
 use Rattle.ls_desk.specs.Anew.{base_after, journal_after}
 use Rattle.ls_desk.specs.Stands.{Seen, counts_of, fresh, is_long}
-use Rattle.ls_machine.specs.Client.{Notes, client_events, sent_tickets}
+use Rattle.ls_machine.specs.Client.{Notes, client_events, entry_of, sent_tickets}
 use Rattle.ls_machine.specs.declared.client.ClientEvent.{ClientEvent}
 use Rattle.ls_machine.specs.declared.client.ClientAnswer.{ClientAnswer}
-use Rattle.ls_workers.specs.Sent.{sent_by}
-use Rattle.ls_workers.specs.declared.replies.Noted.{Noted}
+use Rattle.ls_machine.specs.declared.event.DeskFault.{DeskFault}
+use Rattle.ls_machine.specs.declared.event.Out.{Out}
+use Rattle.ls_history.specs.declared.happened.Happened.{Happened}
+use Rattle.ls_history.specs.History.{IsHistoryOf}
+use Rattle.ls_history.specs.Told.{heard_of, outs_of}
 use Rattle.ls_workers.specs.declared.seats.ToldClient as held
 use Rattle.ls_workers.specs.declared.behind.SeatFault.{SeatFault}
 use Rattle.ls_workers.specs.declared.behind.SeatFault.TheVariants.{SeatMissing, Strayed}
@@ -28,12 +31,12 @@ Agrees journal list tickets = (client_events journal ≡ list) × (sent_tickets 
 abbrev pub since : {X : Type 0} → ℕ → ℕ → List X → List X
 since checkpoints seen list = if seen == checkpoints then list else []
 
--- the list is compared where the journal is as long as it may be, and isn't the journal's
-abbrev pub Strays : Seen → List Event → Type 0
-Strays desk list = (is_long desk ≡ true) × (client_events desk.journal ≡ list → ⊥)
+-- the last entry of the journal isn't the event with its answer
+abbrev pub Strays : ClientEvent → ClientAnswer → List Event → Type 0
+Strays e answer journal = slice_get journal (length journal - 1) ≡ entry_of e answer → ⊥
 
--- what a client's seat was told: the events since the last checkpoint with their answers, the number of checkpoints, and whether its list wasn't
--- the journal's at one of them
+-- what a client's seat was told: the events since the last checkpoint with their answers, the number of checkpoints, and whether the journal had
+-- another entry where one of its events was entered
 pub record ToldClient : Type 0 where
   pub list : List Event
   pub checkpoints : ℕ
@@ -47,26 +50,36 @@ told_nothing = record { list = []; checkpoints = 0; strayed = false }
 abbrev pub told_by : held.ToldClient → ToldClient
 told_by told = record { list = told.list.items; checkpoints = told.checkpoints; strayed = told.strayed }
 
+-- an entry needs no memory any more, whether its event makes a checkpoint or not
+pub record HasRoom (told : held.ToldClient) : Type 0 where
+  pub list : vec_len told.list < vec_capacity told.list
+  pub spare : vec_len told.spare < vec_capacity told.spare
+  pub past : vec_len told.past < vec_capacity told.past
+
 -- An event with its answer comes to the journal and to the seat's list. Where the event makes a checkpoint, list and journal begin anew with
--- it, and the seat keeps whether they differed.
+-- it. The seat keeps whether the journal's entry differed.
 pub record Heard (e : ClientEvent) (answer : ClientAnswer) (before after : Seen) (old new : ToldClient) : Type 0 where
   pub journal : Notes e answer (journal_after (fresh before) before.journal) after.journal
   pub base : after.base ≡ base_after (fresh before) (counts_of before) before.base
   pub list : Notes e answer (if is_long before then [] else old.list) new.list
   pub checkpoints : new.checkpoints ≡ (if is_long before then after.base.checkpoints else old.checkpoints)
-  pub strayed : IsTrue new.strayed ↔ (IsTrue old.strayed ⊎ Strays before old.list)
+  pub strayed : IsTrue new.strayed ↔ (IsTrue old.strayed ⊎ Strays e answer after.journal)
 
 -- the same: there are the desk before and the desk after
 abbrev pub IsHeard : ClientEvent → ClientAnswer → ToldClient → ToldClient → Type 0
 IsHeard e answer old new = (before after : Seen) × Heard e answer before after old new
 
--- what the seats were told is what the desk's journal has, how many checkpoints there were, and what was sent since the last
-abbrev pub AgreesAll : Seen → ToldClient → ℕ → List ℕ → List Noted → Type 0
-AgreesAll desk client seen tickets notes =
-    Agrees desk.journal client.list (since desk.base.checkpoints seen tickets) × (sent_by desk ≡ since desk.base.checkpoints seen notes)
-    × (desk.base.checkpoints ≡ client.checkpoints)
+-- what the seats were told is what the desk's journal has, and how many checkpoints there were
+abbrev pub AgreesAll : Seen → ToldClient → ℕ → List ℕ → Type 0
+AgreesAll desk client seen tickets =
+    Agrees desk.journal client.list (since desk.base.checkpoints seen tickets) × (desk.base.checkpoints ≡ client.checkpoints)
 
--- Why a board isn't closed: the seats aren't all its own; or they are, with these counts, and a list wasn't the journal's, at a checkpoint or now.
-abbrev pub HasCause : Type 0 → (Seen → Type 0) → ToldClient → ℕ → List ℕ → List Noted → SeatFault → Type 0
-HasCause AreOwn HasCounts client seen tickets notes SeatMissing = AreOwn → ⊥
-HasCause AreOwn HasCounts client seen tickets notes (Strayed desk) = AreOwn × HasCounts desk × (IsTrue client.strayed ⊎ (AgreesAll desk client seen tickets notes → ⊥))
+-- One history led to the desk. It has these events of the client with what was told of each, and these replies, and no others.
+abbrev pub HasHistory : List (ClientEvent × Result ClientAnswer DeskFault) → List Out → Seen → Type 0
+HasHistory heard outs desk = (log : List Happened) × IsHistoryOf desk log × (heard_of log ≡ heard) × (outs_of log ≡ outs)
+
+-- Why a board isn't closed: the seats aren't all its own; or they are, with these counts, and the journal had another entry where an event was
+-- entered, or what the seats were told isn't what it has now.
+abbrev pub HasCause : Type 0 → (Seen → Type 0) → ToldClient → ℕ → List ℕ → SeatFault → Type 0
+HasCause AreOwn HasCounts client seen tickets SeatMissing = AreOwn → ⊥
+HasCause AreOwn HasCounts client seen tickets (Strayed desk) = AreOwn × HasCounts desk × (IsTrue client.strayed ⊎ (AgreesAll desk client seen tickets → ⊥))

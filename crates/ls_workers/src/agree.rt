@@ -1,11 +1,9 @@
 //! Whether what the seats were told is what a journal has.
-ghost use Rattle.std.specs.Prelude.{◌≡◌, ◌↔◌, IsTrue};
+ghost use Rattle.std.specs.Prelude.{◌≡◌, ◌↔◌, ◌-◌, IsTrue, Some, length, slice_get};
 ghost use Rattle.std.specs.Option.{option_map};
 ghost use Rattle.ls_machine.specs.Client.{client_event, client_events, sent_ticket, sent_tickets};
 ghost use Rattle.ls_workers.specs.Seats.{Agrees, AgreesAll, since, told_by};
-ghost use Rattle.ls_workers.specs.Sent.{sent_by};
 
-use crate::replies::{Noted, same_notes};
 use crate::same::same_event;
 use crate::seats::ToldClient;
 use ls_desk::{Desk, Event};
@@ -36,8 +34,18 @@ fn sent_ticket(event: &Event) -> Option<u64>
     }
 }
 
+/// Whether this is the last entry of a journal.
+pub fn ends_with(journal: &[Event], entry: &Event) -> bool
+    ensures { IsTrue result ↔ (slice_get journal.now (length journal.now - 1) ≡ Some entry.now) }
+{
+    match journal.last() {
+        Some(last) => same_event(last, entry),
+        None => false,
+    }
+}
+
 /// Whether these are the client's events of a journal.
-pub fn same_events(journal: &[Event], list: &[Event]) -> bool
+fn same_events(journal: &[Event], list: &[Event]) -> bool
     ensures { IsTrue result ↔ (client_events journal.now ≡ list.now) }
 {
     let mut count = 0;
@@ -81,33 +89,21 @@ fn agrees(journal: &[Event], list: &[Event], tickets: &[u64]) -> bool
     same_events(journal, list) && same_tickets(journal, tickets)
 }
 
-/// What a list has since the last checkpoint of a desk, by how many the seat had seen whose list it is.
-fn since<'t, T>(desk: &Desk, seen: u64, list: &'t [T]) -> &'t [T]
-    ensures { result.now ≡ since desk.now.base.checkpoints seen list.now }
+/// The tickets since the last checkpoint of a desk, by how many the seat had seen whose tickets these are.
+fn since<'t>(desk: &Desk, seen: u64, tickets: &'t [u64]) -> &'t [u64]
+    ensures { result.now ≡ since desk.now.base.checkpoints seen tickets.now }
 {
     if seen == desk.checkpoints() {
-        list
+        tickets
     } else {
-        &list[..0]
+        &tickets[..0]
     }
 }
 
-/// Whether what the seats were told is what the journal of a desk has, what it sent, of which these are the notes, and how many checkpoints
-/// there were.
-pub fn agrees_all(
-    desk: &Desk,
-    left: &[Noted],
-    told: &ToldClient,
-    seen: u64,
-    tickets: &[u64],
-    notes: &[Noted],
-) -> bool
-    requires { left.now ≡ sent_by desk.now }
-    ensures { IsTrue result ↔ AgreesAll desk.now (told_by told.now) seen tickets.now notes.now }
+/// Whether what the seats were told is what the journal of a desk has, and how many checkpoints there were.
+pub fn agrees_all(desk: &Desk, told: &ToldClient, seen: u64, tickets: &[u64]) -> bool
+    ensures { IsTrue result ↔ AgreesAll desk.now (told_by told.now) seen tickets.now }
 {
     let tickets = since(desk, seen, tickets);
-    let notes = since(desk, seen, notes);
-    agrees(desk.journal(), &told.list, tickets)
-        && same_notes(left, notes)
-        && desk.checkpoints() == told.checkpoints
+    agrees(desk.journal(), &told.list, tickets) && desk.checkpoints() == told.checkpoints
 }

@@ -1,21 +1,24 @@
 //! The board, and the calls of its seats.
 ghost use Rattle.std.specs.Prelude.{◌≡◌, ◌+◌, ◌<◌, ◌≤◌, ◌++◌, ◌∷◌, [], IfOk, IfErr, OnOk, OnErr, IfNone, IfSome, OnSome, vec_len, sum_by, false, true};
+ghost use mathlib.Core.List.{IsPrefix};
+ghost use Rattle.ls_machine.specs.Machine.{waits};
+ghost use Rattle.ls_desk.specs.Faults.{finish_fault, give_back_fault, take_fault};
 ghost use Rattle.ls_desk.specs.Stands.{ticket_of_out};
+ghost use Rattle.ls_history.specs.Told.{heard_of, outs_of};
 ghost use Rattle.ls_workers.specs.Count.{Counts};
-ghost use Rattle.ls_workers.specs.Ends.{LeavesADesk};
-ghost use Rattle.ls_workers.specs.Jobs.{HasLimits, IsFinished, IsReturned, IsTaken};
-ghost use Rattle.ls_workers.specs.Refusals.{is_shortage, may_refuse, may_refuse_return, may_refuse_run};
-ghost use Rattle.ls_workers.specs.Sent.{noted_of, sent_by};
-ghost use Rattle.ls_workers.specs.Seats.{Agrees, AreAll, HasCause, IsHeard, since, told_by, told_nothing};
+ghost use Rattle.ls_workers.specs.Jobs.{HasLimits, HasNoJob, HasNothingMore, IsFinishedAt, IsRefusedAt, IsReturnedAt, IsTakenAt, led_by};
+ghost use Rattle.ls_workers.specs.Refusals.{is_shortage, may_refuse_return, may_refuse_run};
+ghost use Rattle.ls_workers.specs.Seats.{Agrees, AreAll, HasCause, HasHistory, IsHeard, since, told_by, told_nothing};
 ghost use Rattle.ls_machine.specs.Client.{IsAllowed};
 
 use crate::agree::agrees_all;
-use crate::behind::{Behind, SeatFault, Stop};
+use crate::behind::{Behind, SeatFault};
 use crate::crew::{are_all, gathered, seats_of};
-use crate::ledgers::{Blanks, Crew, OfClient, OfFinished, OfReturned, OfSent, OfTook};
+use crate::ledgers::{Blanks, Crew, OfClient, OfFinished, OfHeard, OfReturned, OfSent, OfTook};
 use crate::seats::{ClientSeat, WorkerSeat, WriterSeat};
 use ls_answers::{Done, Job};
 use ls_desk::{Desk, DeskFault, Kept, Out};
+use ls_history::{Front, HistoryBook, Stop};
 use ls_machine::{ClientAnswer, ClientEvent};
 use std::alloc::{AllocError as Memory, Global};
 use std::sync::{Condvar, Mutex, Wait};
@@ -29,6 +32,8 @@ pub struct Board<C: Crew> {
     /// Which board it is. Whoever makes boards gives each a mark of its own.
     mark: u64,
     workers: u32,
+    /// The book of the history of what happens behind the lock.
+    book: HistoryBook<C>,
     behind: Mutex<Behind<C>>,
     /// Something behind the lock has changed.
     changed: Condvar,
@@ -41,19 +46,23 @@ impl<C: Crew> Board<C> {
     ///
     /// The limits of the desk are those of `C`. `Memory` says that an allocation was refused.
     pub fn new(
+        rt: &impl Wait,
         alloc: Global,
         blanks: Blanks,
         mark: u64,
         desk: Desk,
         workers: u32,
     ) -> Result<(Board<C>, ClientSeat<C>, WriterSeat<C>, Vec<WorkerSeat<C>>), Memory>
+        requires book { blanks.history ≡ C.book }
+        requires heard { (blanks.heard.name ≡ C.heard) × (blanks.heard.parts ≡ 1) }
         requires names { (blanks.client.name ≡ C.client) × (blanks.took.name ≡ C.took) × (blanks.returned.name ≡ C.returned) × (blanks.finished.name ≡ C.finished) × (blanks.sent.name ≡ C.sent) }
         requires parts { (blanks.client.parts ≡ 1) × (blanks.took.parts ≡ C.parts) × (blanks.returned.parts ≡ C.parts) × (blanks.finished.parts ≡ C.parts) × (blanks.sent.parts ≡ 1) }
         requires workers { (workers ≡ C.workers) × (workers ≡ C.parts) × (0 < workers) × (workers ≤ 8) }
         requires empty { desk.journal ≡ [] }
         requires limits { HasLimits C.max_journal C.max_events desk }
+        ensures history { IfOk result (λ made. (heard_of made.1.front ≡ []) × (outs_of made.2.front ≡ [])) }
         ensures client { IfOk result (λ made. (made.1.mark ≡ mark) × (made.1.asked.share.amount ≡ 0) × (told_by made.1.told ≡ told_nothing)) }
-        ensures writer { IfOk result (λ made. (made.2.mark ≡ mark) × (made.2.sent.share.amount ≡ 0) × (made.2.tickets.items ≡ []) × (made.2.notes.items ≡ []) × (made.2.checkpoints ≡ 0)) }
+        ensures writer { IfOk result (λ made. (made.2.mark ≡ mark) × (made.2.sent.share.amount ≡ 0) × (made.2.tickets.items ≡ []) × (made.2.checkpoints ≡ 0)) }
         ensures workers { IfOk result (λ made. AreAll (λ seat. seat.mark) (λ seat. seat.number) mark workers made.3.items) }
         ensures none { IfOk result (λ made. (sum_by (λ seat. seat.took.share.amount) made.3.items ≡ 0) × (sum_by (λ seat. seat.returned.share.amount) made.3.items ≡ 0)
             × (sum_by (λ seat. seat.finished.share.amount) made.3.items ≡ 0)) }
@@ -61,20 +70,29 @@ impl<C: Crew> Board<C> {
     {
         let Blanks {
             client,
+            heard,
             took,
             returned,
             finished,
             sent,
+            history,
         } = blanks;
+        let (book, front) = history.named::<C>();
+        let (heard_book, heard) = heard.open::<OfHeard<C>>();
         let (asked_book, asked) = client.open::<OfClient<C>>();
         let (took_book, took) = took.open::<OfTook<C>>();
         let (returned_book, returned) = returned.open::<OfReturned<C>>();
         let (finished_book, finished) = finished.open::<OfFinished<C>>();
         let (sent_book, sent) = sent.open::<OfSent<C>>();
-        let seats = seats_of(alloc, mark, workers, took, returned, finished)?;
+        let seats = seats_of(alloc, mark, workers, took, returned, finished, &front)?;
+        let client = ClientSeat::new(alloc, mark, asked, front.again(), heard);
+        let writer = WriterSeat::new(alloc, mark, sent, front.again());
         let behind = Behind::new(
-            alloc,
+            rt,
+            &book,
+            front,
             desk,
+            heard_book,
             asked_book,
             took_book,
             returned_book,
@@ -84,17 +102,17 @@ impl<C: Crew> Board<C> {
         let board = Board {
             mark,
             workers,
+            book,
             behind: Mutex::new(behind),
             changed: Condvar::new(),
         };
-        let client = ClientSeat::new(alloc, mark, asked);
-        let writer = WriterSeat::new(alloc, mark, sent);
         Ok((board, client, writer, seats))
     }
 
-    /// Enters a client's event, and notes it with its answer in the seat. Where the event makes a checkpoint, the seat's list begins anew with
-    /// it, and the seat remembers whether its list wasn't the journal's. What it needs memory for in the seat it makes before it takes the
-    /// lock, and the text of a document that is opened: the desk shares that text with the note.
+    /// Enters a client's event, and notes it with its answer in the seat, which remembers whether the journal has another entry. Where the event
+    /// makes a checkpoint, the seat's list begins anew with it, and what it had goes a few entries at a time with the calls that follow. What it
+    /// needs memory for in the seat it makes before it takes the lock, and the text of a document that is opened: the desk shares that text with
+    /// the note.
     ///
     /// It waits for the lock alone. The faults are those of the event's own call at the desk, `SessionFull` and `Memory`; after one the seat
     /// is as it was.
@@ -105,15 +123,20 @@ impl<C: Crew> Board<C> {
         event: ClientEvent,
     ) -> Result<ClientAnswer, DeskFault>
         requires { IsAllowed event }
+        ensures history { heard_of seat.new.front ≡ heard_of seat.old.front ++ (event, result) ∷ [] }
         ensures ok { OnOk result (seat.new.asked.share.amount ≡ seat.old.asked.share.amount + 1) }
         ensures heard { IfOk result (λ answer. IsHeard event answer
             (told_by seat.old.told) (told_by seat.new.told)) }
         ensures err { OnErr result ((seat.new.asked.share.amount ≡ seat.old.asked.share.amount) × (told_by seat.new.told ≡ told_by seat.old.told)) }
-        ensures refused { IfErr result (λ fault. may_refuse event fault ≡ true) }
         ensures mark { seat.new.mark ≡ seat.old.mark }
     {
-        let note = seat.told.prepare_note(&event)?;
-        let result = self.behind.lock(rt).client(seat, event, note);
+        let Ok(note) = seat.told.prepare_note(&event) else {
+            return self.behind.lock(rt).refuse(rt, &self.book, seat, &event);
+        };
+        let result = self
+            .behind
+            .lock(rt)
+            .client(rt, &self.book, seat, event, note);
         self.changed.notify_all();
         result
     }
@@ -121,13 +144,16 @@ impl<C: Crew> Board<C> {
     /// Waits for a job, and takes the queued one with the least ticket. `None` once the board has ended by `Now`, or has ended by `Drain` and
     /// none is queued.
     ///
-    /// The faults are `SessionFull` and `Memory`; after one the seat is as it was.
+    /// The faults are `SessionFull` and `Memory`; after one the seat has counted nothing. It has seen all of the history each time.
     pub fn take(&self, rt: &impl Wait, seat: &mut WorkerSeat<C>) -> Result<Option<Job>, DeskFault>
         ensures some { IfOk result (λ job. OnSome job (seat.new.took.share.amount ≡ seat.old.took.share.amount + 1)) }
-        ensures own { IfOk result (λ job. IfSome job (λ taken. IsTaken seat.old.number taken)) }
+        ensures taken { IfOk result (λ job. IfSome job (λ taken. IsTakenAt seat.old.number seat.old.front seat.new.front taken)) }
         ensures none { IfOk result (λ job. IfNone job (seat.new.took.share.amount ≡ seat.old.took.share.amount)) }
+        ensures nothing { IfOk result (λ job. IfNone job (HasNoJob seat.new.front)) }
         ensures err { OnErr result (seat.new.took.share.amount ≡ seat.old.took.share.amount) }
         ensures refused { IfErr result (λ fault. is_shortage fault ≡ true) }
+        ensures cause { IfErr result (λ fault. IsRefusedAt take_fault fault seat.new.front) }
+        ensures follows { IsPrefix seat.old.front seat.new.front }
         ensures others { (seat.new.returned.share.amount ≡ seat.old.returned.share.amount) × (seat.new.finished.share.amount ≡ seat.old.finished.share.amount) }
         ensures kept { (seat.new.mark ≡ seat.old.mark) × (seat.new.number ≡ seat.old.number) }
     {
@@ -138,7 +164,7 @@ impl<C: Crew> Board<C> {
             .changed
             .wait_while(rt, behind, |behind| !behind.has_job_for(number));
         behind.end_wait(number);
-        let job = behind.take(seat);
+        let job = behind.take(rt, &self.book, seat);
         let has_more = behind.has_job();
         drop(behind);
         if has_more {
@@ -149,7 +175,8 @@ impl<C: Crew> Board<C> {
 
     /// Gives a job back that wasn't run. It is queued again.
     ///
-    /// It waits for the lock alone. The faults are `UnknownTicket`, `SessionFull` and `Memory`; after one the seat is as it was.
+    /// It waits for the lock alone. The faults are `UnknownTicket`, `SessionFull` and `Memory`; after one the seat has counted nothing. It has seen
+    /// all of the history each time.
     pub fn give_back(
         &self,
         rt: &impl Wait,
@@ -157,20 +184,23 @@ impl<C: Crew> Board<C> {
         ticket: u64,
     ) -> Result<(), DeskFault>
         ensures ok { OnOk result (seat.new.returned.share.amount ≡ seat.old.returned.share.amount + 1) }
-        ensures own { OnOk result (IsReturned ticket) }
+        ensures returned { OnOk result (IsReturnedAt ticket seat.old.front seat.new.front) }
         ensures err { OnErr result (seat.new.returned.share.amount ≡ seat.old.returned.share.amount) }
         ensures refused { IfErr result (λ fault. may_refuse_return fault ≡ true) }
+        ensures cause { IfErr result (λ fault. IsRefusedAt (λ desk. give_back_fault desk ticket) fault seat.new.front) }
+        ensures follows { IsPrefix seat.old.front seat.new.front }
         ensures others { (seat.new.took.share.amount ≡ seat.old.took.share.amount) × (seat.new.finished.share.amount ≡ seat.old.finished.share.amount) }
         ensures kept { (seat.new.mark ≡ seat.old.mark) × (seat.new.number ≡ seat.old.number) }
     {
-        let result = self.behind.lock(rt).give_back(seat, ticket);
+        let result = self.behind.lock(rt).give_back(rt, &self.book, seat, ticket);
         self.changed.notify_all();
         result
     }
 
     /// Brings a job back that has run. A refusal hands the run back.
     ///
-    /// It waits for the lock alone. The faults are `UnknownTicket`, `OtherText`, `SessionFull` and `Memory`; after one the seat is as it was.
+    /// It waits for the lock alone. The faults are `UnknownTicket`, `OtherText`, `SessionFull` and `Memory`; after one the seat has counted nothing.
+    /// It has seen all of the history each time.
     pub fn finish(
         &self,
         rt: &impl Wait,
@@ -178,54 +208,60 @@ impl<C: Crew> Board<C> {
         done: Done,
     ) -> Result<Kept, (DeskFault, Done)>
         ensures ok { OnOk result (seat.new.finished.share.amount ≡ seat.old.finished.share.amount + 1) }
-        ensures own { IfOk result (λ kept. IsFinished done kept) }
+        ensures finished { IfOk result (λ kept. IsFinishedAt done kept seat.old.front seat.new.front) }
         ensures err { IfErr result (λ refused. (seat.new.finished.share.amount ≡ seat.old.finished.share.amount) × (refused.1 ≡ done)) }
         ensures refused { IfErr result (λ refused. may_refuse_run refused.0 ≡ true) }
+        ensures cause { IfErr result (λ refused. IsRefusedAt (λ desk. finish_fault desk done) refused.0 seat.new.front) }
+        ensures follows { IsPrefix seat.old.front seat.new.front }
         ensures others { (seat.new.took.share.amount ≡ seat.old.took.share.amount) × (seat.new.returned.share.amount ≡ seat.old.returned.share.amount) }
         ensures kept { (seat.new.mark ≡ seat.old.mark) × (seat.new.number ≡ seat.old.number) }
     {
-        let result = self.behind.lock(rt).finish(seat, done);
+        let result = self.behind.lock(rt).finish(rt, &self.book, seat, done);
         self.changed.notify_all();
         result
     }
 
     /// Waits for a reply, the oldest, which leaves, and notes its ticket in the seat, whose list begins anew with it where there was a
-    /// checkpoint since. `None` once the board has ended by `Now`, or has ended
-    /// by `Drain`, nothing is unsent and no job waits.
+    /// checkpoint since. `None` once the board has ended by `Now`, or has ended by `Drain`, nothing is unsent and no job waits.
     ///
-    /// `Memory` says that an allocation was refused; after it the seat is as it was, and no reply has left.
+    /// `Memory` says that an allocation was refused; after it the seat is as it was, and no reply has left. Else it has seen all of the history.
     pub fn next_out(&self, rt: &impl Wait, seat: &mut WriterSeat<C>) -> Result<Option<Out>, Memory>
+        ensures history { IfOk result (λ next. IfSome next (λ out. outs_of seat.new.front ≡ outs_of seat.old.front ++ out ∷ [])) }
+        ensures unseen { IfOk result (λ next. IfNone next (outs_of seat.new.front ≡ outs_of seat.old.front)) }
+        ensures unsent { OnErr result (outs_of seat.new.front ≡ outs_of seat.old.front) }
+        ensures nothing { IfOk result (λ next. IfNone next (HasNothingMore seat.new.front)) }
+        ensures follows { IsPrefix seat.old.front seat.new.front }
         ensures some { IfOk result (λ next. OnSome next (seat.new.sent.share.amount ≡ seat.old.sent.share.amount + 1)) }
         ensures tickets { IfOk result (λ next. IfSome next (λ out. seat.new.tickets.items ≡ since seat.new.checkpoints seat.old.checkpoints seat.old.tickets.items ++ ticket_of_out out ∷ [])) }
-        ensures notes { IfOk result (λ next. IfSome next (λ out. seat.new.notes.items ≡ since seat.new.checkpoints seat.old.checkpoints seat.old.notes.items ++ noted_of out ∷ [])) }
-        ensures leaves { IfOk result (λ next. IfSome next LeavesADesk) }
-        ensures none { IfOk result (λ next. IfNone next ((seat.new.sent.share.amount ≡ seat.old.sent.share.amount) × (seat.new.tickets.items ≡ seat.old.tickets.items) × (seat.new.notes.items ≡ seat.old.notes.items)
+        ensures none { IfOk result (λ next. IfNone next ((seat.new.sent.share.amount ≡ seat.old.sent.share.amount) × (seat.new.tickets.items ≡ seat.old.tickets.items)
             × (seat.new.checkpoints ≡ seat.old.checkpoints))) }
-        ensures err { OnErr result ((seat.new.sent.share.amount ≡ seat.old.sent.share.amount) × (seat.new.tickets.items ≡ seat.old.tickets.items) × (seat.new.notes.items ≡ seat.old.notes.items)
+        ensures err { OnErr result ((seat.new.sent.share.amount ≡ seat.old.sent.share.amount) × (seat.new.tickets.items ≡ seat.old.tickets.items)
             × (seat.new.checkpoints ≡ seat.old.checkpoints)) }
         ensures mark { seat.new.mark ≡ seat.old.mark }
     {
         seat.tickets.reserve(1)?;
-        seat.notes.reserve(1)?;
         let behind = self.behind.lock(rt);
         let mut behind = self
             .changed
             .wait_while(rt, behind, |behind| !behind.has_news());
-        behind.next_out(seat)
+        Ok(behind.next_out(rt, &self.book, seat))
     }
 
-    /// Whether a ticket waits now, queued or taken.
+    /// Whether a ticket waits now, queued or taken: where the history has led by now, all of which the front has seen then.
     ///
     /// It waits for the lock alone, and takes no memory.
-    pub fn wanted(&self, rt: &impl Wait, ticket: u64) -> bool {
-        self.behind.lock(rt).wanted(ticket)
+    pub fn wanted(&self, rt: &impl Wait, seen: &mut Front<C>, ticket: u64) -> bool
+        ensures wanted { result ≡ waits ticket (led_by seen.new).state.waiting }
+        ensures follows { IsPrefix seen.old seen.new }
+    {
+        self.behind.lock(rt).wanted(rt, seen, ticket)
     }
 
     /// Ends the board: by `Drain` its seats are served until there is nothing left, by `Now` they are given nothing more. `Now` is final.
     ///
     /// It waits for the lock alone, and takes no memory.
     pub fn stop(&self, rt: &impl Wait, stop: Stop) {
-        self.behind.lock(rt).stop(stop);
+        self.behind.lock(rt).stop(rt, &self.book, stop);
         self.changed.notify_all();
     }
 
@@ -234,7 +270,7 @@ impl<C: Crew> Board<C> {
     /// as many checkpoints as the client's seat has seen.
     ///
     /// `SeatMissing`: a seat isn't of this board, or not all workers' are here. `Strayed`: the seats are all here, and the journal isn't what
-    /// they were told, now or at a checkpoint. It waits for nothing, and takes no memory.
+    /// they were told, or had another entry where an event was entered. It waits for nothing, and takes no memory.
     pub fn close(
         self,
         client: ClientSeat<C>,
@@ -248,16 +284,16 @@ impl<C: Crew> Board<C> {
             (sum_by (λ seat. seat.returned.share.amount) workers.items) (sum_by (λ seat. seat.finished.share.amount) workers.items)
             writer.sent.share.amount desk) }
         ensures agrees { IfOk result (λ desk. Agrees desk.journal client.told.list.items (since desk.base.checkpoints writer.checkpoints writer.tickets.items)) }
-        ensures replies { IfOk result (λ desk. sent_by desk ≡ since desk.base.checkpoints writer.checkpoints writer.notes.items) }
         ensures checkpoints { IfOk result (λ desk. desk.base.checkpoints ≡ client.told.checkpoints) }
         ensures strayed { OnOk result (client.told.strayed ≡ false) }
+        ensures history { IfOk result (HasHistory (heard_of client.front) (outs_of writer.front)) }
         ensures limits { IfOk result (λ desk. HasLimits C.max_journal C.max_events desk) }
         ensures err { IfErr result (λ fault. HasCause ((client.mark ≡ self.mark) × (writer.mark ≡ self.mark)
             × AreAll (λ seat. seat.mark) (λ seat. seat.number) self.mark self.workers workers.items)
             (λ desk. Counts client.asked.share.amount (sum_by (λ seat. seat.took.share.amount) workers.items)
             (sum_by (λ seat. seat.returned.share.amount) workers.items) (sum_by (λ seat. seat.finished.share.amount) workers.items)
             writer.sent.share.amount desk × HasLimits C.max_journal C.max_events desk)
-            (told_by client.told) writer.checkpoints writer.tickets.items writer.notes.items fault) }
+            (told_by client.told) writer.checkpoints writer.tickets.items fault) }
     {
         let own = client.mark == self.mark && writer.mark == self.mark;
         if !own || !are_all(&workers, self.mark, self.workers) {
@@ -267,29 +303,36 @@ impl<C: Crew> Board<C> {
             mark: _,
             asked,
             told,
+            front: client_front,
+            heard,
         } = client;
         let WriterSeat {
             mark: _,
             sent,
             tickets,
-            notes,
             checkpoints,
+            front: writer_front,
         } = writer;
+        let mut heard = heard;
         let mut asked = asked.share;
         let mut sent = sent.share;
         let (mut took, mut returned, mut finished) = gathered(workers);
         let Board { behind, .. } = self;
         let behind = behind.into_inner();
-        let (desk, left) = behind.audited(
+        let (desk, front) = behind.audited(
+            &mut heard,
             &mut asked,
             &mut took,
             &mut returned,
             &mut finished,
             &mut sent,
         );
-        if told.strayed || !agrees_all(&desk, &left, &told, checkpoints, &tickets, &notes) {
+        if told.strayed || !agrees_all(&desk, &told, checkpoints, &tickets) {
             return Err(SeatFault::Strayed(desk));
         }
+        front.legal();
+        front.beside(&client_front);
+        front.beside(&writer_front);
         Ok(desk)
     }
 }

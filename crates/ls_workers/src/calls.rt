@@ -1,25 +1,24 @@
 //! What a client's event does at a desk: whether it makes a checkpoint, and what it enters.
-ghost use Rattle.std.specs.Prelude.{◌≡◌, ◌↔◌, [], IfOk, IfErr, IfSome, OnOk, OnErr, IsTrue, Some, false, true};
+ghost use Rattle.std.specs.Prelude.{◌≡◌, ◌++◌, ◌∷◌, [], IfOk, IfSome, OnOk, OnErr, Some, false};
 ghost use Rattle.ls_workers.specs.Count.{AddsEvents};
 ghost use Rattle.ls_machine.specs.Client.{HasSmallText, Notes, IsAllowed, entry_of, filled, note_of, opens_too_large};
 ghost use Rattle.ls_machine.specs.Counts.{no_events};
 ghost use Rattle.ls_desk.specs.Anew.{base_after, journal_after};
 ghost use Rattle.ls_desk.specs.Stands.{counts_of, fresh, is_long};
-ghost use Rattle.ls_desk.specs.Door.{client_fault};
+ghost use Rattle.ls_history.specs.declared.happened.Happened.TheVariants.{Heard};
+ghost use Rattle.ls_history.specs.History.{HasLedTo};
+ghost use Rattle.ls_machine.specs.declared.client.ClientEvent.{ClientEvent};
 ghost use Rattle.ls_workers.specs.Jobs.{HasLimits};
-ghost use Rattle.ls_workers.specs.Refusals.{RefusesEvent, may_refuse};
-ghost use Rattle.ls_workers.specs.Seats.{Strays};
-ghost use Rattle.ls_workers.specs.Sent.{sent_by};
 
-use crate::agree::same_events;
 use ls_desk::{Desk, DeskFault, Event};
+use ls_history::{BookName, Front, HistoryBook};
 use ls_machine::{ClientAnswer, ClientEvent};
+use std::sync::Wait;
 
 /// Says of an empty journal that nothing has happened at its desk.
 pub fn count_none(desk: &Desk)
     requires { desk.now.journal ≡ [] }
-    ensures counts { counts_of desk.now ≡ no_events }
-    ensures sent { sent_by desk.now ≡ [] }
+    ensures { counts_of desk.now ≡ no_events }
 {
     let _counts = desk.counts();
 }
@@ -31,20 +30,20 @@ pub fn is_long(desk: &Desk) -> bool
     desk.journal().len() >= desk.max_journal()
 }
 
-/// Whether the journal is as long as it may be, and its client's events aren't these.
-pub fn strays(desk: &Desk, list: &[Event]) -> bool
-    ensures { IsTrue result ↔ Strays desk.now list.now }
-{
-    is_long(desk) && !same_events(desk.journal(), list)
-}
-
 #[tactic(auto, using(crate::proofs::Entering::notes_entry, crate::proofs::Entering::base_is, crate::proofs::Entering::adds_one, crate::proofs::Entering::same_limits))]
-/// Enters a client's event, whose note it is: the desk shares the text of an opening with the note. A text that is too large has no note.
-pub fn enter(
+/// Enters a client's event, whose note it is: the desk shares the text of an opening with the note. A text that is too large has no note. The
+/// history has the event with its answer, or its refusal.
+pub fn enter<C: BookName>(
+    rt: &impl Wait,
+    book: &HistoryBook<C>,
+    front: &mut Front<C>,
     desk: &mut Desk,
     event: ClientEvent,
     note: Option<&Event>,
 ) -> Result<ClientAnswer, DeskFault>
+    ghost said: { ClientEvent }
+    requires same { event ≡ said }
+    requires led { HasLedTo desk.old front.old }
     requires allowed { IsAllowed event }
     requires some { IfSome note (λ noted. (noted.now ≡ note_of event) × (opens_too_large event ≡ false) × HasSmallText noted.now) }
     ensures ok { IfOk result (λ answer. Notes event answer (journal_after (fresh desk.old) desk.old.journal) desk.new.journal) }
@@ -54,12 +53,15 @@ pub fn enter(
     ensures told { IfOk result (λ answer. entry_of event answer ≡ Some (filled (note_of event) answer)) }
     ensures fits { OnOk result (opens_too_large event ≡ false) }
     ensures err { OnErr result (desk.new ≡ desk.old) }
-    ensures cause { IfErr result (λ fault. RefusesEvent (client_fault desk.old event) desk.old desk.new fault) }
-    ensures refused { IfErr result (λ fault. may_refuse event fault ≡ true) }
+    ensures added { front.new ≡ front.old ++ Heard said result ∷ [] }
+    ensures led { HasLedTo desk.new front.new }
 {
     let made = match note {
-        Some(Event::Opened { text, .. }) => Some(text.again()?),
+        Some(Event::Opened { text, .. }) => match text.again() {
+            Ok(text) => Some(text),
+            Err(_) => return front.refuse(rt, book, desk, &event),
+        },
         _ => None,
     };
-    desk.enter(event, made)
+    front.enter(rt, book, desk, event, made)
 }

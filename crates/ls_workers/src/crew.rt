@@ -5,11 +5,12 @@ ghost use Rattle.ls_workers.specs.Seats.{AreAll};
 
 use crate::ledgers::{Ledgers, OfFinished, OfReturned, OfTook};
 use crate::seats::{Count, WorkerSeat};
+use ls_history::Front;
 use std::alloc::{AllocError as Memory, Global};
 use std::sync::ledger::Share;
 
 /// The seats of so many workers of the board with this mark, in the order of their numbers, each with a part of the shares. Nothing is
-/// counted in them.
+/// counted in them. They have seen of the history what the front has.
 pub fn seats_of<C: Ledgers>(
     alloc: Global,
     mark: u64,
@@ -17,6 +18,7 @@ pub fn seats_of<C: Ledgers>(
     took: Share<OfTook<C>>,
     returned: Share<OfReturned<C>>,
     finished: Share<OfFinished<C>>,
+    front: &Front<C>,
 ) -> Result<Vec<WorkerSeat<C>>, Memory>
     requires parts { (took.parts ≡ workers) × (returned.parts ≡ workers) × (finished.parts ≡ workers) }
     requires none { (took.amount ≡ 0) × (returned.amount ≡ 0) × (finished.amount ≡ 0) }
@@ -36,6 +38,7 @@ pub fn seats_of<C: Ledgers>(
             took: Count::new(took.split_off(1, 0)),
             returned: Count::new(returned.split_off(1, 0)),
             finished: Count::new(finished.split_off(1, 0)),
+            front: front.again(),
         };
         seats.push(seat)?;
     }

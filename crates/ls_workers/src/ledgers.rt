@@ -1,15 +1,20 @@
-//! The ledgers of a board, under one type parameter.
+//! The ledgers of a board and the book of its history, under one type parameter.
 ghost use Rattle.std.specs.Prelude.{◌≡◌, ℕ};
 
+use ls_history::{BlankHistory, BookName};
 use std::marker::{Brand, PhantomData};
 use std::sync::ledger::{Blank, Ledger};
 
-/// The ledgers of a board, one for each kind of event: their names, and into how many shares those of the workers are cut.
+/// The ledgers of a board, one for each kind of event and one for the replies to its client: their names, and into how many shares those of the
+/// workers are cut. The book of its history has a name too.
 ///
 /// A function that is generic in this is called with [`Brand`], and picks its members there.
-pub trait Ledgers {
+pub trait Ledgers: BookName {
     /// The ledger of the client's events.
     ghost client: { ℕ };
+
+    /// The ledger of what the client was told of its events: answers and refusals.
+    ghost heard: { ℕ };
 
     /// The ledger of jobs that were taken.
     ghost took: { ℕ };
@@ -29,6 +34,8 @@ pub trait Ledgers {
 
 impl Ledgers for Brand {
     ghost client = { 0 };
+
+    ghost heard = { 0 };
 
     ghost took = { 0 };
 
@@ -72,6 +79,15 @@ impl<C: Ledgers> Ledger for OfClient<C> {
     ghost parts = { 1 };
 }
 
+/// The ledger of what the client was told of its events. It is whole: one seat has all of it.
+pub struct OfHeard<C: Ledgers>(PhantomData<C>);
+
+impl<C: Ledgers> Ledger for OfHeard<C> {
+    ghost name = { C.heard };
+
+    ghost parts = { 1 };
+}
+
 /// The ledger of jobs that were taken. Each worker has a share.
 pub struct OfTook<C: Ledgers>(PhantomData<C>);
 
@@ -108,20 +124,23 @@ impl<C: Ledgers> Ledger for OfSent<C> {
     ghost parts = { 1 };
 }
 
-/// A new ledger for each kind of event, none of which has a type yet. A board is made of them.
+/// New ledgers and a new book, none of which has a type yet. A board is made of them.
 #[derive(Drop)]
 pub struct Blanks {
     pub client: Blank,
+    pub heard: Blank,
     pub took: Blank,
     pub returned: Blank,
     pub finished: Blank,
     pub sent: Blank,
+    pub history: BlankHistory,
 }
 
 impl Blanks {
     /// New ledgers, those of the workers for so many of them. Takes no memory.
     pub fn new(workers: u32) -> Blanks
         ensures client { result.client.parts ≡ 1 }
+        ensures heard { result.heard.parts ≡ 1 }
         ensures took { result.took.parts ≡ workers }
         ensures returned { result.returned.parts ≡ workers }
         ensures finished { result.finished.parts ≡ workers }
@@ -129,10 +148,12 @@ impl Blanks {
     {
         Blanks {
             client: Blank::new(1),
+            heard: Blank::new(1),
             took: Blank::new(u64::from(workers)),
             returned: Blank::new(u64::from(workers)),
             finished: Blank::new(u64::from(workers)),
             sent: Blank::new(1),
+            history: BlankHistory::new(),
         }
     }
 }

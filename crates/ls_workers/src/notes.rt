@@ -3,7 +3,7 @@ ghost use Rattle.std.specs.Prelude.{◌≡◌, IfOk, IfNone, IfSome, true, false
 ghost use Rattle.ls_machine.specs.Client.{HasSmallText, filled, note_of, opens_too_large};
 
 use ls_desk::{Event, snapshot_of_text};
-use ls_machine::{ClientAnswer, ClientEvent, copy_of};
+use ls_machine::{Boxed, ClientAnswer, ClientEvent, copy_of};
 use ls_text::MAX_BYTES;
 use std::alloc::{AllocError, Global};
 
@@ -28,7 +28,7 @@ pub fn note_of(alloc: Global, event: &ClientEvent) -> Result<Option<Event>, Allo
             }))
         }
         ClientEvent::DidChange(uri, label, edits) => {
-            let edits = copy_of(edits)?;
+            let edits = Boxed::new(alloc, copy_of(edits)?)?;
             Ok(Some(Event::Changed {
                 uri: uri.copy()?,
                 label: *label,
@@ -38,9 +38,9 @@ pub fn note_of(alloc: Global, event: &ClientEvent) -> Result<Option<Event>, Allo
         }
         ClientEvent::DidClose(uri) => Ok(Some(Event::Closed { uri: uri.copy()? })),
         ClientEvent::Request(id, uri, ask, links) => Ok(Some(Event::Asked {
-            id: id.copy()?,
+            id: Boxed::new(alloc, id.copy()?)?,
             uri: uri.copy()?,
-            ask: ask.copy()?,
+            ask: Boxed::new(alloc, ask.copy()?)?,
             links: *links,
             ticket: 0,
         })),

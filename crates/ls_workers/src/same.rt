@@ -97,7 +97,7 @@ fn is_change(
         } => {
             same_text(uri, other)
                 && label == *other_label
-                && same_edits(edits.as_slice(), other_edits.as_slice())
+                && same_edits(edits.as_slice(), other_edits.get().as_slice())
                 && version == *other_version
         }
         _ => false,
@@ -116,9 +116,9 @@ fn is_request(event: &Event, id: &Id, uri: &Text, ask: &Ask, links: bool, ticket
             links: other_links,
             ticket: other_ticket,
         } => {
-            same_id(id, other)
+            same_id(id, other.get())
                 && same_text(uri, other_uri)
-                && same_ask(ask, other_ask)
+                && same_ask(ask, other_ask.get())
                 && links == *other_links
                 && ticket == *other_ticket
         }
@@ -196,7 +196,7 @@ pub fn same_event(a: &Event, b: &Event) -> bool
             label,
             edits,
             version,
-        } => is_change(b, uri, *label, edits, *version),
+        } => is_change(b, uri, *label, edits.get(), *version),
         Event::Closed { uri } => is_close(b, uri),
         Event::Asked {
             id,
@@ -204,7 +204,7 @@ pub fn same_event(a: &Event, b: &Event) -> bool
             ask,
             links,
             ticket,
-        } => is_request(b, id, uri, ask, *links, *ticket),
+        } => is_request(b, id.get(), uri, ask.get(), *links, *ticket),
         Event::Cancelled { id, found } => is_cancel(b, id, *found),
         Event::Said { body } => is_said(b, body),
         Event::Took { .. } | Event::Returned { .. } | Event::Finished { .. } | Event::Sent { .. } =>

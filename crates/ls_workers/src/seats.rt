@@ -1,14 +1,18 @@
 //! Seats: what the client's reader, the workers and the writer hold.
-ghost use Rattle.std.specs.Prelude.{◌≡◌, ◌↔◌, ◌⊎◌, ◌+◌, ◌++◌, ◌∷◌, ◌<◌, ◌^◌, [], IfOk, IfNone, IfSome, IsTrue, OnOk, vec_len, vec_capacity, true, false, if◌then◌else◌};
+ghost use Rattle.std.specs.Prelude.{◌≡◌, ◌↔◌, ◌⊎◌, ◌+◌, ◌++◌, ◌∷◌, ◌<◌, ◌^◌, [], IfOk, IfNone, IfSome, IsTrue, OnOk, length, vec_len, vec_capacity, true, false, if◌then◌else◌};
 ghost use Rattle.ls_machine.specs.Client.{HasSmallText, note_of, opens_too_large};
-ghost use Rattle.ls_workers.specs.Seats.{since, told_by, told_nothing};
+ghost use mathlib.Core.List.{IsPrefix};
+ghost use Rattle.ls_history.specs.Told.{heard_of, outs_of};
+ghost use Rattle.ls_workers.specs.Seats.{HasRoom, since, told_by, told_nothing};
 
-use crate::ledgers::{Ledgers, OfClient, OfFinished, OfReturned, OfSent, OfTook};
+use crate::ledgers::{Ledgers, OfClient, OfFinished, OfHeard, OfReturned, OfSent, OfTook};
 use crate::notes::note_of;
-use crate::replies::Noted;
 use ls_desk::Event;
+use ls_history::Front;
 use ls_machine::ClientEvent;
 use std::alloc::{AllocError, Global};
+use std::mem;
+use std::sync::Wait;
 use std::sync::ledger::{Book, Ledger, Share};
 
 /// How many events of a kind a seat has written: a number, and the share of the kind's ledger that bears it out.
@@ -35,10 +39,22 @@ impl<L: Ledger> Count<L> {
         self.number
     }
 
+    /// Changes nothing, and tells how what the seat has written stands to the book.
+    pub fn audit(&mut self, book: &mut Book<L>)
+        ensures whole { self.old.share.parts ≡ L.parts → self.old.share.amount ≡ book.old.total }
+        ensures total { book.new.total ≡ book.old.total }
+        ensures amount { self.new.share.amount ≡ self.old.share.amount }
+        ensures parts { self.new.share.parts ≡ self.old.share.parts }
+    {
+        let Count { share, .. } = self;
+        book.audit(share);
+    }
+
     /// The seat has written one event more, which the book has too.
     pub fn one_more(&mut self, book: &mut Book<L>)
         requires parts { 0 < self.old.share.parts }
         requires room { book.old.total + 1 < 2 ^ 64 }
+        ensures whole { self.old.share.parts ≡ L.parts → self.old.share.amount ≡ book.old.total }
         ensures total { book.new.total ≡ book.old.total + 1 }
         ensures amount { self.new.share.amount ≡ self.old.share.amount + 1 }
         ensures parts { self.new.share.parts ≡ self.old.share.parts }
@@ -55,10 +71,27 @@ impl<L: Ledger> Count<L> {
 pub struct ToldClient {
     /// The events that it has entered since the last checkpoint, each with the answer that it got, as they stand in the journal.
     pub list: Vec<Event>,
+    /// Another list, which is empty, with which it begins anew.
+    pub spare: Vec<Event>,
+    /// What it had before earlier checkpoints, which goes a few entries at a time.
+    pub past: Vec<Vec<Event>>,
     /// How many checkpoints its events have made.
     pub checkpoints: u64,
-    /// Whether its list wasn't the journal's at one of them.
+    /// Whether the journal had another entry where one of them was entered.
     pub strayed: bool,
+}
+
+/// Lets at most 16 entries of lists go that are needed no more, and a list that has none.
+fn let_go(past: &mut Vec<Vec<Event>>) {
+    let Some(list) = past.last_mut() else {
+        return;
+    };
+    for _ in 0..16 {
+        drop(list.pop());
+    }
+    if list.is_empty() {
+        drop(past.pop());
+    }
 }
 
 impl ToldClient {
@@ -68,33 +101,43 @@ impl ToldClient {
     {
         ToldClient {
             list: Vec::new(alloc),
+            spare: Vec::new(alloc),
+            past: Vec::new(alloc),
             checkpoints: 0,
             strayed: false,
         }
     }
 
-    /// The note of an event, its answer aside, for which the list has room then. `None` where the event's text is too large for any desk.
+    /// The note of an event, its answer aside, for which there is room then. `None` where the event's text is too large for any desk.
+    /// A few entries of earlier lists go.
     pub(crate) fn prepare_note(&mut self, event: &ClientEvent) -> Result<Option<Event>, AllocError>
         ensures some { IfOk result (λ noted. IfSome noted (λ note. note ≡ note_of event.now)) }
         ensures none { IfOk result (λ noted. IfNone noted (opens_too_large event.now ≡ true)) }
         ensures fits { IfOk result (λ noted. IfSome noted (λ note. (opens_too_large event.now ≡ false) × HasSmallText note)) }
-        ensures room { OnOk result (vec_len self.new.list < vec_capacity self.new.list) }
+        ensures room { OnOk result (HasRoom self.new) }
         ensures kept { told_by self.new ≡ told_by self.old }
     {
+        let_go(&mut self.past);
         self.list.reserve(1)?;
+        self.spare.reserve(1)?;
+        self.past.reserve(1)?;
         note_of(*self.list.allocator(), event)
     }
 
-    /// An event comes with its answer. Where it made a checkpoint the list begins anew with it, and it is kept whether the list wasn't the
-    /// journal's then.
+    /// An event comes with its answer. Where it made a checkpoint the list begins anew with it. It is kept whether the journal has another entry.
+    /// Takes no memory, and lets none go.
     pub(crate) fn add(&mut self, anew: bool, checkpoints: u64, strays: bool, entry: Event)
-        requires { vec_len self.old.list < vec_capacity self.old.list }
+        requires { HasRoom self.old }
         ensures list { self.new.list.items ≡ (if anew then [] else self.old.list.items) ++ entry ∷ [] }
         ensures checkpoints { self.new.checkpoints ≡ (if anew then checkpoints else self.old.checkpoints) }
         ensures strayed { IsTrue self.new.strayed ↔ (IsTrue self.old.strayed ⊎ IsTrue strays) }
     {
         if anew {
-            self.list.clear();
+            let alloc = *self.list.allocator();
+            let mut spare = mem::replace(&mut self.spare, Vec::new(alloc));
+            spare.clear();
+            let past = mem::replace(&mut self.list, spare);
+            self.past.push_reserved(past);
             self.checkpoints = checkpoints;
         }
         self.strayed = self.strayed || strays;
@@ -110,19 +153,35 @@ pub struct ClientSeat<C: Ledgers> {
     /// How many events it has entered.
     pub asked: Count<OfClient<C>>,
     pub told: ToldClient,
+    /// What it has seen of the history, which has all that its client was told of its events.
+    pub front: Front<C>,
+    /// The share that says that it is all.
+    pub heard: Share<OfHeard<C>>,
     pub ghost whole: { asked.share.parts ≡ 1 },
+    pub ghost whole_heard: { heard.parts ≡ 1 },
+    pub ghost all_heard: { heard.amount ≡ length (heard_of front) },
 }
 
 impl<C: Ledgers> ClientSeat<C> {
     /// A seat that has entered nothing.
-    pub fn new(alloc: Global, mark: u64, share: Share<OfClient<C>>) -> ClientSeat<C>
-        requires { (share.parts ≡ 1) × (share.amount ≡ 0) }
-        ensures { (result.mark ≡ mark) × (result.asked.share.amount ≡ 0) × (told_by result.told ≡ told_nothing) }
+    pub fn new(
+        alloc: Global,
+        mark: u64,
+        share: Share<OfClient<C>>,
+        front: Front<C>,
+        heard: Share<OfHeard<C>>,
+    ) -> ClientSeat<C>
+        requires none { (share.parts ≡ 1) × (share.amount ≡ 0) }
+        requires unheard { (heard.parts ≡ 1) × (heard.amount ≡ 0) × (front ≡ []) }
+        ensures told { (result.mark ≡ mark) × (result.asked.share.amount ≡ 0) × (told_by result.told ≡ told_nothing) }
+        ensures front { result.front ≡ [] }
     {
         ClientSeat {
             mark,
             asked: Count::new(share),
             told: ToldClient::nothing(alloc),
+            front,
+            heard,
         }
     }
 }
@@ -136,44 +195,59 @@ pub struct WriterSeat<C: Ledgers> {
     pub sent: Count<OfSent<C>>,
     /// The tickets of the replies that it was given since the last checkpoint that it has seen, 0 for a body.
     pub tickets: Vec<u64>,
-    /// The notes of these replies.
-    pub notes: Vec<Noted>,
     /// How many checkpoints there had been when it was given the last reply.
     pub checkpoints: u64,
+    /// What it has seen of the history, which has all replies that it was given.
+    pub front: Front<C>,
     pub ghost whole: { sent.share.parts ≡ 1 },
+    pub ghost all_left: { sent.share.amount ≡ length (outs_of front) },
 }
 
 impl<C: Ledgers> WriterSeat<C> {
     /// A seat that was given nothing.
-    pub fn new(alloc: Global, mark: u64, share: Share<OfSent<C>>) -> WriterSeat<C>
-        requires { (share.parts ≡ 1) × (share.amount ≡ 0) }
-        ensures { (result.mark ≡ mark) × (result.sent.share.amount ≡ 0) × (result.tickets.items ≡ []) × (result.notes.items ≡ []) × (result.checkpoints ≡ 0) }
+    pub fn new(alloc: Global, mark: u64, share: Share<OfSent<C>>, front: Front<C>) -> WriterSeat<C>
+        requires none { (share.parts ≡ 1) × (share.amount ≡ 0) }
+        requires unsent { front ≡ [] }
+        ensures given { (result.mark ≡ mark) × (result.sent.share.amount ≡ 0) × (result.tickets.items ≡ []) × (result.checkpoints ≡ 0) }
+        ensures front { result.front ≡ [] }
     {
         WriterSeat {
             mark,
             sent: Count::new(share),
             tickets: Vec::new(alloc),
-            notes: Vec::new(alloc),
             checkpoints: 0,
+            front,
         }
     }
 
-    /// A reply leaves. The lists begin anew with it where there was a checkpoint since the last one.
-    pub(crate) fn add(&mut self, checkpoints: u64, ticket: u64, note: Noted)
-        requires tickets { vec_len self.old.tickets < vec_capacity self.old.tickets }
-        requires notes { vec_len self.old.notes < vec_capacity self.old.notes }
+    /// Sees all of the history, which has as many replies as the book: just those that it was given.
+    pub(crate) fn follow(&mut self, rt: &impl Wait, book: &mut Book<OfSent<C>>, all: &Front<C>)
+        requires { book.old.total ≡ length (outs_of all.now) }
+        ensures seen { self.new.front ≡ all.now }
+        ensures grows { IsPrefix self.old.front all.now }
+        ensures outs { outs_of self.new.front ≡ outs_of self.old.front }
+        ensures total { book.new.total ≡ book.old.total }
+        ensures counted { (self.new.sent.share.amount ≡ self.old.sent.share.amount) × (self.new.sent.share.amount ≡ book.new.total) }
+        ensures kept { (self.new.mark ≡ self.old.mark) × (self.new.tickets ≡ self.old.tickets) × (self.new.checkpoints ≡ self.old.checkpoints) }
+    {
+        let WriterSeat { sent, front, .. } = self;
+        sent.audit(book);
+        front.follow(rt, all);
+    }
+
+    /// A reply leaves. The tickets begin anew with its own where there was a checkpoint since the last one.
+    pub(crate) fn add(&mut self, checkpoints: u64, ticket: u64)
+        requires { vec_len self.old.tickets < vec_capacity self.old.tickets }
         ensures tickets { self.new.tickets.items ≡ since checkpoints self.old.checkpoints self.old.tickets.items ++ ticket ∷ [] }
-        ensures notes { self.new.notes.items ≡ since checkpoints self.old.checkpoints self.old.notes.items ++ note ∷ [] }
         ensures seen { self.new.checkpoints ≡ checkpoints }
         ensures kept { (self.new.sent.share.amount ≡ self.old.sent.share.amount) × (self.new.mark ≡ self.old.mark) }
+        ensures front { self.new.front ≡ self.old.front }
     {
         if self.checkpoints != checkpoints {
             self.tickets.clear();
-            self.notes.clear();
             self.checkpoints = checkpoints;
         }
         self.tickets.push_reserved(ticket);
-        self.notes.push_reserved(note);
     }
 }
 
@@ -190,6 +264,8 @@ pub struct WorkerSeat<C: Ledgers> {
     pub returned: Count<OfReturned<C>>,
     /// How many jobs that it brought back have run.
     pub finished: Count<OfFinished<C>>,
+    /// What it has seen of the history: all of it, as it was when it last called.
+    pub front: Front<C>,
     pub ghost one_took: { took.share.parts ≡ 1 },
     pub ghost one_returned: { returned.share.parts ≡ 1 },
     pub ghost one_finished: { finished.share.parts ≡ 1 },

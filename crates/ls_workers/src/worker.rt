@@ -1,5 +1,6 @@
 //! What a worker does.
 ghost use Rattle.std.specs.Prelude.{◌≡◌, IfNone, IfSome, true};
+ghost use Rattle.ls_workers.specs.Jobs.{HasNoJob};
 ghost use Rattle.ls_workers.specs.Refusals.{ends_work, may_refuse_run};
 
 use crate::board::Board;
@@ -40,7 +41,7 @@ fn run_one<C: Crew, R: Wait, G: Gate>(
     ensures ended { IfSome result (λ fault. ends_work fault ≡ true) }
 {
     gate.pass(rt, job.ticket);
-    if !board.wanted(rt, job.ticket) {
+    if !board.wanted(rt, &mut seat.front, job.ticket) {
         return None;
     }
     let Err((fault, _)) = board.finish(rt, seat, run(alloc, recent, job)) else {
@@ -63,6 +64,7 @@ pub fn work<C: Crew, R: Wait, G: Gate>(
 ) -> (WorkerSeat<C>, Option<DeskFault>)
     ensures seat { (result.0.mark ≡ seat.mark) × (result.0.number ≡ seat.number) }
     ensures ended { IfSome result.1 (λ fault. ends_work fault ≡ true) }
+    ensures rests { IfNone result.1 (HasNoJob result.0.front) }
 {
     let mut seat = seat;
     let mut recent = Recent::new();

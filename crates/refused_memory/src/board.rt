@@ -71,10 +71,11 @@ fn told<C: Crew>(client: &ClientSeat<C>) -> (u64, usize, u64, bool) {
 }
 
 // Which of the first eight tickets wait, by a bit for each.
-fn waiting<C: Crew, R: Wait>(rt: &R, board: &Board<C>) -> u32 {
+fn waiting<C: Crew, R: Wait>(rt: &R, board: &Board<C>, client: &ClientSeat<C>) -> u32 {
+    let mut seen = client.front.again();
     let mut waiting = 0_u32;
     for ticket in 1..9_u64 {
-        let bit = u32::from(board.wanted(rt, ticket));
+        let bit = u32::from(board.wanted(rt, &mut seen, ticket));
         waiting = waiting.wrapping_mul(2).wrapping_add(bit);
     }
     waiting
@@ -89,12 +90,12 @@ fn answered<C: Crew, R: Wait>(
     client: &mut ClientSeat<C>,
     does: Does,
 ) -> Option<ClientAnswer> {
-    let before = (told(client), waiting(rt, board));
+    let before = (told(client), waiting(rt, board, client));
     match entered(rt, alloc, board, client, does) {
         Err(DeskFault::Memory) => {}
         answer => return answer.ok(),
     }
-    if (told(client), waiting(rt, board)) != before {
+    if (told(client), waiting(rt, board, client)) != before {
         return None;
     }
     entered(rt, alloc, board, client, does).ok()
@@ -150,6 +151,8 @@ fn session<C: Crew, R: Wait>(
     waits: &R,
     blanks: Blanks,
 ) -> Result<io::Result<()>, AllocError>
+    requires book { blanks.history ≡ C.book }
+    requires heard { (blanks.heard.name ≡ C.heard) × (blanks.heard.parts ≡ 1) }
     requires names { (blanks.client.name ≡ C.client) × (blanks.took.name ≡ C.took) × (blanks.returned.name ≡ C.returned) × (blanks.finished.name ≡ C.finished) × (blanks.sent.name ≡ C.sent) }
     requires parts { (blanks.client.parts ≡ 1) × (blanks.took.parts ≡ C.parts) × (blanks.returned.parts ≡ C.parts) × (blanks.finished.parts ≡ C.parts) × (blanks.sent.parts ≡ 1) }
     requires workers { (C.workers ≡ 1) × (C.parts ≡ 1) }
@@ -157,7 +160,7 @@ fn session<C: Crew, R: Wait>(
 {
     let alloc = rt.alloc();
     let desk = Desk::new(alloc, 1, 1_000_000);
-    let (board, mut client, writer, workers) = Board::<C>::new(alloc, blanks, 1, desk, 1)?;
+    let (board, mut client, writer, workers) = Board::<C>::new(waits, alloc, blanks, 1, desk, 1)?;
     let played = played(rt, waits, &board, &mut client);
     let closed = closed(board, client, writer, workers);
     Ok(match played {

@@ -79,7 +79,7 @@ fn is_same_change(a: &Event, b: &Event) -> bool {
         ) => {
             is_same_name(uri, other_uri)
                 && *label == *other_label
-                && are_same_edits(edits, other_edits)
+                && are_same_edits(edits.get(), other_edits.get())
                 && *version == *other_version
         }
         (Event::Closed { uri }, Event::Closed { uri: other }) => is_same_name(uri, other),
@@ -106,8 +106,10 @@ fn is_same_request(a: &Event, b: &Event) -> bool {
                 ticket: other_ticket,
             },
         ) => {
-            are_same_questions((id, uri, ask), (other_id, other_uri, other_ask))
-                && (*links, *ticket) == (*other_links, *other_ticket)
+            are_same_questions(
+                (id.get(), uri, ask.get()),
+                (other_id.get(), other_uri, other_ask.get()),
+            ) && (*links, *ticket) == (*other_links, *other_ticket)
         }
         (
             Event::Cancelled { id, found },

@@ -211,14 +211,15 @@ fn is_opening(event: &Event) -> bool {
 fn is_hover(event: &Event, wanted: i64, told: u64) -> bool {
     match event {
         Event::Asked {
-            id: Id::Number(id),
+            id,
             uri,
-            ask: Ask::Hover(position),
+            ask,
             links,
             ticket,
         } => {
-            let is_start = position.line == 0 && position.character == 0;
-            *id == wanted && uri.as_str() == URI && is_start && !*links && *ticket == told
+            let is_wanted = matches!(id.get(), Id::Number(id) if *id == wanted);
+            let is_start = matches!(ask.get(), Ask::Hover(at) if at.line == 0 && at.character == 0);
+            is_wanted && uri.as_str() == URI && is_start && !*links && *ticket == told
         }
         _ => false,
     }

@@ -1,12 +1,13 @@
-//! How a board ends, and that lists which aren't those of the journal are found out, also those of a journal that has begun anew since. It has
-//! one worker, and one document is opened.
+//! How a board ends, and that lists which aren't those of the journal are found out, unless it has begun anew since, when what the client's list
+//! had goes. It has one worker, and one document is opened.
 ghost use Rattle.std.specs.Prelude.{◌≡◌, ◌+◌, ◌<◌, nat_lt, if◌then◌else◌};
 
 use super::calls::{DESKS, counts, has_no_job, hover, next_ticket, nth_desk, opening, run_one};
 use ls_desk::DeskFault;
 use ls_rpc::Id;
 use ls_workers::{
-    Blanks, Board, ClientAnswer, ClientSeat, Crew, Noted, SeatFault, Stop, WorkerSeat, WriterSeat,
+    Blanks, Board, ClientAnswer, ClientEvent, ClientSeat, Crew, SeatFault, Stop, WorkerSeat,
+    WriterSeat,
 };
 use std::alloc::{AllocError, Global};
 use std::marker::Brand;
@@ -24,12 +25,12 @@ enum Session {
     Forgotten,
     // It ends once all is done, and the writer forgets what it was given.
     Unsent,
-    // It ends once all is done, and the writer's last note has another id then.
-    Renoted,
     // The client forgets what it entered before it enters more, which may begin the journal anew. It ends once all is done.
     Altered,
     // The findings are sent, and then the client enters more. It ends at once.
     Unheard,
+    // The client cancels what it hasn't asked, again and again, by which most journals begin anew. It ends at once.
+    Renewed,
 }
 
 // The document is opened, and can't be opened again. The seat has the first call alone.
@@ -93,6 +94,22 @@ fn asks_late<C: Crew, R: Wait>(
     Ok(findings == 1 && sent == Some(1) && asked == ClientAnswer::Ticket(2))
 }
 
+// No event leaves more behind than the list that it has begun anew.
+fn renews<C: Crew, R: Wait>(
+    rt: &R,
+    board: &Board<C>,
+    client: &mut ClientSeat<C>,
+) -> Result<bool, DeskFault> {
+    for _ in 0..20 {
+        let answer = board.client(rt, client, ClientEvent::Cancel(Id::Number(9)))?;
+        if answer != ClientAnswer::Cancelled(false) || client.told.past.len() > 1 {
+            return Ok(false);
+        }
+    }
+    board.stop(rt, Stop::Now);
+    Ok(true)
+}
+
 // After `Now` nothing is given, though a job is queued, and `Drain` doesn't undo it.
 fn stops<C: Crew, R: Wait>(
     rt: &R,
@@ -104,22 +121,19 @@ fn stops<C: Crew, R: Wait>(
     board.stop(rt, Stop::Drain);
     let no_job = has_no_job(rt, board, worker);
     let no_reply = next_ticket(rt, board, writer) == Ok(None);
-    no_job && no_reply && board.wanted(rt, 1) && !board.wanted(rt, 2)
+    let asked = board.wanted(rt, &mut worker.front, 1);
+    let unasked = board.wanted(rt, &mut worker.front, 2);
+    no_job && no_reply && asked && !unasked
 }
 
-// The note of the last reply, the hover's with the id 1, has the id 2.
-fn renotes<C: Crew>(writer: &mut WriterSeat<C>) {
-    if let Some(Noted::Replied { id, .. }) = writer.notes.last_mut() {
-        *id = Id::Number(2);
-    }
-}
-
-// Closes the board, and says whether it answers as it must.
+// Closes the board, whose desk has this number, and says whether it answers as it must. The first desk's journal begins anew with each event of
+// the client.
 fn closes<C: Crew>(
     board: Board<C>,
     mut client: ClientSeat<C>,
     mut writer: WriterSeat<C>,
     workers: Vec<WorkerSeat<C>>,
+    number: usize,
     session: Session,
 ) -> bool
     requires { (C.workers ≡ C.parts) × (0 < C.parts) }
@@ -127,8 +141,11 @@ fn closes<C: Crew>(
     match session {
         Session::Forgotten => drop(client.told.list.pop()),
         Session::Unsent => drop(writer.tickets.pop()),
-        Session::Renoted => renotes(&mut writer),
-        Session::Drained | Session::Stopped | Session::Altered | Session::Unheard => {}
+        Session::Drained
+        | Session::Stopped
+        | Session::Altered
+        | Session::Unheard
+        | Session::Renewed => {}
     }
     let (desk, strayed) = match board.close(client, writer, workers) {
         Ok(desk) => (desk, false),
@@ -139,12 +156,12 @@ fn closes<C: Crew>(
     drop(desk);
     match session {
         Session::Drained => !strayed && counts == (2, 2, 0, 2, 2),
-        Session::Unsent | Session::Renoted | Session::Altered => {
-            strayed && counts == (2, 2, 0, 2, 2)
-        }
+        Session::Unsent => strayed && counts == (2, 2, 0, 2, 2),
+        Session::Altered => strayed == (number > 0) && counts == (2, 2, 0, 2, 2),
         Session::Stopped => !strayed && counts == (1, 0, 0, 0, 0),
         Session::Forgotten => strayed && counts == (1, 0, 0, 0, 0),
         Session::Unheard => !strayed && counts == (2, 1, 0, 1, 1),
+        Session::Renewed => !strayed && counts == (21, 0, 0, 0, 0),
     }
 }
 
@@ -155,26 +172,31 @@ fn one_worker<C: Crew, R: Wait>(
     number: usize,
     session: Session,
 ) -> Result<bool, AllocError>
+    requires book { blanks.history ≡ C.book }
+    requires heard { (blanks.heard.name ≡ C.heard) × (blanks.heard.parts ≡ 1) }
     requires names { (blanks.client.name ≡ C.client) × (blanks.took.name ≡ C.took) × (blanks.returned.name ≡ C.returned) × (blanks.finished.name ≡ C.finished) × (blanks.sent.name ≡ C.sent) }
     requires parts { (blanks.client.parts ≡ 1) × (blanks.took.parts ≡ C.parts) × (blanks.returned.parts ≡ C.parts) × (blanks.finished.parts ≡ C.parts) × (blanks.sent.parts ≡ 1) }
     requires workers { (C.workers ≡ 1) × (C.parts ≡ 1) }
     requires limits { (C.max_journal ≡ (if nat_lt number 4 then number + 1 else 1000000)) × (C.max_events ≡ 1000000) }
 {
     let desk = nth_desk(alloc, number);
-    let (board, mut client, mut writer, mut workers) = Board::<C>::new(alloc, blanks, 1, desk, 1)?;
+    let (board, mut client, mut writer, mut workers) = Board::<C>::new(
+        rt, alloc, blanks, 1, desk, 1,
+    )?;
     let opened = opens(rt, alloc, &board, &mut client) == Ok(true);
     forgets(&mut client, session);
     let worker = &mut workers[0];
     let ended = match session {
-        Session::Drained | Session::Unsent | Session::Renoted | Session::Altered => {
+        Session::Drained | Session::Unsent | Session::Altered => {
             drains(rt, alloc, &board, &mut client, worker, &mut writer) == Ok(true)
         }
         Session::Stopped | Session::Forgotten => stops(rt, &board, worker, &mut writer),
         Session::Unheard => {
             asks_late(rt, alloc, &board, &mut client, worker, &mut writer) == Ok(true)
         }
+        Session::Renewed => renews(rt, &board, &mut client) == Ok(true),
     };
-    let closed = closes(board, client, writer, workers, session);
+    let closed = closes(board, client, writer, workers, number, session);
     Ok(opened && ended && closed)
 }
 
@@ -213,14 +235,14 @@ fn a_ticket_is_forgotten(rt: HostRuntime) -> Result<(), Fail> {
 }
 
 #[test]
-fn a_note_is_altered(rt: HostRuntime) -> Result<(), Fail> {
-    assert!(rt; holds(&rt, rt.alloc(), Session::Renoted)?);
+fn an_event_is_forgotten_before_another(rt: HostRuntime) -> Result<(), Fail> {
+    assert!(rt; holds(&rt, rt.alloc(), Session::Altered)?);
     Ok(())
 }
 
 #[test]
-fn an_event_is_forgotten_before_another(rt: HostRuntime) -> Result<(), Fail> {
-    assert!(rt; holds(&rt, rt.alloc(), Session::Altered)?);
+fn what_a_list_had_goes(rt: HostRuntime) -> Result<(), Fail> {
+    assert!(rt; holds(&rt, rt.alloc(), Session::Renewed)?);
     Ok(())
 }
 

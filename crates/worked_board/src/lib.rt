@@ -10,6 +10,8 @@ mod calls;
 #[cfg(test)]
 mod ends;
 #[cfg(test)]
+mod histories;
+#[cfg(test)]
 mod overtaking;
 #[cfg(test)]
 mod refusals;

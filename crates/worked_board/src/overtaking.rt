@@ -3,6 +3,7 @@ ghost use Rattle.std.specs.Prelude.{◌≡◌, ◌+◌, ◌<◌, nat_lt, if◌th
 
 use super::calls::{DESKS, LAST, answers_hover, begin, counts, has_told, nth_desk, return_one};
 use ls_desk::{Desk, DeskFault};
+use ls_history::Front;
 use ls_workers::{
     Blanks, Board, ClientSeat, Crew, Gate, SeatFault, Stop, WorkerSeat, WriterSeat, work,
 };
@@ -18,6 +19,7 @@ use std::thread::Threads;
 #[derive(Drop)]
 struct HoldsFirst<'b, C: Crew> {
     board: &'b Board<C>,
+    seen: Front<C>,
     gave_up: AtomicU64,
 }
 
@@ -26,8 +28,9 @@ impl<C: Crew> Gate for HoldsFirst<'_, C> {
         if ticket != 2 {
             return;
         }
+        let mut seen = self.seen.again();
         for _ in 0..1_000_000 {
-            if !self.board.wanted(rt, 3) {
+            if !self.board.wanted(rt, &mut seen, 3) {
                 return;
             }
             thread::yield_now();
@@ -112,6 +115,7 @@ fn run_gated<C: Crew + Send + Sync, R: Threads + Wait + Sync>(
 ) -> Option<Worked<C>> {
     let gate = HoldsFirst {
         board,
+        seen: writer.front.again(),
         gave_up: AtomicU64::new(0),
     };
     let Worked {
@@ -187,13 +191,17 @@ fn two_hovers<C: Crew + Send + Sync, R: Threads + Wait + Sync>(
     number: usize,
     seats: Seats,
 ) -> Result<bool, AllocError>
+    requires book { blanks.history ≡ C.book }
+    requires heard { (blanks.heard.name ≡ C.heard) × (blanks.heard.parts ≡ 1) }
     requires names { (blanks.client.name ≡ C.client) × (blanks.took.name ≡ C.took) × (blanks.returned.name ≡ C.returned) × (blanks.finished.name ≡ C.finished) × (blanks.sent.name ≡ C.sent) }
     requires parts { (blanks.client.parts ≡ 1) × (blanks.took.parts ≡ C.parts) × (blanks.returned.parts ≡ C.parts) × (blanks.finished.parts ≡ C.parts) × (blanks.sent.parts ≡ 1) }
     requires workers { (C.workers ≡ 2) × (C.parts ≡ 2) }
     requires limits { (C.max_journal ≡ (if nat_lt number 4 then number + 1 else 1000000)) × (C.max_events ≡ 1000000) }
 {
     let desk = nth_desk(alloc, number);
-    let (board, mut client, mut writer, mut workers) = Board::<C>::new(alloc, blanks, 7, desk, 2)?;
+    let (board, mut client, mut writer, mut workers) = Board::<C>::new(
+        rt, alloc, blanks, 7, desk, 2,
+    )?;
     let begun = begin(rt, alloc, &board, &mut client, &mut writer, &mut workers[0]);
     let returned = match begun {
         Ok(true) => return_one(rt, &board, &mut workers[0]),

@@ -94,6 +94,8 @@ fn works<C: Crew, R: Wait>(
     fault: Option<DeskFault>,
     wanted: Counts,
 ) -> Result<bool, AllocError>
+    requires book { blanks.history ≡ C.book }
+    requires heard { (blanks.heard.name ≡ C.heard) × (blanks.heard.parts ≡ 1) }
     requires names { (blanks.client.name ≡ C.client) × (blanks.took.name ≡ C.took) × (blanks.returned.name ≡ C.returned) × (blanks.finished.name ≡ C.finished) × (blanks.sent.name ≡ C.sent) }
     requires parts { (blanks.client.parts ≡ 1) × (blanks.took.parts ≡ C.parts) × (blanks.returned.parts ≡ C.parts) × (blanks.finished.parts ≡ C.parts) × (blanks.sent.parts ≡ 1) }
     requires workers { (C.workers ≡ 1) × (C.parts ≡ 1) }
@@ -102,7 +104,7 @@ fn works<C: Crew, R: Wait>(
 {
     let event = opening(alloc)?;
     let desk = Desk::new(alloc, 1_000_000, events);
-    let (board, mut client, writer, mut workers) = Board::<C>::new(alloc, blanks, 1, desk, 1)?;
+    let (board, mut client, writer, mut workers) = Board::<C>::new(rt, alloc, blanks, 1, desk, 1)?;
     let opened = board.client(rt, &mut client, event) == Ok(ClientAnswer::Version(1));
     board.stop(rt, Stop::Drain);
     let ended = ends(rt, alloc, &board, &mut workers, fault);
@@ -170,13 +172,15 @@ fn strays<C: Crew, R: Wait>(
 }
 
 fn strays_once<C: Crew, R: Wait>(rt: &R, alloc: Global, blanks: Blanks) -> Result<bool, AllocError>
+    requires book { blanks.history ≡ C.book }
+    requires heard { (blanks.heard.name ≡ C.heard) × (blanks.heard.parts ≡ 1) }
     requires names { (blanks.client.name ≡ C.client) × (blanks.took.name ≡ C.took) × (blanks.returned.name ≡ C.returned) × (blanks.finished.name ≡ C.finished) × (blanks.sent.name ≡ C.sent) }
     requires parts { (blanks.client.parts ≡ 1) × (blanks.took.parts ≡ C.parts) × (blanks.returned.parts ≡ C.parts) × (blanks.finished.parts ≡ C.parts) × (blanks.sent.parts ≡ 1) }
     requires workers { (C.workers ≡ 1) × (C.parts ≡ 1) }
     requires limits { (C.max_journal ≡ 1000000) × (C.max_events ≡ 1000000) }
 {
     let desk = Desk::new(alloc, 1_000_000, 1_000_000);
-    let (board, mut client, writer, mut workers) = Board::<C>::new(alloc, blanks, 1, desk, 1)?;
+    let (board, mut client, writer, mut workers) = Board::<C>::new(rt, alloc, blanks, 1, desk, 1)?;
     let strayed = strays(rt, alloc, &board, &mut client, &mut workers[0]) == Ok(true);
     let closed = closes(board, client, writer, workers, (1, 1, 0, 1, 0));
     Ok(strayed && closed)

@@ -5,6 +5,7 @@ use super::calls::{LAST, nth_desk};
 use ls_workers::{Blanks, Board, ClientSeat, Crew, SeatFault, WorkerSeat, WriterSeat};
 use std::alloc::{AllocError, Global};
 use std::marker::Brand;
+use std::sync::Wait;
 use std::test::Fail;
 
 /// The mark of the board, and that of another one.
@@ -55,30 +56,37 @@ fn closes<C: Crew>(
 }
 
 // A board with two workers at which nothing happens.
-fn two_workers<C: Crew>(
+fn two_workers<C: Crew, R: Wait>(
+    rt: &R,
     alloc: Global,
     blanks: Blanks,
     stranger: Stranger,
 ) -> Result<Option<bool>, AllocError>
+    requires book { blanks.history ≡ C.book }
+    requires heard { (blanks.heard.name ≡ C.heard) × (blanks.heard.parts ≡ 1) }
     requires names { (blanks.client.name ≡ C.client) × (blanks.took.name ≡ C.took) × (blanks.returned.name ≡ C.returned) × (blanks.finished.name ≡ C.finished) × (blanks.sent.name ≡ C.sent) }
     requires parts { (blanks.client.parts ≡ 1) × (blanks.took.parts ≡ C.parts) × (blanks.returned.parts ≡ C.parts) × (blanks.finished.parts ≡ C.parts) × (blanks.sent.parts ≡ 1) }
     requires workers { (C.workers ≡ 2) × (C.parts ≡ 2) }
     requires limits { (C.max_journal ≡ 1000000) × (C.max_events ≡ 1000000) }
 {
     let desk = nth_desk(alloc, LAST);
-    let (board, client, writer, workers) = Board::<C>::new(alloc, blanks, OWN, desk, 2)?;
+    let (board, client, writer, workers) = Board::<C>::new(rt, alloc, blanks, OWN, desk, 2)?;
     Ok(closes(board, client, writer, workers, stranger))
 }
 
-fn is_closed(alloc: Global, stranger: Stranger) -> Result<Option<bool>, AllocError> {
-    two_workers::<Brand>(alloc, Blanks::new(2), stranger)
+fn is_closed<R: Wait>(
+    rt: &R,
+    alloc: Global,
+    stranger: Stranger,
+) -> Result<Option<bool>, AllocError> {
+    two_workers::<Brand, R>(rt, alloc, Blanks::new(2), stranger)
 }
 
 #[test]
 fn each_seat_of_another_board(rt: HostRuntime) -> Result<(), Fail> {
     for stranger in [Stranger::Client, Stranger::Writer, Stranger::Worker] {
-        assert!(rt; is_closed(rt.alloc(), stranger)? == Some(false));
+        assert!(rt; is_closed(&rt, rt.alloc(), stranger)? == Some(false));
     }
-    assert!(rt; is_closed(rt.alloc(), Stranger::Nobody)? == Some(true));
+    assert!(rt; is_closed(&rt, rt.alloc(), Stranger::Nobody)? == Some(true));
     Ok(())
 }

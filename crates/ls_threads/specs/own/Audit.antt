@@ -7,7 +7,6 @@ use Rattle.ls_workers.specs.Count.{Counts}
 use Rattle.ls_workers.specs.Jobs.{HasLimits}
 use Rattle.ls_workers.specs.Seats.{Agrees, HasCause, ToldClient, since}
 use Rattle.ls_workers.specs.declared.behind.SeatFault.{SeatFault}
-use Rattle.ls_workers.specs.declared.replies.Noted.{Noted}
 use Rattle.ls_threads.specs.Ends.{has_failed, has_met_full_session, result_of}
 use Rattle.ls_threads.specs.Settled.{is_settled}
 use Rattle.ls_threads.specs.declared.ending.Heard.{Heard}
@@ -28,11 +27,10 @@ pub record WhatThreadsLeft : Type 0 where
   pub told : ToldClient
   pub seen : ℕ
   pub tickets : List ℕ
-  pub notes : List Noted
 
 -- by how the threads ended, how many events of each kind were counted, and what the client's seat and the writer's seat were told
-abbrev pub left_by_threads : Heard × Wrote × Worked → ℕ × ℕ × ℕ × ℕ × ℕ → ToldClient → ℕ × List ℕ × List Noted → WhatThreadsLeft
-left_by_threads (heard, wrote, worked) (client, took, returned, finished, sent) told (seen, tickets, notes) = record {
+abbrev pub left_by_threads : Heard × Wrote × Worked → ℕ × ℕ × ℕ × ℕ × ℕ → ToldClient → ℕ × List ℕ → WhatThreadsLeft
+left_by_threads (heard, wrote, worked) (client, took, returned, finished, sent) told (seen, tickets) = record {
   heard = heard;
   wrote = wrote;
   worked = worked;
@@ -44,7 +42,6 @@ left_by_threads (heard, wrote, worked) (client, took, returned, finished, sent) 
   told = told;
   seen = seen;
   tickets = tickets;
-  notes = notes;
 }
 
 -- there were as many events of each kind as the seats counted, and the desk has these limits
@@ -68,5 +65,5 @@ pub record IsAnswered (AreOwn : Type 0) (journal events : ℕ) (left : WhatThrea
   pub answer_is : answer ≡ result_of left.heard wrote left.worked audited settled
   pub failed_is : failed ≡ has_failed wrote
   pub wrote_is : has_met_full_session left.heard left.worked ≡ false → wrote ≡ left.wrote
-  pub cause : audited ≡ false → (fault : SeatFault) × HasCause AreOwn (HasCounts journal events left) left.told left.seen left.tickets left.notes fault
+  pub cause : audited ≡ false → (fault : SeatFault) × HasCause AreOwn (HasCounts journal events left) left.told left.seen left.tickets fault
   pub desk : audited ≡ true → (desk : Seen) × IsAudited journal events left desk × (is_settled events left.heard left.worked desk ≡ settled)

@@ -2,11 +2,11 @@ use Rattle.std.proofs.Common.{◌∙◌, refl, sym, ap, subst}
 use Rattle.ls_desk.specs.Stands.{Seen}
 use Rattle.ls_threads.specs.Writing.{HasTold}
 use Rattle.ls_threads.specs.declared.ending.Wrote.TheVariants.{All, Failed, Memory}
-use Rattle.ls_threads.proofs.Told.{told_more, told_none}
+use Rattle.ls_threads.proofs.Written.{told_more, told_none}
 use Rattle.ls_threads.proofs.writing.write_rest.Goals as goal
 
 pub replies-init : goal.replies-init
-replies-init g c = record { good = c.requires; told = told_none _ _; flushed = λ e. e }
+replies-init g c = record { good = c.requires; told = told_none _ _ _; flushed = λ e. e }
 
 pub replies-preserved : goal.replies-preserved
 replies-preserved g c = record {

@@ -1,5 +1,5 @@
 use Rattle.std.proofs.Common.{◌≡◌, ◌+◌, ◌≤◌, ◌++◌, ◌∷◌, [], true, false, List, ℕ, length, sym, ap, ◌∙◌, subst, refl, arith, length-append}
-use Rattle.std.specs.Prelude.{ℤ, vec_capacity, Some, None, position, find, Option}
+use Rattle.std.specs.Prelude.{ℤ, Some, None, position, find, Option}
 use Rattle.ls_machine.specs.declared.event.Event.{Event}
 use Rattle.ls_machine.specs.declared.state.State.{State}
 use Rattle.ls_machine.specs.Counts.{total}
@@ -71,7 +71,7 @@ one_at_most : (ticket : ℕ) (code : ℤ) (r : Option Request) → length (told_
 one_at_most ticket code None = omega arith
 one_at_most ticket code (Some r) = omega arith
 
-roomy : (c : After-enter) → length (journal_after c.in_ok-state.state c.self.inside.history.events.items) + 1 + length c.put_failure.new.outbox.items ≤ vec_capacity c.enter.new.self.events
+roomy : (c : After-enter) → length (journal_after c.in_ok-state.state c.self.inside.history.events.items) + 1 + length c.put_failure.new.outbox.items ≤ c.enter.new.self.events.room
 roomy c =
     let r = c.in_ok-room_for_replies-in-Some.ensures.room in
     let j = ap (λ (es : List Event). length (journal_after c.in_ok-state.state es)) c.room_for_replies.ensures.journal in
@@ -80,7 +80,7 @@ roomy c =
     let l = longer c in omega arith
 
 went : (c : After-enter) → Goes c.self.inside.history.base c.self.inside.history.events.items c.self.inside.history.counts c.in_ok-state.state (Cancelled c.args.id.now true) c.enter.new.self.base c.enter.new.self.events.items c.enter.new.self.counts
-    c.remove_at-job.new.self c.put_failure.new.outbox.items c.self.inside.max_journal c.self.inside.max_events (vec_capacity c.enter.new.self.events)
+    c.remove_at-job.new.self c.put_failure.new.outbox.items c.self.inside.max_journal c.self.inside.max_events c.enter.new.self.events.room
 went c =
     goes _ _ _ _ _ _ _ _ c.in_ok-state.state (Cancelled c.args.id.now true) _ _ _ _ _ _ c.self.invariant (state_is c)
     (cancelled _ _ _ c.args.id.now c.remove_at-job.result _ _ (holds _ _ _ _ _ _ _ _ c.self.invariant) (found c)
@@ -122,14 +122,14 @@ none_fits c =
     let k = ap total c.self.invariant.counts_are in
     let r = subst P (sym c.self.view_is) (omega (arith, q)) in omega arith
 
-none_roomy : (c : After-enter-in-None) → length (journal_after c.in_ok-state.state c.self.inside.history.events.items) + 1 + length c.self.inside.outbox.items ≤ vec_capacity c.enter-in-None.new.self.events
+none_roomy : (c : After-enter-in-None) → length (journal_after c.in_ok-state.state c.self.inside.history.events.items) + 1 + length c.self.inside.outbox.items ≤ c.enter-in-None.new.self.events.room
 none_roomy c =
     let r = c.in_ok-room_for_event-in-None.ensures.room in
     let j = ap (λ (es : List Event). length (journal_after c.in_ok-state.state es)) c.room_for_event.ensures.journal in
     let k = c.enter-in-None.ensures.capacity in omega arith
 
 none_went : (c : After-enter-in-None) → Goes c.self.inside.history.base c.self.inside.history.events.items c.self.inside.history.counts c.in_ok-state.state (Cancelled c.args.id.now false) c.enter-in-None.new.self.base c.enter-in-None.new.self.events.items c.enter-in-None.new.self.counts
-    c.self.inside.present c.self.inside.outbox.items c.self.inside.max_journal c.self.inside.max_events (vec_capacity c.enter-in-None.new.self.events)
+    c.self.inside.present c.self.inside.outbox.items c.self.inside.max_journal c.self.inside.max_events c.enter-in-None.new.self.events.room
 none_went c =
     goes _ _ _ _ _ _ _ _ c.in_ok-state.state (Cancelled c.args.id.now false) _ _ _ _ _ _ c.self.invariant (none_state_is c)
     (uncancelled _ _ _ c.args.id.now (holds _ _ _ _ _ _ _ _ c.self.invariant) (none c))

@@ -1,5 +1,5 @@
 use Rattle.std.proofs.Common.{◌≡◌, ◌+◌, ◌≤◌, ◌++◌, ◌∷◌, [], true, List, ℕ, length, sym, ap, ◌∙◌, subst, refl, arith, length-append}
-use Rattle.std.specs.Prelude.{vec_capacity, Option}
+use Rattle.std.specs.Prelude.{Option}
 use Rattle.ls_machine.specs.declared.event.Event.{Event}
 use Rattle.ls_machine.specs.declared.event.Event.TheVariants.{Changed}
 use Rattle.ls_machine.specs.declared.event.Out.{Out}
@@ -47,7 +47,7 @@ fits c =
     let k = ap total c.self.invariant.counts_are in
     let l = ap length (outbox_is c) ∙ length-append c.self.inside.outbox.items c.in_ok-replies.replies.items in omega arith
 
-roomy : (c : After-enter) → length (journal_after c.in_ok-state.state c.self.inside.history.events.items) + 1 + length c.put_change.new.outbox.items ≤ vec_capacity c.enter.new.self.events
+roomy : (c : After-enter) → length (journal_after c.in_ok-state.state c.self.inside.history.events.items) + 1 + length c.put_change.new.outbox.items ≤ c.enter.new.self.events.room
 roomy c =
     let r = c.in_ok-put_change.ensures.room in
     let j = ap (λ (es : List Event). length (journal_after c.in_ok-state.state es)) c.put_change.ensures.journal in
@@ -61,7 +61,7 @@ next_is c =
     subst P (sym c.self.view_is) (r ∙ ap (λ (es : List Edit). next_of (state_of c.args.self.now).next_version (state_of c.args.self.now).next_ticket c.args.uri c.args.label (edited_at (document_of c.args.uri (state_of c.args.self.now).documents) es)) c.as_slice.ensures)
 
 went : (c : After-enter) → Goes c.self.inside.history.base c.self.inside.history.events.items c.self.inside.history.counts c.in_ok-state.state (Changed c.args.uri c.args.label c.args.edits (version_if c.self.inside.present.next_version c.in_ok-next.next)) c.enter.new.self.base c.enter.new.self.events.items c.enter.new.self.counts
-    c.change-version.new.self c.put_change.new.outbox.items c.self.inside.max_journal c.self.inside.max_events (vec_capacity c.enter.new.self.events)
+    c.change-version.new.self c.put_change.new.outbox.items c.self.inside.max_journal c.self.inside.max_events c.enter.new.self.events.room
 went c =
     goes _ _ _ _ _ _ _ _ c.in_ok-state.state (Changed c.args.uri c.args.label c.args.edits (version_if c.self.inside.present.next_version c.in_ok-next.next)) _ _ _ _ _ _ c.self.invariant (state_is c)
     (changed _ _ _ c.args.uri c.args.label c.args.edits c.in_ok-next.next _ _ (holds _ _ _ _ _ _ _ _ c.self.invariant) (open_there c) (next_is c)
@@ -71,7 +71,7 @@ went c =
     c.change-version.ensures.ticket
     (outbox_is c ∙ ap (λ (os : List Out). c.self.inside.outbox.items ++ os) (told c)))
     c.enter.ensures.base
-    ((simp (to_z-of_z, c.ranges.label) at c.enter.ensures.events) ∙ (λ i. journal_after c.in_ok-state.state (c.put_change.ensures.journal i) ++ Changed c.args.uri c.args.label c.args.edits (c.change-version.ensures.result i) ∷ []))
+    ((simp (to_z-of_z, c.ranges.label) at c.enter.ensures.events) ∙ (λ i. journal_after c.in_ok-state.state (c.put_change.ensures.journal i) ++ Changed c.args.uri c.args.label (c.in_ok-edits.ensures i) (c.change-version.ensures.result i) ∷ []))
     c.enter.ensures.counts
     (fits c)
     (roomy c)

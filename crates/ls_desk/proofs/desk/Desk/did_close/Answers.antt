@@ -1,5 +1,4 @@
 use Rattle.std.proofs.Common.{◌≡◌, ◌+◌, ◌≤◌, ◌++◌, ◌∷◌, [], true, List, length, refl, sym, ap, ◌∙◌, subst, arith, length-append}
-use Rattle.std.specs.Prelude.{vec_capacity}
 use Rattle.ls_machine.specs.declared.event.Event.{Event}
 use Rattle.ls_machine.specs.declared.event.Event.TheVariants.{Closed}
 use Rattle.ls_machine.specs.declared.event.Out.{Out}
@@ -41,7 +40,7 @@ fits c =
     let k = ap total c.self.invariant.counts_are in
     let l = ap length (outbox_is c) ∙ length-append c.self.inside.outbox.items c.in_ok-replies.replies.items in omega arith
 
-roomy : (c : After-enter) → length (journal_after c.in_ok-state.state c.self.inside.history.events.items) + 1 + length c.put_replies.new.outbox.items ≤ vec_capacity c.enter.new.self.events
+roomy : (c : After-enter) → length (journal_after c.in_ok-state.state c.self.inside.history.events.items) + 1 + length c.put_replies.new.outbox.items ≤ c.enter.new.self.events.room
 roomy c =
     let r = c.in_ok-put_replies.ensures.room in
     let j = ap (λ (es : List Event). length (journal_after c.in_ok-state.state es)) c.put_replies.ensures.journal in
@@ -49,7 +48,7 @@ roomy c =
     let l = ap length (outbox_is c) ∙ length-append c.self.inside.outbox.items c.in_ok-replies.replies.items in omega arith
 
 went : (c : After-enter) → Goes c.self.inside.history.base c.self.inside.history.events.items c.self.inside.history.counts c.in_ok-state.state (Closed c.args.uri) c.enter.new.self.base c.enter.new.self.events.items c.enter.new.self.counts
-    c.close.new.self c.put_replies.new.outbox.items c.self.inside.max_journal c.self.inside.max_events (vec_capacity c.enter.new.self.events)
+    c.close.new.self c.put_replies.new.outbox.items c.self.inside.max_journal c.self.inside.max_events c.enter.new.self.events.room
 went c =
     goes _ _ _ _ _ _ _ _ c.in_ok-state.state (Closed c.args.uri) _ _ _ _ _ _ c.self.invariant (state_is c)
     (closed _ _ _ c.args.uri _ _ (holds _ _ _ _ _ _ _ _ c.self.invariant) (open_there c)

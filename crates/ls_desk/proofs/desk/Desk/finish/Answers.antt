@@ -1,5 +1,5 @@
 use Rattle.std.proofs.Common.{◌≡◌, ◌+◌, ◌≤◌, ◌++◌, ◌∷◌, [], Bool, true, List, length, sym, ap, ◌∙◌, subst, refl, arith, length-append}
-use Rattle.std.specs.Prelude.{vec_capacity, Some, None, position, find, is_none, Option}
+use Rattle.std.specs.Prelude.{Some, None, position, find, is_none, Option}
 use Rattle.ls_machine.specs.declared.state.State.{State}
 use Rattle.ls_machine.specs.Counts.{total}
 use Rattle.ls_machine.specs.Journal.{replay_from}
@@ -60,7 +60,7 @@ fits c =
 replies_are : (c : After-enter) → c.in-Ok.found.1 ≡ length (left_at (is_none c.args.done.answer) (Some c.remove_at-job.result))
 replies_are c = c.in-Ok.ensures.replies ∙ ap (λ (w : Option Waiting). length (left_at (is_none c.args.done.answer) w)) (found_now c)
 
-roomy : (c : After-enter) → length c.self.inside.history.events.items + 1 + length c.put_finished.new.outbox.items ≤ vec_capacity c.enter.new.self.events
+roomy : (c : After-enter) → length c.self.inside.history.events.items + 1 + length c.put_finished.new.outbox.items ≤ c.enter.new.self.events.room
 roomy c =
     let r = c.in-Ok-room_for_replies.ensures.room in
     let j = ap length c.room_for_replies.ensures.journal in
@@ -69,7 +69,7 @@ roomy c =
     let l = longer c in omega arith
 
 went : (c : After-enter) → Goes c.self.inside.history.base c.self.inside.history.events.items c.self.inside.history.counts None (Finished c.args.done.ticket (is_none c.args.done.answer)) c.enter.new.self.base c.enter.new.self.events.items c.enter.new.self.counts
-    c.remove_at-job.new.self c.put_finished.new.outbox.items c.self.inside.max_journal c.self.inside.max_events (vec_capacity c.enter.new.self.events)
+    c.remove_at-job.new.self c.put_finished.new.outbox.items c.self.inside.max_journal c.self.inside.max_events c.enter.new.self.events.room
 went c =
     goes _ _ _ _ _ _ _ _ None (Finished c.args.done.ticket (is_none c.args.done.answer)) _ _ _ _ _ _ c.self.invariant refl
     (finish _ _ _ c.args.done c.remove_at-job.result _ _ (holds _ _ _ _ _ _ _ _ c.self.invariant) (found c) (for_it c)

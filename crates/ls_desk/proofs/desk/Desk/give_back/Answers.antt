@@ -1,5 +1,5 @@
 use Rattle.std.proofs.Common.{◌≡◌, ◌+◌, ◌≤◌, ◌++◌, ◌∷◌, [], true, List, length, sym, ap, ◌∙◌, subst, refl, arith}
-use Rattle.std.specs.Prelude.{vec_capacity, Some, None, position, find, is_some}
+use Rattle.std.specs.Prelude.{Some, None, position, find, is_some}
 use Rattle.ls_machine.specs.declared.event.Event.{Event}
 use Rattle.ls_machine.specs.declared.event.Event.TheVariants.{Returned}
 use Rattle.ls_machine.specs.declared.state.Waiting.{Waiting}
@@ -35,14 +35,14 @@ fits c =
     let r = subst P (sym c.self.view_is) c.in_ok-at.ensures.room in
     let k = ap total c.self.invariant.counts_are in omega arith
 
-roomy : (c : After-enter) → length c.self.inside.history.events.items + 1 + length c.self.inside.outbox.items ≤ vec_capacity c.enter.new.self.events
+roomy : (c : After-enter) → length c.self.inside.history.events.items + 1 + length c.self.inside.outbox.items ≤ c.enter.new.self.events.room
 roomy c =
     let r = c.in_ok-room_for_event.ensures.room in
     let j = ap length c.room_for_event.ensures.journal in
     let k = c.enter.ensures.capacity in omega arith
 
 went : (c : After-enter) → Goes c.self.inside.history.base c.self.inside.history.events.items c.self.inside.history.counts None (Returned c.args.ticket) c.enter.new.self.base c.enter.new.self.events.items c.enter.new.self.counts
-    c.give_back.new.self c.self.inside.outbox.items c.self.inside.max_journal c.self.inside.max_events (vec_capacity c.enter.new.self.events)
+    c.give_back.new.self c.self.inside.outbox.items c.self.inside.max_journal c.self.inside.max_events c.enter.new.self.events.room
 went c =
     goes _ _ _ _ _ _ _ _ None (Returned c.args.ticket) _ _ _ _ _ _ c.self.invariant refl
     (returned _ _ _ c.args.ticket _ (holds _ _ _ _ _ _ _ _ c.self.invariant) (there c)

@@ -1,5 +1,5 @@
 use Rattle.std.proofs.Common.{◌≡◌, ◌+◌, ◌≤◌, ◌++◌, ◌∷◌, [], length, refl, ap, ◌∙◌, subst, arith}
-use Rattle.std.specs.Prelude.{vec_capacity, None}
+use Rattle.std.specs.Prelude.{None}
 use Rattle.ls_machine.specs.declared.event.Event.TheVariants.{Sent}
 use Rattle.ls_machine.specs.Counts.{total}
 use Rattle.ls_machine.specs.Journal.{replay_from}
@@ -21,14 +21,14 @@ shorter c = ap length c.in_ok-out.ensures.items ∙ omega arith
 fits : (c : After-enter) → total c.self.inside.history.counts + 1 + length c.pop_front.new.self.items ≤ c.self.inside.max_events
 fits c = let u = c.self.invariant.used in let l = shorter c in omega arith
 
-roomy : (c : After-enter) → length c.self.inside.history.events.items + 1 + length c.pop_front.new.self.items ≤ vec_capacity c.enter.new.self.events
+roomy : (c : After-enter) → length c.self.inside.history.events.items + 1 + length c.pop_front.new.self.items ≤ c.enter.new.self.events.room
 roomy c =
     let r = c.self.invariant.reserved in
     let k = c.enter.ensures.capacity in
     let l = shorter c in omega arith
 
 went : (c : After-enter) → Goes c.self.inside.history.base c.self.inside.history.events.items c.self.inside.history.counts None (Sent (ticket_of_out c.in_ok-out.out)) c.enter.new.self.base c.enter.new.self.events.items c.enter.new.self.counts
-    c.self.inside.present c.pop_front.new.self.items c.self.inside.max_journal c.self.inside.max_events (vec_capacity c.enter.new.self.events)
+    c.self.inside.present c.pop_front.new.self.items c.self.inside.max_journal c.self.inside.max_events c.enter.new.self.events.room
 went c =
     goes _ _ _ _ _ _ _ _ None (Sent (ticket_of_out c.in_ok-out.out)) _ _ _ _ _ _ c.self.invariant refl
     (sent _ _ _ c.in_ok-out.out c.pop_front.new.self.items (holds _ _ _ _ _ _ _ _ c.self.invariant) (first c))

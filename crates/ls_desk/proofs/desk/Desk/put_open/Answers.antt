@@ -1,5 +1,5 @@
 use Rattle.std.proofs.Common.{◌≡◌, ◌+◌, ◌≤◌, ◌<◌, ◌++◌, ◌∷◌, [], false, List, ℕ, length, sym, ap, ◌∙◌, subst, refl, arith}
-use Rattle.std.specs.Prelude.{vec_capacity, Some}
+use Rattle.std.specs.Prelude.{Some}
 use Rattle.ls_machine.specs.declared.event.Event.{Event}
 use Rattle.ls_machine.specs.declared.event.Event.TheVariants.{Opened}
 use Rattle.ls_machine.specs.declared.state.Document.{Document}
@@ -11,7 +11,6 @@ use Rattle.ls_desk.specs.Anew.{journal_after}
 use Rattle.ls_desk.specs.Stands.{Seen, Enters, state_of, fresh, fresh_for, used}
 use Rattle.ls_desk.proofs.Grows.{Goes, enters, goes, holds, kept_room, seen}
 use Rattle.std.proofs.lemmas.Int.{to_z-of_z}
-use Rattle.ls_text.specs.declared.position.Encoding.{Encoding}
 use Rattle.ls_machine.specs.Machine.{is_open, measured}
 use Rattle.ls_desk.specs.own.Puts.{next_of, documents_of, jobs_of}
 use Rattle.ls_desk.proofs.Events.{opened}
@@ -46,14 +45,14 @@ fits c =
     let r = subst P (sym c.self.view_is) c.requires.room in
     let k = ap total c.self.invariant.counts_are in omega arith
 
-roomy : (c : After-enter) → length (journal_after c.in_ok-state.state c.self.inside.history.events.items) + 1 + length c.self.inside.outbox.items ≤ vec_capacity c.enter.new.self.events
+roomy : (c : After-enter) → length (journal_after c.in_ok-state.state c.self.inside.history.events.items) + 1 + length c.self.inside.outbox.items ≤ c.enter.new.self.events.room
 roomy c =
     let r = c.in_ok-room_for_text.ensures.room in
     let j = ap (λ (es : List Event). length (journal_after c.in_ok-state.state es)) c.room_for_text.ensures.journal in
     let k = c.enter.ensures.capacity in omega arith
 
 went : (c : After-enter) → Goes c.self.inside.history.base c.self.inside.history.events.items c.self.inside.history.counts c.in_ok-state.state (Opened c.args.uri c.args.label c.args.text c.args.encoding c.self.inside.present.next_version) c.enter.new.self.base c.enter.new.self.events.items c.enter.new.self.counts
-    c.open-version.new.self c.self.inside.outbox.items c.self.inside.max_journal c.self.inside.max_events (vec_capacity c.enter.new.self.events)
+    c.open-version.new.self c.self.inside.outbox.items c.self.inside.max_journal c.self.inside.max_events c.enter.new.self.events.room
 went c =
     goes _ _ _ _ _ _ _ _ c.in_ok-state.state (Opened c.args.uri c.args.label c.args.text c.args.encoding c.self.inside.present.next_version) _ _ _ _ _ _ c.self.invariant (state_is c)
     (opened _ _ _ c.args.uri c.args.label c.args.text c.args.encoding c.in_ok-next.next _ (holds _ _ _ _ _ _ _ _ c.self.invariant) (can c).0 (can c).1

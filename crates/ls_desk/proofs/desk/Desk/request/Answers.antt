@@ -1,5 +1,5 @@
 use Rattle.std.proofs.Common.{◌≡◌, ◌+◌, ◌≤◌, ◌<◌, ◌++◌, ◌∷◌, [], false, List, ℕ, length, sym, ap, ◌∙◌, subst, refl, arith}
-use Rattle.std.specs.Prelude.{vec_capacity, Some}
+use Rattle.std.specs.Prelude.{Some}
 use Rattle.ls_machine.specs.declared.event.Event.{Event}
 use Rattle.ls_machine.specs.declared.event.Event.TheVariants.{Asked}
 use Rattle.ls_machine.specs.declared.state.Waiting.{Waiting}
@@ -38,14 +38,14 @@ fits c =
     let r = subst P (sym c.self.view_is) c.in_ok-job.ensures.room in
     let k = ap total c.self.invariant.counts_are in omega arith
 
-roomy : (c : After-enter) → length (journal_after c.in_ok-state.state c.self.inside.history.events.items) + 1 + length c.self.inside.outbox.items ≤ vec_capacity c.enter.new.self.events
+roomy : (c : After-enter) → length (journal_after c.in_ok-state.state c.self.inside.history.events.items) + 1 + length c.self.inside.outbox.items ≤ c.enter.new.self.events.room
 roomy c =
     let r = c.in_ok-room_for_job.ensures.room in
     let j = ap (λ (es : List Event). length (journal_after c.in_ok-state.state es)) c.room_for_job.ensures.journal in
     let k = c.enter.ensures.capacity in omega arith
 
 went : (c : After-enter) → Goes c.self.inside.history.base c.self.inside.history.events.items c.self.inside.history.counts c.in_ok-state.state (Asked c.args.id c.args.uri c.args.question c.args.links c.self.inside.present.next_ticket) c.enter.new.self.base c.enter.new.self.events.items c.enter.new.self.counts
-    c.ask-ticket.new.self c.self.inside.outbox.items c.self.inside.max_journal c.self.inside.max_events (vec_capacity c.enter.new.self.events)
+    c.ask-ticket.new.self c.self.inside.outbox.items c.self.inside.max_journal c.self.inside.max_events c.enter.new.self.events.room
 went c =
     goes _ _ _ _ _ _ _ _ c.in_ok-state.state (Asked c.args.id c.args.uri c.args.question c.args.links c.self.inside.present.next_ticket) _ _ _ _ _ _ c.self.invariant (state_is c)
     (requested _ _ _ c.args.id c.args.uri c.args.question c.args.links c.in_ok-job.job _ (holds _ _ _ _ _ _ _ _ c.self.invariant) (job_is c) (can c).0 (can c).1
@@ -54,7 +54,7 @@ went c =
     c.ask-ticket.ensures.version
     c.ask-ticket.ensures.ticket)
     c.enter.ensures.base
-    (c.enter.ensures.events ∙ (λ i. journal_after c.in_ok-state.state (c.room_for_job.ensures.journal i) ++ Asked c.args.id c.args.uri c.args.question c.args.links (c.ask-ticket.ensures.result i) ∷ []))
+    (c.enter.ensures.events ∙ (λ i. journal_after c.in_ok-state.state (c.room_for_job.ensures.journal i) ++ Asked (c.in_ok-id.ensures i) c.args.uri (c.in_ok-ask.ensures i) c.args.links (c.ask-ticket.ensures.result i) ∷ []))
     c.enter.ensures.counts
     (fits c)
     (roomy c)

@@ -1,5 +1,4 @@
 use Rattle.std.proofs.Common.{◌≡◌, ◌+◌, ◌≤◌, ◌++◌, ◌∷◌, [], List, length, sym, ap, ◌∙◌, subst, refl, arith, length-append}
-use Rattle.std.specs.Prelude.{vec_capacity}
 use Rattle.ls_machine.specs.declared.event.Event.{Event}
 use Rattle.ls_machine.specs.declared.event.Event.TheVariants.{Said}
 use Rattle.ls_machine.specs.Counts.{total}
@@ -32,7 +31,7 @@ fits c =
     let k = ap total c.self.invariant.counts_are in
     let l = longer c in omega arith
 
-roomy : (c : After-enter) → length (journal_after c.in_ok-state.state c.self.inside.history.events.items) + 1 + length c.push_back_reserved.new.self.items ≤ vec_capacity c.enter.new.self.events
+roomy : (c : After-enter) → length (journal_after c.in_ok-state.state c.self.inside.history.events.items) + 1 + length c.push_back_reserved.new.self.items ≤ c.enter.new.self.events.room
 roomy c =
     let r = c.in_ok-room_for_replies.ensures.room in
     let j = ap (λ (es : List Event). length (journal_after c.in_ok-state.state es)) c.room_for_replies.ensures.journal in
@@ -40,7 +39,7 @@ roomy c =
     let l = longer c in omega arith
 
 went : (c : After-enter) → Goes c.self.inside.history.base c.self.inside.history.events.items c.self.inside.history.counts c.in_ok-state.state (Said c.args.body) c.enter.new.self.base c.enter.new.self.events.items c.enter.new.self.counts
-    c.self.inside.present c.push_back_reserved.new.self.items c.self.inside.max_journal c.self.inside.max_events (vec_capacity c.enter.new.self.events)
+    c.self.inside.present c.push_back_reserved.new.self.items c.self.inside.max_journal c.self.inside.max_events c.enter.new.self.events.room
 went c =
     goes _ _ _ _ _ _ _ _ c.in_ok-state.state (Said c.args.body) _ _ _ _ _ _ c.self.invariant (state_is c)
     (said _ _ _ c.args.body _ (holds _ _ _ _ _ _ _ _ c.self.invariant) (grown_by c))

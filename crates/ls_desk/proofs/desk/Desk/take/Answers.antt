@@ -1,5 +1,5 @@
 use Rattle.std.proofs.Common.{◌≡◌, ◌+◌, ◌≤◌, ◌++◌, ◌∷◌, [], true, List, ℕ, length, sym, ap, ◌∙◌, subst, refl, arith}
-use Rattle.std.specs.Prelude.{vec_capacity, Result, Ok, Err, OnErr, Some, None, IfSome, position, find, is_some}
+use Rattle.std.specs.Prelude.{Result, Ok, Err, OnErr, Some, None, IfSome, position, find, is_some}
 use Rattle.ls_machine.specs.declared.event.Event.{Event}
 use Rattle.ls_machine.specs.declared.event.Event.TheVariants.{Took}
 use Rattle.ls_machine.specs.declared.state.Waiting.{Waiting}
@@ -65,14 +65,14 @@ fits c =
     let r = subst P (sym c.self.view_is) (room_now c) in
     let k = ap total c.self.invariant.counts_are in omega arith
 
-roomy : (c : After-enter) → length c.self.inside.history.events.items + 1 + length c.self.inside.outbox.items ≤ vec_capacity c.enter.new.self.events
+roomy : (c : After-enter) → length c.self.inside.history.events.items + 1 + length c.self.inside.outbox.items ≤ c.enter.new.self.events.room
 roomy c =
     let r = c.in_ok-room_for_event.ensures.room in
     let j = ap length c.room_for_event.ensures.journal in
     let k = c.enter.ensures.capacity in omega arith
 
 went : (c : After-enter) → Goes c.self.inside.history.base c.self.inside.history.events.items c.self.inside.history.counts None (Took c.args.worker) c.enter.new.self.base c.enter.new.self.events.items c.enter.new.self.counts
-    c.take.new.self c.self.inside.outbox.items c.self.inside.max_journal c.self.inside.max_events (vec_capacity c.enter.new.self.events)
+    c.take.new.self c.self.inside.outbox.items c.self.inside.max_journal c.self.inside.max_events c.enter.new.self.events.room
 went c =
     goes _ _ _ _ _ _ _ _ None (Took c.args.worker) _ _ _ _ _ _ c.self.invariant refl
     (taken _ _ _ c.args.worker (job_found c).0 _ (holds _ _ _ _ _ _ _ _ c.self.invariant) (found c)

@@ -1,4 +1,5 @@
 use Rattle.std.specs.Prelude.{◌≡◌, false}
+use Rattle.ls_history.specs.Told.{outs_of}
 use Rattle.ls_threads.specs.Writing.{HasWritten}
 use Rattle.ls_threads.specs.declared.ending.Wrote.TheVariants.{All}
 use Rattle.ls_threads.proofs.writing.Writer.write_on.Given as goal
@@ -6,5 +7,5 @@ use Rattle.ls_threads.proofs.writing.Writer.write_on.Given as goal
 abbrev pub invariant-loop : goal.invariant-loop
 invariant-loop g l = record {
   good : g.W.Sink.failed l.sink ≡ false;
-  written : HasWritten (g.W.Sink.contents l.initial.sink) (g.W.Sink.contents l.sink) (g.W.Sink.unflushed l.initial.sink) (g.W.Sink.unflushed l.sink) All l.seat.sent.share.amount l.seat.tickets.items l.seat.notes.items;
+  written : HasWritten (g.W.Sink.contents l.initial.sink) (g.W.Sink.contents l.sink) (g.W.Sink.unflushed l.initial.sink) (g.W.Sink.unflushed l.sink) All (outs_of l.seat.front);
 }

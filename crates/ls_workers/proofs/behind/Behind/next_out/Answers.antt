@@ -1,34 +1,66 @@
-use Rattle.std.proofs.Common.{◌≡◌, ℕ, refl, subst, sym}
+use Rattle.std.proofs.Common.{◌∙◌, ◌+◌, ℕ, length, List, inl, ap, refl, subst, sym}
 use Rattle.ls_machine.specs.declared.event.Event.TheVariants.{Sent}
 use Rattle.ls_desk.specs.Stands.{ticket_of_out}
 use Rattle.ls_workers.specs.Count.{Counts}
-use Rattle.ls_workers.specs.Sent.{noted_of}
 use Rattle.ls_workers.proofs.Entered.{counts_send, limits_stay}
-use Rattle.ls_workers.proofs.SentLaws.{first_note_is, sends_noted}
+use Rattle.ls_workers.proofs.Placed.{prefix_more}
+use Rattle.ls_history.specs.declared.happened.Happened.{Happened}
+use Rattle.ls_history.specs.declared.happened.Happened.TheVariants.{Left}
+use Rattle.ls_history.proofs.Stops.{stop_more}
+use Rattle.ls_history.specs.Told.{outs_of}
+use Rattle.ls_history.proofs.Histories.{hears_keep_left, outs_more, sends_more}
 use Rattle.ls_workers.proofs.behind.Behind.next_out.Goals as goal
 
 pub invariant_of-self-2-clause-counts : goal.invariant_of-self-2-clause-counts
 invariant_of-self-2-clause-counts g c =
     let now = c.args.self.now in
-    let new = c.next_out.new.self in
-    subst (λ (n : ℕ). Counts now.asked.total now.took.total now.returned.total now.finished.total n new) (sym c.one_more.ensures.total)
+    let new = c.next_out.new.desk in
+    subst (λ (n : ℕ). Counts now.asked.total now.took.total now.returned.total now.finished.total n new) (sym (c.one_more.ensures.total ∙ ap (λ (n : ℕ). n + 1) c.follow.ensures.total))
     (counts_send now.asked.total now.took.total now.returned.total now.finished.total now.sent.total (ticket_of_out c.in-Some.out) now.desk new c.in-Some.ensures.some.enters now.counts)
 
 pub invariant_of-self-2-clause-limits : goal.invariant_of-self-2-clause-limits
 invariant_of-self-2-clause-limits g c =
     let now = c.args.self.now in
-    limits_stay g.C.Crew.max_journal g.C.Crew.max_events now.desk c.next_out.new.self (Sent (ticket_of_out c.in-Some.out)) c.in-Some.ensures.some.enters now.limits
-
-pub invariant_of-self-2-clause-replies : goal.invariant_of-self-2-clause-replies
-invariant_of-self-2-clause-replies g c =
-    let now = c.args.self.now in
-    let new = c.next_out.new.self in
-    let sends = c.in-Some.ensures.some in
-    let sent = sends_noted now.desk new c.in-Some.out sends in
-    let note : c.in_ok-note.note ≡ noted_of c.in-Some.out = first_note_is now.desk.outbox c.in-Some.out new.outbox c.in_ok-note.note sends.first c.in_ok-note.ensures.one in
-    let pushed = c.push_reserved.ensures.items in
-    let reserved = c.reserve.ensures.items in
-    let replies = now.replies in cc
+    limits_stay g.C.Crew.max_journal g.C.Crew.max_events now.desk c.next_out.new.desk (Sent (ticket_of_out c.in-Some.out)) c.in-Some.ensures.some.enters now.limits
 
 pub returns-clause-ends : goal.returns-clause-ends
 returns-clause-ends g c = (refl, refl)
+
+pub invariant_of-seat : goal.invariant_of-seat
+invariant_of-seat g c =
+    let now = c.args.self.now in
+    let seat = c.follow.new.self in
+    record {
+      whole = c.one_more.ensures.parts ∙ seat.whole;
+      all_left = c.one_more.ensures.amount
+          ∙ (ap (λ (n : ℕ). n + 1) (c.one_more.ensures.whole seat.whole ∙ c.follow.ensures.total)
+          ∙ (sends_more now.sent.total now.front c.next_out.new.self c.in-Some.out now.leaves c.in-Some.ensures.added ∙ ap (λ (log : List Happened). length (outs_of log)) (sym c.again.ensures)));
+    }
+
+pub invariant_of-self-2-clause-hears : goal.invariant_of-self-2-clause-hears
+invariant_of-self-2-clause-hears g c =
+    let now = c.args.self.now in hears_keep_left now.heard.total now.front c.next_out.new.self c.in-Some.out now.hears c.in-Some.ensures.added
+
+pub invariant_of-self-2-clause-leaves : goal.invariant_of-self-2-clause-leaves
+invariant_of-self-2-clause-leaves g c =
+    let now = c.args.self.now in
+    (c.one_more.ensures.total ∙ ap (λ (n : ℕ). n + 1) c.follow.ensures.total) ∙ sends_more now.sent.total now.front c.next_out.new.self c.in-Some.out now.leaves c.in-Some.ensures.added
+
+pub invariant_of-self-2-clause-ended : goal.invariant_of-self-2-clause-ended
+invariant_of-self-2-clause-ended g c =
+    let now = c.args.self.now in now.ended ∙ sym (stop_more now.front c.next_out.new.self (Left c.in-Some.out) c.in-Some.ensures.added)
+
+pub returns-clause-history : goal.returns-clause-history
+returns-clause-history g c =
+    let now = c.args.self.now in
+    let seat = c.args.seat.now in
+    let same = sym (ap outs_of c.follow.ensures.seen) ∙ c.follow.ensures.outs in
+    ap outs_of (c.add.ensures.front ∙ c.again.ensures)
+    ∙ outs_more seat.front now.front c.next_out.new.self c.in-Some.out (inl c.follow.ensures.grows) (ap length same) c.in-Some.ensures.added
+
+pub returns-clause-follows : goal.returns-clause-follows
+returns-clause-follows g c =
+    let now = c.args.self.now in
+    let seat = c.args.seat.now in
+    let ends = c.add.ensures.front ∙ (c.again.ensures ∙ c.in-Some.ensures.added) in
+    prefix_more seat.front now.front _ (Left c.in-Some.out) c.follow.ensures.grows ends

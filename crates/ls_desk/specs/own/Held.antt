@@ -1,0 +1,15 @@
+-- What a journal holds, and for how much it has room.
+use Rattle.std.specs.Prelude.{ℕ, List, Option, Some, None}
+use Rattle.ls_machine.specs.declared.event.Event.{Event}
+use Rattle.ls_machine.specs.declared.state.State.{State}
+
+pub record Held : Type 0 where
+  pub items : List Event
+  -- for how many events there is room, and for how many in the journal that comes next
+  pub room : ℕ
+  pub next : ℕ
+
+-- the room in the journal as it is, or once it begins anew from this state
+abbrev pub room_after : Option State → Held → ℕ
+room_after None journal = journal.room
+room_after (Some state) journal = journal.next

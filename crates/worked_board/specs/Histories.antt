@@ -1,0 +1,31 @@
+-- A short history, written out by hand.
+use Rattle.std.specs.Prelude.{◌≡◌, ℕ, List, [], ◌∷◌, Ok, Err}
+use Rattle.ls_machine.specs.declared.client.ClientAnswer.TheVariants as answer
+use Rattle.ls_machine.specs.declared.client.ClientEvent.TheVariants.{DidClose, Say}
+use Rattle.ls_machine.specs.declared.event.DeskFault.{DeskFault}
+use Rattle.ls_machine.specs.declared.event.DeskFault.TheVariants.{AlreadyOpen, NotOpen}
+use Rattle.ls_machine.specs.declared.event.Event.TheVariants as event
+use Rattle.ls_machine.specs.declared.event.Out.TheVariants as out
+use Rattle.ls_history.specs.declared.happened.Happened.{Happened}
+use Rattle.ls_history.specs.declared.happened.Happened.TheVariants.{Began, Heard, Left}
+use Rattle.ls_history.specs.History.{IsLegal}
+use Rattle.ls_history.specs.Told.{events_of, heard_of, outs_of}
+
+-- "hi"
+abbrev pub body : List ℕ
+body = 104 ∷ 105 ∷ []
+
+-- a desk with room for three begins, a body is said and leaves, and then a document can't be closed, for this cause
+abbrev pub refused_for : DeskFault → List Happened
+refused_for fault = Began 3 ∷ Heard (Say body) (Ok answer.Said) ∷ Left (out.Said body) ∷ Heard (DidClose []) (Err fault) ∷ []
+
+abbrev pub short : List Happened
+short = refused_for NotOpen
+
+-- what it says of each kind, and that it is legal for the cause that holds, and for no other
+pub record IsShort : Type 0 where
+  pub heard : heard_of short ≡ (Say body, Ok answer.Said) ∷ (DidClose [], Err NotOpen) ∷ []
+  pub outs : outs_of short ≡ out.Said body ∷ []
+  pub events : events_of short ≡ event.Said body ∷ event.Sent 0 ∷ []
+  pub legal : IsLegal short
+  pub other : IsLegal (refused_for AlreadyOpen) → ⊥
