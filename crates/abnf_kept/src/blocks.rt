@@ -52,7 +52,7 @@ fn size_of(digests: &Digests) -> usize {
 }
 
 /// Keeps the blocks of the lines from one place up to another, over neither of which a block goes, behind the others. One after the other
-/// is read and let go.
+/// is read and let go; the room of its items serves the next one.
 fn read(
     alloc: Global,
     sheet: &Sheet,
@@ -65,12 +65,14 @@ fn read(
     ensures { OnOk result (AddsBetween sheet.now from to digests.old digests.new) }
 {
     let mut spare = Spare::new(alloc);
+    let mut room = List::new(alloc);
     let mut first = sheet.next_block(from, to);
     'blocks: while first < to {
         let end = sheet.next_block(first + 1, to);
-        let block = Block::of(alloc, sheet, first, end)?;
+        let block = Block::of(room, sheet, first, end)?;
         let section = section_of(alloc, block)?;
         digests.push(alloc, &mut spare, &section)?;
+        room = section.block.items;
         first = end;
     }
     Ok(())
@@ -139,7 +141,7 @@ impl KeptBlocks {
         ensures { OnOk result (FindsIn sheet.now self.now outcome.now at found.old found.new) }
     {
         let kept = self.digests.blocks()[at];
-        let block = Block::of(alloc, sheet, kept.first, kept.behind)?;
+        let block = Block::of(List::new(alloc), sheet, kept.first, kept.behind)?;
         let section = section_of(alloc, block)?;
         self.digests.push_found(alloc, outcome, at, &section, found)
     }

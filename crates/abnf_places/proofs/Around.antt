@@ -14,6 +14,7 @@ use Rattle.abnf_syntax.specs.declared.block.Block.{Block}
 use Rattle.abnf_syntax.specs.declared.item.Item.{Item}
 use Rattle.abnf_syntax.specs.Blocks.{IsBlock, IsNextBlock, NoneBegins, line_texts}
 use Rattle.abnf_syntax.specs.Items.{AreItems}
+use Rattle.abnf_syntax.proofs.BlockLaws.{none_both}
 use Rattle.abnf_syntax.proofs.Exist.{some_blocks}
 use Rattle.abnf_names.specs.declared.place.Spot.{Spot}
 use Rattle.abnf_names.specs.Places.{Named, found_at, named_at, place_and_text, places_in, spot_at}
@@ -37,6 +38,14 @@ pub from_later : (ls : List Text) (from to : ℕ) → from ≤ to → NoneBegins
 from_later ls from to less none [] h = record { all = λ at reached before. h.all at (omega (arith, less)) before; items = h.items }
 from_later ls from to less none (b ∷ bs) h = record {
   all = (not_among ls from to b.first none h.all.2.begins h.all.0, (λ at reached before. h.all.1 at (omega (arith, less)) before), h.all.2, h.all.3);
+  items = h.items;
+}
+
+-- the same blocks, from an earlier line on behind which none begins before them
+pub from_earlier : (ls : List Text) (from to : ℕ) → from ≤ to → NoneBegins ls from to → (blocks : List Block) → AreBlocksFrom ls to blocks → AreBlocksFrom ls from blocks
+from_earlier ls from to less none [] h = record { all = none_both ls from to (length ls) none h.all; items = h.items }
+from_earlier ls from to less none (b ∷ bs) h = record {
+  all = (omega (arith, less, h.all.0), none_both ls from to b.first none h.all.1, h.all.2, h.all.3);
   items = h.items;
 }
 

@@ -1,6 +1,6 @@
 //! The places of names in one block.
 
-ghost use Rattle.std.specs.Prelude.{◌≡◌, ◌++◌, [], false, map, flat_map, IfOk, OnOk, List};
+ghost use Rattle.std.specs.Prelude.{◌≡◌, ◌++◌, map, flat_map, IfOk, OnOk, List};
 ghost use Rattle.abnf_names.specs.Places.{named_at, places_in};
 ghost use Rattle.abnf_parts.specs.Names.{folded_text};
 ghost use Rattle.abnf_syntax.specs.Blocks.{IsBlock};
@@ -8,7 +8,6 @@ ghost use Rattle.abnf_syntax.specs.Items.{AreItems};
 ghost use Rattle.abnf_syntax.specs.declared.item.Item.{Item};
 ghost use Rattle.abnf_places.specs.Wanted.{wanted_places};
 
-use crate::stated::{begins_with, is_stated};
 use crate::wanted::Wanted;
 use abnf_names::{Spot, push_places};
 use abnf_syntax::{Block, Sheet, blocks_between};
@@ -58,18 +57,6 @@ fn push_alike<'t>(
     Ok(())
 }
 
-/// Whether the block of these lines may have a wanted place of a name: it begins with the name, or at least the name is written there.
-fn may_have(sheet: &Sheet<'_>, first: usize, end: usize, name: Folded<'_>, wanted: Wanted) -> bool
-    requires { IsBlock sheet.now first end }
-    ensures { result ≡ false → (items : List Item) → AreItems sheet.now first end items
-        → wanted_places wanted (folded_text name.entry) (places_in items) ≡ [] }
-{
-    match wanted {
-        Wanted::Definitions => begins_with(sheet, first, name),
-        Wanted::Uses | Wanted::Both => is_stated(sheet, first, end, name),
-    }
-}
-
 /// Adds the wanted places of a name in the block of these lines.
 pub(crate) fn push_wanted<'t>(
     alloc: Global,
@@ -84,9 +71,6 @@ pub(crate) fn push_wanted<'t>(
     ensures { OnOk result ((items : List Item) → AreItems sheet.now first end items
         → map named_at spots.new ≡ map named_at spots.old ++ wanted_places wanted (folded_text name.entry) (places_in items)) }
 {
-    if !may_have(sheet, first, end, name, wanted) {
-        return Ok(());
-    }
     let all = block_spots(alloc, sheet, first, end)?;
     push_alike(spots, all.as_slice(), name, wanted)
 }

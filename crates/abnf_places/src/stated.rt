@@ -1,4 +1,4 @@
-//! Whether a name is written in a block, by the marks of its lines.
+//! Where a name is written, by the marks of lines.
 
 ghost use Rattle.std.specs.Prelude.{◌≡◌, ◌≤◌, ◌<◌, false};
 ghost use Rattle.std.specs.List.{list_any};
@@ -46,11 +46,11 @@ fn stands_first(row: Row<'_>, name: Folded<'_>) -> bool
     false
 }
 
-/// Whether a name is the first item of the block of these lines, as it is where the block defines it.
-pub(crate) fn begins_with(sheet: &Sheet<'_>, first: usize, name: Folded<'_>) -> bool
-    ensures { result ≡ false → spec.IsNotFirst sheet.now (folded_text name.entry) first }
+/// Whether the first item of a line is this name, as it is where a block that begins there defines it.
+pub(crate) fn begins_with(sheet: &Sheet<'_>, at: usize, name: Folded<'_>) -> bool
+    ensures { result ≡ false → spec.IsNotFirst sheet.now (folded_text name.entry) at }
 {
-    stands_first(sheet.row(first), name)
+    stands_first(sheet.row(at), name)
 }
 
 /// Whether a name is written in one of these lines.

@@ -38,13 +38,13 @@ impl<'t> Block<'t> {
     ghost use Rattle.abnf_syntax.specs.Blocks.{IsBlock};
     ghost use Rattle.abnf_syntax.specs.Heads.{head_of};
 
-    /// The block of these lines.
+    /// The block of these lines. Its items come into the room of a list, whose own items are let go.
     ///
     /// # Errors
     ///
     /// Where an allocation is refused.
     pub fn of(
-        alloc: Global,
+        room: List<Item<'t>>,
         sheet: &Sheet<'t>,
         first: usize,
         end: usize,
@@ -54,7 +54,7 @@ impl<'t> Block<'t> {
         ensures items { IfOk result (λ block. AreItems sheet.now first end block.items) }
         ensures some { IfOk result (λ block. 0 < length block.items) }
     {
-        let items = items_of(alloc, sheet, first, end)?;
+        let items = items_of(room, sheet, first, end)?;
         Ok(Block { first, end, items })
     }
 
@@ -134,9 +134,9 @@ impl<'t> Gathered<'t> {
     }
 }
 
-/// The items of these lines.
+/// The items of these lines, in the room of a list.
 fn items_of<'t>(
-    alloc: Global,
+    room: List<Item<'t>>,
     sheet: &Sheet<'t>,
     first: usize,
     end: usize,
@@ -146,8 +146,10 @@ fn items_of<'t>(
     ensures items { IfOk result (λ items. AreItems sheet.now first end items) }
     ensures some { IfOk result (λ items. 0 < length items) }
 {
+    let mut items = room.into_vec();
+    items.clear();
     let mut gathered = Gathered {
-        items: Vec::new(alloc),
+        items,
         apart: false,
     };
     for at in first..end {
@@ -181,7 +183,7 @@ pub fn blocks_between<'t>(
     let mut first = sheet.next_block(from, to);
     'blocks: while first < to {
         let end = sheet.next_block(first + 1, to);
-        let items = items_of(alloc, sheet, first, end)?;
+        let items = items_of(List::new(alloc), sheet, first, end)?;
         found.push(Block { first, end, items })?;
         first = end;
     }

@@ -57,13 +57,17 @@ fn line_of(snapshot: &Snapshot, at: usize) -> &str
     }
 }
 
-/// The marks of a line's tokens, none behind the last line.
-fn marks_of(snapshot: &Snapshot, at: usize) -> &[TokenMark]
-    ensures { AreMarks (slice_index_or (line_texts snapshot.now) at []) result.now }
+/// A line of a text with its marks, empty behind the last line.
+fn row_of(snapshot: &Snapshot, at: usize) -> Row<'_>
+    ensures text { result.text.now ≡ slice_index_or (line_texts snapshot.now) at [] }
+    ensures marks { AreMarks (slice_index_or (line_texts snapshot.now) at []) result.marks.now }
 {
-    match snapshot.marks(at) {
-        Some(marks) => marks,
-        None => &[],
+    match snapshot.row(at) {
+        Some((text, marks)) => Row { text, marks },
+        None => Row {
+            text: "",
+            marks: &[],
+        },
     }
 }
 
@@ -167,10 +171,7 @@ impl<'s> Sheet<'s> {
         ensures text { result.text.now ≡ slice_index_or self.now at [] }
         ensures marks { AreMarks (slice_index_or self.now at []) result.marks.now }
     {
-        Row {
-            text: line_of(self.snapshot, at),
-            marks: marks_of(self.snapshot, at),
-        }
+        row_of(self.snapshot, at)
     }
 
     /// Whether a line begins a block.

@@ -95,21 +95,52 @@ fn longest_quotation(bytes: &[u8]) -> Option<(Kind, usize)>
     None
 }
 
+/// The same where `=` begins: `=/` or `=`.
+fn longest_defined_as(bytes: &[u8]) -> Option<(Kind, usize)>
+    requires some { 0 < length bytes.now }
+    requires first { slice_index bytes.now 0 ≡ 61 }
+    ensures { result ≡ munch State.Start 0 None bytes.now }
+{
+    if bytes.len() == 1 {
+        return Some((Kind::Defines, 1));
+    }
+    if bytes[1] == b'/' {
+        Some((Kind::Adds, 2))
+    } else {
+        Some((Kind::Defines, 1))
+    }
+}
+
+/// The same where a comment begins, which goes on to the line's end.
+fn longest_comment(bytes: &[u8]) -> Option<(Kind, usize)>
+    requires some { 0 < length bytes.now }
+    requires first { begin (slice_index bytes.now 0) ≡ State.Comment }
+    ensures { result ≡ munch State.Start 0 None bytes.now }
+{
+    Some((Kind::Comment, bytes.len()))
+}
+
 /// The same, without the machine where the first byte says enough, and without a look at the rest where a `<` is known to have
 /// no `>` behind it.
+#[inline(always)]
 fn longest_unless(bytes: &[u8], may_close: bool) -> Option<(Kind, usize)>
     requires some { 0 < length bytes.now }
     requires closes { may_close ≡ false → HasNoClose bytes.now }
     ensures { result ≡ munch State.Start 0 None bytes.now }
 {
-    if !may_close && bytes[0] == b'<' {
-        return None;
-    }
-    match begin(bytes[0]) {
-        State::Name => longest_name(bytes),
-        State::Blank => longest_blank(bytes),
-        State::Quote => longest_quotation(bytes),
-        State::Done(kind) => Some((kind, 1)),
+    let first = bytes[0];
+    match first {
+        b' ' | b'\t' => longest_blank(bytes),
+        b'"' => longest_quotation(bytes),
+        b';' => longest_comment(bytes),
+        b'=' => longest_defined_as(bytes),
+        b'/' => Some((Kind::Slash, 1)),
+        b'(' => Some((Kind::ParenL, 1)),
+        b')' => Some((Kind::ParenR, 1)),
+        b'[' => Some((Kind::BracketL, 1)),
+        b']' => Some((Kind::BracketR, 1)),
+        b'<' if !may_close => None,
+        _ if first.is_ascii_alphabetic() => longest_name(bytes),
         _ => longest(bytes),
     }
 }

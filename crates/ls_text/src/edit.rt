@@ -144,7 +144,7 @@ fn cut_whole(alloc: Global, text: &str) -> Result<Lines, TextFault>
     ensures memory { IfErr result (λ e. e ≡ TextFault.Memory) }
 {
     let mut lines = Lines::with_room(alloc, 0)?;
-    let mut part = Part::new(alloc);
+    let mut part = Part::for_text(alloc, text.len(), MOST_LINES)?;
     let mut rest = text;
     'lines: loop {
         let (line, end, after) = first_line(rest);
@@ -154,7 +154,7 @@ fn cut_whole(alloc: Global, text: &str) -> Result<Lines, TextFault>
         }
         if part.len() >= MOST_LINES {
             lines = lines.with_part(alloc, part)?;
-            part = Part::new(alloc);
+            part = Part::for_text(alloc, after.len(), MOST_LINES)?;
         }
         rest = after;
     }

@@ -20,6 +20,12 @@ const MOST: usize = 0xffff_ffff;
 // How many bytes and marks an edit may add before the room for them grows.
 const SPARE: usize = 256;
 
+// About how many bytes a token has.
+const BYTES_OF_A_MARK: usize = 6;
+
+// About how many bytes a line has.
+const BYTES_OF_A_LINE: usize = 32;
+
 // Where the text of a line and its marks stand among those of its part.
 #[derive(Clone, Copy)]
 pub struct Held {
@@ -193,6 +199,18 @@ impl Part {
             text: String::with_capacity(alloc, part.text.len().saturating_add(SPARE))?,
             marks: Vec::with_capacity(alloc, part.marks.len().saturating_add(SPARE))?,
             lines: Vec::with_capacity(alloc, part.lines.len().saturating_add(2))?,
+        })
+    }
+
+    // No lines, with room for about those of a text of so many bytes, of which no more than so many come.
+    pub fn for_text(alloc: Global, bytes: usize, lines: usize) -> Result<Part, AllocError>
+        ensures { IfOk result (λ lines. lines ≡ []) }
+    {
+        let bytes = bytes.min(lines.saturating_mul(BYTES_OF_A_LINE));
+        Ok(Part {
+            text: String::with_capacity(alloc, bytes)?,
+            marks: Vec::with_capacity(alloc, bytes / BYTES_OF_A_MARK)?,
+            lines: Vec::with_capacity(alloc, bytes / BYTES_OF_A_LINE)?,
         })
     }
 

@@ -142,6 +142,21 @@ impl Snapshot {
         }
     }
 
+    /// The line `at`, from 0, without its line end, and where its tokens stand, by one look-up. There is none from
+    /// [`line_count`](Snapshot::line_count) on.
+    pub fn row(&self, at: usize) -> Option<(&str, &[TokenMark])>
+        ensures bytes { option_map (λ row. row.0.now) result
+            ≡ option_map encode_utf8_all (slice_get (lines self.now) at) }
+        ensures marks { AreMarksOf (slice_get (lines self.now) at) (option_map (λ row. row.1.now) result) }
+    {
+        if at < self.lines.len() {
+            let (line, _) = self.lines.line(at);
+            Some((line.text(), line.marks()))
+        } else {
+            None
+        }
+    }
+
     /// The offset of a position, in characters: the greatest in its line with at most that many units before it in the line. Past the
     /// last line it is the text's end.
     pub fn offset_of(&self, at: Position, encoding: Encoding) -> usize

@@ -5,7 +5,10 @@ use Rattle.abnf_syntax.specs.declared.block.Block.{Block}
 use Rattle.abnf_syntax.specs.Blocks.{begins_at, AreBlocks, NoneBegins}
 use Rattle.abnf_syntax.specs.Bounds.{bounds}
 use Rattle.abnf_syntax.specs.Items.{AreItems}
+use Rattle.abnf_parts.specs.Names.{Name}
 use Rattle.abnf_names.specs.Places.{Named, places_in}
+use Rattle.abnf_places.specs.declared.wanted.Wanted.{Wanted}
+use Rattle.abnf_places.specs.Wanted.{wanted_places}
 
 -- These are the blocks of the lines from one on, with their items.
 pub record AreBlocksFrom (ls : List Text) (from : ℕ) (blocks : List Block) : Type 0 where
@@ -15,6 +18,10 @@ pub record AreBlocksFrom (ls : List Text) (from : ℕ) (blocks : List Block) : T
 -- the places of names in blocks, in their order
 abbrev pub places_of_all : List Block → List Named
 places_of_all blocks = flat_map (λ block. places_in block.items) blocks
+
+-- These are the wanted places of a name in all blocks of the lines, in their order.
+abbrev pub AreWanted : List Text → Wanted → Name → List Named → Type 0
+AreWanted ls wanted name found = (blocks : List Block) → AreBlocksFrom ls 0 blocks → found ≡ wanted_places wanted name (places_of_all blocks)
 
 -- those on a line
 abbrev pub places_on : ℕ → List Named → List Named

@@ -1,20 +1,25 @@
-use Rattle.std.proofs.Common.{map, ap}
+use Rattle.std.proofs.Common.{map, sym, subst}
+use Rattle.std.specs.Prelude.{OnErr}
+use Rattle.std.proofs.lemmas.Result.{IfOk-weaker}
+use Rattle.abnf_syntax.specs.Blocks.{HasBlock}
 use Rattle.abnf_names.specs.Places.{named_at}
 use Rattle.abnf_parts.specs.Names.{folded_text}
-use Rattle.abnf_places.proofs.Passing.{none_passed, more_passed, all_passed}
+use Rattle.abnf_places.specs.own.Blocks.{AreWanted}
+use Rattle.abnf_places.proofs.Passing.{of_text}
 use Rattle.abnf_places.proofs.search.places_of.Goals as goal
 
-pub blocks-2-init : goal.blocks-2-init
-blocks-2-init c =
-    none_passed c.of-sheet.result c.args.wanted (folded_text c.args.name) c.count-count.result c.next_block-first.result (map named_at c.new-spots.result) c.count-count.ensures c.next_block-first.ensures
-    (ap (map named_at) c.new-spots.ensures)
+pub returns-in-Definitions-clause-places : goal.returns-in-Definitions-clause-places
+returns-in-Definitions-clause-places c =
+    IfOk-weaker c.definitions_of.result _ _
+    (λ spots are. of_text c.of-sheet.result c.args.wanted (folded_text c.args.name) c.args.snapshot.now (map named_at spots) c.of-sheet.ensures.small c.of-sheet.ensures.lines
+    (subst (λ wanted. AreWanted c.of-sheet.result wanted (folded_text c.args.name) (map named_at spots)) (sym c.in-Definitions.is) are))
+    c.definitions_of.ensures.places
 
-pub blocks-2-preserved : goal.blocks-2-preserved
-blocks-2-preserved c =
-    more_passed c.of-sheet.result c.args.wanted (folded_text c.args.name) c.count-count.result c.blocks-2.first c.next_block-end.result (map named_at c.blocks-2.spots) (map named_at c.push_wanted.new.spots)
-    c.count-count.ensures c.blocks-2.invariant c.blocks-2-test.true c.next_block-end.ensures c.in_ok-push_wanted.ensures
-
-pub returns-clause-places : goal.returns-clause-places
-returns-clause-places c =
-    all_passed c.of-sheet.result c.args.wanted (folded_text c.args.name) c.args.snapshot.now c.count-count.result c.blocks-2.first (map named_at c.blocks-2.spots) c.of-sheet.ensures.small c.of-sheet.ensures.lines
-    c.count-count.ensures c.blocks-2-test.false c.blocks-2.invariant
+pub returns-in-Uses : goal.returns-in-Uses
+returns-in-Uses c = record {
+  places =
+      IfOk-weaker c.stated_places.result _ _
+      (λ spots are. of_text c.of-sheet.result c.args.wanted (folded_text c.args.name) c.args.snapshot.now (map named_at spots) c.of-sheet.ensures.small c.of-sheet.ensures.lines are)
+      c.stated_places.ensures.places;
+  memory = subst (λ ls. OnErr c.stated_places.result (HasBlock ls)) c.of-sheet.ensures.lines c.stated_places.ensures.memory;
+}

@@ -10,5 +10,5 @@ stands_first-requires c = subst (λ line. AreMarks line c.row.result.marks.now) 
 
 pub returns : goal.returns
 returns c = λ other tokens of.
-    other_first (folded_text c.args.name) _ c.row.result.marks.now c.args.first c.row.ensures.marks
+    other_first (folded_text c.args.name) _ c.row.result.marks.now c.args.at c.row.ensures.marks
     (ap (λ line. is_first_at (folded_text c.args.name) line c.row.result.marks.now) (sym c.row.ensures.text) ∙ (sym c.stands_first.ensures ∙ other)) tokens of

@@ -10,10 +10,10 @@ use Rattle.ls_text.proofs.CutLaws.{onto_plain, onto_last, onto_more, lines_of_cu
 use Rattle.ls_text.proofs.edit.cut_whole.Goals as goal
 
 -- all lines, at the last one
-all_cut : (c : goal.After-with_part) → IsCut (chars c.args.text.now) (c.lines.lines ++ c.in_ok-part.part)
+all_cut : (c : goal.After-with_part) → IsCut (chars c.args.text.now) (c.lines.lines ++ c.in_ok-part-2.part)
 all_cut c =
     lines_of_cut (onto_last c.lines.invariant.cut c.first_line-end.ensures c.in-Eof.is) (onto_plain c.first_line-end.ensures)
-    (pushed_last c.in-Eof.is (pushed_behind c.lines.lines c.in_ok-part.ensures)) refl
+    (pushed_last c.in-Eof.is (pushed_behind c.lines.lines c.in_ok-part-2.ensures)) refl
 
 pub returns-in-Eof-clause-ok : goal.returns-in-Eof-clause-ok
 returns-in-Eof-clause-ok c =
@@ -34,23 +34,23 @@ returns-in_err-lines-2-clause-memory c =
     rw p.1 (p.2 ∙ memory_alone _ (λ e. omega (
       arith,
       c.in_err-lines-2.ensures.too_large e,
-      cut_bytes (onto_more c.lines.invariant.cut c.first_line-end.ensures (pushed_behind c.lines.lines c.in_ok-part.ensures) c.in_default.not-Eof),
+      cut_bytes (onto_more c.lines.invariant.cut c.first_line-end.ensures (pushed_behind c.lines.lines c.in_ok-part-2.ensures) c.in_default.not-Eof),
       bytes_are c.args.text.now c.utf8.text,
       c.requires,
     )))
 
-pub lines-preserved-in_ok-lines-2 : goal.lines-preserved-in_ok-lines-2
-lines-preserved-in_ok-lines-2 c = record {
+pub lines-preserved-in_ok-part-3 : goal.lines-preserved-in_ok-part-3
+lines-preserved-in_ok-part-3 c = record {
   cut = subst (λ z. IsCutOnto [] c.args.text.now c.first_line-end.result.2.now z)
-      (sym ((λ i. c.in_ok-lines-2.ensures.ok i ++ c.new-part-then-len-ge-MOST_LINES.ensures i) ∙ append-nil _))
-      (onto_more c.lines.invariant.cut c.first_line-end.ensures (pushed_behind c.lines.lines c.in_ok-part.ensures) c.in_default.not-Eof);
-  few = omega (arith, ap length c.new-part-then-len-ge-MOST_LINES.ensures);
+      (sym ((λ i. c.in_ok-lines-2.ensures.ok i ++ c.in_ok-part-3.ensures i) ∙ append-nil _))
+      (onto_more c.lines.invariant.cut c.first_line-end.ensures (pushed_behind c.lines.lines c.in_ok-part-2.ensures) c.in_default.not-Eof);
+  few = omega (arith, ap length c.in_ok-part-3.ensures);
   small = omega (arith, c.lines.invariant.small, (parts_le _ _ _ _ c.first_line-end.ensures).1);
 }
 
 pub lines-preserved : goal.lines-preserved
 lines-preserved c = record {
-  cut = onto_more c.lines.invariant.cut c.first_line-end.ensures (pushed_behind c.lines.lines c.in_ok-part.ensures) c.in_default.not-Eof;
+  cut = onto_more c.lines.invariant.cut c.first_line-end.ensures (pushed_behind c.lines.lines c.in_ok-part-2.ensures) c.in_default.not-Eof;
   few = omega (arith, c.if-len-ge-MOST_LINES.false, c.len.ensures);
   small = omega (arith, c.lines.invariant.small, (parts_le _ _ _ _ c.first_line-end.ensures).1);
 }
