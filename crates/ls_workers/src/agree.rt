@@ -1,5 +1,5 @@
 //! Whether what the seats were told is what a journal has.
-ghost use Rattle.std.specs.Prelude.{◌≡◌, ◌↔◌, ◌-◌, IsTrue, Some, length, slice_get};
+ghost use Rattle.std.specs.Prelude.{◌≡◌, ◌↔◌, ◌⊎◌, ◌-◌, IsTrue, Some, length, slice_get, true, false};
 ghost use Rattle.std.specs.Option.{option_map};
 ghost use Rattle.ls_machine.specs.Client.{client_event, client_events, sent_ticket, sent_tickets};
 ghost use Rattle.ls_workers.specs.Seats.{Agrees, AgreesAll, since, told_by};
@@ -101,9 +101,17 @@ fn since<'t>(desk: &Desk, seen: u64, tickets: &'t [u64]) -> &'t [u64]
 }
 
 /// Whether what the seats were told is what the journal of a desk has, and how many checkpoints there were.
-pub fn agrees_all(desk: &Desk, told: &ToldClient, seen: u64, tickets: &[u64]) -> bool
+fn agrees_all(desk: &Desk, told: &ToldClient, seen: u64, tickets: &[u64]) -> bool
     ensures { IsTrue result ↔ AgreesAll desk.now (told_by told.now) seen tickets.now }
 {
     let tickets = since(desk, seen, tickets);
     agrees(desk.journal(), &told.list, tickets) && desk.checkpoints() == told.checkpoints
+}
+
+/// Whether what the seats were told isn't what the journal of a desk has, or this had another entry where an event was entered.
+pub fn strays(desk: &Desk, told: &ToldClient, seen: u64, tickets: &[u64]) -> bool
+    ensures some { result ≡ true → (IsTrue told.now.strayed ⊎ (AgreesAll desk.now (told_by told.now) seen tickets.now → ⊥)) }
+    ensures none { result ≡ false → ((told.now.strayed ≡ false) × AgreesAll desk.now (told_by told.now) seen tickets.now) }
+{
+    told.strayed || !agrees_all(desk, told, seen, tickets)
 }

@@ -1,5 +1,5 @@
 //! What lies behind the lock.
-ghost use Rattle.std.specs.Prelude.{◌≡◌, ◌+◌, ◌%◌, ◌++◌, ◌∷◌, ◌<◌, ◌⊎◌, [], length, IfOk, IfErr, OnOk, OnErr, IfNone, IfSome, OnSome, None, Some, find, slice_set, vec_len, vec_capacity, true, false};
+ghost use Rattle.std.specs.Prelude.{◌≡◌, ◌+◌, ◌%◌, ◌++◌, ◌∷◌, ◌<◌, ◌⊎◌, [], length, IfOk, IfErr, OnOk, OnErr, IfNone, IfSome, OnSome, None, Some, IsTrue, find, slice_set, sum_by, vec_len, vec_capacity, true, false};
 ghost use Rattle.ls_machine.specs.Machine.{is_queued, waits};
 ghost use Rattle.ls_desk.specs.Stands.{IsSound, state_of, ticket_of_out};
 ghost use mathlib.Core.List.{IsPrefix};
@@ -13,13 +13,13 @@ ghost use Rattle.ls_machine.specs.Client.{HasSmallText, IsAllowed, note_of, open
 ghost use Rattle.ls_desk.specs.Faults.{take_fault, give_back_fault, finish_fault};
 ghost use Rattle.ls_workers.specs.Jobs.{HasLimits, IsFinishedAt, IsRefusedAt, IsReturnedAt, IsTakenAt, led_by};
 ghost use Rattle.ls_workers.specs.Refusals.{is_shortage, may_refuse_return, may_refuse_run};
-ghost use Rattle.ls_workers.specs.Seats.{HasRoom, Heard, since, told_by};
+ghost use Rattle.ls_workers.specs.Seats.{Agrees, AgreesAll, HasHistory, HasRoom, Heard, since, told_by};
 ghost use Rattle.ls_workers.specs.Ends.{first_waiting, is_first, has_job, has_job_for, has_news};
 
-use crate::agree::ends_with;
+use crate::agree::strays;
 use crate::calls::{count_none, enter, is_long};
+use crate::crew::gathered;
 use crate::ledgers::{Crew, OfClient, OfFinished, OfHeard, OfReturned, OfSent, OfTook};
-use crate::notes::filled;
 use crate::seats::{ClientSeat, WorkerSeat, WriterSeat};
 use ls_answers::{Done, Job};
 use ls_desk::{Desk, DeskFault, Event, Kept, Out, ticket_of};
@@ -248,9 +248,7 @@ impl<C: Crew> Behind<C> {
         let _counts = desk.counts();
         let Some(note) = note else { unreachable!() };
         seat.asked.one_more(asked);
-        let entry = filled(note, answer);
-        let strays = !ends_with(desk.journal(), &entry);
-        seat.told.add(long, desk.checkpoints(), strays, entry);
+        seat.told.hear(long, desk, note, answer);
         Ok(answer)
     }
 
@@ -473,5 +471,64 @@ impl<C: Crew> Behind<C> {
         self.sent.audit(sent);
         let Behind { desk, front, .. } = self;
         (desk, front)
+    }
+
+    /// The desk, where the seats are all of the board's own: what `Board::close` says of it. `Err` has a desk whose journal isn't what the seats
+    /// were told, or had another entry where an event was entered.
+    pub fn closed(
+        self,
+        client: ClientSeat<C>,
+        writer: WriterSeat<C>,
+        workers: Vec<WorkerSeat<C>>,
+    ) -> Result<Desk, Desk>
+        requires all { vec_len workers ≡ C.parts }
+        requires some { 0 < C.parts }
+        ensures counts { IfOk result (λ desk. Counts client.asked.share.amount (sum_by (λ seat. seat.took.share.amount) workers.items)
+            (sum_by (λ seat. seat.returned.share.amount) workers.items) (sum_by (λ seat. seat.finished.share.amount) workers.items)
+            writer.sent.share.amount desk) }
+        ensures agrees { IfOk result (λ desk. Agrees desk.journal client.told.list.items (since desk.base.checkpoints writer.checkpoints writer.tickets.items)) }
+        ensures checkpoints { IfOk result (λ desk. desk.base.checkpoints ≡ client.told.checkpoints) }
+        ensures strayed { OnOk result (client.told.strayed ≡ false) }
+        ensures history { IfOk result (HasHistory (heard_of client.front) (outs_of writer.front)) }
+        ensures limits { IfOk result (λ desk. HasLimits C.max_journal C.max_events desk) }
+        ensures counted { IfErr result (λ desk. Counts client.asked.share.amount (sum_by (λ seat. seat.took.share.amount) workers.items)
+            (sum_by (λ seat. seat.returned.share.amount) workers.items) (sum_by (λ seat. seat.finished.share.amount) workers.items)
+            writer.sent.share.amount desk) }
+        ensures limited { IfErr result (λ desk. HasLimits C.max_journal C.max_events desk) }
+        ensures err { IfErr result (λ desk. IsTrue client.told.strayed ⊎ (AgreesAll desk (told_by client.told) writer.checkpoints writer.tickets.items → ⊥)) }
+    {
+        let ClientSeat {
+            mark: _,
+            asked,
+            told,
+            front: client_front,
+            heard,
+        } = client;
+        let WriterSeat {
+            mark: _,
+            sent,
+            tickets,
+            checkpoints,
+            front: writer_front,
+        } = writer;
+        let mut heard = heard;
+        let mut asked = asked.share;
+        let mut sent = sent.share;
+        let (mut took, mut returned, mut finished) = gathered(workers);
+        let (desk, front) = self.audited(
+            &mut heard,
+            &mut asked,
+            &mut took,
+            &mut returned,
+            &mut finished,
+            &mut sent,
+        );
+        if strays(&desk, &told, checkpoints, &tickets) {
+            return Err(desk);
+        }
+        front.legal();
+        front.beside(&client_front);
+        front.beside(&writer_front);
+        Ok(desk)
     }
 }

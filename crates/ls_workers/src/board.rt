@@ -11,9 +11,8 @@ ghost use Rattle.ls_workers.specs.Refusals.{is_shortage, may_refuse_return, may_
 ghost use Rattle.ls_workers.specs.Seats.{Agrees, AreAll, HasCause, HasHistory, IsHeard, since, told_by, told_nothing};
 ghost use Rattle.ls_machine.specs.Client.{IsAllowed};
 
-use crate::agree::agrees_all;
 use crate::behind::{Behind, SeatFault};
-use crate::crew::{are_all, gathered, seats_of};
+use crate::crew::{are_all, seats_of};
 use crate::ledgers::{Blanks, Crew, OfClient, OfFinished, OfHeard, OfReturned, OfSent, OfTook};
 use crate::seats::{ClientSeat, WorkerSeat, WriterSeat};
 use ls_answers::{Done, Job};
@@ -299,40 +298,10 @@ impl<C: Crew> Board<C> {
         if !own || !are_all(&workers, self.mark, self.workers) {
             return Err(SeatFault::SeatMissing);
         }
-        let ClientSeat {
-            mark: _,
-            asked,
-            told,
-            front: client_front,
-            heard,
-        } = client;
-        let WriterSeat {
-            mark: _,
-            sent,
-            tickets,
-            checkpoints,
-            front: writer_front,
-        } = writer;
-        let mut heard = heard;
-        let mut asked = asked.share;
-        let mut sent = sent.share;
-        let (mut took, mut returned, mut finished) = gathered(workers);
         let Board { behind, .. } = self;
-        let behind = behind.into_inner();
-        let (desk, front) = behind.audited(
-            &mut heard,
-            &mut asked,
-            &mut took,
-            &mut returned,
-            &mut finished,
-            &mut sent,
-        );
-        if told.strayed || !agrees_all(&desk, &told, checkpoints, &tickets) {
-            return Err(SeatFault::Strayed(desk));
+        match behind.into_inner().closed(client, writer, workers) {
+            Ok(desk) => Ok(desk),
+            Err(desk) => Err(SeatFault::Strayed(desk)),
         }
-        front.legal();
-        front.beside(&client_front);
-        front.beside(&writer_front);
-        Ok(desk)
     }
 }

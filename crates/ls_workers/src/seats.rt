@@ -1,15 +1,16 @@
 //! Seats: what the client's reader, the workers and the writer hold.
-ghost use Rattle.std.specs.Prelude.{◌≡◌, ◌↔◌, ◌⊎◌, ◌+◌, ◌++◌, ◌∷◌, ◌<◌, ◌^◌, [], IfOk, IfNone, IfSome, IsTrue, OnOk, length, vec_len, vec_capacity, true, false, if◌then◌else◌};
-ghost use Rattle.ls_machine.specs.Client.{HasSmallText, note_of, opens_too_large};
+ghost use Rattle.std.specs.Prelude.{◌≡◌, ◌↔◌, ◌⊎◌, ◌+◌, ◌-◌, ◌++◌, ◌∷◌, ◌<◌, ◌^◌, [], IfOk, IfNone, IfSome, IsTrue, OnOk, Some, length, slice_get, vec_len, vec_capacity, true, false, if◌then◌else◌};
+ghost use Rattle.ls_machine.specs.Client.{HasSmallText, filled, note_of, opens_too_large};
 ghost use mathlib.Core.List.{IsPrefix};
 ghost use Rattle.ls_history.specs.Told.{heard_of, outs_of};
 ghost use Rattle.ls_workers.specs.Seats.{HasRoom, since, told_by, told_nothing};
 
+use crate::agree::ends_with;
 use crate::ledgers::{Ledgers, OfClient, OfFinished, OfHeard, OfReturned, OfSent, OfTook};
-use crate::notes::note_of;
-use ls_desk::Event;
+use crate::notes::{filled, note_of};
+use ls_desk::{Desk, Event};
 use ls_history::Front;
-use ls_machine::ClientEvent;
+use ls_machine::{ClientAnswer, ClientEvent};
 use std::alloc::{AllocError, Global};
 use std::mem;
 use std::sync::Wait;
@@ -126,7 +127,7 @@ impl ToldClient {
 
     /// An event comes with its answer. Where it made a checkpoint the list begins anew with it. It is kept whether the journal has another entry.
     /// Takes no memory, and lets none go.
-    pub(crate) fn add(&mut self, anew: bool, checkpoints: u64, strays: bool, entry: Event)
+    fn add(&mut self, anew: bool, checkpoints: u64, strays: bool, entry: Event)
         requires { HasRoom self.old }
         ensures list { self.new.list.items ≡ (if anew then [] else self.old.list.items) ++ entry ∷ [] }
         ensures checkpoints { self.new.checkpoints ≡ (if anew then checkpoints else self.old.checkpoints) }
@@ -142,6 +143,19 @@ impl ToldClient {
         }
         self.strayed = self.strayed || strays;
         self.list.push_reserved(entry);
+    }
+
+    /// An event was entered at a desk with its answer, and comes with its note. It is kept whether the desk's journal has another entry. Where the
+    /// event made a checkpoint the list begins anew with it. Takes no memory, and lets none go.
+    pub(crate) fn hear(&mut self, anew: bool, desk: &Desk, note: Event, answer: ClientAnswer)
+        requires { HasRoom self.old }
+        ensures list { self.new.list.items ≡ (if anew then [] else self.old.list.items) ++ filled note answer ∷ [] }
+        ensures checkpoints { self.new.checkpoints ≡ (if anew then desk.now.base.checkpoints else self.old.checkpoints) }
+        ensures strayed { IsTrue self.new.strayed ↔ (IsTrue self.old.strayed ⊎ (slice_get desk.now.journal (length desk.now.journal - 1) ≡ Some (filled note answer) → ⊥)) }
+    {
+        let entry = filled(note, answer);
+        let strays = !ends_with(desk.journal(), &entry);
+        self.add(anew, desk.checkpoints(), strays, entry);
     }
 }
 

@@ -77,3 +77,18 @@ returns-in_err-job-clause-cause g c =
     let fault = c.in_err-job.field-0.0 in
     let cause = take_refused_at fault now.front now.desk c.take.new.desk now.led c.in_err-job.ensures.err in
     let here = subst (IsRefusedAt take_fault fault) (sym c.follow.ensures.seen) cause in search rules
+
+pub returns-clause-some : goal.returns-clause-some
+returns-clause-some g c = c.one_more.ensures.amount
+
+pub returns-clause-all : goal.returns-clause-all
+returns-clause-all g c = c.again.ensures
+
+pub returns-clause-others : goal.returns-clause-others
+returns-clause-others g c = (refl, refl)
+
+pub returns-clause-kept : goal.returns-clause-kept
+returns-clause-kept g c = (refl, refl)
+
+pub returns-clause-ends : goal.returns-clause-ends
+returns-clause-ends g c = (refl, refl)
