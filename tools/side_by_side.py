@@ -52,7 +52,7 @@ class Lanes:
         self.left.sort(key=lambda it: -it.chain)
 
     def is_of_chain(self, task):
-        longest = max(it.chain for it in [*self.left, *(task for task, _ in self.running.values())])
+        longest = max((it.chain for it in [*self.left, *(task for task, _ in self.running.values())]), default=0)
         return task.chain >= OF_THE_CHAIN * longest
 
     def jobs(self, task, ready):
