@@ -3,5 +3,6 @@ pub mod Form
 pub mod Order
 pub mod Queue
 pub mod Search
+pub mod Sweeps
 pub mod Users
 pub mod Walk

@@ -14,6 +14,7 @@ mod rendering;
 mod row;
 mod search;
 mod shortest;
+mod sweep;
 mod users;
 mod walk;
 mod work;

@@ -16,9 +16,10 @@ use crate::candidate::Candidate;
 use crate::given::{awaits_parts, chosen, entry_given};
 use crate::offer::{offer_all, push_given};
 use crate::queue::Queue;
+use crate::sweep::swept_entries;
 use crate::users::Users;
 use abnf_cert::entries::{entry_of, has_pair};
-use abnf_cert::{Cert, Entry};
+use abnf_cert::{Cert, Entry, check};
 use abnf_names::Grammar;
 use abnf_parts::Node;
 use std::alloc::{AllocError, Global};
@@ -135,6 +136,12 @@ fn choose(grammar: &Grammar, table: &mut [Entry])
 pub fn least(alloc: Global, grammar: &Grammar) -> Result<Cert, AllocError>
     ensures { IfOk result (λ cert. IsAccepted grammar.now.rules cert) }
 {
+    if let Some(entries) = swept_entries(alloc, grammar)? {
+        let cert = Cert::new(entries);
+        if check(grammar, &cert) {
+            return Ok(cert);
+        }
+    }
     let mut table = settled(alloc, grammar)?;
     choose(grammar, &mut table);
     Ok(Cert::new(table))

@@ -97,6 +97,19 @@ fn fitted(spots: List<Spot<'_>>) -> List<Spot<'_>>
     List::from_vec(spots)
 }
 
+/// How many items are names.
+fn name_count(sections: &[Section<'_>]) -> usize {
+    let mut count = 0usize;
+    for section in sections {
+        for item in section.block.items.as_slice() {
+            if matches!(item.token.kind, Kind::Name) {
+                count = count.saturating_add(1);
+            }
+        }
+    }
+    count
+}
+
 /// The places in a text.
 pub(crate) fn places_of<'t>(
     alloc: Global,
@@ -104,7 +117,7 @@ pub(crate) fn places_of<'t>(
 ) -> Result<List<Spot<'t>>, AllocError>
     ensures { IfOk result (λ spots. map places.named_at spots ≡ flat_map (λ section. places.places_in section.block.items) sections.now) }
 {
-    let mut spots = List::new(alloc);
+    let mut spots = List::from_vec(Vec::with_capacity(alloc, name_count(sections))?);
     for section in sections {
         push_places(&mut spots, &section.block)?;
     }

@@ -186,16 +186,17 @@ fn push_rules<'s, 't>(
     push_needed(alloc, names.own().len(), names.core(), needed, nodes, roots)
 }
 
-/// The nodes of all rules, and the numbers of their roots.
+/// The nodes of all rules, and the numbers of their roots. There is room for so many nodes at once.
 fn numbered_rules<'s, 't>(
     alloc: Global,
     names: &RuleNames<'t>,
     own: &[List<Listed<'s, 't>>],
     needed: &[Core],
+    room: usize,
 ) -> Result<(Vec<Node<'t>>, Vec<NodeNo>), AllocError>
     ensures { IfOk result (λ r. (blocks : List said.Block) → spec.AreDefined blocks names.now.0 own.now → spec.AreNames blocks names.now → map table.core_of needed.now ≡ rules.needed blocks → AddsTrees (rules.rules_of blocks) [] r.0.items [] r.1.items) }
 {
-    let mut nodes = Vec::new(alloc);
+    let mut nodes = Vec::with_capacity(alloc, room)?;
     let mut roots = List::new(alloc);
     let mut spare = Spare::new(alloc);
     push_rules(
@@ -204,6 +205,15 @@ fn numbered_rules<'s, 't>(
     // What looks through the nodes needs memory of its own beside them.
     nodes.shrink_to_fit();
     Ok((nodes, roots.into_vec()))
+}
+
+/// How many items the blocks have. A text has few nodes more than items, and mostly fewer.
+fn item_count(sections: &[Section<'_>]) -> usize {
+    let mut count = 0usize;
+    for section in sections {
+        count = count.saturating_add(section.block.items.len());
+    }
+    count
 }
 
 /// The rules of a text: their names, nodes and roots, and for each whether it leads to prose or to a faulty block.
@@ -227,7 +237,13 @@ pub(crate) fn rules_said<'t>(
     let groups = own_groups(alloc, sections)?;
     let (own, members) = groups.into_parts();
     let (names, needed) = rule_names(alloc, own, places)?;
-    let (nodes, roots) = numbered_rules(alloc, &names, members.as_slice(), needed.as_slice())?;
+    let (nodes, roots) = numbered_rules(
+        alloc,
+        &names,
+        members.as_slice(),
+        needed.as_slice(),
+        item_count(sections),
+    )?;
     let opaque = reaching(alloc, nodes.as_slice(), roots.as_slice())?;
     Ok(Rules {
         names,

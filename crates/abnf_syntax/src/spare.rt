@@ -2,7 +2,7 @@
 
 ghost use Rattle.std.specs.Prelude.{◌≡◌, []};
 
-use crate::tree::{Alternation, Concatenation, Rule};
+use crate::tree::{Alternation, Concatenation, Element, Rule};
 use ls_lists::List;
 use std::alloc::Global;
 
@@ -25,18 +25,34 @@ impl<'t> Spare<'t> {
         }
     }
 
-    /// Keeps the room of a rule's body. What is nested in brackets is let go.
+    /// Keeps the room of a rule's body, and of what stands in brackets there. What is nested deeper is let go.
     pub fn keep(&mut self, rule: Rule<'t>) {
         let Rule {
             name: _,
             adds: _,
             mut body,
         } = rule;
-        while let Some(row) = body.pop() {
+        while let Some(mut row) = body.pop() {
+            while let Some(repetition) = row.pop() {
+                self.keep_inside(repetition.element);
+            }
             // Where there is no memory to keep it, it is let go.
             drop(self.concatenations.push(row));
         }
         drop(self.alternations.push(body));
+    }
+
+    /// Keeps the room of an element in brackets.
+    fn keep_inside(&mut self, element: Element<'t>) {
+        match element {
+            Element::Group(mut inside) | Element::Choice(mut inside) => {
+                while let Some(row) = inside.pop() {
+                    drop(self.concatenations.push(row));
+                }
+                drop(self.alternations.push(inside));
+            }
+            _ => {}
+        }
     }
 
     /// An empty alternation.

@@ -22,6 +22,8 @@ mod rounds;
 #[cfg(test)]
 mod sentences;
 #[cfg(test)]
+mod sweeps;
+#[cfg(test)]
 mod texts;
 #[cfg(test)]
 mod wrong;

@@ -10,5 +10,5 @@ returns c blocks own are needed =
     subst (λ (nodes : List Node). AddsTrees trees [] nodes [] c.into_vec.result.items) (sym c.shrink_to_fit.ensures.items)
     (subst (λ (roots : List ℕ). AddsTrees trees [] c.push_rules.new.nodes.items [] roots) (sym c.into_vec.ensures)
     (subst (λ (roots : List ℕ). AddsTrees trees [] c.push_rules.new.nodes.items roots c.push_rules.new.roots) c.new-roots.ensures
-    (subst (λ (nodes : List Node). AddsTrees trees nodes c.push_rules.new.nodes.items c.new-roots.result c.push_rules.new.roots) c.new-nodes.ensures.items
+    (subst (λ (nodes : List Node). AddsTrees trees nodes c.push_rules.new.nodes.items c.new-roots.result c.push_rules.new.roots) c.in_ok-nodes.ensures.items
     (c.in_ok-push_rules.ensures blocks own are needed))))
