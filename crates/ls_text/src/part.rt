@@ -20,11 +20,11 @@ const MOST: usize = 0xffff_ffff;
 // How many bytes and marks an edit may add before the room for them grows.
 const SPARE: usize = 256;
 
-// About how many bytes a token has.
-const BYTES_OF_A_MARK: usize = 6;
+// How many bytes a token has, at least about.
+const BYTES_OF_A_MARK: usize = 4;
 
-// About how many bytes a line has.
-const BYTES_OF_A_LINE: usize = 32;
+// How many bytes a line has, at most about.
+const BYTES_OF_A_LINE: usize = 64;
 
 // Where the text of a line and its marks stand among those of its part.
 #[derive(Clone, Copy)]
@@ -202,7 +202,8 @@ impl Part {
         })
     }
 
-    // No lines, with room for about those of a text of so many bytes, of which no more than so many come.
+    // No lines, with room for about those of a text of so many bytes, of which no more than so many come. What isn't needed is let go
+    // once they have come.
     pub fn for_text(alloc: Global, bytes: usize, lines: usize) -> Result<Part, AllocError>
         ensures { IfOk result (λ lines. lines ≡ []) }
     {
@@ -210,7 +211,7 @@ impl Part {
         Ok(Part {
             text: String::with_capacity(alloc, bytes)?,
             marks: Vec::with_capacity(alloc, bytes / BYTES_OF_A_MARK)?,
-            lines: Vec::with_capacity(alloc, bytes / BYTES_OF_A_LINE)?,
+            lines: Vec::with_capacity(alloc, lines.min(bytes))?,
         })
     }
 
