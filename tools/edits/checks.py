@@ -12,8 +12,9 @@ from typing import NamedTuple
 from edits.kit import RT, RTLIB
 from edits.verdict import TIMED_OUT
 
-# A check that takes longer is killed, and there is no verdict. The longest take some ten minutes on a slow machine.
-MINUTES = 40
+# A check that takes longer is killed, and there is no verdict. The longest take some twenty minutes of a processor, and beside proofs, which have
+# more priority, they have only a part of one.
+MINUTES = 90
 ONE_JOB = ("--jobs", "1")
 
 

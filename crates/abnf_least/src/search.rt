@@ -1,5 +1,7 @@
 //! The search for least lengths.
 //!
+//! Sweeps find most of them, and the check of certificates tells whether they did. Where they didn't, a queue finds them.
+//!
 //! Parts are settled in the order of their pairs, each once: a queue gives the least, since no part has a pair before those of the
 //! parts from which it follows. A settled part is offered to its users, which then wait in the queue. What waits is checked again
 //! when it leaves, so nothing need be taken from the queue's middle. In the end each choice names the first part with the least
