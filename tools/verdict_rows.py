@@ -16,7 +16,7 @@ import tempfile
 from edits import checks
 from edits.copies import Copy
 from edits.files import edits_in, lines_of, unread_folders, write
-from edits.functions import is_in
+from edits.functions import Source, is_in
 from edits.libraries import Gate, Libraries
 from edits.store import KINDS, NoStore, Store
 from edits.trial import Trial
@@ -338,6 +338,18 @@ def controls():
         yield "the controls where there is no twin", trial.maker.controls(Copy([])), set()
 
 
+def names():
+    """A method of a trait has the names of its type and its trait, but for `drop`; none of them has twins."""
+    for trait, wanted in (("Drop", "Made::drop"), ("Clone", "MadeClone::clone")):
+        with tempfile.TemporaryDirectory() as at:
+            os.makedirs(f"{at}/src")
+            head = f"impl {trait} for Made<'_> {{\n    fn {trait.lower()}(self) {{\n"
+            write(f"{at}/src/lib.rt", f"pub struct Made<'t> {{\n    a: &'t u8,\n}}\n\n{head}        f(self)\n    }}\n}}\n")
+            source = Source("made", at)
+            yield f"the name of a method: {trait}", [*source.bodies()], [wanted]
+            yield f"a method without a twin: {trait}", source.without_twins, {wanted}
+
+
 def unedited():
     """With no edit made all copies must be proved."""
     for fails, wanted in (((), True), (("f",), False), (("law",), False), (("clone",), False), (("h",), False)):
@@ -432,7 +444,7 @@ def libraries():
 
 def main():
     results = []
-    for rows in (logs, alone, texts, played, controls, unedited, self_test, remembered, libraries):
+    for rows in (logs, alone, texts, names, played, controls, unedited, self_test, remembered, libraries):
         for name, found, wanted in rows():
             results.append(found == wanted)
             if found != wanted:

@@ -38,6 +38,8 @@ def block_of(text):
     while kind == "impl" and "<" in head:
         head = re.sub(r"<[^<>]*>", "", head)
     words = [it.rpartition("::")[2] for it in re.sub(r" where .*|[&{]", " ", head).split() if it != "for"]
+    # (what lets a value go has the name of a method of its type)
+    words = words[1:] if words[:1] == ["Drop"] else words
     return words[::-1] if is_named else None
 
 
@@ -157,7 +159,7 @@ class Source:
     def without_twins_in(self, path, text):
         """The functions of a file that can have no twin.
 
-        Those are of an impl of a trait, or their proof isn't all in the answers in their own folder, which nothing else names.
+        Those are of an impl of a trait, as `drop` is, or their proof isn't all in the answers in their own folder, which nothing else names.
         """
         folders = "\n".join(self.proofs)
         for it in FUNCTION.finditer(text):
@@ -165,5 +167,5 @@ class Source:
             own = f"{self.folder}/proofs/{name.replace('::', '/')}/"
             named = [at for at, proof in self.proofs.items() if at.startswith(own) or f"proofs.{name.replace('::', '.')}." in proof]
             has_closures = f"/fn/{it[3]}/" in folders
-            if block is None or len(block) > 1 or has_closures or not {*named} <= {f"{own}{file}" for file in ANSWERS}:
+            if block is None or len(block) > 1 or it[3] == "drop" or has_closures or not {*named} <= {f"{own}{file}" for file in ANSWERS}:
                 yield name
