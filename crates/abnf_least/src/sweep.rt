@@ -18,7 +18,7 @@ use abnf_parts::{Node, RuleNo};
 use std::alloc::{AllocError, Global};
 
 /// How often all rules are swept both ways before that is given up.
-const ROUNDS: usize = 16;
+const ROUNDS: usize = 8;
 
 /// When a rule was swept last, and when its root last got another entry. A time is the number of rules that were swept by then; 0 is
 /// never.
