@@ -17,6 +17,7 @@ from edits import checks
 from edits.copies import Copy
 from edits.files import edits_in, lines_of, unread_folders, write
 from edits.functions import Source, is_in
+from edits.kit import once_a_call
 from edits.libraries import Gate, Libraries
 from edits.store import KINDS, NoStore, Store
 from edits.trial import Trial
@@ -350,6 +351,36 @@ def names():
             yield f"a method without a twin: {trait}", source.without_twins, {wanted}
 
 
+class Summed:
+    """A crate whose sum is made of its own reading and of the sums of those that it uses."""
+
+    def __init__(self, name, *deps):
+        self.name, self.deps, self.text, self.readings = name, deps, name, 0
+
+    def stamp(self):
+        self.readings += 1
+        return f"{self.text} {[it.stamp() for it in self.deps]}"
+
+
+class SummedAtOnce(Summed):
+    stamp = once_a_call(Summed.stamp)
+
+
+def sums():
+    """A sum that is made at once is the same, reads each crate once, and sees what has changed since the one before."""
+    made = {}
+    for kind in (Summed, SummedAtOnce):
+        low = kind("low")
+        middle = kind("middle", low)
+        top = kind("top", low, middle, kind("other", middle, low))
+        first, low.text = top.stamp(), "changed"
+        made[kind] = first, top.stamp(), low.readings, top.readings
+    yield "the sums", made[Summed][:2], made[SummedAtOnce][:2]
+    yield "the sums before and behind a change", made[SummedAtOnce][0] != made[SummedAtOnce][1], True
+    yield "the readings by each way", made[Summed][2:], (8, 2)
+    yield "the readings at once", made[SummedAtOnce][2:], (2, 2)
+
+
 def unedited():
     """With no edit made all copies must be proved."""
     for fails, wanted in (((), True), (("f",), False), (("law",), False), (("clone",), False), (("h",), False)):
@@ -444,7 +475,7 @@ def libraries():
 
 def main():
     results = []
-    for rows in (logs, alone, texts, names, played, controls, unedited, self_test, remembered, libraries):
+    for rows in (logs, alone, texts, names, played, controls, sums, unedited, self_test, remembered, libraries):
         for name, found, wanted in rows():
             results.append(found == wanted)
             if found != wanted:

@@ -3,11 +3,13 @@
 The crates of a checkout, the texts that an edit makes of a crate's files, the try of one edit from nothing, and, where it has one, the
 store of what earlier runs passed.
 """
+import functools
 import importlib.machinery
 import importlib.util
 import os
 import shutil
 import sys
+import threading
 
 PARTS = ("src", "specs", "proofs")
 
@@ -21,8 +23,30 @@ def loaded():
     return made
 
 
+def once_a_call(stamp):
+    """The same sum of a crate and of all below it, with one reading of each crate for all the ways that lead down to it."""
+    local = threading.local()
+
+    @functools.wraps(stamp)
+    def made(crate):
+        if getattr(local, "sums", None) is not None:
+            if crate.name not in local.sums:
+                local.sums[crate.name] = stamp(crate)
+            return local.sums[crate.name]
+        # (only while one sum is made, since sums tell whether a file has changed)
+        local.sums = {}
+        try:
+            return stamp(crate)
+        finally:
+            local.sums = None
+
+    return made
+
+
 RT = loaded()
 RTLIB = RT.rtlib
+if hasattr(RTLIB.Crate, "stamp"):
+    RTLIB.Crate.stamp = once_a_call(RTLIB.Crate.stamp)
 DOES_KEEP = hasattr(RT, "Kept")
 
 # What a try of one edit from nothing comes to, in the words of `rt`. The prover refuses it, by itself or by a limit of its own; the crate
