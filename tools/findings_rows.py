@@ -261,6 +261,11 @@ GRAMMAR_ROWS = (
 )
 
 
+def told_kit():
+    """The kit that the program names, with the logic of the kit that is here: kits of several names have the same logic."""
+    return f"rattle-kit-13f {kit().partition(' ')[2]}"
+
+
 def version():
     """The version, as the extension for VS Code has it."""
     with open(os.path.join(rows.TOP, "editors", "vscode", "package.json"), encoding="utf-8") as file:
@@ -389,7 +394,7 @@ def argument_cases(program, files):
     is_bad = printed(bad, ("1:5: error: bad character [syntax]",))
     for words in (["--help"], ["--help", "-x"], ["--strict", "--help", "--strict"]):
         yield f"the arguments {words}", ended(program, None, words), (0, b"", HELP)
-    told = f"abnf_findings {version()} ({kit()})\n".encode()
+    told = f"abnf_findings {version()} ({told_kit()})\n".encode()
     for words in (["--version"], ["--version", "--help"], ["--rules", "--version"]):
         yield f"the arguments {words}", ended(program, None, words), (0, b"", told)
     full = os.open("/dev/full", os.O_WRONLY)
@@ -488,7 +493,7 @@ def memory_cases(program, files):
     known = ["--with", core, "--with", drafts[1]]
     uses = [files.written("uses.abnf", "c = OWS a"), files.written("uses.md", '```abnf\nc = RWS "x" ?\n```')]
     near = [files.written("near.abnf", 'a = sheme / "x"\nscheme = "y"'), files.written("far.abnf", 'a = "x" / DIGITS')]
-    for what, words, wanted in (("help", ["--help"], HELP), ("the version", ["--version"], f"abnf_findings {version()} ({kit()})\n".encode())):
+    for what, words, wanted in (("help", ["--help"], HELP), ("the version", ["--version"], f"abnf_findings {version()} ({told_kit()})\n".encode())):
         with rows.library(refused_memory.LIBRARY) as made:
             found = refusals(program, made, words)
         others = {*found[:-1]} - {(6, said, b""), (0, refused_memory.REFUSED, wanted)}
