@@ -15,7 +15,6 @@ use abnf_outcome::{Digests, Outcome};
 use abnf_syntax::{Block, Sheet, Spare};
 use ls_lists::List;
 use std::alloc::{AllocError, Global};
-use std::hash::{DefaultHasher, Hasher};
 use std::marker::Model;
 
 /// How many names and words may be left behind beside as many as were read at first.
@@ -35,15 +34,6 @@ impl Model for KeptBlocks {
     ghost Value = { Stored };
 
     ghost view = { λ b. b.digests };
-}
-
-/// A number that depends on each line of a text, so that names which are chosen to meet in a table change where all of them stand.
-fn seed_of(sheet: &Sheet) -> u64 {
-    let mut hasher = DefaultHasher::new();
-    for at in 0..sheet.count() {
-        hasher.write(sheet.line(at).as_bytes());
-    }
-    hasher.finish()
 }
 
 /// How many names and words there are.
@@ -87,7 +77,7 @@ impl KeptBlocks {
     pub fn of(alloc: Global, sheet: &Sheet) -> Result<KeptBlocks, AllocError>
         ensures { IfOk result (λ blocks. IsKeptOf sheet.now blocks) }
     {
-        let mut digests = Digests::new(alloc, seed_of(sheet));
+        let mut digests = Digests::new(alloc, sheet.seed());
         read(alloc, sheet, 0, sheet.count(), &mut digests)?;
         let size = size_of(&digests);
         Ok(KeptBlocks { digests, size })

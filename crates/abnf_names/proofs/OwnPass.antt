@@ -3,7 +3,7 @@ use Rattle.std.proofs.Common.{◌≡◌, ◌<◌, ◌+◌, ℕ, suc, Bool, true,
 use Rattle.std.specs.Option.{option_map_or}
 use Rattle.abnf_names.specs.declared.section.Listed.{Listed}
 use Rattle.std.specs.List.{cons_option}
-use Rattle.std.specs.Prelude.{Result, Ok, Err, IfOk, Option, Some, None, option_map, flat_map, fold, filter, filter_map, if◌then◌else◌}
+use Rattle.std.specs.Prelude.{Result, Ok, Err, OnOk, Option, Some, None, option_map, flat_map, fold, filter, filter_map, if◌then◌else◌}
 use Rattle.std.proofs.Math.Seq.{take-suc}
 use Rattle.std.proofs.lemmas.List.{map-append}
 use Rattle.std.proofs.lemmas.List.Elements.{filter-append, filter_map-append}
@@ -127,6 +127,6 @@ stated_next spots i spot d old new lt is before now =
     ∙ sym (ap stated (map_take_next named_at spots i spot d lt is) ∙ stated_more (map named_at (take i spots)) (named_at spot)))
 
 -- what is known of two clauses together
-pub ok_both : {A E : Type 0} (r : Result A E) (P Q R : A → Type 0) → ((x : A) → P x → Q x → R x) → IfOk r P → IfOk r Q → IfOk r R
-ok_both (Ok x) P Q R f p q = f x p q
-ok_both (Err e) P Q R f p q = tt
+pub on_both : {A E : Type 0} (r : Result A E) (P Q R : Type 0) → (P → Q → R) → OnOk r P → OnOk r Q → OnOk r R
+on_both (Ok x) P Q R f p q = f p q
+on_both (Err e) P Q R f p q = tt

@@ -127,6 +127,18 @@ counted_next number sections definitions i listed is_defined adding old mid new 
     (drop-cons definitions i first within ∙ ap (λ k. d ∷ drop k definitions) (let one : suc i ≡ i + 1 = omega arith in one)) h)
     (adds ∙ tells.adds) (pushed d.said tells.said)
 
+counts_first : (adding : Bool) → true ≡ adding || not false
+counts_first true = refl
+counts_first false = refl
+
+-- the first section, which counts, and the definition that it tells
+pub counted_first : (number : Name → Option ℕ) (first : Listed) (rest : List Listed) (definitions : List Definition) (adding : Bool) (old new : List Node) (a c : List ℕ) →
+    AreTold (first ∷ rest) definitions → adding ≡ is_addition first.section.now.block.items → ((said : Result Rule SyntaxFault) → IsSaidBy first.section.now said → AddsTrees (alternatives_said number said) old new a c) →
+    HasPushed (alternatives_of number) definitions (not adding) (drop 1 definitions) old new a c
+counted_first number first rest definitions adding old new a c told adds pushed =
+    counted_next number (first ∷ rest) definitions 0 first false adding old old new a a c told (omega arith) refl adds (pushed_none (alternatives_of number) definitions old a)
+    (λ said says. subst (λ b. AddsTrees (if b then alternatives_said number said else []) old new a c) (counts_first adding) (pushed said says))
+
 pub counted_end : (number : Name → Option ℕ) (sections : List Listed) (definitions : List Definition) (i : ℕ) (is_defined : Bool) (old new : List Node) (a c : List ℕ) →
     AreTold sections definitions → length sections ≤ i → HasPushed (alternatives_of number) definitions is_defined (drop i definitions) old new a c → AddsTrees (flat_map (alternatives_of number) (counted_among definitions)) old new a c
 counted_end number sections definitions i is_defined old new a c told end h =

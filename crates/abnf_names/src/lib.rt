@@ -15,6 +15,7 @@ mod reach;
 mod rules;
 mod section;
 mod sections;
+mod short_list;
 
 pub use abnf_parts::{Node, NodeNo, RuleNo};
 pub use grammar::Grammar;

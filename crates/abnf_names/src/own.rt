@@ -23,17 +23,17 @@ use std::hash::{DefaultHasher, Hasher};
 /// How many bytes a hasher takes at once.
 const WORD: usize = 8;
 
-/// One more section under the name that its block defines, if it defines one.
-fn with_section<'s, 't>(
+/// Puts a section under the name that its block defines, if it defines one.
+fn put_section<'s, 't>(
     alloc: Global,
-    groups: Groups<'t, Listed<'s, 't>>,
+    groups: &mut Groups<'t, Listed<'s, 't>>,
     section: &'s Section<'t>,
-) -> Result<Groups<'t, Listed<'s, 't>>, AllocError>
-    ensures { IfOk result (λ g. (seen : List excerpts.Excerpt) → spec.AreGrouped seen groups.entry → spec.AreGrouped (seen ++ excerpts.excerpt section.now ∷ []) g) }
+) -> Result<(), AllocError>
+    ensures { OnOk result ((seen : List excerpts.Excerpt) → spec.AreGrouped seen groups.old → spec.AreGrouped (seen ++ excerpts.excerpt section.now ∷ []) groups.new) }
 {
     match section.block.head() {
-        Some(head) => groups.with(alloc, Folded(head.name.text), Listed { section }),
-        None => Ok(groups),
+        Some(head) => groups.put(alloc, Folded(head.name.text), Listed { section }),
+        None => Ok(()),
     }
 }
 
@@ -68,7 +68,7 @@ pub(crate) fn own_groups<'s, 't>(
 {
     let mut groups = Groups::new(alloc, seed_of(sections));
     for section in sections {
-        groups = with_section(alloc, groups, section)?;
+        put_section(alloc, &mut groups, section)?;
     }
     Ok(groups)
 }

@@ -12,10 +12,14 @@ ghost use Rattle.abnf_names.specs.own.Search as search;
 ghost use Rattle.abnf_names.specs.own.Users as spec;
 
 use crate::range::range_of;
+use crate::short_list::ShortList;
 use abnf_parts::{Node, NodeNo};
 use ls_lists::List;
 use std::alloc::{AllocError, Global};
 use std::marker::Model;
+
+/// The rules that use one place. Most places have few.
+type Users = ShortList<usize, 3>;
 
 /// The places that a search has found. Contracts see how many places there are, and those that were found, each once, in order.
 #[derive(Drop)]
@@ -91,7 +95,7 @@ fn add_all(places: &[usize], found: &mut Found) -> Result<(), AllocError>
 }
 
 /// For each place whether steps lead from it to the last one, where each place has its users.
-fn marks_of(alloc: Global, users: &[List<usize>]) -> Result<Vec<bool>, AllocError>
+fn marks_of(alloc: Global, users: &[Users]) -> Result<Vec<bool>, AllocError>
     requires some { 0 < length users.now }
     requires within { search.AreUsersWithin users.now }
     ensures { IfOk result (λ marks. search.AreReachMarks users.now marks.items) }
@@ -125,7 +129,7 @@ fn place_of(node: &Node<'_>, last: usize) -> Option<usize>
 fn add_user(
     rule: usize,
     place: Option<usize>,
-    users: &mut Vec<List<usize>>,
+    users: &mut Vec<Users>,
 ) -> Result<(), AllocError>
     requires { ForSome place (λ p. p < length users.old.items) }
     ensures { OnOk result (users.new.items ≡ spec.with_user rule users.old.items place) }
@@ -141,7 +145,7 @@ fn add_users(
     rule: usize,
     last: usize,
     nodes: &[Node<'_>],
-    users: &mut Vec<List<usize>>,
+    users: &mut Vec<Users>,
 ) -> Result<(), AllocError>
     requires { (place : ℕ) → Contains (map (spec.place_of_node last) nodes.now) (Some place) → place < length users.old.items }
     ensures { OnOk result (users.new.items ≡ fold (spec.with_user rule) users.old.items (map (spec.place_of_node last) nodes.now)) }
@@ -153,13 +157,13 @@ fn add_users(
 }
 
 /// So many places without users.
-fn no_users(alloc: Global, count: usize) -> Result<Vec<List<usize>>, AllocError>
+fn no_users(alloc: Global, count: usize) -> Result<Vec<Users>, AllocError>
     ensures len { IfOk result (λ users. length users.items ≡ count) }
     ensures none { IfOk result (λ users. (place : ℕ) → search.users_at users.items place ≡ []) }
 {
     let mut users = Vec::new(alloc);
     for _ in 0..count {
-        users.push(List::new(alloc))?;
+        users.push(ShortList::new(alloc))?;
     }
     Ok(users)
 }
@@ -179,7 +183,7 @@ fn users_of(
     alloc: Global,
     nodes: &[Node<'_>],
     roots: &[NodeNo],
-) -> Result<Vec<List<usize>>, AllocError>
+) -> Result<Vec<Users>, AllocError>
     requires { AreNumbered nodes.now roots.now }
     ensures { IfOk result (λ users. spec.AreUsingRules (trees_at nodes.now roots.now) (length roots.now) users.items) }
 {

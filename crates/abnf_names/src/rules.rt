@@ -13,6 +13,7 @@ ghost use Rattle.abnf_names.specs.own.Passes as spec;
 ghost use Rattle.abnf_parts.specs.CoreTable as table;
 ghost use Rattle.abnf_parts.specs.Pushed.{AddsNodes, AddsTrees};
 
+use crate::groups::Group;
 use crate::own::{NamesOfText, own_groups, rule_names};
 use crate::reach::reaching;
 use crate::section::{Listed, Section};
@@ -102,12 +103,12 @@ fn adds(section: &Section<'_>) -> bool
     }
 }
 
-/// The alternatives that those of a name's sections say which count, whose numbers are added to `numbers`.
+/// The alternatives that those of a name's sections say which count, whose numbers are added to `numbers`. The first one counts.
 fn push_counted<'s, 't>(
     alloc: Global,
     spare: &mut Spare<'t>,
     names: &RuleNames<'t>,
-    sections: &[Listed<'s, 't>],
+    sections: &Group<Listed<'s, 't>>,
     nodes: &mut Vec<Node<'t>>,
     numbers: &mut List<NodeNo>,
 ) -> Result<(), AllocError>
@@ -115,8 +116,10 @@ fn push_counted<'s, 't>(
         → AddsTrees (flat_map (spec.alternatives_of (rule_number (all_names names.now))) (spec.counted_among definitions)) nodes.old.items nodes.new.items numbers.old numbers.new) }
     ensures kept { OnOk result (length nodes.old.items ≤ length nodes.new.items) }
 {
-    let mut is_defined = false;
-    for listed in sections {
+    let first = sections.first.section;
+    push_alternatives(alloc, spare, names, first, nodes, numbers)?;
+    let mut is_defined = !adds(first);
+    for listed in sections.rest.as_slice() {
         let adds = adds(listed.section);
         push_if(
             alloc,
@@ -137,7 +140,7 @@ fn push_rule<'s, 't>(
     alloc: Global,
     spare: &mut Spare<'t>,
     names: &RuleNames<'t>,
-    sections: &[Listed<'s, 't>],
+    sections: &Group<Listed<'s, 't>>,
     nodes: &mut Vec<Node<'t>>,
 ) -> Result<(), AllocError>
     ensures { OnOk result ((definitions : List spec.Definition) → spec.AreTold sections.now definitions
@@ -156,7 +159,7 @@ fn push_own<'s, 't>(
     alloc: Global,
     spare: &mut Spare<'t>,
     names: &RuleNames<'t>,
-    own: &[List<Listed<'s, 't>>],
+    own: &[Group<Listed<'s, 't>>],
     nodes: &mut Vec<Node<'t>>,
     roots: &mut List<NodeNo>,
 ) -> Result<(), AllocError>
@@ -165,7 +168,7 @@ fn push_own<'s, 't>(
 {
     for sections in own {
         roots.push(NodeNo::new(nodes.len()))?;
-        push_rule(alloc, spare, names, sections.as_slice(), nodes)?;
+        push_rule(alloc, spare, names, sections, nodes)?;
     }
     Ok(())
 }
@@ -175,7 +178,7 @@ fn push_rules<'s, 't>(
     alloc: Global,
     spare: &mut Spare<'t>,
     names: &RuleNames<'t>,
-    own: &[List<Listed<'s, 't>>],
+    own: &[Group<Listed<'s, 't>>],
     needed: &[Core],
     nodes: &mut Vec<Node<'t>>,
     roots: &mut List<NodeNo>,
@@ -190,7 +193,7 @@ fn push_rules<'s, 't>(
 fn numbered_rules<'s, 't>(
     alloc: Global,
     names: &RuleNames<'t>,
-    own: &[List<Listed<'s, 't>>],
+    own: &[Group<Listed<'s, 't>>],
     needed: &[Core],
     room: usize,
 ) -> Result<(Vec<Node<'t>>, Vec<NodeNo>), AllocError>

@@ -1,6 +1,6 @@
 //! The names of the rules.
 
-ghost use Rattle.std.specs.Prelude.{◌≡◌, [], ◌<◌, ◌^◌, ◌++◌, length, map, IfOk, IfSome, IsTrue, OnOk, Some};
+ghost use Rattle.std.specs.Prelude.{◌≡◌, [], ◌<◌, ◌^◌, ◌++◌, length, map, IfOk, IfSome, IsTrue, OnErr, OnOk, Some};
 ghost use Rattle.std.specs.List.{list_any};
 ghost use Rattle.std.specs.Str.{bytes_eq};
 ghost use Rattle.abnf_parts.specs.Names.{rule_number, with_name, folded_text, all_names};
@@ -92,6 +92,7 @@ impl<'t> Names<'t> {
     pub fn add(&mut self, name: Folded<'t>) -> Result<Option<usize>, AllocFailed<Folded<'t>>>
         ensures names { OnOk result (self.new ≡ with_name self.old (folded_text name.entry)) }
         ensures place { IfOk result (λ place. place ≡ rule_number self.old (folded_text name.entry)) }
+        ensures same { OnErr result (self.new ≡ self.old) }
     {
         let (place, is_new) = self.names.insert_full(name)?;
         Ok(if is_new { None } else { Some(place) })

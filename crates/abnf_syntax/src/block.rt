@@ -112,10 +112,14 @@ impl<'t> Gathered<'t> {
         Ok(())
     }
 
-    /// Makes room for the items among these marks, so that a block of one line takes memory once, and no more than it needs.
+    /// Makes room for the items among these marks, so that a block of one line takes memory once, and no more than it needs. Where there
+    /// is room for as many as there are marks they aren't counted.
     fn make_room(&mut self, marks: &[TokenMark]) -> Result<(), AllocError>
         ensures { OnOk result (spec.gathering_of self.new ≡ spec.gathering_of self.old) }
     {
+        if self.items.capacity() - self.items.len() >= marks.len() {
+            return Ok(());
+        }
         let count = marks.iter().filter(|mark| is_item(mark.kind)).count();
         self.items.reserve(count)
     }

@@ -8,6 +8,7 @@ ghost use Rattle.abnf_syntax.specs.own.Blanks as spec;
 
 use abnf_token::TokenMark;
 use ls_text::Snapshot;
+use std::hash::{DefaultHasher, Hasher};
 use std::marker::Model;
 
 /// The lines of a text. Contracts see the bytes of each.
@@ -147,6 +148,14 @@ impl<'s> Sheet<'s> {
         ensures { result.now ≡ slice_index_or self.now at [] }
     {
         line_of(self.snapshot, at)
+    }
+
+    /// A number that depends on each byte of the lines: the seed of a table of names that stand there. So a name that is changed to meet
+    /// others in the table changes where all of them stand.
+    pub fn seed(&self) -> u64 {
+        let mut hasher = DefaultHasher::new();
+        self.snapshot.feed(&mut hasher);
+        hasher.finish()
     }
 
     /// How many lines at the front are the same in another text, by a look at many at once. It may tell too few.

@@ -16,22 +16,13 @@ use ls_text::Snapshot;
 use std::alloc::{AllocError as Memory, Global};
 use std::hash::{DefaultHasher, Hasher};
 
-/// Feeds a text to the hasher of a seed.
-fn feed(text: &Snapshot, hasher: &mut DefaultHasher) {
-    for at in 0..text.line_count() {
-        if let Some(line) = text.line(at) {
-            hasher.write(line.as_bytes());
-        }
-    }
-}
-
 /// A number that depends on each name of the texts, so that a name which is changed to meet others in the table changes where all of
 /// them stand.
 fn seed_of(told: &Snapshot, others: &[Snapshot]) -> u64 {
     let mut hasher = DefaultHasher::new();
-    feed(told, &mut hasher);
+    told.feed(&mut hasher);
     for other in others {
-        feed(other, &mut hasher);
+        other.feed(&mut hasher);
     }
     hasher.finish()
 }

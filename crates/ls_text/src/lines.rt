@@ -16,6 +16,7 @@ use crate::line::Line;
 use crate::part::Part;
 use crate::snapshot::MAX_BYTES;
 use std::alloc::{AllocError, Global};
+use std::hash::DefaultHasher;
 use std::marker::Model;
 use std::sync::Arc;
 
@@ -339,6 +340,13 @@ impl Lines {
             line,
             start + chunk.starts[local],
         )
+    }
+
+    // Feeds the texts of all lines to a hasher, those of a chunk in one piece.
+    pub fn feed(&self, hasher: &mut DefaultHasher) {
+        for chunk in &self.chunks {
+            chunk.lines.feed(hasher);
+        }
     }
 
     // How many lines at the front are the same in other lines. It may tell too few.

@@ -12,6 +12,7 @@ use crate::line_end::LineEnd;
 use crate::units::char_count;
 use abnf_token::{TokenMark, push_marks};
 use std::alloc::{AllocError, Global};
+use std::hash::{DefaultHasher, Hasher};
 use std::marker::Model;
 
 // The greatest number of 32 bits.
@@ -220,6 +221,11 @@ impl Part {
         ensures { result ≡ length self.now }
     {
         self.lines.len()
+    }
+
+    // Feeds the texts of the lines to a hasher, in one piece.
+    pub fn feed(&self, hasher: &mut DefaultHasher) {
+        hasher.write(self.text.as_bytes());
     }
 
     // A line.

@@ -20,6 +20,7 @@ use crate::position::{Encoding, Place, Position, Range};
 use crate::units::{fitting, units_before, units_in};
 use abnf_token::TokenMark;
 use std::alloc::{AllocError, Global};
+use std::hash::DefaultHasher;
 use std::marker::Model;
 
 /// The longest text of a document, in bytes of UTF-8.
@@ -267,6 +268,11 @@ impl Snapshot {
         ensures { IsTrue result ↔ (self.now ≡ other.now) }
     {
         same_lines(&self.lines, &other.lines)
+    }
+
+    /// Feeds the bytes of all lines to a hasher, many lines in one piece.
+    pub fn feed(&self, hasher: &mut DefaultHasher) {
+        self.lines.feed(hasher);
     }
 
     /// How many lines at the front are the same in another text, with their line ends: by whole chunks, and within the first

@@ -14,7 +14,7 @@ loop-sections-preserved c definitions told =
     c.args.nodes.now.items c.loop-sections.nodes.items c.push_rule.new.nodes.items c.args.roots.now c.loop-sections.roots c.push.new.self
     told c.loop-sections-test.true c.sections-item.is (c.loop-sections.invariant definitions told)
     (c.in_ok-push.ensures.ok ∙ ap (λ n. c.loop-sections.roots ++ n ∷ []) (c.new.ensures ∙ (c.len.ensures ∙ c.loop-sections.nodes.ok.0)))
-    (subst (λ (sections : List Listed). (them : List Definition) → AreTold sections them → AddsNodes (subparts (tree_of number them)) c.loop-sections.nodes.items c.push_rule.new.nodes.items) c.as_slice.ensures c.in_ok-push_rule.ensures)
+    c.in_ok-push_rule.ensures
 
 pub returns : goal.returns
 returns c definitions told =
