@@ -19,3 +19,4 @@ pub mod Plain
 pub mod Goes
 pub mod BlankLaws
 pub mod SameLines
+pub mod EndLaws

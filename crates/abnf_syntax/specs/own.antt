@@ -2,3 +2,4 @@
 pub mod Check
 pub mod Gather
 pub mod Blanks
+pub mod Ends

@@ -34,6 +34,24 @@ pub struct Head<'t> {
     pub adds: bool,
 }
 
+impl<'t> Head<'t> {
+    ghost use Rattle.abnf_syntax.specs.own.Ends.{head_with};
+
+    /// The head of a block that begins with these two items.
+    pub(crate) fn of(first: Token<'t>, second: Token<'t>) -> Option<Head<'t>>
+        ensures { result ≡ head_with first.entry second.entry }
+    {
+        if is_name(first.kind) && is_defined_as(second.kind) {
+            Some(Head {
+                name: first,
+                adds: is_adds(second.kind),
+            })
+        } else {
+            None
+        }
+    }
+}
+
 impl<'t> Block<'t> {
     ghost use Rattle.abnf_syntax.specs.Blocks.{IsBlock};
     ghost use Rattle.abnf_syntax.specs.Heads.{head_of};
@@ -63,16 +81,7 @@ impl<'t> Block<'t> {
         ensures { result ≡ head_of self.now.items }
     {
         match self.items.as_slice() {
-            [first, second, ..] => {
-                if is_name(first.token.kind) && is_defined_as(second.token.kind) {
-                    Some(Head {
-                        name: first.token,
-                        adds: is_adds(second.token.kind),
-                    })
-                } else {
-                    None
-                }
-            }
+            [first, second, ..] => Head::of(first.token, second.token),
             _ => None,
         }
     }

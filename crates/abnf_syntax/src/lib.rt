@@ -8,6 +8,7 @@
 
 mod block;
 mod check;
+mod ends;
 mod existence;
 mod fault;
 mod heading;
@@ -23,6 +24,7 @@ mod tree;
 
 pub use block::{Block, Head, blocks, blocks_between};
 pub use check::check_block;
+pub use ends::Headed;
 pub use existence::{items_say_something, texts_have_blocks};
 pub use fault::SyntaxFault;
 pub use item::Item;
