@@ -1,4 +1,5 @@
 -- What this crate says for itself alone: no public contract names it, neither by itself nor through what it names.
 pub mod Asked
+pub mod Outline
 pub mod Renamed
 pub mod Walk

@@ -1,10 +1,10 @@
 //! The outline of a text: its blocks that have a head.
-ghost use Rattle.std.specs.Prelude.{◌≡◌, ◌++◌, IfOk, OnOk};
-ghost use Rattle.abnf_syntax.specs.Heads.{head_of};
-ghost use Rattle.ls_answers.specs.Outline.{IsOutline, extent, symbols_in};
+ghost use Rattle.std.specs.Prelude.{◌≡◌, IfOk};
+ghost use Rattle.ls_answers.specs.Outline.{IsOutline};
+ghost use Rattle.ls_answers.specs.own.Outline.{headed_symbol};
 
 use crate::answer::Symbol;
-use abnf_syntax::{Block, Item, blocks, place_of};
+use abnf_syntax::{Headed, Sheet, place_of};
 use ls_lists::{List, Text};
 use ls_text::{Encoding, Range, Snapshot};
 use std::alloc::{AllocError as Memory, Global};
@@ -19,43 +19,40 @@ pub fn symbols(
 ) -> Result<List<Symbol>, Memory>
     ensures { IfOk result (λ symbols. IsOutline encoding snapshot.now symbols) }
 {
-    let blocks = blocks(alloc, snapshot)?;
+    let sheet = Sheet::of(snapshot);
+    let count = sheet.count();
     let mut symbols = Vec::new(alloc);
-    for block in &blocks {
-        push_symbol(alloc, &mut symbols, snapshot, encoding, block)?;
+    let mut first = sheet.next_block(0, count);
+    'blocks: while first < count {
+        let end = sheet.next_block(first + 1, count);
+        if let Some(block) = Headed::of(&sheet, first, end) {
+            let symbol = symbol_of(alloc, snapshot, encoding, block)?;
+            symbols.push(symbol)?;
+        }
+        first = end;
     }
     Ok(List::from_vec(symbols))
 }
 
-/// Adds the symbol of a block, if it has a head.
-fn push_symbol(
+/// The symbol of a block, which goes from the start of its first item, the name, to the end of its last.
+fn symbol_of(
     alloc: Global,
-    symbols: &mut Vec<Symbol>,
     snapshot: &Snapshot,
     encoding: Encoding,
-    block: &Block,
-) -> Result<(), Memory>
-    ensures { OnOk result (symbols.new.items ≡ symbols.old.items ++ symbols_in encoding snapshot.now block.now) }
+    block: Headed<'_>,
+) -> Result<Symbol, Memory>
+    ensures { IfOk result (λ symbol. symbol ≡ headed_symbol encoding snapshot.now block.entry) }
 {
-    let (Some(head), [first, .., last]) = (block.head(), block.items.as_slice()) else {
-        return Ok(());
+    let name = Text::from_str(alloc, block.head.name.text)?;
+    let name_range = snapshot.range_of(&place_of(block.head.name), encoding);
+    let last_range = snapshot.range_of(&place_of(block.last), encoding);
+    let range = Range {
+        start: name_range.start,
+        end: last_range.end,
     };
-    let name = Text::from_str(alloc, head.name.text)?;
-    let symbol = Symbol {
+    Ok(Symbol {
         name,
-        range: extent(snapshot, encoding, first, last),
-        name_range: snapshot.range_of(&place_of(head.name), encoding),
-    };
-    symbols.push(symbol)?;
-    Ok(())
-}
-
-/// From the start of the first item to the end of the last.
-fn extent(snapshot: &Snapshot, encoding: Encoding, first: &Item, last: &Item) -> Range
-    ensures { result ≡ extent encoding snapshot.now first.now last.now }
-{
-    Range {
-        start: snapshot.range_of(&place_of(first.token), encoding).start,
-        end: snapshot.range_of(&place_of(last.token), encoding).end,
-    }
+        range,
+        name_range,
+    })
 }

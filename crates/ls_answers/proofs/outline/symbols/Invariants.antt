@@ -1,6 +1,9 @@
-use Rattle.std.proofs.Common.{◌≡◌, take}
-use Rattle.ls_answers.proofs.Outlines.{outline}
+use Rattle.std.proofs.Common.{◌-◌}
+use Rattle.ls_answers.proofs.Outlines.{HasSymbols}
 use Rattle.ls_answers.proofs.outline.symbols.Given as goal
 
-abbrev pub invariant-loop-block : goal.invariant-loop-block
-invariant-loop-block l = l.symbols.items ≡ outline l.encoding l.snapshot (take l.block-index l.block-items)
+abbrev pub invariant-blocks-2 : goal.invariant-blocks-2
+invariant-blocks-2 l = HasSymbols l.encoding l.snapshot l.sheet l.count l.first l.symbols.items
+
+abbrev pub decreases-blocks-2 : goal.decreases-blocks-2
+decreases-blocks-2 l = l.count - l.first
