@@ -3,7 +3,7 @@
 ghost use Rattle.std.specs.Prelude.{◌<◌, length};
 
 use super::texts::snapshot;
-use abnf_syntax::{Block, Item, SyntaxFault, blocks, check_block, parse_block};
+use abnf_syntax::{Block, Headed, Item, Sheet, SyntaxFault, blocks, check_block, parse_block};
 use ls_text::{Place, TextFault};
 use std::alloc::{AllocError, Global};
 
@@ -211,6 +211,57 @@ fn cuts_of_texts(rt: HostRuntime) -> Result<(), TextFault> {
     assert!(rt; CUTS.len() >= 6);
     for (text, rows) in CUTS {
         assert!(rt; has_bounds(rt.alloc(), text, rows)?, "{text}");
+    }
+    Ok(())
+}
+
+/// What an outline shows of a block: the name, whether `=/` follows it, and the line of the last item and where that starts.
+type Shown = (&'static str, bool, usize, usize);
+
+fn is_shown(block: Headed<'_>, shown: Shown) -> bool {
+    let Headed { head, last } = block;
+    (head.name.text, head.adds, last.line, last.start) == shown
+}
+
+/// Whether this is shown of the first block of a text, by the marks of its lines.
+fn shows(alloc: Global, text: &str, shown: Option<Shown>) -> Result<bool, TextFault> {
+    let text = snapshot(alloc, text)?;
+    let sheet = Sheet::of(&text);
+    let count = sheet.count();
+    let first = sheet.next_block(0, count);
+    if first == count {
+        return Ok(false);
+    }
+    let end = sheet.next_block(first + 1, count);
+    match (Headed::of(&sheet, first, end), shown) {
+        (Some(block), Some(shown)) => Ok(is_shown(block, shown)),
+        (None, None) => Ok(true),
+        _ => Ok(false),
+    }
+}
+
+/// Texts, and what is shown of the first block of each; `None` where it has no head.
+const SHOWN: &[(&str, Option<Shown>)] = &[
+    (";\n a = b\n d = e", Some(("a", false, 1, 5))),
+    ("a =\n ( b\n )\n", Some(("a", false, 2, 1))),
+    // a head over lines
+    ("a ;\n\n =/ \"x\"", Some(("a", true, 2, 4))),
+    // comments, blanks and empty lines behind the last item
+    ("a=b; c\n ; d\n \n\n", Some(("a", false, 0, 2))),
+    // faulty blocks
+    ("a = ) ?", Some(("a", false, 0, 6))),
+    ("a =", Some(("a", false, 0, 2))),
+    // no head
+    ("a\n", None),
+    ("= b", None),
+    ("a b\n =", None),
+];
+
+#[test]
+fn heads_of_texts(rt: HostRuntime) -> Result<(), TextFault> {
+    assert!(rt; SHOWN.len() >= 9);
+    for (text, shown) in SHOWN {
+        assert!(rt; shows(rt.alloc(), text, *shown)?, "{text}");
     }
     Ok(())
 }
