@@ -126,11 +126,7 @@ fn place_of(node: &Node<'_>, last: usize) -> Option<usize>
 }
 
 /// Adds a rule to the users of a place, if there is one.
-fn add_user(
-    rule: usize,
-    place: Option<usize>,
-    users: &mut Vec<Users>,
-) -> Result<(), AllocError>
+fn add_user(rule: usize, place: Option<usize>, users: &mut Vec<Users>) -> Result<(), AllocError>
     requires { ForSome place (λ p. p < length users.old.items) }
     ensures { OnOk result (users.new.items ≡ spec.with_user rule users.old.items place) }
 {
@@ -179,11 +175,7 @@ fn nodes_of<'g, 't>(nodes: &'g [Node<'t>], roots: &[NodeNo], rule: usize) -> &'g
 }
 
 /// For each place the rules that lead there.
-fn users_of(
-    alloc: Global,
-    nodes: &[Node<'_>],
-    roots: &[NodeNo],
-) -> Result<Vec<Users>, AllocError>
+fn users_of(alloc: Global, nodes: &[Node<'_>], roots: &[NodeNo]) -> Result<Vec<Users>, AllocError>
     requires { AreNumbered nodes.now roots.now }
     ensures { IfOk result (λ users. spec.AreUsingRules (trees_at nodes.now roots.now) (length roots.now) users.items) }
 {
