@@ -1,11 +1,11 @@
 //! Where the tokens of a line stand.
 
-ghost use Rattle.std.specs.Prelude.{◌≡◌, ◌+◌, ◌<◌, ◌^◌, OnOk, length, slice_range};
-ghost use Rattle.abnf_token.specs.Marks.{AreMarksOnto, IsMarkOf, mark_of};
+ghost use Rattle.std.specs.Prelude.{◌≡◌, ◌+◌, ◌<◌, ◌^◌, IfOk, OnOk, length, slice_range};
+ghost use Rattle.abnf_token.specs.Marks.{AreMarks, AreMarksOnto, IsMarkOf, mark_of};
 
 use crate::scan::tokens;
 use crate::token::{Kind, Token};
-use std::alloc::AllocError;
+use std::alloc::{AllocError, Global};
 
 /// The class of a token, and where its text stands in its line, in bytes.
 ///
@@ -40,6 +40,18 @@ pub fn push_marks(marks: &mut Vec<TokenMark>, text: &str) -> Result<(), AllocErr
         marks.push(mark_of(&token))?;
     }
     Ok(())
+}
+
+/// The marks of the tokens of a line, from left to right. The line has less than 4 GiB.
+///
+/// `AllocError` says that an allocation was refused.
+pub fn marks_of(alloc: Global, text: &str) -> Result<Vec<TokenMark>, AllocError>
+    requires { length text.now < 2 ^ 32 }
+    ensures { IfOk result (λ marks. AreMarks text.now marks.items) }
+{
+    let mut marks = Vec::new(alloc);
+    push_marks(&mut marks, text)?;
+    Ok(marks)
 }
 
 /// The token of a line that has this mark, which is one of that line's. It carries the line's number.

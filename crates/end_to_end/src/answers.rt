@@ -1,4 +1,4 @@
-use ls_answers::{Answer, Ask, Done, Job, Recent, Symbol, run};
+use ls_answers::{Answer, Ask, Done, Job, Symbol, run};
 use ls_text::{Encoding, Snapshot};
 use std::alloc::Global;
 use std::sync::Arc;
@@ -16,7 +16,7 @@ pub(crate) fn outlined(alloc: Global, ticket: u64, text: &str) -> Result<Done, F
         encoding: Encoding::Utf16,
         ask: Ask::Symbols.copy()?,
     };
-    Ok(run(alloc, &mut Recent::new(), job))
+    Ok(run(alloc, job))
 }
 
 /// Whether a symbol has this name of one character, its first line, and its last one up to this character.

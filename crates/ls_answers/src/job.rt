@@ -220,7 +220,7 @@ fn answer_in(
 ///
 /// The texts that were diagnosed last are the caller's to keep from one run to the next, none at first: they may spare the findings of the
 /// next text much work, and no answer depends on them.
-pub fn run(alloc: Global, recent: &mut Recent, job: Job) -> Done
+pub fn run_keeping(alloc: Global, recent: &mut Recent, job: Job) -> Done
     ensures ticket { result.ticket ≡ job.ticket }
     ensures text { result.text ≡ arc_value job.snapshot }
     ensures encoding { result.encoding ≡ job.encoding }
@@ -243,4 +243,17 @@ pub fn run(alloc: Global, recent: &mut Recent, job: Job) -> Done
         ask,
         answer,
     }
+}
+
+/// Answers the question of a job as [`run_keeping`] does, and keeps nothing for the next one.
+pub fn run(alloc: Global, job: Job) -> Done
+    ensures ticket { result.ticket ≡ job.ticket }
+    ensures text { result.text ≡ arc_value job.snapshot }
+    ensures encoding { result.encoding ≡ job.encoding }
+    ensures ask { result.ask ≡ job.ask }
+    ensures keeps { IfSome result.answer (λ answer. KeepsIfRenamed job.encoding (arc_value job.snapshot) job.ask answer) }
+    ensures not_a_name { IsToNoName job.ask → result.answer ≡ Some (Answer.Refused RenameFault.NotAName) }
+{
+    let mut recent = Recent::new();
+    run_keeping(alloc, &mut recent, job)
 }

@@ -27,7 +27,7 @@ pub use abnf_kept::Recent;
 pub use answer::{Answer, Diagnostic, HoverText, Insertion, RenameFault, Symbol};
 pub use ask::Ask;
 pub use hover::hover_text;
-pub use job::{Done, Job, run};
+pub use job::{Done, Job, run, run_keeping};
 pub use laws::{
     answers_are_unique, answers_exist, hover_texts_are_unique, hover_texts_exist,
     renames_keep_the_grammar,

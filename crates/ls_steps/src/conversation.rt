@@ -7,7 +7,7 @@ ghost use Rattle.ls_desk.specs.Stands.{IsSound};
 ghost use Rattle.ls_steps.specs.Runs.{Steps, begun, break_off, bytes_in, counts_at, finish_job, hear, is_filled, send, state_at, take_job};
 
 use crate::at_desk::{finish, meet};
-use ls_answers::{Job, Recent, run};
+use ls_answers::{Job, Recent, run_keeping};
 use ls_desk::{Desk, DeskFault, Out};
 use ls_frame::FrameFault;
 use ls_session::{Session, Status, Turn, framed};
@@ -171,7 +171,10 @@ impl Conversation {
             return Ok(());
         }
         let job = self.held.remove(at);
-        if finish(&mut self.desk, run(self.alloc, &mut self.recent, job))? {
+        if finish(
+            &mut self.desk,
+            run_keeping(self.alloc, &mut self.recent, job),
+        )? {
             self.status = Some(Status::Full);
         }
         Ok(())

@@ -6,7 +6,7 @@ ghost use Rattle.ls_workers.specs.Refusals.{ends_work, may_refuse_run};
 use crate::board::Board;
 use crate::ledgers::Crew;
 use crate::seats::WorkerSeat;
-use ls_answers::{Job, Recent, run};
+use ls_answers::{Job, Recent, run_keeping};
 use ls_desk::DeskFault;
 use std::alloc::Global;
 use std::sync::Wait;
@@ -44,7 +44,7 @@ fn run_one<C: Crew, R: Wait, G: Gate>(
     if !board.wanted(rt, &mut seat.front, job.ticket) {
         return None;
     }
-    let Err((fault, _)) = board.finish(rt, seat, run(alloc, recent, job)) else {
+    let Err((fault, _)) = board.finish(rt, seat, run_keeping(alloc, recent, job)) else {
         return None;
     };
     ended_by(fault)

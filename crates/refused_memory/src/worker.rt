@@ -1,6 +1,6 @@
 //! A worker, and the jobs that it holds.
 
-use ls_answers::{Done, Job, Recent, run};
+use ls_answers::{Done, Job, run};
 use ls_desk::{Desk, DeskFault, Kept};
 use std::alloc::{AllocError, Global};
 
@@ -69,7 +69,7 @@ impl Worker {
             return Ok(Kept::Nothing);
         };
         let job = copied(job)?;
-        let answer = handed_in(desk, run(alloc, &mut Recent::new(), job));
+        let answer = handed_in(desk, run(alloc, job));
         if answer != Err(DeskFault::Memory) {
             drop(self.held.pop());
         }

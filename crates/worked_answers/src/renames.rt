@@ -2,7 +2,7 @@
 
 use super::found::snapshot;
 use super::shown::shows;
-use ls_answers::{Answer, Ask, Done, Job, Recent, RenameFault, run};
+use ls_answers::{Answer, Ask, Done, Job, RenameFault, run};
 use ls_lists::{List, Text};
 use ls_text::{Edit, Encoding, Position, Range, Snapshot};
 use std::alloc::{AllocError, Global};
@@ -18,7 +18,6 @@ fn done(alloc: Global, text: Snapshot, encoding: Encoding, ask: Ask) -> Result<D
     let snapshot = Arc::new(alloc, text)?;
     Ok(run(
         alloc,
-        &mut Recent::new(),
         Job {
             ticket: 1,
             snapshot,

@@ -4,7 +4,7 @@ ghost use Rattle.ls_machine.specs.Client.{IsAllowed};
 ghost use Rattle.ls_workers.specs.Jobs.{HasLimits};
 
 use abnf_least::Shortest;
-use ls_answers::{Answer, Ask, Done, Recent, run};
+use ls_answers::{Answer, Ask, Done, run};
 use ls_desk::{Counts, Desk, DeskFault, Event, Kept, Out, ticket_of};
 use ls_lists::Text;
 use ls_rpc::Id;
@@ -89,7 +89,7 @@ pub(crate) fn run_one<C: Crew, R: Wait>(
 ) -> Result<u64, DeskFault> {
     let job = board.take(rt, seat)?.ok_or(DeskFault::UnknownTicket)?;
     let ticket = job.ticket;
-    match board.finish(rt, seat, run(alloc, &mut Recent::new(), job)) {
+    match board.finish(rt, seat, run(alloc, job)) {
         Ok(Kept::Reply) => Ok(ticket),
         Ok(Kept::Failure) => Err(DeskFault::Memory),
         Ok(Kept::Nothing) => Err(DeskFault::Memory),

@@ -3,7 +3,7 @@
 ghost use Rattle.std.specs.Prelude.{◌≡◌, ◌<◌, ◌≤◌};
 
 use super::calls::{counts, opening};
-use ls_answers::{Ask, Done, Job, Recent, run};
+use ls_answers::{Ask, Done, Job, run};
 use ls_desk::{Desk, DeskFault, Kept, SharedSnapshot};
 use ls_text::{Encoding, Snapshot, TextFault};
 use ls_workers::{
@@ -126,7 +126,7 @@ fn other_run(alloc: Global, ticket: u64) -> Result<Done, DeskFault> {
         encoding: Encoding::Utf16,
         ask: Ask::Diagnose,
     };
-    Ok(run(alloc, &mut Recent::new(), job))
+    Ok(run(alloc, job))
 }
 
 // Whether the run of another text with this ticket is refused and comes back.
@@ -167,7 +167,7 @@ fn strays<C: Crew, R: Wait>(
     let job = board.take(rt, worker)?.ok_or(DeskFault::UnknownTicket)?;
     let refused = is_refused(rt, alloc, board, worker, job.ticket);
     let none = worker.took.get() == 1 && worker.finished.get() == 0;
-    let kept = is_kept(board.finish(rt, worker, run(alloc, &mut Recent::new(), job)));
+    let kept = is_kept(board.finish(rt, worker, run(alloc, job)));
     Ok(opened == ClientAnswer::Version(1) && refused? && none && kept)
 }
 

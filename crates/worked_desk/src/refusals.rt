@@ -5,7 +5,7 @@ use super::steps::{
     START, change, close, comes_back, finish, job_of, leaves, on_each_desk, open, opened, symbols,
     take,
 };
-use ls_answers::{Ask, Done, Recent, run};
+use ls_answers::{Ask, Done, run};
 use ls_desk::{Counts, Desk, DeskFault, Kept};
 use ls_lists::List;
 use ls_rpc::Id;
@@ -16,7 +16,7 @@ use std::test::Fail;
 // A run with a ticket, of a text and a question of its own.
 fn done(alloc: Global, ticket: u64, text: &str, ask: Ask) -> Result<Done, DeskFault> {
     let job = job_of(alloc, ticket, text, Encoding::Utf16, ask)?;
-    Ok(run(alloc, &mut Recent::new(), job))
+    Ok(run(alloc, job))
 }
 
 // Whether a run of the first ticket after the findings is refused for this.
@@ -34,11 +34,7 @@ fn is_refused(
 // Whether a run of the first ticket after the findings is refused by its encoding alone.
 fn is_refused_in(desk: &mut Desk, alloc: Global, encoding: Encoding) -> Result<bool, DeskFault> {
     let job = job_of(alloc, 2, "a = \"x\"", encoding, Ask::Symbols)?;
-    Ok(comes_back(
-        desk,
-        run(alloc, &mut Recent::new(), job),
-        DeskFault::OtherText,
-    ))
+    Ok(comes_back(desk, run(alloc, job), DeskFault::OtherText))
 }
 
 // An outline is asked for and taken.
@@ -106,11 +102,7 @@ fn is_full(desk: &mut Desk, alloc: Global) -> Result<bool, DeskFault> {
     let version = open(desk, alloc, "a = \"x\"")?;
     let ticket = symbols(desk, alloc, 2)?;
     let job = take(desk)?;
-    let refused = comes_back(
-        desk,
-        run(alloc, &mut Recent::new(), job),
-        DeskFault::SessionFull,
-    );
+    let refused = comes_back(desk, run(alloc, job), DeskFault::SessionFull);
     Ok(version == 1 && ticket == 2 && refused)
 }
 

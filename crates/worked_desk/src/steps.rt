@@ -1,7 +1,7 @@
 //! The calls of a desk, with plain arguments. All are about one document.
 ghost use Rattle.std.specs.Prelude.{◌<◌, ◌≤◌};
 
-use ls_answers::{Ask, Done, Job, Recent, run};
+use ls_answers::{Ask, Done, Job, run};
 use ls_desk::{Desk, DeskFault, Kept, Out, SharedSnapshot};
 use ls_lists::{List, Text};
 use ls_rpc::Id;
@@ -116,7 +116,7 @@ pub(crate) fn take(desk: &mut Desk) -> Result<Job, DeskFault> {
 
 /// Runs a job, and says what its finish kept or why it was refused.
 pub(crate) fn finish(desk: &mut Desk, alloc: Global, job: Job) -> Result<Kept, DeskFault> {
-    match desk.finish(run(alloc, &mut Recent::new(), job)) {
+    match desk.finish(run(alloc, job)) {
         Ok(kept) => Ok(kept),
         Err((fault, _)) => Err(fault),
     }

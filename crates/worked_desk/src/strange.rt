@@ -2,7 +2,7 @@
 
 use super::answers::{sends_hover, shows};
 use super::steps::{finish, hover, job_of, on_each_desk, opened, take};
-use ls_answers::{Ask, Done, Job, Recent, run};
+use ls_answers::{Ask, Done, Job, run};
 use ls_desk::{Desk, DeskFault, Kept};
 use ls_text::{Encoding, Position};
 use std::alloc::Global;
@@ -63,7 +63,7 @@ impl Hovered {
         alloc: Global,
         want: DeskFault,
     ) -> Result<bool, DeskFault> {
-        match desk.finish(run(alloc, &mut Recent::new(), self.job(alloc)?)) {
+        match desk.finish(run(alloc, self.job(alloc)?)) {
             Ok(_) => Ok(false),
             Err((fault, done)) => Ok(fault == want && self.is_whole(&done)),
         }

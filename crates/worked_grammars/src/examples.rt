@@ -2,7 +2,7 @@
 
 use super::check::{Check, holds, snapshot};
 use example_grammars::{RFC_3339, RFC_3986, RFC_5234, RFC_8259};
-use ls_answers::{Answer, Ask, Done, Job, Recent, run};
+use ls_answers::{Answer, Ask, Done, Job, run};
 use ls_text::{Encoding, Position, Range, Snapshot, TextFault};
 use std::alloc::{AllocError, Global};
 use std::sync::Arc;
@@ -63,7 +63,7 @@ fn defines(
     line: u32,
     end: u32,
 ) -> Result<bool, TextFault> {
-    let done = run(alloc, &mut Recent::new(), asked(alloc, text, at)?);
+    let done = run(alloc, asked(alloc, text, at)?);
     let is_led = is_led(&done, line, end);
     drop(done);
     is_led

@@ -4,7 +4,7 @@ use Rattle.std.specs.Arc.{arc_value}
 use Rattle.std.specs.Char.{IsScalar}
 use Rattle.ls_answers.specs.Answers.{IsAnswer}
 use Rattle.ls_answers.proofs.RenameKept.{result_keeps}
-use Rattle.ls_answers.proofs.job.run.Goals as goal
+use Rattle.ls_answers.proofs.job.run_keeping.Goals as goal
 
 pub invariant_of-result : goal.invariant_of-result
 invariant_of-result c = c.answer_of-answer.ensures.answer
