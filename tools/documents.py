@@ -36,7 +36,7 @@ OTHER_WORDS = frozenset(
     """
     abbrev AllocError antt Appends Arc arrayvec artwork axiom axioms bugs cargo clang clap Clone Condvar Content-Length core custom Debug
     Drop ensures Err extern false fast_float foreign forever functions ghost git Global grind HANDLES hides hole HostRuntime IfErr
-    IfNone IfOk IfSome impl indexmap invariant itoa json key levenshtein_row logic may_wait memchr model Model Mutex new None now
+    IfNone IfOk IfSome impl indexmap invariant itoa json key levenshtein_row logbook logic may_wait memchr model Model Mutex new None now
     Ok old omega OnErr OnOk OnSome Option proof pub rand_core rand_pcg rattle Read record refl requires result Result rt ryu
     search Send serde serde_json Serialize Serializer simdutf8 simp SipHash slice_get_read smallvec Some sourcecode spec std String strsim
     subst Sync tests_may thiserror Threads to_vec true unfoldable unfolding unsafe Vec view Wait Write
