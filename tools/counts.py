@@ -10,11 +10,14 @@ something is missing, and so does one that is higher, as it could go again witho
 With --raise each count that is higher or new is put into counts.txt, the rows as the last gate found them (out/rows), and the figures in
 the pages are written anew. It lowers none: what is taken away with intent is taken out of counts.txt by hand.
 
-Beside the counts it fails where a test, an edit or a crate stands where nothing looks for it, where something names what another crate says
-for itself alone (specs/own/), and where a page tells another figure than counts.txt (tools/figures.py).
+Beside the counts it fails where a test, an edit or a crate stands where nothing looks for it, where an edit is another one once more, where
+something names what another crate says for itself alone (specs/own/), and where a page tells another figure than counts.txt
+(tools/figures.py).
 """
 import collections
+import contextlib
 import importlib
+import io
 import os
 import re
 import sys
@@ -48,6 +51,8 @@ LOOPS = {
     "worked_grammars.random": ("crates/worked_grammars/src/random.rt", r"(?m)^    for _ in 0\.\.([0-9_]+) \{"),
     "worked_texts.seams": ("crates/worked_texts/src/seams.rt", r"(?m)^    for round in 0\.\.([0-9_]+)u32 \{"),
 }
+# The tools of rows that try the gate's own tools
+OWN_ROWS = ("verdict_rows", "counts_rows", "documents_rows", "stage_rows")
 EDITS, NO_COMPILE, SAME_MEANING = "edits", "must-not-compile", "tools/same_meaning"
 TEST = re.compile(r"(?m)^ *#\[test\]")
 # A function as tests are, with the attributes above it
@@ -132,6 +137,12 @@ def number_in(path, form):
     return int(found[0].replace("_", "")) if len(found) == 1 else 0
 
 
+def rows_of(name):
+    """How many rows a tool of this module has."""
+    with contextlib.redirect_stdout(io.StringIO()), contextlib.redirect_stderr(io.StringIO()):
+        return sum(1 for _ in importlib.import_module(name).cases())
+
+
 def of_sources():
     """What can be counted without a proof."""
     names = crates()
@@ -142,6 +153,7 @@ def of_sources():
     counts["same-meaning"] = files_in(SAME_MEANING)
     counts["examples"] = files_in("examples", end=".abnf")
     counts["known-examples"] = files_in("examples", "known", end=".abnf")
+    counts.update({f"own-rows {it}": rows_of(it) for it in OWN_ROWS})
     counts.update({f"list {it}": number_at(it) for it in LISTS})
     counts.update({f"cases {it}": number_at(it) for it in NUMBERS})
     counts.update({f"cases {name}": number_in(path, form) for name, (path, form) in LOOPS.items()})
@@ -179,6 +191,15 @@ def out_of_place(paths, names):
         yield f"crates/{name}: crates.txt doesn't have it"
 
 
+def alike(texts):
+    """The edits among these files, by their paths, that have the bytes of another one of their crate: both count, and show one thing."""
+    first = {}
+    for path, text in texts.items():
+        kept = first.setdefault((os.path.dirname(path), text), path)
+        if kept != path:
+            yield f"{path}: it has the bytes of {os.path.basename(kept)}"
+
+
 def misused(texts):
     """The files, by their paths in crates/, that name a module of a crate's specs/own/ where only that crate's private statements may."""
     for path, text in texts.items():
@@ -210,6 +231,7 @@ def faults(told):
     yield from differences(of_kind(told, False), of_sources())
     names, paths = crates(), [*places()]
     yield from out_of_place(paths, names)
+    yield from alike({it: text_of(os.path.join(TOP, it)) for it in paths if it.endswith(".edit")})
     yield from misused({it[len("crates/") :]: text_of(os.path.join(TOP, it)) for it in paths if it.startswith("crates/") and it.endswith(SAID_IN)})
     for crate in names:
         texts = sources(crate)

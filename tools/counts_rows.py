@@ -72,6 +72,13 @@ PLACED = (
     ("a crate that isn't told", ["crates/c/src/lib.rt"], ["crates/c: crates.txt doesn't have it"]),
 )
 
+# Edits by their paths, and what is said of those that are others once more
+ALIKE = (
+    ("each is another", {"crates/a/edits/x.edit": "1", "crates/a/edits/y.edit": "2"}, []),
+    ("of two crates", {"crates/a/edits/x.edit": "1", "crates/b/edits/x.edit": "1"}, []),
+    ("one once more", {"crates/a/edits/x.edit": "1", "crates/a/edits/y.edit": "1"}, ["crates/a/edits/y.edit: it has the bytes of x.edit"]),
+)
+
 USE = "use Rattle.a.specs.own.Kept.{IsKept}\n"
 # Files of crates, by their paths, and what is said of those that name another's own statements
 OWNED = (
@@ -137,6 +144,8 @@ def source_cases():
         yield f"files: {what}", [*counts.unread(texts)], lines
     for what, paths, lines in PLACED:
         yield f"places: {what}", [*counts.out_of_place(paths, ["a", "b"])], lines
+    for what, texts, lines in ALIKE:
+        yield f"alike: {what}", [*counts.alike(texts)], lines
     for what, texts, lines in OWNED:
         yield f"own: {what}", [*counts.misused(texts)], lines
 

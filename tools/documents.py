@@ -10,12 +10,17 @@ It fails where
 - a word in backticks on a page of WORDED is none of the code, of specs or of proofs; a contract that PROOFS lists isn't one of the crate of
   its section; or a word of DEFINITIONS isn't defined in the file that its list names;
 - what TRUST or CONTRACTS quotes as code stands so in no crate;
-- the code of a crate names what ARCHITECTURE says that it must never know;
+- the code of a crate names what ARCHITECTURE says that it must never know, or ARCHITECTURE has a crate neither with such a sentence nor
+  among those of tests;
+- code that stands by itself in TRUST or CONTRACTS doesn't say in which language it is;
 - no page names a tool;
 - a paragraph has more than MOST_WORDS words, a line more than MOST_COLUMNS columns, or README more than MOST_LINES lines.
 
+A check that finds nothing to look at would pass, so each has a least count of what it must have looked at (LEAST).
+
 It takes seconds and no proof, so the gate runs it first.
 """
+import collections
 import os
 import re
 import sys
@@ -28,6 +33,10 @@ QUOTING = ("docs/TRUST.md", "docs/CONTRACTS.md")
 # The pages whose words in backticks are words of the repository
 WORDED = (*QUOTING, DEFINITIONS, PROOFS)
 MOST_WORDS, MOST_COLUMNS, MOST_LINES = 80, 100, 300
+# What the checks must have looked at, and at least how many of each: where fewer are found, a page says them in a form that none reads.
+LINKS, PATHS, WORDS, CONTRACTS, DEFINED = "links", "paths in backticks", "words in backticks", "contracts in lists", "definitions in lists"
+QUOTES, KNOWLEDGE, PARAGRAPHS = "pieces of code that are quoted", "sentences on what a crate must never know", "paragraphs"
+LEAST = {LINKS: 450, PATHS: 450, WORDS: 1800, CONTRACTS: 490, DEFINED: 570, QUOTES: 16, KNOWLEDGE: 41, PARAGRAPHS: 2000}
 NOT_READ = ("out", "__pycache__", ".git", "node_modules")
 ENDINGS = ("rt", "antt", "py", "md", "sh", "toml", "json", "lua", "el", "vim", "xml", "txt", "abnf", "rs", "edit", "yml")
 
@@ -113,6 +122,7 @@ def link_faults(page):
         path, _, anchor = found[1].partition("#")
         if re.match(r"[a-z]+:", path):
             continue
+        page.tree.looked[LINKS] += 1
         target = os.path.normpath(os.path.join(os.path.dirname(page.path), path)) if path else page.path
         if target not in page.tree.paths:
             yield f"{page.line_at(text, found.start())}: a link leads to {target}, which isn't there"
@@ -142,6 +152,7 @@ def path_faults(page):
     for words, place in quoted_words(page):
         whole = [words] if PATH.fullmatch(words) else words.split() if words.startswith(COMMANDS) else []
         for path in (it.strip(",;:'\"()") for it in whole):
+            page.tree.looked[PATHS] += bool(PATH.fullmatch(path))
             if PATH.fullmatch(path) and path not in page.tree.words and not is_told_of(path, page):
                 yield f"{place}: `{path}` is no path of the repository"
 
@@ -159,23 +170,25 @@ def word_faults(page):
     """The words in backticks that are none of the code, of specs or of proofs."""
     for words, place in quoted_words(page):
         name = name_in(words)
+        page.tree.looked[WORDS] += bool(name)
         known = name and (len(name) < 3 or name in OTHER_WORDS or words in page.tree.literals or page.tree.has_name(name))
         if name and not known:
             yield f"{place}: `{name}` is no word of the code, of specs or of proofs"
 
 
 def sections(text):
-    """The parts of a page below headings of the second level, each with its heading."""
+    """The parts of a page below headings of the second level, each with its heading, which may stand in backticks."""
     parts = re.split(r"(?m)^## (.*)$", text)
-    return zip(parts[1::2], parts[2::2])
+    return zip((it.replace("`", "").strip() for it in parts[1::2]), parts[2::2])
 
 
 def contract_faults(page):
     """The contracts that a list below the name of a crate begins with, and that aren't of that crate."""
     for crate, part in sections(page.prose()):
-        for line in re.findall(r"(?m)^- (.*)$", part) if crate in page.tree.names else ():
+        for line in re.findall(r"(?m)^[-*] (.*)$", part) if crate in page.tree.names else ():
             for words in re.findall(r"`([^`]+)`", line.partition(":" if "::" not in line.partition(": ")[0] else ": ")[0]):
                 name = name_in(words)
+                page.tree.looked[CONTRACTS] += bool(name)
                 if name and name not in OTHER_WORDS and not page.tree.has_name(name, crate):
                     yield f"{page.path}: `{name}` stands below {crate}, which has no such name"
 
@@ -186,7 +199,8 @@ def definition_faults(page):
     for line in page.prose().splitlines():
         named = re.match(r"\[[\w.]+\]\(\.\./(crates/[\w/]+\.(?:antt|rt))\):", line)
         file = named[1] if named else None if line.startswith("#") else file
-        word = re.match(r"- `([^`]+)`", line)
+        word = re.match(r"[-*] `([^`]+)`", line)
+        page.tree.looked[DEFINED] += bool(word)
         if word and file:
             name = name_in(word[1])
             text = page.tree.text_of(file)
@@ -199,7 +213,11 @@ def definition_faults(page):
 def knowledge_faults(page):
     """What a crate must never know by a sentence of the page, and its code names all the same."""
     text = re.sub(r"\s+", " ", page.prose())
-    for crate, told in re.findall(r"- \*\*`(\w+)`\*\*, open(?:(?! - \*\*).)*? Must never know (.*?)\.(?= |$)", text):
+    sentences = re.findall(r"- \*\*`(\w+)`\*\*, open(?:(?! - \*\*).)*? Must never know (.*?)\.(?= |$)", text)
+    page.tree.looked[KNOWLEDGE] += len(sentences)
+    placed = {crate for crate, _ in sentences} | {*re.findall(r"(?m)^\| `(\w+)` \|", page.prose())}
+    yield from (f"{page.path}: nothing says what {it} must never know, or that it is of tests" for it in sorted({*page.tree.names} - placed))
+    for crate, told in sentences:
         code = re.sub(r"//.*", "", "\n".join(it for path, it in page.tree.texts.items() if path.startswith(f"crates/{crate}/src/")))
         if told.startswith("anything but "):
             others = set(re.findall(r"\buse (\w+)::", code)) - set(re.findall(r"`(\w+)`", told)) - {"std", "crate", "super", "self"}
@@ -220,8 +238,11 @@ def squeezed(text):
 
 def quote_faults(page):
     """What is quoted as code and stands so in no crate. A line `..` leaves something out."""
-    for found in re.finditer(r"(?m)^```(rust|antt)\n(.*?)^```", page.text, re.S):
-        for piece in re.split(r"(?m)^\s*\.\.\s*$", found[2]):
+    for found in re.finditer(r"(?ms)^[ ]*```([^\n`]*)\n(.*?)^[ ]*```[ ]*$", page.text):
+        if not found[1].strip():
+            yield f"{page.line_at(page.text, found.start())}: code stands by itself, and doesn't say in which language it is"
+        for piece in re.split(r"(?m)^\s*\.\.\s*$", found[2]) if found[1] in ("rust", "antt") else ():
+            page.tree.looked[QUOTES] += bool(squeezed(piece))
             if squeezed(piece) and not page.tree.has_code(squeezed(piece), {"rust": ".rt", "antt": ".antt"}[found[1]]):
                 yield f"{page.line_at(page.text, found.start())}: no crate has the code '{squeezed(piece)[:60]}'"
 
@@ -242,6 +263,7 @@ def paragraphs(text):
 def layout_faults(page):
     """Paragraphs and lines that are too long; code has lines of any length."""
     for number, text in paragraphs(page.prose()):
+        page.tree.looked[PARAGRAPHS] += 1
         count = len(text.split())
         if count > MOST_WORDS:
             yield f"{page.path}:{number}: a paragraph has {count} words, and may have {MOST_WORDS}"
@@ -284,7 +306,7 @@ class Tree:
     """The files of the repository, and the names of its crates."""
 
     def __init__(self, texts):
-        self.texts = texts
+        self.texts, self.looked = texts, collections.Counter()
         self.paths = {path for it in texts for path in (it, *parents(it))} | {"."}
         self.bases = {tuple(it.split("/"))[at:] for it in self.paths for at in range(it.count("/") + 1)}
         self.names, self.code = {}, {".rt": [], ".antt": []}
@@ -372,11 +394,19 @@ def is_page(path):
     return path.endswith(".md") and ("/" not in path or path.startswith("docs/"))
 
 
+def unseen(looked):
+    """What the checks have looked at fewer of than there must be."""
+    for what, least in LEAST.items():
+        if looked[what] < least:
+            yield f"of {what} {looked[what]} were looked at, and at least {least} must be: pages say them in a form that no check reads"
+
+
 def faults(tree):
     yield from unnamed_tools(tree)
     for path, text in sorted(tree.texts.items()):
         if is_page(path):
             yield from page_faults(Page(path, text, tree))
+    yield from unseen(tree.looked)
 
 
 def main():

@@ -40,6 +40,8 @@ TREE = documents.Tree({
     "tools/counts.py": "LISTS = ()\n\n\ndef written(counts):\n    pass\n",
     "examples/a.abnf": "a = b\n",
 })
+# The crate of which a page says that it is of tests
+LOW = "| `low` | texts |\n\n"
 # A paragraph of 81 words
 LONG = "\n".join(["word"] * 81)
 
@@ -91,13 +93,13 @@ PAGES = (
         "```antt\nis_so number = false\n```\n",
         ["docs/TRUST.md:1: no crate has the code 'is_so number = false'"],
     ),
-    (documents.knowledge_faults, "docs/ARCHITECTURE.md", "- **`high`**, open x: y. Must never know grammars, or blocks.\n", []),
-    (documents.knowledge_faults, "docs/ARCHITECTURE.md", "- **`high`**, open x: y. Must never know the sea (read), or JSON.\n", []),
-    (documents.knowledge_faults, "docs/ARCHITECTURE.md", "- **`high`**, open x: y. Must never know anything but `low`.\n", []),
+    (documents.knowledge_faults, "docs/ARCHITECTURE.md", f"{LOW}- **`high`**, open x: y. Must never know grammars, or blocks.\n", []),
+    (documents.knowledge_faults, "docs/ARCHITECTURE.md", f"{LOW}- **`high`**, open x: y. Must never know the sea (read), or JSON.\n", []),
+    (documents.knowledge_faults, "docs/ARCHITECTURE.md", f"{LOW}- **`high`**, open x: y. Must never know anything but `low`.\n", []),
     (
         documents.knowledge_faults,
         "docs/ARCHITECTURE.md",
-        "- **`high`**, open x: y. Must never know how files are\n  read, or the sea.\n- **`high`**: z.\n",
+        f"{LOW}- **`high`**, open x: y. Must never know how files are\n  read, or the sea.\n- **`high`**: z.\n",
         [
             "docs/ARCHITECTURE.md: high must never know how files are read, and its code names std::io",
             "docs/ARCHITECTURE.md: nothing enforces that high must never know the sea: `(read)` says so, or a word of KNOWS",
@@ -106,8 +108,32 @@ PAGES = (
     (
         documents.knowledge_faults,
         "docs/ARCHITECTURE.md",
-        "- **`high`**, open x: y. Must never know anything but `none`.\n",
+        f"{LOW}- **`high`**, open x: y. Must never know anything but `none`.\n",
         ["docs/ARCHITECTURE.md: high uses low, which it must never know"],
+    ),
+    (
+        documents.knowledge_faults,
+        "docs/ARCHITECTURE.md",
+        f"{LOW}- **`high`**, open x: y. It never knows grammars.\n",
+        ["docs/ARCHITECTURE.md: nothing says what high must never know, or that it is of tests"],
+    ),
+    (
+        documents.contract_faults,
+        "docs/PROOFS.md",
+        "## `low`\n\n* `comes`, `goes`: so.\n",
+        ["docs/PROOFS.md: `comes` stands below low, which has no such name"],
+    ),
+    (
+        documents.definition_faults,
+        "docs/DEFINITIONS.md",
+        "## A\n\n[Words](../crates/low/specs/Words.antt):\n\n* `is_not`: so\n",
+        ["docs/DEFINITIONS.md: `is_not` isn't defined in crates/low/specs/Words.antt"],
+    ),
+    (
+        documents.quote_faults,
+        "docs/TRUST.md",
+        "a\n```\nis_so number = false\n```\n",
+        ["docs/TRUST.md:2: code stands by itself, and doesn't say in which language it is"],
     ),
     (documents.layout_faults, "README.md", f"{'word ' * 60}\n\n- word\n", ["README.md:1: a line has 300 columns, and may have 100"]),
     (documents.layout_faults, "docs/B.md", f"a\n\n{LONG}\n", ["docs/B.md:3: a paragraph has 81 words, and may have 80"]),
@@ -116,13 +142,46 @@ PAGES = (
 )
 
 
-def cases():
+# A page on which each check finds what to look at, and how often.
+LOOKED = (
+    (documents.link_faults, documents.LINKS, "[a](#b), [c](../README.md)\n", 2),
+    (documents.path_faults, documents.PATHS, "`docs/B.md`, `python3 tools/counts.py`, `goes`\n", 2),
+    (documents.word_faults, documents.WORDS, "`goes`, `docs/B.md`\n", 1),
+    (documents.contract_faults, documents.CONTRACTS, "## low\n\n- `goes`: so.\n\nIt `goes`.\n", 1),
+    (documents.definition_faults, documents.DEFINED, "[Words](../crates/low/specs/Words.antt):\n\n- `is_so`: so\n", 1),
+    (documents.quote_faults, documents.QUOTES, "```antt\nis_so number = nat_le 1 number\n```\n```sh\nls\n```\n", 1),
+    (documents.knowledge_faults, documents.KNOWLEDGE, "- **`high`**, open x: y. Must never know grammars.\n", 1),
+    (documents.layout_faults, documents.PARAGRAPHS, "a\n\nb\nc\n", 2),
+)
+
+
+def looked_cases():
+    for check, what, text, count in LOOKED:
+        TREE.looked.clear()
+        said(check, "docs/B.md", text)
+        yield f"what {check.__name__} looks at", dict(+TREE.looked), {what: count}
+    yield "each check has a least count", {*documents.LEAST}, {what for _, what, _, _ in LOOKED}
+    yield "as many as must be", [*documents.unseen(documents.LEAST)], []
+    for what, least in documents.LEAST.items():
+        few = {**documents.LEAST, what: least - 1}
+        line = f"of {what} {least - 1} were looked at, and at least {least} must be: pages say them in a form that no check reads"
+        yield f"too few {what}", [*documents.unseen(few)], [line]
+    bare = documents.Tree({"docs/B.md": "# B\n"})
+    yield "a repository in which nothing is looked at", len([*documents.faults(bare)]), len(documents.LEAST)
+
+
+def page_cases():
     for check, path, text, wanted in PAGES:
         yield f"{check.__name__}: {text[:60]!r}", said(check, path, text), wanted
     named = documents.Tree({"tools/a.py": "", "bench/b.py": "", "docs/B.md": "`tools/a.py` or `bb.py`"})
     yield "tools that no page names", [*documents.unnamed_tools(named)], ["bench/b.py: no page names it"]
     yield "the names of a file of specs", documents.defined_in(SPECS), {"is_so", "IsSettled", "sent"}
     yield "the anchors of a page", documents.anchors("# A `b`, c\n## [D](e.md)\n## D\n"), {"a-b-c", "d", "d-1"}
+
+
+def cases():
+    yield from page_cases()
+    yield from looked_cases()
 
 
 if __name__ == "__main__":

@@ -11,13 +11,27 @@ import tempfile
 
 from edits import checks, copies
 from edits.files import BAD_NAME, edits_in, read, write
-from edits.kit import DOES_KEEP, crates_of
+from edits.kit import DOES_KEEP, RTLIB, crates_of
 from edits.libraries import Gate, Libraries, copy_crates
 from edits.store import NoStore, Store
-from edits.verdict import TIMED_OUT
+from edits.verdict import STALE, TIMED_OUT, TOO_LONG
 
 TOP = os.path.dirname(os.path.dirname(os.path.abspath(__file__)))
 NOTHING_PROVED = ("--only", "")
+# How a check ends that has found an error.
+IS_WRONG = 1
+
+
+def verdict(ended, error):
+    """Whether a check that ended so shows that an edit is refused with this error, and what to say of it."""
+    if ended.returncode == TIMED_OUT:
+        return False, f"NOT TRIED: {TOO_LONG}"
+    if RTLIB.STALE.search(ended.stdout):
+        return False, f"NOT TRIED: {STALE}"
+    if ended.returncode != IS_WRONG:
+        return False, f"NOT refused as it names: its check ended with status {ended.returncode}"
+    is_refused = f"error[{error}]" in ended.stdout
+    return is_refused, "refused, as it must be" if is_refused else "NOT refused as it names"
 
 
 def tried(crate, path):
@@ -30,10 +44,7 @@ def tried(crate, path):
         for name, text in texts.items():
             write(f"{folder}/{name}", text)
         ended = checks.checked(crate, folder, NOTHING_PROVED)
-    if ended.returncode == TIMED_OUT:
-        return False, "NOT TRIED: its check took too long"
-    is_refused = f"error[{others['error'][0]}]" in ended.stdout
-    return is_refused, "refused, as it must be" if is_refused else "NOT refused as it names"
+    return verdict(ended, others["error"][0])
 
 
 def results_in(folder):

@@ -12,12 +12,15 @@ import re
 import signal
 import sys
 import tempfile
+from unittest import mock
 
-from edits import checks
+import rows
+from edits import checks, kit
+from edits import store as stores
 from edits.copies import Copy
-from edits.files import edits_in, lines_of, unread_folders, write
+from edits.files import edits_in, lines_of, text_of, unread_folders, write
 from edits.functions import Source, is_in
-from edits.kit import once_a_call
+from edits.kit import DOES_KEEP, once_a_call
 from edits.libraries import Gate, Libraries
 from edits.store import KINDS, NoStore, Store
 from edits.trial import Trial
@@ -448,9 +451,76 @@ def remembered():
         yield "what is kept of the same meaning", (store.told("n", True), store.told("n", False), store.told("m", True)), ("t", None, None)
 
 
+# A made-up repository of two crates: what an edit's verdict rests on there.
+REPOSITORY = {
+    "crates.txt": "low:\nmade: low\n",
+    "HANDLES": "Handles allowed: none.\n",
+    "crates/low/src/lib.rt": "pub fn below() {}\n",
+    "crates/low/out/rlib/low.rlib/format": "as it was built",
+    "crates/made/src/lib.rt": SOURCE,
+    "crates/made/specs/Words.antt": "word : Nat\nword = 1\n",
+    "crates/made/proofs/f/Answers.antt": "-- answers\n",
+    "crates/made/edits/e.edit": EDITS["f_first"],
+}
+
+
+def stored(at, changes):
+    """The store of `rt` over that repository with these files changed, one of its crates, and an edit of it."""
+    for path, text in {".git/HEAD": "", **REPOSITORY, **changes}.items():
+        os.makedirs(os.path.dirname(f"{at}/{path}"), exist_ok=True)
+        write(f"{at}/{path}", text)
+    crates = {it.name: it for it in kit.crates_of(at)}
+    store = Store([*crates.values()])
+    store.has_library(crates["low"])
+    edit = argparse.Namespace(file=f"{at}/crates/made/edits/e.edit", name="e.edit", is_same=False)
+    return store, crates["made"], edit
+
+
+# What the verdict on an edit rests on: each is changed in turn, and then nothing that was kept is found.
+PARTS_OF_A_KEY = (
+    ("nothing", {}, {}),
+    ("a tool", {}, {"tools": "other tools"}),
+    ("the kit", {}, {"kit": "another kit"}),
+    ("the edit", {"crates/made/edits/e.edit": EDITS["f_second"]}, {}),
+    ("the crate's code", {"crates/made/src/lib.rt": f"{SOURCE}// more\n"}, {}),
+    ("its definitions", {"crates/made/specs/Words.antt": "word : Nat\nword = 2\n"}, {}),
+    ("its proofs", {"crates/made/proofs/f/Answers.antt": "-- other answers\n"}, {}),
+    ("its line of crates.txt", {"crates.txt": "low:\nmade: low memchr\n"}, {}),
+    ("what the repository may", {"HANDLES": "Handles allowed: Wait.\n"}, {}),
+    ("a library below", {"crates/low/out/rlib/low.rlib/format": "as it was built anew"}, {}),
+)
+
+
+def as_told(tools, name):
+    """The sums of the tools and of the kit are these."""
+    stack = contextlib.ExitStack()
+    stack.enter_context(mock.patch.object(stores, "sum_of_tools", lambda: tools))
+    stack.enter_context(mock.patch.object(kit.RT, "kit_sum", lambda: name))
+    return stack
+
+
+def keys():
+    """Nothing is taken from the store that was kept of something else. Where `rt` has no store there is none to be wrong."""
+    for what, changes, others in PARTS_OF_A_KEY if DOES_KEEP else ():
+        with tempfile.TemporaryDirectory() as at, mock.patch.object(kit.RT, "STORE", f"{at}/store"):
+            with as_told("the tools", "the kit"):
+                store, crate, edit = stored(f"{at}/before", {})
+                store.keep(crate, {store.name(crate, edit): (edit, "refused")}, ["f"])
+            with as_told(others.get("tools", "the tools"), others.get("kit", "the kit")):
+                store, crate, edit = stored(f"{at}/after", changes)
+                found = store.told(store.name(crate, edit), False), store.has_shown(crate, "f")
+        # (that a function is shown to be proved rests on no edit)
+        yield f"what is kept, with a change of {what}", found, ("refused" if what == "nothing" else None, what in ("nothing", "the edit"))
+    here = os.path.dirname(os.path.abspath(stores.__file__))
+    for path in (f"{os.path.dirname(here)}/refused_edits.py", *sorted(f"{here}/{it}" for it in os.listdir(here) if it.endswith(".py"))):
+        total = stores.sum_of_tools()
+        with mock.patch.object(stores, "text_of", lambda it, path=path: "other" if it == path else text_of(it)):
+            yield f"the sum of the tools without {os.path.basename(path)}", stores.sum_of_tools() != total, True
+
+
 def libraries():
     """Beside a gate a library comes from the store, or from out/ while the gate runs and has told that it is proved."""
-    rows = (
+    found_in = (
         ("the store has it", "", True, True, True),
         ("it is proved, and not kept", "rt: made proved\n", True, False, True),
         ("it was proved, and something else may stand there", "rt: made proved\n", False, False, False),
@@ -458,7 +528,7 @@ def libraries():
         ("its tests are proved", "rt: made: its tests are proved\n", False, False, False),
         ("it isn't proved yet, and then the gate ends", "rt: low proved\n", None, False, False),
     )
-    for name, log, is_running, is_kept, wanted in rows:
+    for name, log, is_running, is_kept, wanted in found_in:
         with tempfile.TemporaryDirectory() as at:
             crate = Crate(f"{at}/copy/made")
             crate.rlib = f"{at}/copy/made/out/rlib/made.rlib"
@@ -473,16 +543,10 @@ def libraries():
             yield f"libraries: {name}", (found, os.path.isfile(f"{crate.rlib}/format")), ([wanted], wanted and not is_kept)
 
 
-def main():
-    results = []
-    for rows in (logs, alone, texts, names, played, controls, sums, unedited, self_test, remembered, libraries):
-        for name, found, wanted in rows():
-            results.append(found == wanted)
-            if found != wanted:
-                print(f"{name}: {found}, and not {wanted}")
-    print(f"{results.count(True)} passed, {results.count(False)} failed")
-    return 0 if results and all(results) else 1
+def cases():
+    for some in (logs, alone, texts, names, played, controls, sums, unedited, self_test, remembered, keys, libraries):
+        yield from some()
 
 
 if __name__ == "__main__":
-    sys.exit(main())
+    sys.exit(rows.told(cases()))
