@@ -150,7 +150,7 @@ def of_sources():
     counts.update({f"tests {it}": sum(len(TEST.findall(text)) for text in sources(it).values()) for it in names})
     for kind in (EDITS, NO_COMPILE):
         counts.update({f"{kind} {it}": files_in("crates", it, kind) for it in names})
-    counts["same-meaning"] = files_in(SAME_MEANING)
+    counts["same-meaning"] = sum(files_in(SAME_MEANING, it) for it in names)
     counts["examples"] = files_in("examples", end=".abnf")
     counts["known-examples"] = files_in("examples", "known", end=".abnf")
     counts.update({f"own-rows {it}": rows_of(it) for it in OWN_ROWS})
@@ -183,7 +183,7 @@ def unread(texts):
 
 def out_of_place(paths, names):
     """The edits, and the crates' folders, of these paths that nothing looks for, where the crates have these names."""
-    known = {SAME_MEANING, *(f"crates/{name}/{kind}" for name in names for kind in (EDITS, NO_COMPILE))}
+    known = {at for name in names for at in (f"{SAME_MEANING}/{name}", f"crates/{name}/{EDITS}", f"crates/{name}/{NO_COMPILE}")}
     for folder, count in collections.Counter(os.path.dirname(it) for it in paths if it.endswith(".edit")).items():
         if folder not in known:
             yield f"{folder}: {count} edits lie there, where nothing looks for any"

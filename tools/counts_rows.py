@@ -65,10 +65,11 @@ READ = (
 
 # Paths of files, and what is said of those that nothing looks for, where the crates are a and b
 PLACED = (
-    ("edits in their places", ["crates/a/edits/x.edit", "crates/b/must-not-compile/x.edit", "tools/same_meaning/x.edit"], []),
+    ("edits in their places", ["crates/a/edits/x.edit", "crates/b/must-not-compile/x.edit", "tools/same_meaning/a/x.edit"], []),
     ("other files", ["crates/a/src/lib.rt", "crates/a/edits/README.md", "tools/counts.py"], []),
     ("another folder", ["crates/a/edit/x.edit", "crates/a/edit/y.edit"], ["crates/a/edit: 2 edits lie there, where nothing looks for any"]),
     ("a folder below", ["crates/a/edits/more/x.edit"], ["crates/a/edits/more: 1 edits lie there, where nothing looks for any"]),
+    ("the same meaning of no crate", ["tools/same_meaning/x.edit"], ["tools/same_meaning: 1 edits lie there, where nothing looks for any"]),
     ("a crate that isn't told", ["crates/c/src/lib.rt"], ["crates/c: crates.txt doesn't have it"]),
 )
 

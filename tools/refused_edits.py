@@ -20,8 +20,9 @@ check ended by itself, all of it was read, and nothing fails in it that isn't ed
 What no copy shows to be refused is tried alone and from nothing, as `rt must-fail` does, and has that verdict. A check that takes too long
 is killed, and its edits have no verdict.
 
-Without names all edits are tried, and with them this tool: the edits in tools/same_meaning/, which mean the same as before, stand in the
-copies of abnf_token among its own, and must be found not refused; and one of them, of a definition, also alone and from nothing.
+Without names all edits are tried, and with them this tool: the edits in tools/same_meaning/CRATE/, which mean the same as before, stand in
+the copies of that crate among its own, and must be found not refused; and one of them, of a definition, also alone and from nothing. Some
+are of a method whose proof has answers, and of a function whose proof has invariants, so that the twins of such are tried too.
 
 Before any proof it looks whether each edit can be made, since its words must stand once in the code, and tries none where one can't. With
 --fit that is all it does. With --unedited the copies are checked with no edit made, and all of them must be proved.
@@ -33,7 +34,8 @@ checkout, which runs as long as FILE is there, and writes to it: the edits of a 
 
 What an edit came to is kept as `rt ci` keeps such, outside the checkout, by a sum over these tools, the edit, whether it must be refused,
 the crate and the libraries below it, and isn't sought again; but nothing is kept with --kept, or where the kit's `rt` keeps nothing. The
-last line is 'N passed, M failed'.
+last line is 'N passed, M failed'. An edit that is refused only as a proof file names what the edit took away shows little of a contract,
+and counts as one that isn't refused.
 """
 import argparse
 import concurrent.futures
@@ -52,12 +54,11 @@ from edits.files import BAD_NAME, edits_in, unread_folders
 from edits.kit import DOES_KEEP, RT, RTLIB, crates_of
 from edits.libraries import Gate, Libraries, copy_crates
 from edits.store import NoStore, Store
-from edits.trial import Trial
+from edits.trial import KINDS, Trial
 from edits.verdict import is_at_a_bound
 
 TOP = os.path.dirname(os.path.dirname(os.path.abspath(__file__)))
 SAME_MEANING = os.path.join(TOP, "tools", "same_meaning")
-TESTED_ON = "abnf_token"
 
 
 @contextlib.contextmanager
@@ -95,20 +96,26 @@ def alone(names):
     return RT.where_disk_lasts(RT.edits_alone, names)
 
 
+def same_meaning(folder):
+    """The folders of edits that mean the same, by the crates that they are of."""
+    return {it: f"{folder}/{it}" for it in sorted(os.listdir(folder)) if os.path.isdir(f"{folder}/{it}")}
+
+
 def untested(trials, folder):
-    """Why this tool wouldn't be tried with the edits of this folder, which mean the same, or None."""
-    same, among = edits_in(folder)[0], [edit for trial in trials for edit in trial.edits if edit.is_same]
+    """Why this tool wouldn't be tried with the edits of the folders in this one, which mean the same, or None."""
+    same = [f"{crate}/{it}" for crate, at in same_meaning(folder).items() for it in edits_in(at)[0]]
+    among = [(trial, edit) for trial in trials for edit in trial.edits if edit.is_same]
     if len(same) != len(among):
-        return f"this tool isn't tried: of the {len(same)} edits of tools/same_meaning {len(among)} stand among those of {TESTED_ON}"
-    if not any(it.functions for it in among) or not any(it.checked for it in among):
-        return "this tool isn't tried: tools/same_meaning wants edits of bodies, and one of a definition with a line 'checked:'"
-    return None
+        return f"this tool isn't tried: of the {len(same)} edits of tools/same_meaning {len(among)} stand among those of their crates"
+    lacking = {*KINDS}.difference(*(trial.kinds(edit) for trial, edit in among))
+    return f"this tool isn't tried: tools/same_meaning wants an edit of {sorted(lacking)[0]}" if lacking else None
 
 
 def unread(trials, crates, names):
     """What is said of all that no trial would read: folders, names that fit nothing, a self-test that would try nothing."""
     said = [f"{at}: {why}" for at, why in unread_folders(TOP, [it.name for it in crates])]
-    said += [f"tools/same_meaning/{it}: {BAD_NAME}" for it in edits_in(SAME_MEANING)[1]]
+    bad = {crate: edits_in(at)[1] for crate, at in same_meaning(SAME_MEANING).items()}
+    said += [f"tools/same_meaning/{crate}/{it}: {BAD_NAME}" for crate, found in bad.items() for it in found]
     why = None if names else untested(trials, SAME_MEANING)
     said += [why] if why else []
     known = {it.crate.name for it in trials if it.edits} | {f"{it.crate.name}/{edit.name}" for it in trials for edit in it.edits}
@@ -171,7 +178,7 @@ def run(given, folder):
     copy_crates(TOP, folder)
     crates = crates_of(folder)
     store = Store(crates) if DOES_KEEP else NoStore()
-    same = {TESTED_ON: SAME_MEANING} if not given.names else {}
+    same = same_meaning(SAME_MEANING) if not given.names else {}
     trials = [Trial(it, given, store, same.get(it.name)) for it in crates]
     unfit = [*unread(trials, crates, given.names), *(line for it in trials for line in it.unfit())]
     edits = sum(len(it.edits) for it in trials)

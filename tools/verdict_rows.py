@@ -15,7 +15,7 @@ import tempfile
 from unittest import mock
 
 import rows
-from edits import checks, kit
+from edits import checks, copies, kit
 from edits import store as stores
 from edits.copies import Copy
 from edits.files import edits_in, lines_of, text_of, unread_folders, write
@@ -23,8 +23,19 @@ from edits.functions import Source, is_in
 from edits.kit import DOES_KEEP, once_a_call
 from edits.libraries import Gate, Libraries
 from edits.store import KINDS, NoStore, Store
-from edits.trial import Trial
-from edits.verdict import BOUND_TEXT, TIMED_OUT, against, against_named, is_at_a_bound, read_check, refusal, verdict_alone, why_unclean
+from edits.trial import BODY, DEFINITION, WITH_ANSWERS, WITH_INVARIANTS, Trial
+from edits.verdict import (
+    BOUND_TEXT,
+    BY_A_NAME,
+    TIMED_OUT,
+    against,
+    against_named,
+    is_at_a_bound,
+    read_check,
+    refusal,
+    verdict_alone,
+    why_unclean,
+)
 from refused_edits import unread, untested
 
 END, WHOLE_END = "only=3 holes=9", "logic=not-proved"
@@ -86,6 +97,7 @@ ALONE = (
     ("missed", "NOT REFUSED: the crate is still proved with this edit", "", False, False),
     ("unsure", "NOT TRIED: its check ended with status 3", "", False, False),
     ("bad", "BAD EDIT: it did not reach the prover", "", False, False),
+    ("refused", f"{BY_A_NAME}, so this says little): ..", TWINS_GOAL, False, False),
     ("refused", "refused, as it must be: note: ..", TWINS_GOAL, True, False),
     ("limit", "refused, as it must be (only by a limit of the prover)", "", True, False),
     ("missed", "NOT REFUSED: the crate is still proved with this edit", "", True, True),
@@ -202,7 +214,25 @@ impl Clone for Made {
         Made(made)
     }
 }
+
+pub struct Pair(u8, u8);
+
+impl Pair {
+    pub fn turns(&self) -> u8
+        ensures { result ≡ self.now.1 }
+    {
+        self.1
+    }
+}
+
+pub fn walks(a: u8) -> u8
+    ensures { result ≡ a }
+{
+    a + 0
+}
 """
+# The proofs of the made-up crate that the tool looks for: answers of a method, and an invariant.
+PROOFS = {"Pair/turns/Answers.antt": "", "walks/Invariants.antt": ""}
 # The edits of the made-up crate; those that mean the same hold no word that the played prover refuses.
 EDITS = {
     "f_first": "file: src/lib.rt\nold:     b\nnew:     b + broken\n",
@@ -213,6 +243,8 @@ EDITS = {
 }
 SAME = {
     "f_same": "file: src/lib.rt\nold:     b\nnew:     b + 0\n",
+    "turns_same": "file: src/lib.rt\nold:         self.1\nnew:         self.1 + 0\n",
+    "walks_same": "file: src/lib.rt\nold:     a + 0\nnew:     a + 0 + 0\n",
     "word_same": "checked: law\nfile: specs/Words.antt\nold: word = 1\nnew: word = 0 + 1\n",
 }
 
@@ -276,7 +308,7 @@ ALL = {*EDITS, *SAME}
 PLAYED = (
     ("it is right", {}, ALL, {"f_second"}, 1),
     ("it finds nothing", {"finds_nothing": True}, {"word_first", "word_same"}, set(), 5),
-    ("it refuses each twin", {"refuses_twins": True}, ALL - {"f_same"}, set(), 1),
+    ("it refuses each twin", {"refuses_twins": True}, ALL - {"f_same", "turns_same", "walks_same"}, set(), 1),
     ("f is never proved", {"fails": ("f",)}, {*EDITS}, set(), 4),
     ("the law is never proved", {"fails": ("law",)}, {*EDITS}, {"f_second"}, 2),
     ("the witness is never proved", {"fails": ("h",)}, {*EDITS}, set(), 5),
@@ -296,17 +328,20 @@ def made_crate(store=None, is_kept=False, is_unedited=False, **provers_faults):
     """A made-up crate's trial, with a played prover."""
     was = checks.checked, checks.MEMORY
     with tempfile.TemporaryDirectory() as at:
-        for path, text in (("src/lib.rt", SOURCE), ("specs/Words.antt", "word : Nat\nword = 1\n")):
+        proofs = {f"proofs/{path}": text for path, text in PROOFS.items()}
+        for path, text in {"src/lib.rt": SOURCE, "specs/Words.antt": "word : Nat\nword = 1\n", **proofs}.items():
             os.makedirs(os.path.dirname(f"{at}/made/{path}"), exist_ok=True)
             write(f"{at}/made/{path}", text)
-        for folder, found in ((f"{at}/made/edits", EDITS), (f"{at}/same", SAME)):
+        for folder, found in ((f"{at}/made/edits", EDITS), (f"{at}/same/made", SAME)):
             os.makedirs(folder)
             for name, text in found.items():
                 write(f"{folder}/{name}.edit", text)
         given = argparse.Namespace(names=[], unedited=is_unedited, kept=is_kept, log=None, top=at)
         checks.checked, checks.MEMORY = Prover(**provers_faults).checked, argparse.Namespace(of=lambda crate: contextlib.nullcontext())
         try:
-            yield Trial(Crate(f"{at}/made"), given, store or NoStore(), f"{at}/same")
+            # (which functions have their turn is no matter of the day here)
+            with mock.patch.object(copies, "is_its_turn", lambda name: False):
+                yield Trial(Crate(f"{at}/made"), given, store or NoStore(), f"{at}/same/made")
         finally:
             checks.checked, checks.MEMORY = was
 
@@ -332,14 +367,42 @@ def controls():
             for function, text in (("f", "-- a long proof\n" * 9), ("g", f"use Rattle.made.proofs.{name}\n" if name else "")):
                 os.makedirs(f"{trial.source.folder}/proofs/{function}")
                 write(f"{trial.source.folder}/proofs/{function}/Answers.antt", text)
-            again = Trial(trial.crate, trial.given, NoStore(), f"{trial.given.top}/same")
+            again = Trial(trial.crate, trial.given, NoStore(), f"{trial.given.top}/same/made")
             twins = again.maker.shared_out([it for it in again.edits if it.functions], {"law"})[0]
-            yield f"the functions with twins: {name}", twins.bases(), {"f", "g"}
+            yield f"the functions with twins: {name}", twins.bases(), {"f", "g", "Pair::turns", "walks"}
             yield f"the controls of a copy: {name}", again.maker.controls(twins), wanted
             with tempfile.TemporaryDirectory() as folder:
                 yield f"what must be proved in a copy: {name}", {*again.maker.make(folder, twins)[2]} >= {*wanted, "law"}, True
     with made_crate() as trial:
         yield "the controls where there is no twin", trial.maker.controls(Copy([])), set()
+    # each function with twins is a control on one day of so many
+    shown = []
+    for day in range(copies.DAYS):
+        with mock.patch.object(copies, "today", lambda day=day: day):
+            shown += [it for it in ("f", "g", "walks", "Pair::turns", "scan::longest") if copies.is_its_turn(it)]
+    yield "the days of controls", sorted(shown), ["Pair::turns", "f", "g", "scan::longest", "walks"]
+    with made_crate() as trial:
+        twins = trial.maker.shared_out([it for it in trial.edits if it.functions], set())[0]
+        with mock.patch.object(copies, "is_its_turn", lambda name: name == "g"):
+            yield "the controls of a day", trial.maker.controls(twins), {"f", "g"}
+
+
+LAWS = "pub fn first()\n    ensures { word ≡ 1 }\n{}\n\npub fn second()\n    ensures { word ≡ word }\n    ensures { 1 ≡ 1 }\n{}\n"
+
+
+def witnesses():
+    """Beside an edit of a definition something else is proved: a function with a body, or where there is none another law."""
+    with made_crate() as trial:
+        yield "a witness with a body", trial.maker.witness({"law"}), ["h"]
+    with tempfile.TemporaryDirectory() as at:
+        os.makedirs(f"{at}/src")
+        os.makedirs(f"{at}/proofs/first")
+        write(f"{at}/src/lib.rt", LAWS)
+        write(f"{at}/proofs/first/Answers.antt", "-- some answers\n")
+        maker = copies.Maker(Source("made", at), False)
+        yield "the laws of a crate", maker.source.laws(), ["first", "second"]
+        for named, wanted in ((set(), ["second"]), ({"second"}, ["first"]), ({"first", "second"}, [])):
+            yield f"a witness beside {sorted(named)}", maker.witness(named), wanted
 
 
 def names():
@@ -401,11 +464,15 @@ def self_test():
         yield "no crate to try it on", bool(untested([], same)), True
         for names, wanted in (([], True), (["made"], False)):
             yield f"the tool is tried, {names}", any("isn't tried" in it for it in unread([trial], [], names)), wanted
+        # (f isn't all that has a body)
         for name in SAME:
-            os.rename(f"{same}/{name}.edit", f"{same}/other")
-            lacking = Trial(trial.crate, trial.given, NoStore(), same)
-            yield f"the same meaning without {name}", bool(untested([lacking], same)), True
-            os.rename(f"{same}/other", f"{same}/{name}.edit")
+            os.rename(f"{same}/made/{name}.edit", f"{same}/made/other")
+            lacking = Trial(trial.crate, trial.given, NoStore(), f"{same}/made")
+            yield f"the same meaning without {name}", bool(untested([lacking], same)), name != "f_same"
+            os.rename(f"{same}/made/other", f"{same}/made/{name}.edit")
+        found = {it.name[: -len(".edit")]: trial.kinds(it) for it in trial.edits if it.is_same}
+        kinds = {"f_same": {BODY}, "word_same": {DEFINITION}, "turns_same": {BODY, WITH_ANSWERS}, "walks_same": {BODY, WITH_INVARIANTS}}
+        yield "the kinds of edits that mean the same", found, kinds
 
 
 class Memory(NoStore):
@@ -544,7 +611,7 @@ def libraries():
 
 
 def cases():
-    for some in (logs, alone, texts, names, played, controls, sums, unedited, self_test, remembered, keys, libraries):
+    for some in (logs, alone, texts, names, played, controls, witnesses, sums, unedited, self_test, remembered, keys, libraries):
         yield from some()
 
 

@@ -3,11 +3,15 @@ import copy
 import os
 import shutil
 import tempfile
+import time
+import zlib
 
 from edits.files import read, text_of, write
 from edits.functions import FUNCTION, without_body
 from edits.kit import PARTS, RT
 
+# In so many days each function with twins is a control once.
+DAYS = 30
 # The proof of a function that is left out.
 HOLE = """use Rattle.{crate}.proofs.{module}.Statement.{{statement}}
 
@@ -35,6 +39,16 @@ class Edit:
         made.twins = {it: f"{it}_twin{number}" for it in self.functions}
         made.functions = {*made.twins.values()}
         return made
+
+
+def today():
+    """The number of the day."""
+    return int(time.time()) // 86_400
+
+
+def is_its_turn(name):
+    """Whether a function with twins is to be shown as it stands today: each is, once in so many days."""
+    return (zlib.crc32(name.encode()) + today()) % DAYS == 0
 
 
 class Copy:
@@ -161,7 +175,8 @@ class Maker:
             write(f"{at}/Proof.antt", HOLE.format(crate=source.name, module=name.replace("::", "."), name=short))
 
     def controls(self, made):
-        """Those of the functions with twins that stand as they are beside these, and must be proved: the one that is longest with its proof.
+        """Those of the functions with twins that stand as they are beside these, and must be proved: the one that is longest with its proof, and
+        those whose turn it is today.
 
         A twin is made of its function's body and answers, of contracts, definitions and lemmas. All these but the edit stand in the copy as
         they are, so what is proved in the crate is proved here: unless answers name the proof of another function, which is left out. So each
@@ -169,12 +184,16 @@ class Maker:
         """
         bases = sorted(made.bases())
         longest = sorted(bases, key=self.source.length)[-1:]
-        return {*longest, *(it for it in bases if self.source.rests_on_others(it))}
+        return {*longest, *(it for it in bases if self.source.rests_on_others(it) or is_its_turn(it))}
 
     def witness(self, functions):
-        """A function beside these that a copy leaves whole, so that it must be proved there: that with the shortest body of some lines."""
+        """A function beside these that a copy leaves whole, so that it must be proved there: that with the shortest body of some lines, or in a
+        crate of laws the law with the shortest proof.
+        """
         bodies = {name: body for name, body in self.source.bodies().items() if name not in functions}
-        return sorted((it for it in bodies if bodies[it].count("\n") > 3), key=lambda it: len(bodies[it]))[:1]
+        some = sorted((it for it in bodies if bodies[it].count("\n") > 3), key=lambda it: len(bodies[it]))
+        laws = sorted({*self.source.laws()} - {*functions}, key=lambda it: (self.source.proof_length(it), it)) if not some else []
+        return [*some, *laws][:1]
 
     def make(self, folder, made, named=()):
         """Makes a copy in a folder. Gives whether that could be, the flags of its check, and the functions that must be proved in it.

@@ -10,6 +10,7 @@ FUNCTION = re.compile(
     r"(?m)^((?: *(?:#\[|//).*\n)*)( *)(?:pub(?:\(\w+\))? )?fn (\w+)"
     r"(?:.* \{|.*(?:\n(?:\2[ )>].*|\2where|))*?\n\2(?:[)>].* )?\{)\n((?:.*\n)*?)\2\}$"
 )
+LAW = re.compile(r"(?m)^(?:pub(?:\(\w+\))? )?fn (\w+)\(\)\n(?:    .*\n)*\{\}$")
 BLOCK = re.compile(r"(?m)^(?:pub(?:\(\w+\))? )?(impl|trait|mod)\b(.*)")
 # An impl of a trait at a type of one word, as From<X> for Y, whose name is YFromX.
 AT_A_TYPE = re.compile(r" (\w+)<(\w+)> for (\w+) \{")
@@ -105,7 +106,14 @@ class Source:
 
     def length(self, name):
         """How much there is to check of a function, by a guess: its body, and the files of its proof."""
-        return len(self.bodies()[name]) + sum(map(len, self.proofs_of(name).values()))
+        return len(self.bodies()[name]) + self.proof_length(name)
+
+    def proof_length(self, name):
+        return sum(map(len, self.proofs_of(name).values()))
+
+    def laws(self):
+        """The names of the laws: functions with nothing in their bodies, whose contracts are all."""
+        return ["::".join([*module_of(path), it]) for path, text in self.texts.items() for it in LAW.findall(text)]
 
     def proofs_of(self, name):
         """The files of a function's own proof, and their texts."""

@@ -7,10 +7,13 @@ import threading
 
 from edits import checks, copies, kit
 from edits.files import BAD_NAME, edits_in, write
-from edits.functions import Source, is_in
+from edits.functions import ANSWERS, Source, is_in
 from edits.verdict import IS_FINAL, TIMED_OUT, against, against_named, is_lemma, read_check, refusal, verdict_alone, why_unclean
 
 SAME = "MEANS THE SAME AS BEFORE"
+# The kinds of edits that mean the same of which there must be one each, as the tool has ways of its own for them.
+DEFINITION, BODY, WITH_ANSWERS, WITH_INVARIANTS = "a definition", "a body", "a method with answers", "a function with invariants"
+KINDS = (DEFINITION, BODY, WITH_ANSWERS, WITH_INVARIANTS)
 # What rattle said in the last check of each thread that `rt` asked for.
 HEARD = threading.local()
 
@@ -50,6 +53,16 @@ class Trial:
         self.results.update({it: (False, BAD_NAME) for it in bad if is_meant})
         names = [it for it in good if is_meant or f"{self.crate.name}/{it}" in self.given.names]
         return [copies.Edit(f"{folder}/{it}", self.source, is_same) for it in names]
+
+    def kinds(self, edit):
+        """Of which kinds an edit is."""
+        found = {BODY} if edit.functions else {DEFINITION} if edit.checked else set()
+        for name in edit.functions:
+            files = {os.path.basename(it) for it in self.source.proofs_of(name)}
+            is_method = any(it[:1].isupper() for it in name.split("::")[:-1])
+            found |= {WITH_ANSWERS} if is_method and ANSWERS[0] in files else set()
+            found |= {WITH_INVARIANTS} if ANSWERS[1] in files else set()
+        return found
 
     def unfit(self):
         """What is said of each edit that can't be made."""

@@ -42,6 +42,8 @@ SAYS_LITTLE = re.compile(
 REFUSED_TEXT = "refused, as it must be"
 BOUND_TEXT = f"{REFUSED_TEXT} (only as a search broke off at its bound)"
 LIMIT_TEXT = f"{REFUSED_TEXT} (only by a limit of the prover"
+# What `rt` says of an edit that it refused only as a proof names what is gone: that shows little of a contract.
+BY_A_NAME = f"{REFUSED_TEXT} (only because a proof file names what the edit took away"
 
 
 class Said:
@@ -153,6 +155,8 @@ def verdict_alone(kind, text, log, is_same):
     if is_same:
         is_well = kind == MISSED
         return is_well, "means the same as before, and is not refused alone" if is_well else f"MEANS THE SAME AS BEFORE, and alone: {text}"
+    if text.startswith(BY_A_NAME):
+        return False, text.replace(REFUSED_TEXT, "NOT REFUSED by the contract", 1)
     shown = refusal([it for it in log.split("\n") if GOAL.match(it) or ERROR.match(it)]) or ""
     return kind in IS_REFUSED, shown if kind == REFUSED and shown.startswith(BOUND_TEXT) else text
 
