@@ -22,7 +22,7 @@ TOP = os.path.dirname(os.path.dirname(os.path.realpath(__file__)))
 OUT = os.path.join(TOP, "out")
 CRATES = os.path.join(TOP, "crates.txt")
 SERVER = "abnf_ls"
-PROGRAMS = (SERVER, "abnf_findings")
+PROGRAMS = (SERVER, "abnf_findings", "served_plainly", "refused_memory")
 LOG = os.path.join(OUT, "build.log")
 # What of a crate's folder is proved, and what proofs and runs don't read.
 PARTS = ("proofs", "specs", "src")
