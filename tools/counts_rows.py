@@ -123,6 +123,8 @@ HANDED_IN = (
     ("edits: 6 passed, 0 failed, status 1", (6, 1)),
     ("edits: 5 passed, 0 failed, status 0", (5, 1)),
     ("edits: 0 passed, 0 failed, status 1", (0, 2)),
+    ("tests: 3 passed, 0 failed, status 0", (3, 0)),
+    ("tests: 2 passed, 0 failed, status 0", (2, 1)),
     ("edits: , status 0", (0, 1)),
     ("", (0, 1)),
     ("2 passed, 0 failed (a and the crates below alone: not the gate)", (0, 1)),

@@ -1,4 +1,4 @@
-"""The figures that the pages of docs/ tell, which are those of counts.txt.
+"""The figures that README and the pages of docs/ have, which are those of counts.txt, and of GATE's table what README says of it.
 
 A figure is found by the words around it, and written anew by `tools/counts.py --raise`.
 """
@@ -9,7 +9,9 @@ from typing import Any, NamedTuple
 import failing_devices
 from rows import TOP
 
-GATE, TESTING = "docs/GATE.md", "docs/TESTING.md"
+GATE, TESTING, README = "docs/GATE.md", "docs/TESTING.md", "README.md"
+# How long the gate took, as tools/gate_minutes.py writes it
+TOOK = re.compile(r"(?m)^([0-9.]+) minutes on ([0-9]+) processors, [0-9.]+ of all together\.$")
 
 
 def all_of(counts, *words):
@@ -73,11 +75,18 @@ def failing_devices_of(counts):
     return counts["rows abnf_ls failing_devices"] - 1
 
 
+def gate_took(_counts):
+    """The minutes of the gate's last measured run, and on how many processors it was."""
+    minutes, processors = TOOK.search(page(GATE)).groups()
+    return round(float(minutes)), int(processors)
+
+
 SESSIONS, REPLIES = (sum_of(*(f"list {it}_rows.{name}" for it in ("session", "encoding"))) for name in ("SESSIONS", "REPLIES"))
 REFUSED_TO_THREADS = sum_of("cases refused_sessions.FIRST", "cases refused_sessions.SAMPLE")
 RANDOM_TEXTS = sum_of(*(f"cases random_texts.COUNTS.{it}" for it in ("utf-8", "utf-16", "utf-32")))
 KNOWN_FILES = counts_of("list findings_rows.WITH_ROWS", "list findings_rows.GRAMMAR_ROWS")
 FIGURES = (
+    Figure(README, "./test # proves and tests all from nothing: {} minutes on {} processors, when last timed", gate_took),
     Figure(GATE, "(../counts.txt) has {} edits in {} crates", lambda counts: all_of(counts, "edits")),
     Figure(TESTING, "| tests of the crates | {} in {} crates |", lambda counts: all_of(counts, "tests")),
     Figure(TESTING, "| edits that must be refused | {} in {} crates |", lambda counts: all_of(counts, "edits")),
@@ -121,13 +130,13 @@ def page(name):
 
 def faults(counts):
     """The figures that aren't those of the counts."""
-    pages = {name: page(name) for name in (GATE, TESTING)}
+    pages = {name: page(name) for name in (README, GATE, TESTING)}
     return [fault for it in figures(counts) if (fault := it.fault(pages[it.page], counts))]
 
 
 def write(counts):
     """Puts the figures by these counts into the pages."""
-    for name in (GATE, TESTING):
+    for name in (README, GATE, TESTING):
         text = before = page(name)
         for it in figures(counts):
             text = it.put(text, counts) if it.page == name else text

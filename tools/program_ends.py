@@ -7,8 +7,8 @@ from its pipes, has devices that fail and threads that are shaken, by seeded sam
 
 No contract speaks of arguments, files and devices. Each of the two compilers' programs is run. How many rows each tool has had for each
 program is compared with counts.txt, so that none goes without a word. The last line has the form of that of `rt ci`, and counts what is
-handed in too. What is handed in and isn't of that form counts as a failure, as does a status that no failure stands for, and fewer crates
-or edits than counts.txt has.
+handed in too. What is handed in and isn't of that form counts as a failure, as does a status that no failure stands for, and fewer crates,
+edits or tests than counts.txt has.
 """
 import collections
 import functools
@@ -231,7 +231,7 @@ class Tally:
 
 def least(name, told):
     """How many a tool of this name must at least tell of, by counts.txt."""
-    kinds = {"crates": ("crates",), "edits": ("edits", "same-meaning")}.get(name, ())
+    kinds = {"crates": ("crates",), "edits": ("edits", "same-meaning"), "tests": ("tests",)}.get(name, ())
     return sum(count for it, count in told.items() if it.partition(" ")[0] in kinds)
 
 

@@ -23,6 +23,7 @@ import program_ends
 import refused_edits
 import rows
 import sums
+import tests_ran
 import verdict_rows
 from edits import checks
 from edits.files import write
@@ -216,6 +217,35 @@ def run_stages():
             yield f"runs: {what}", ends_with(program_ends.main, list(words)), (line, status)
 
 
+# ---- the tests that have run
+
+TESTS = {"tests a": 2, "tests b": 1, "edits a": 3}
+ALL_OF_A = "tests: 2\ntest x::first ... ok\ntest x::second ... ok\ntest result: ok. 2 passed; 0 failed; 0 ignored; 0 filtered out\nrt: a: its tests passed\n"
+ALL_OF_B = "test only ... ok\ntest result: ok. 1 passed; 0 failed; 0 ignored; 0 filtered out\nrt: b: its tests passed\n"
+ONE_OF_A = ALL_OF_A.replace("test x::second ... ok\n", "").replace("2 passed", "1 passed")
+# What `rt ci` said, and what comes of it.
+TEST_STAGES = (
+    ("all of them", ALL_OF_A + ALL_OF_B, "3 passed, 0 failed", 0),
+    ("one less", ONE_OF_A + ALL_OF_B, "2 passed, 1 failed", 1),
+    ("a result of more than ran", ALL_OF_A.replace("test x::second ... ok\n", "") + ALL_OF_B, "1 passed, 2 failed", 1),
+    ("one that ran twice", ALL_OF_A.replace("second", "first") + ALL_OF_B, "1 passed, 2 failed", 1),
+    ("one that was ignored", ALL_OF_A.replace("0 ignored", "1 ignored") + ALL_OF_B, "1 passed, 2 failed", 1),
+    ("none of a crate", ALL_OF_A, "2 passed, 1 failed", 1),
+    ("a crate whose tests fail", ALL_OF_A + ALL_OF_B.replace("its tests passed", "its tests FAILED"), "2 passed, 1 failed", 1),
+    ("a crate that isn't counted", ALL_OF_A + ALL_OF_B + ALL_OF_B.replace("rt: b", "rt: c"), "3 passed, 1 failed", 1),
+    ("nothing", "", "0 passed, 3 failed", 1),
+)
+
+
+def test_stages():
+    for what, log, line, status in TEST_STAGES:
+        with rows.files() as files:
+            path = files.written("log", log)
+            told = replaced(counts, parsed=lambda text: TESTS, text_of=lambda it, path=path, log=log: log if it == path else "")
+            with told:
+                yield f"tests: {what}", ends_with(tests_ran.main, [path]), (line, status)
+
+
 # ---- counts and pages
 
 def line_stages():
@@ -261,7 +291,7 @@ def told_stages():
 
 
 def cases():
-    for some in (edit_stages, compile_stages, sum_stages, run_stages, line_stages, told_stages, gate_stages):
+    for some in (edit_stages, compile_stages, sum_stages, run_stages, test_stages, line_stages, told_stages, gate_stages):
         yield from some()
 
 
