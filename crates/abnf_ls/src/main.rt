@@ -3,10 +3,9 @@
 #![tactic(auto)]
 
 use ls_server::{
-    Ending, FileFault, ReadFrom, Snapshot, WriteTo, check_text, example_text, keep_freed_blocks,
-    read_cert_file, read_text,
+    Ending, FileFault, Gate, ReadFrom, Served, Snapshot, WriteTo, check_text, example_text,
+    keep_freed_blocks, read_cert_file, read_text, serve_threads,
 };
-use ls_threads::{Gate, Served, serve_threads};
 use std::fs::File;
 use std::io::{ErrorKind, Write};
 use std::process::ExitCode;

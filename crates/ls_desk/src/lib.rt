@@ -29,7 +29,8 @@ mod texts;
 
 pub use desk::Desk;
 pub use ls_machine::{
-    Counts, DeskFault, Document, Entry, Event, Kept, Out, Request, SharedSnapshot, Waiting,
+    Boxed, Counts, DeskFault, Document, Entry, Event, Kept, Out, Request, SharedSnapshot, State,
+    Waiting,
 };
 pub use outs::ticket_of;
 pub use texts::snapshot_of_text;

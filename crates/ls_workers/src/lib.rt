@@ -43,7 +43,7 @@ pub use laws::first_waiting_is_let_go;
 pub use ledgers::{
     Blanks, Crew, Ledgers, OfClient, OfFinished, OfHeard, OfReturned, OfSent, OfTook,
 };
-pub use ls_history::Stop;
+pub use ls_history::{Front, Stop};
 pub use ls_machine::{ClientAnswer, ClientEvent};
 pub use seats::{ClientSeat, Count, ToldClient, WorkerSeat, WriterSeat};
 pub use worker::{Gate, work};
