@@ -78,7 +78,7 @@ journal_from most p (Worked event ∷ log) limit legal =
     (fits_by most (entered p o) limit legal.0.1) (journal_from most (entered p o) log limit legal.1)
 journal_from most p (Stopped stop ∷ log) limit legal = journal_from most p log limit legal.1
 
-limit_kept : (most : ℕ) (p : Place) (log : List Happened) → p.limit ≡ Some most → history.IsLegalFrom p log → (replay p log).limit ≡ Some most
+pub limit_kept : (most : ℕ) (p : Place) (log : List Happened) → p.limit ≡ Some most → history.IsLegalFrom p log → (replay p log).limit ≡ Some most
 limit_kept most p [] limit legal = limit
 limit_kept most p (Began other ∷ log) limit legal = absurd (let none = ap (λ (q : Place). q.limit) legal.0.0 in cc (limit, none))
 limit_kept most p (Heard e reply ∷ log) limit legal =

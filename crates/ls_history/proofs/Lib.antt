@@ -5,3 +5,4 @@ pub mod Leads
 pub mod Journals
 pub mod Tells
 pub mod Stops
+pub mod Steps

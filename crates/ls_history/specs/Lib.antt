@@ -3,4 +3,5 @@ pub mod Places
 pub mod History
 pub mod Told
 pub mod Laws
+pub mod Progress
 pub mod own

@@ -17,6 +17,7 @@ mod book;
 mod entries;
 mod happened;
 mod laws;
+mod progress;
 mod recorded;
 mod rule;
 
@@ -24,3 +25,4 @@ pub use book::{BlankHistory, BookName, Front, HistoryBook};
 pub use entries::Hearing;
 pub use happened::{Happened, Stop};
 pub use laws::{desks_have_histories, ends_stay, histories_are_journals, histories_tell_once};
+pub use progress::{schedules_end, work_goes_on};

@@ -4,3 +4,5 @@ pub mod Taken
 pub mod Ordered
 pub mod Once
 pub mod Same
+pub mod ShortTexts
+pub mod Steps

@@ -19,6 +19,7 @@ mod copies;
 mod event;
 pub mod find;
 mod laws;
+mod progress;
 mod shared;
 mod state;
 
@@ -28,5 +29,6 @@ pub use client::{ClientAnswer, ClientEvent, copy_of};
 pub use copies::state_of;
 pub use event::{DeskFault, Event, Kept, Out};
 pub use laws::{legal_journals_are_ordered, runs_are_known, tickets_are_kept_once};
+pub use progress::{steps_are_few, work_goes_on};
 pub use shared::SharedSnapshot;
 pub use state::{Document, Entry, Request, State, Waiting};

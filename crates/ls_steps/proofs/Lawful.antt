@@ -40,7 +40,7 @@ use Rattle.ls_desk.specs.Door.{client_fault, entered_at}
 use Rattle.ls_session.specs.Bodies.{refusal_to}
 use Rattle.ls_steps.specs.Runs.{Act, Going, Held, IsSent, Left, Runs, Steps, begun, break_off, desk_of, entered, finish_job, finished_by, hear, heard, is_filled, met, on_turn, ran, refused, runs, said_by, send, state_at, take_job, takes, tells, took}
 use Rattle.ls_steps.proofs.Entered.{entered_state}
-use Rattle.ls_steps.proofs.ShortTexts.{AreShort, IsFine, IsShortEvent, short_chars_of, short_step}
+use Rattle.ls_machine.proofs.ShortTexts.{AreShort, IsFine, IsShortEvent, short_chars_of, short_step}
 
 -- Some legal list of events led to the base, from there on the journal is legal, and there was room for all.
 pub record IsLawful (most : ℕ) (base : Base) (journal : List Event) : Type 0 where

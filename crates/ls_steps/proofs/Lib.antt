@@ -8,6 +8,5 @@ pub mod Lawful
 pub mod OneSession
 pub mod Serving
 pub mod Settled
-pub mod ShortTexts
 pub mod SomeSession
 pub mod Talks

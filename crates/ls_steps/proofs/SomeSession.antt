@@ -28,7 +28,7 @@ use Rattle.ls_session.specs.declared.turn.Status.TheVariants.{BadFrame}
 use Rattle.ls_steps.specs.Runs.{Act, Going, Held, IsSent, Left, Runs, Steps, begun, break_off, desk_of, finish_job, finished_by, finishes, hear, heard, is_filled, leaving, ran, runs, send, state_at, status_by, take_job, takes, took, unless_full, while_open}
 use Rattle.ls_steps.specs.Plain.{Replies, RunsUntil, Says, Serves, Works, has_run_all, job_acts}
 use Rattle.ls_steps.proofs.OneSession.{body_for, body_told}
-use Rattle.ls_steps.proofs.ShortTexts.{Each, IsShortEntry}
+use Rattle.ls_machine.proofs.ShortTexts.{Each, IsShortEntry}
 use Rattle.ls_steps.proofs.Lawful.{Good, first_current, good_begun, good_run, good_step}
 use Rattle.ls_steps.proofs.Serving.{job_runs, left_is, send_runs}
 

@@ -20,8 +20,8 @@ use Rattle.ls_machine.specs.declared.state.Waiting.{Waiting}
 use Rattle.ls_machine.specs.declared.state.Entry.{Entry}
 use Rattle.ls_machine.specs.declared.state.Entry.TheVariants.{Body, Failure, Outcome}
 use Rattle.ls_machine.specs.declared.state.State.{State}
-use Rattle.ls_machine.specs.Machine.{step, is_named, document_of, edited_at, measured, asks_with, is_held, is_queued, on_first, without_first_job, with_taken, told_to, told_end, told_if_found, end_of, ends, is_ended, left_at, rest, put_text, close_text, ask_at, content_modified, request_cancelled, internal_error}
-use Rattle.ls_machine.specs.Journal.{replay_from}
+use Rattle.ls_machine.specs.Machine.{IsPossible, start, step, is_named, document_of, edited_at, measured, asks_with, is_held, is_queued, on_first, without_first_job, with_taken, told_to, told_end, told_if_found, end_of, ends, is_ended, left_at, rest, put_text, close_text, ask_at, content_modified, request_cancelled, internal_error}
+use Rattle.ls_machine.specs.Journal.{IsLegal, IsLegalFrom, replay, replay_from}
 
 -- ---- lists of which each element has a property
 
@@ -209,3 +209,31 @@ short_step s (Sent ticket) h t = record { documents = h.documents; waiting = h.w
 -- the state that a journal leads to has short texts
 abbrev pub IsFine : State → List Event → Type 0
 IsFine s journal = AreShort (replay_from s journal)
+
+-- ---- legal journals
+
+short_start : AreShort start
+short_start = record { documents = tt; waiting = tt; unsent = tt }
+
+-- an event that is possible has a short text
+short_possible : (s : State) (e : Event) → IsPossible s e → IsShortEvent e
+unfolding IsPossible
+short_possible s (Opened uri label text encoding version) h = short_chars_of text h.2
+short_possible s (Changed uri label edits version) h = tt
+short_possible s (Closed uri) h = tt
+short_possible s (Asked id uri ask links ticket) h = tt
+short_possible s (Cancelled id found) h = tt
+short_possible s (Said body) h = tt
+short_possible s (Took worker) h = tt
+short_possible s (Returned ticket) h = tt
+short_possible s (Finished ticket failed) h = tt
+short_possible s (Sent ticket) h = tt
+
+short_from : (most n : ℕ) (s : State) (events : List Event) → IsLegalFrom most n s events → AreShort s → AreShort (replay_from s events)
+unfolding IsLegalFrom replay_from
+short_from most n s [] legal h = h
+short_from most n s (e ∷ es) legal h = short_from most (n + 1) (step s e) es legal.2 (short_step s e h (short_possible s e legal.0))
+
+-- so the texts of the state that a legal journal leads to are short
+pub short_legal : (most : ℕ) (journal : List Event) → IsLegal most journal → AreShort (replay journal)
+short_legal most journal legal = short_from most 0 start journal legal short_start
