@@ -1,3 +1,4 @@
 pub mod Askers
 pub mod Answered
 pub mod Runs
+pub mod Steps

@@ -5,6 +5,7 @@
 #![tactic(auto)]
 
 ghost use Rattle.ls_runs.specs.Laws.{RequestsAreAnsweredOnce, RunsAreJournals};
+ghost use Rattle.ls_runs.specs.Progress.{RunsCanEnd};
 
 /// Each is a run of the machine: the machine's events in its history are a legal journal from the start of a session, which leads to the state
 /// and to the counts of the run's desk.
@@ -16,4 +17,12 @@ pub fn runs_are_journals()
 /// that request.
 pub fn requests_are_answered_once()
     ensures { RequestsAreAnsweredOnce }
+{}
+
+/// No schedule of workers and writer gets stuck, and none goes on for ever. At each place of a run's history workers can take and finish jobs and
+/// the writer can send, in any order and however they begin, until no job waits and nothing is unsent: after no more steps than are left there,
+/// three for each queued job, two for each taken one and one for each reply. Then each request that was accepted by that place has been answered
+/// once. The session must have room for an event for each of these steps. That the threads take them is up to the scheduler.
+pub fn runs_can_end()
+    ensures { RunsCanEnd }
 {}
