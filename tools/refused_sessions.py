@@ -7,6 +7,9 @@ A small library in front of the C library's refuses one allocation, or it and al
 `out of memory` and status 6, or as it does where nothing is refused. Each body that is written is one of the session's, or the error -32603 of
 a request; each request has one reply, and each version of a document its findings at most once. The gate tries a sample of the allocations, and
 --all tries each.
+
+Of a small session whose messages come one at a time each allocation is refused. There a worker brings back each job before the next message comes,
+so that what it needs memory for then is refused in some runs: such a run must end for all its threads.
 """
 import collections
 import json
@@ -23,6 +26,8 @@ SAMPLE, SEED = 800, 1
 # The first allocations make the board and the threads: each of them is tried.
 FIRST = 60
 OUT_OF_MEMORY = b"out of memory\n"
+# The requests of the session by turns, and how many seconds a turn of it lasts at most: where memory was refused, what it waits for may never come.
+HOVERS, PATIENCE = 8, 0.2
 # What the library says in a run in which nothing is refused
 COUNTED = re.compile(rb"(\d+) allocations\n")
 
@@ -125,6 +130,13 @@ SESSION = (
     EXIT,
 )
 GIVEN = runs.frames(SESSION)
+TURNS = (
+    (INITIALIZE, 1),
+    (INITIALIZED, 0),
+    (opened(SMALL, "file:///h"), 1),
+    *((asks(number, "hover", at(0, 0), "file:///h"), 1) for number in range(2, 2 + HOVERS)),
+)
+LAST_TURN = runs.frames(['{"jsonrpc":"2.0","id":16,"method":"shutdown"}', EXIT])
 REQUESTS = [json.loads(message)["id"] for message in SESSION if '"id":' in message.partition('"params"')[0]]
 
 
@@ -187,11 +199,26 @@ def refused(program, made, first, last):
     return runs.ended(program, GIVEN, env=rows.in_front(made, first_refused=first, last_refused=last))
 
 
-def counted(program, made):
-    """How many allocations a run makes, by what the library says."""
-    status, said, _ = refused(program, made, 0, 0)
+def counted(run):
+    """How many allocations a run made in which none was refused, by what the library says."""
+    status, said, _ = run
     count = COUNTED.fullmatch(said)
     return int(count[1]) if count and status == 0 else 0
+
+
+def refused_by_turns(program, made, number):
+    """A session by turns in which this allocation is refused."""
+    return runs.by_turns(program, TURNS, LAST_TURN, rows.in_front(made, first_refused=number, last_refused=number), PATIENCE)
+
+
+def cases_by_turns(program, made):
+    """The same, of a session by turns: how the run ended in which each of its allocations is refused alone."""
+    whole = refused_by_turns(program, made, 0)
+    count = counted(whole)
+    yield f"a session by turns of {count} allocations", (count > 500, len(runs.bodies_of(whole[2])[0])), (True, HOVERS + 3)
+    ran = rows.side_by_side(lambda number: refused_by_turns(program, made, number), range(1, count + 1))
+    faults = [(number, *run[:2]) for number, run in enumerate(ran, 1) if run[:2] not in ((0, b""), (6, OUT_OF_MEMORY))]
+    yield f"{count} sessions by turns with memory refused", faults, []
 
 
 def cases(program, sample=SAMPLE, seed=SEED):
@@ -199,12 +226,13 @@ def cases(program, sample=SAMPLE, seed=SEED):
     wanted = Wanted(program)
     yield "the session that memory is refused to", wanted.is_whole, True
     with rows.library(LIBRARY) as made:
-        count = counted(program, made)
+        count = counted(refused(program, made, 0, 0))
         yield f"a session of {count} allocations", count > 1000, True
         behind = range(FIRST + 1, count + 1)
         some = behind if sample is None else random.Random(seed).sample(behind, min(sample, len(behind)))
         tries = limits([*range(1, FIRST + 1), *some], 2**62)
         ran = rows.side_by_side(lambda it: refused(program, made, *it), tries)
+        yield from cases_by_turns(program, made)
     faults = [(*it, fault) for it, run in zip(tries, ran) if (fault := wanted.fault(run))]
     yield f"{len(tries)} sessions with memory refused", faults, [], len(tries)
     # that the library is there: the first allocation ends the run, and some are of requests that are told so

@@ -60,18 +60,19 @@ def ended(program, given, arguments=(), stdin=subprocess.PIPE, stdout=subprocess
 class Client:
     """A client that writes and reads by turns. No turn waits longer than until the run's time is up."""
 
-    def __init__(self, program):
-        self.process = subprocess.Popen([program], stdin=subprocess.PIPE, stdout=subprocess.PIPE, stderr=subprocess.PIPE, bufsize=0)
+    def __init__(self, program, env=None):
+        self.process = subprocess.Popen([program], stdin=subprocess.PIPE, stdout=subprocess.PIPE, stderr=subprocess.PIPE, bufsize=0, env=env)
         self.time_up = time.monotonic() + seconds_left()
         self.wrote, self.is_open = b"", True
         for pipe in (self.process.stdin, self.process.stdout):
             os.set_blocking(pipe.fileno(), False)
 
-    def turn(self, given, is_enough, most=1 << 30):
-        """Writes these bytes and reads until it is enough, at most so many bytes of the whole output. Tells whether it was enough."""
-        given = memoryview(given)
+    def turn(self, given, is_enough, most=1 << 30, patience=float("inf")):
+        """Writes these bytes and reads until it is enough, at most so many bytes of the whole output, and no longer than so many seconds. Tells
+        whether it was enough."""
+        given, time_up = memoryview(given), min(self.time_up, time.monotonic() + patience)
         while given or not is_enough(self.wrote):
-            left = self.time_up - time.monotonic()
+            left = time_up - time.monotonic()
             readers, writers = [self.process.stdout] if self.is_open else [], [self.process.stdin] if given else []
             if left <= 0 or not readers + writers:
                 return False
@@ -111,13 +112,13 @@ class Client:
         return status, said, self.wrote
 
 
-def by_turns(program, turns, rest=b""):
+def by_turns(program, turns, rest=b"", env=None, patience=float("inf")):
     """A run in which each message is sent once what the one before it leads to has come, and at last these bytes. A turn is a message and
-    how many bodies it leads to."""
-    client, count = Client(program), 0
+    how many bodies it leads to. Where they don't come in so many seconds, the other turns are left out."""
+    client, count = Client(program, env), 0
     for message, more in turns:
         count += more
-        if not client.turn(frame(as_bytes(message)), lambda wrote: len(bodies_of(wrote)[0]) >= count):
+        if not client.turn(frame(as_bytes(message)), lambda wrote: len(bodies_of(wrote)[0]) >= count, patience=patience):
             break
     client.turn(rest, lambda wrote: True)
     return client.ended()

@@ -16,23 +16,27 @@ use Rattle.ls_session.specs.declared.turn.Status.{Status}
 use Rattle.ls_session.specs.declared.session.Stage.TheVariants.{BeforeInitialize}
 use Rattle.ls_desk.specs.Stands.{IsSound, Seen, Sends, counts_of, ticket_of_out, used}
 use Rattle.ls_devices.specs.Devices.{AppendsFront}
+use Rattle.ls_devices.proofs.Input.{consumes_none}
 use Rattle.ls_devices.proofs.Known.{appends_appends, appends_none}
-use Rattle.ls_history.specs.History.{IsHistoryOf, IsLegal}
+use Rattle.ls_history.specs.History.{IsHistoryOf}
 use Rattle.ls_history.specs.Told.{heard_of, heard_of_one, out_of_one, outs_of}
 use Rattle.ls_history.specs.declared.happened.Happened.{Happened}
 use Rattle.ls_history.specs.declared.happened.Happened.TheVariants.{Left}
 use Rattle.ls_history.proofs.Leads.{histories_go_on}
 use Rattle.ls_workers.specs.Jobs.{HasLimits}
-use Rattle.ls_workers.specs.Seats.{HasHistory}
+use Rattle.ls_workers.specs.Seats.{HasHistory, HaveHistory}
 use Rattle.ls_threads.specs.Ends.{has_failed}
 use Rattle.ls_threads.specs.Input.{HasHeard}
 use Rattle.ls_threads.specs.Reading.{Replies}
 use Rattle.ls_threads.specs.Served.{IsServed}
+use Rattle.ls_threads.specs.declared.ending.Early.TheVariants.{Memory as LacksMemory}
 use Rattle.ls_threads.specs.declared.ending.Heard.{Heard}
+use Rattle.ls_threads.specs.declared.ending.Heard.TheVariants.{Broken}
 use Rattle.ls_threads.specs.Settled.{IsSettled}
 use Rattle.ls_threads.specs.Writing.{HasTold, HasWritten, Leave, SaysTheRest, WritesFrames, WritesFront, frame_for, frames_for}
 use Rattle.ls_threads.specs.declared.ending.Wrote.{Wrote}
 use Rattle.ls_threads.specs.declared.ending.Wrote.TheVariants.{All, Failed, Memory}
+use Rattle.ls_threads.proofs.Input.{some_begun}
 
 pub frame_is : (out : Out) (body : List ℕ) → body_of out ≡ Some body → frame_for out ≡ frame_of body
 frame_is out body e = ap (λ o. option_map_or frame_of o []) e
@@ -235,29 +239,46 @@ is_served journal events status input left a b c heard replies outs held holds w
 
 -- ---- what was written, whatever the answer
 
--- nothing was
-pub none_written : (failed : Bool) (a b : Option (List ℕ)) → Appends a b [] → WritesFrames failed a b
-none_written failed a b w = record { log = []; legal = tt; front = all_front failed a b [] w }
+-- nothing was, and nothing was read
+pub none_written : (failed : Bool) (input a b : Option (List ℕ)) → Appends a b [] → WritesFrames failed input input a b
+none_written failed input a b w = record {
+  log = [];
+  legal = tt;
+  end = Broken LacksMemory;
+  heard = (BeforeInitialize, ([], consumes_none input, some_begun BeforeInitialize []));
+  front = all_front failed a b [] w;
+}
+
+-- the seats have one history, and the writer wrote what it was given
+pub seats_written : (failed : Bool) (end : Heard) (input left a b : Option (List ℕ)) (replies : Replies) (outs : List Out) → HaveHistory replies outs
+    → HasHeard input left BeforeInitialize [] end replies → WritesFront failed a b outs → WritesFrames failed input left a b
+seats_written failed end input left a b replies outs history heard front = record {
+  log = history.0;
+  legal = history.1;
+  end = end;
+  heard = subst (HasHeard input left BeforeInitialize [] end) (sym history.2) heard;
+  front = subst (WritesFront failed a b) (sym history.3) front;
+}
 
 -- the rest came behind what the writer had written
-rest_behind : (end : Wrote) (full : Bool) (d : Seen) (log : List Happened) (outs : List Out) (a b c : Option (List ℕ)) → IsHistoryOf d log → outs_of log ≡ outs → Appends a b (frames_for outs)
-    → SaysTheRest full end d b c → WritesFrames (has_failed end) a c
-rest_behind end full d log outs a b c history same written rest =
+rest_behind : (end : Wrote) (full : Bool) (d : Seen) (heard : Heard) (input left a b c : Option (List ℕ)) (replies : Replies) (outs : List Out) → HasHistory replies outs d
+    → HasHeard input left BeforeInitialize [] heard replies → Appends a b (frames_for outs) → SaysTheRest full end d b c → WritesFrames (has_failed end) input left a c
+rest_behind end full d heard input left a b c replies outs history hears written rest =
     let told = rest.told in
     record {
-      log = log ++ left_all told.outs;
-      legal = (history_more d rest.after log told.outs history told.leave).legal;
-      front = subst (WritesFront (has_failed end) a c) (sym (outs_behind log told.outs ∙ ap (λ l. l ++ told.outs) same)) (front_behind (has_failed end) a b c outs told.outs written told.front);
+      log = history.0 ++ left_all told.outs;
+      legal = (history_more d rest.after history.0 told.outs history.1 told.leave).legal;
+      end = heard;
+      heard = subst (HasHeard input left BeforeInitialize [] heard) (sym (heard_behind history.0 told.outs ∙ history.2)) hears;
+      front = subst (WritesFront (has_failed end) a c) (sym (outs_behind history.0 told.outs ∙ ap (λ l. l ++ told.outs) history.3))
+          (front_behind (has_failed end) a b c outs told.outs written told.front);
     }
 
-writes_nothing_more : (before after : Wrote) (log : List Happened) (outs : List Out) (a b c : Option (List ℕ)) → IsLegal log → outs_of log ≡ outs → WritesFront (has_failed before) a b outs
-    → (after ≡ before) × Appends b c [] → WritesFrames (has_failed after) a c
-writes_nothing_more before after log outs a b c legal same front still =
-    subst (λ (end : Wrote). WritesFrames (has_failed end) a c) (sym still.0) (record {
-      log = log;
-      legal = legal;
-      front = subst (WritesFront (has_failed before) a c) (sym same) (front_stays (has_failed before) a b c outs front still.1);
-    })
+writes_nothing_more : (before after : Wrote) (d : Seen) (heard : Heard) (input left a b c : Option (List ℕ)) (replies : Replies) (outs : List Out) → HasHistory replies outs d
+    → HasHeard input left BeforeInitialize [] heard replies → WritesFront (has_failed before) a b outs → (after ≡ before) × Appends b c [] → WritesFrames (has_failed after) input left a c
+writes_nothing_more before after d heard input left a b c replies outs history hears front still =
+    subst (λ (end : Wrote). WritesFrames (has_failed end) input left a c) (sym still.0)
+    (seats_written (has_failed before) heard input left a c replies outs (history.0, history.1.legal, history.2, history.3) hears (front_stays (has_failed before) a b c outs front still.1))
 
 failed_is_not_all : Failed ≢ All
 failed_is_not_all e = absurd (cc (e))
@@ -266,13 +287,15 @@ memory_is_not_all : Memory ≢ All
 memory_is_not_all e = absurd (cc (e))
 
 -- what the writer wrote, and what was written behind it
-pub all_frames : (before after : Wrote) (full : Bool) (d : Seen) (replies : Replies) (outs : List Out) (held holds : Bool) (a b c : Option (List ℕ)) → HasHistory replies outs d
-    → HasWritten a b held holds before outs → (before ≡ All → SaysTheRest full after d b c) → (before ≢ All → (after ≡ before) × Appends b c []) → WritesFrames (has_failed after) a c
-all_frames All after full d replies outs held holds a b c history written rest still = rest_behind after full d history.0 outs a b c history.1 history.3 (written.whole refl) (rest refl)
-all_frames Failed after full d replies outs held holds a b c history written rest still =
-    writes_nothing_more Failed after history.0 outs a b c history.1.legal history.3 written.front (still failed_is_not_all)
-all_frames Memory after full d replies outs held holds a b c history written rest still =
-    writes_nothing_more Memory after history.0 outs a b c history.1.legal history.3 written.front (still memory_is_not_all)
+pub all_frames : (before after : Wrote) (full : Bool) (d : Seen) (heard : Heard) (input left a b c : Option (List ℕ)) (replies : Replies) (outs : List Out) (held holds : Bool) → HasHistory replies outs d
+    → HasHeard input left BeforeInitialize [] heard replies → HasWritten a b held holds before outs → (before ≡ All → SaysTheRest full after d b c) → (before ≢ All → (after ≡ before) × Appends b c [])
+    → WritesFrames (has_failed after) input left a c
+all_frames All after full d heard input left a b c replies outs held holds history hears written rest still =
+    rest_behind after full d heard input left a b c replies outs history hears (written.whole refl) (rest refl)
+all_frames Failed after full d heard input left a b c replies outs held holds history hears written rest still =
+    writes_nothing_more Failed after d heard input left a b c replies outs history hears written.front (still failed_is_not_all)
+all_frames Memory after full d heard input left a b c replies outs held holds history hears written rest still =
+    writes_nothing_more Memory after d heard input left a b c replies outs history hears written.front (still memory_is_not_all)
 
 -- where all was written in the end, it was before
 pub all_before : (before after : Wrote) → (before ≢ All → after ≡ before) → after ≡ All → before ≡ All

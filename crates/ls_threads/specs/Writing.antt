@@ -6,11 +6,14 @@ use Rattle.std.specs.Io.KnownBytes.{Appends}
 use Rattle.ls_frame.specs.Frames.{frame_of}
 use Rattle.ls_machine.specs.declared.event.Out.{Out}
 use Rattle.ls_session.specs.Bodies.{body_of}
+use Rattle.ls_session.specs.declared.session.Stage.TheVariants.{BeforeInitialize}
 use Rattle.ls_desk.specs.Stands.{Seen, Sends}
 use Rattle.ls_history.specs.History.{IsLegal}
-use Rattle.ls_history.specs.Told.{outs_of}
+use Rattle.ls_history.specs.Told.{heard_of, outs_of}
 use Rattle.ls_history.specs.declared.happened.Happened.{Happened}
 use Rattle.ls_threads.specs.Ends.{has_failed}
+use Rattle.ls_threads.specs.Input.{HasHeard}
+use Rattle.ls_threads.specs.declared.ending.Heard.{Heard}
 use Rattle.ls_threads.specs.declared.ending.Wrote.{Wrote}
 use Rattle.ls_threads.specs.declared.ending.Wrote.TheVariants.{All}
 
@@ -35,11 +38,13 @@ pub record WritesFront (failed : Bool) (old new : Option (List ℕ)) (outs : Lis
   pub none : failed ≡ false → part ≡ []
   pub written : Appends old new (frames_for whole ++ part)
 
--- What was written are, whole and in order, the frames of the replies of one legal history, but at most the last one's; of that one a front, and only
--- where the sink failed.
-pub record WritesFrames (failed : Bool) (old new : Option (List ℕ)) : Type 0 where
+-- There is one legal history. Its client's events are what hearing the input left, from the first message on, however that ended. What was written are,
+-- whole and in order, the frames of its replies, but at most the last one's; of that one a front, and only where the sink failed.
+pub record WritesFrames (failed : Bool) (input left old new : Option (List ℕ)) : Type 0 where
   pub log : List Happened
   pub legal : IsLegal log
+  pub end : Heard
+  pub heard : HasHeard input left BeforeInitialize [] end (heard_of log)
   pub front : WritesFront failed old new (outs_of log)
 
 -- The frames of these replies were written, but at most the last one's, and all of them where the writer ended well. All that was written is

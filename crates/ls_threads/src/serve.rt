@@ -1,6 +1,6 @@
 //! The run: the threads are made, joined, and their board is closed.
 ghost use denote.Param.Send.{IsSend};
-ghost use Rattle.std.specs.Prelude.{◌≡◌, ◌+◌, ◌<◌, ◌≤◌, ◌==◌, ◌||◌, ◌++◌, ◌∷◌, ◌≢◌, IfOk, [], false, sum_by, true, vec_len, vec_capacity};
+ghost use Rattle.std.specs.Prelude.{◌≡◌, ◌+◌, ◌<◌, ◌≤◌, ◌==◌, ◌||◌, ◌++◌, ◌∷◌, ◌≢◌, IfOk, OnOk, [], false, sum_by, true, vec_len, vec_capacity};
 ghost use Rattle.std.specs.Io.KnownBytes.{Appends};
 ghost use Rattle.ls_session.specs.declared.session.Stage.TheVariants.{BeforeInitialize};
 ghost use Rattle.ls_history.specs.Told.{heard_of, outs_of};
@@ -291,8 +291,8 @@ fn finished<W: Sink>(alloc: Global, desk: Desk, sink: &mut W, full: bool, wrote:
     rest
 }
 
-/// Closes the board, and answers for the run: `Strayed` only where the board can't be closed with these seats, its desk isn't as these ends leave
-/// it, or a worker has strayed. Once the session is full the desk's unsent replies are written, whatever else was met, unless the writer has broken
+/// Closes the board, and answers for the run: `Memory` where a thread couldn't be made, whatever the audit says; `Strayed` only where the board can't
+/// be closed with these seats, its desk isn't as these ends leave it, or a worker has strayed. Once the session is full the desk's unsent replies are written, whatever else was met, unless the writer has broken
 /// off.
 fn closed<C: Crew, I: Source + Drop, W: Sink + Drop>(
     alloc: Global,
@@ -307,7 +307,8 @@ fn closed<C: Crew, I: Source + Drop, W: Sink + Drop>(
     requires heard { HasHeard (I.remaining input.value) (I.remaining ran.done.read.source) BeforeInitialize [] ran.done.read.end (heard_of ran.done.read.seat.front) }
     ensures read { result.answer ≡ Err ServeFault.Read → (I.failed result.source || (I.reads result.source + 1 == 1099511627776)) ≡ true }
     ensures write { result.answer ≡ Err ServeFault.Write → W.failed result.sink ≡ true }
-    ensures frames { WritesFrames (W.failed result.sink) (W.contents begun.value) (W.contents result.sink) }
+    ensures good { OnOk result.answer (W.failed result.sink ≡ false) }
+    ensures frames { WritesFrames (W.failed result.sink) (I.remaining input.value) (I.remaining result.source) (W.contents begun.value) (W.contents result.sink) }
     ensures flushed { W.unflushed begun.value ≡ false → W.failed result.sink ≡ false → W.unflushed result.sink ≡ false }
     ensures not_made { ran.done.made ≡ false → result.answer ≡ Err ServeFault.Memory }
     ensures causes { ran.done.made ≡ true → IsAnswered ((ran.done.read.seat.mark ≡ board.mark) × (ran.written.seat.mark ≡ board.mark)
@@ -334,7 +335,7 @@ fn closed<C: Crew, I: Source + Drop, W: Sink + Drop>(
         mut sink,
         end: wrote,
     } = written;
-    writer.front.legal();
+    let audited = board.close(seat, writer, workers);
     if !made {
         return Served {
             answer: Err(ServeFault::Memory),
@@ -342,7 +343,7 @@ fn closed<C: Crew, I: Source + Drop, W: Sink + Drop>(
             sink,
         };
     }
-    let Ok(desk) = board.close(seat, writer, workers) else {
+    let Ok(desk) = audited else {
         return Served {
             answer: result_of(end, wrote, worked, false, false),
             source,
@@ -389,7 +390,8 @@ fn run_session<
     requires sink { W.failed sink ≡ false }
     ensures read { result.answer ≡ Err ServeFault.Read → (I.failed result.source || (I.reads result.source + 1 == 1099511627776)) ≡ true }
     ensures write { result.answer ≡ Err ServeFault.Write → W.failed result.sink ≡ true }
-    ensures frames { WritesFrames (W.failed result.sink) (W.contents sink) (W.contents result.sink) }
+    ensures good { OnOk result.answer (W.failed result.sink ≡ false) }
+    ensures frames { WritesFrames (W.failed result.sink) (I.remaining source) (I.remaining result.source) (W.contents sink) (W.contents result.sink) }
     ensures flushed { W.unflushed sink ≡ false → W.failed result.sink ≡ false → W.unflushed result.sink ≡ false }
     ensures served { IfOk result.answer (λ status. IsServed max_journal MOST_EVENTS status (I.remaining source) (I.remaining result.source) (W.contents sink) (W.contents result.sink)) }
 {
@@ -426,8 +428,9 @@ fn run_session<
 ///
 /// `Read`: the source failed, or was read one time less than [`ls_devices::READS_END`]. `Write`: the sink failed. `Strayed`: the board wasn't
 /// closed, the desk didn't know what ran, or something was left undone. `Memory`: an allocation was refused, or a thread couldn't be made.
-/// With any answer what was written are the frames of the replies of one legal history, whole and in order, but at most the last one's; of that one
-/// a front may be written where the sink failed. And where the sink held nothing back and hasn't failed, it holds nothing back.
+/// With any answer there is one legal history of which the client's events are what hearing the input left, up to where that broke off, and what was
+/// written are the frames of its replies, whole and in order, but at most the last one's; of that one a front may be written where the sink failed.
+/// With `Ok` the sink hasn't failed, and where it hasn't and held nothing back, it holds nothing back.
 ///
 /// Each worker passes the gate between the take of a job and its run.
 pub fn serve_threads<
@@ -442,7 +445,8 @@ pub fn serve_threads<
     requires sink { W.failed sink ≡ false }
     ensures read { result.answer ≡ Err ServeFault.Read → (I.failed result.source || (I.reads result.source + 1 == 1099511627776)) ≡ true }
     ensures write { result.answer ≡ Err ServeFault.Write → W.failed result.sink ≡ true }
-    ensures frames { WritesFrames (W.failed result.sink) (W.contents sink) (W.contents result.sink) }
+    ensures good { OnOk result.answer (W.failed result.sink ≡ false) }
+    ensures frames { WritesFrames (W.failed result.sink) (I.remaining source) (I.remaining result.source) (W.contents sink) (W.contents result.sink) }
     ensures flushed { W.unflushed sink ≡ false → W.failed result.sink ≡ false → W.unflushed result.sink ≡ false }
     ensures served { IfOk result.answer (λ status. IsServed MOST_JOURNAL MOST_EVENTS status (I.remaining source) (I.remaining result.source) (W.contents sink) (W.contents result.sink)) }
 {
@@ -471,7 +475,8 @@ pub fn serve_with_journal<
     requires sink { W.failed sink ≡ false }
     ensures read { result.answer ≡ Err ServeFault.Read → (I.failed result.source || (I.reads result.source + 1 == 1099511627776)) ≡ true }
     ensures write { result.answer ≡ Err ServeFault.Write → W.failed result.sink ≡ true }
-    ensures frames { WritesFrames (W.failed result.sink) (W.contents sink) (W.contents result.sink) }
+    ensures good { OnOk result.answer (W.failed result.sink ≡ false) }
+    ensures frames { WritesFrames (W.failed result.sink) (I.remaining source) (I.remaining result.source) (W.contents sink) (W.contents result.sink) }
     ensures flushed { W.unflushed sink ≡ false → W.failed result.sink ≡ false → W.unflushed result.sink ≡ false }
     ensures served { IfOk result.answer (λ status. IsServed max_journal MOST_EVENTS status (I.remaining source) (I.remaining result.source) (W.contents sink) (W.contents result.sink)) }
 {

@@ -4,6 +4,7 @@ pub mod Entered
 pub mod Entering
 pub mod FirstWaiting
 pub mod Hearing
+pub mod Held
 pub mod Numbers
 pub mod Placed
 pub mod Refused

@@ -3,7 +3,7 @@ use Rattle.std.specs.Prelude.{◌≡◌, ◌⊎◌, ◌++◌, ◌∷◌, [], ℕ
 use mathlib.Core.List.{IsPrefix}
 use Rattle.ls_answers.specs.Told.{Told}
 use Rattle.ls_answers.specs.declared.job.Job.{Job}
-use Rattle.ls_machine.specs.Machine.{is_queued}
+use Rattle.ls_machine.specs.Machine.{is_held, is_queued}
 use Rattle.ls_machine.specs.declared.event.DeskFault.{DeskFault}
 use Rattle.ls_machine.specs.declared.event.Event.TheVariants.{Finished, Returned, Took}
 use Rattle.ls_machine.specs.declared.event.Kept.{Kept}
@@ -50,6 +50,10 @@ IsFinishedAt done kept old new =
 -- where the history has led, a refusal has its cause
 abbrev pub IsRefusedAt : (Seen → Option DeskFault) → DeskFault → List Happened → Type 0
 IsRefusedAt first fault log = IsFirstCause (first (desk_at (led_by log))) fault
+
+-- where the history has led, no worker holds a job with this ticket
+abbrev pub IsNotHeld : ℕ → List Happened → Type 0
+IsNotHeld ticket log = find (is_held ticket) (led_by log).state.waiting ≡ None
 
 -- the board has ended by then: at once, or by `Drain`, where this is so
 abbrev pub HasEnded : Option Stop → Type 0 → Type 0

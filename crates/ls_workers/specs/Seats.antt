@@ -11,7 +11,7 @@ use Rattle.ls_machine.specs.declared.event.DeskFault.{DeskFault}
 use Rattle.ls_machine.specs.declared.event.Out.{Out}
 use Rattle.ls_history.specs.declared.happened.Happened.{Happened}
 use Rattle.ls_history.specs.declared.happened.Happened.TheVariants as happened
-use Rattle.ls_history.specs.History.{HasLedTo, IsHistoryOf}
+use Rattle.ls_history.specs.History.{HasLedTo, IsHistoryOf, IsLegal}
 use Rattle.ls_history.specs.Told.{heard_of, outs_of}
 use Rattle.ls_workers.specs.Jobs.{HasLimits}
 use Rattle.ls_workers.specs.declared.ended.Ended.{Ended}
@@ -103,6 +103,10 @@ AgreesAll desk client seen tickets =
 -- One history led to the desk. It has these events of the client with what was told of each, and these replies, and no others.
 abbrev pub HasHistory : List (ClientEvent × Result ClientAnswer DeskFault) → List Out → Seen → Type 0
 HasHistory heard outs desk = (log : List Happened) × IsHistoryOf desk log × (heard_of log ≡ heard) × (outs_of log ≡ outs)
+
+-- One legal history has these events of the client with what was told of each, and these replies, and no others.
+abbrev pub HaveHistory : List (ClientEvent × Result ClientAnswer DeskFault) → List Out → Type 0
+HaveHistory heard outs = (log : List Happened) × IsLegal log × (heard_of log ≡ heard) × (outs_of log ≡ outs)
 
 -- Why a board isn't closed: the seats aren't all its own; or they are, with these counts, and a difference was found or is there in what had ended,
 -- or what the seats were told isn't what the journal has now.

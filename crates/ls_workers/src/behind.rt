@@ -14,7 +14,7 @@ ghost use Rattle.ls_machine.specs.Client.{HasSmallText, IsAllowed, note_of, open
 ghost use Rattle.ls_desk.specs.Faults.{take_fault, give_back_fault, finish_fault};
 ghost use Rattle.ls_workers.specs.Jobs.{HasLimits, IsFinishedAt, IsRefusedAt, IsReturnedAt, IsTakenAt, led_by};
 ghost use Rattle.ls_workers.specs.Refusals.{is_shortage, may_refuse_return, may_refuse_run};
-ghost use Rattle.ls_workers.specs.Seats.{Agrees, AgreesAll, HasAgreed, HasHistory, HasRoom, Heard, since, told_by};
+ghost use Rattle.ls_workers.specs.Seats.{Agrees, AgreesAll, HasAgreed, HasHistory, HasRoom, HaveHistory, Heard, since, told_by};
 ghost use Rattle.ls_workers.specs.Ends.{first_waiting, is_first, has_job, has_job_for, has_news};
 
 use crate::agree::strays;
@@ -446,6 +446,27 @@ impl<C: Crew> Behind<C> {
         seat.front = front.again();
         seat.add(desk.checkpoints(), ticket_of(&out));
         Some(out)
+    }
+
+    /// One history has just what a client's seat and a writer's seat were told. By their types these are the board's own, whatever their marks
+    /// say. Nothing is done at run time.
+    pub fn audit_seats(&mut self, client: &mut ClientSeat<C>, writer: &mut WriterSeat<C>)
+        ensures history { HaveHistory (heard_of client.old.front) (outs_of writer.old.front) }
+        ensures client { (client.new.asked ≡ client.old.asked) × (client.new.told ≡ client.old.told) × (client.new.front ≡ client.old.front) }
+        ensures sent { writer.new.sent.share.amount ≡ writer.old.sent.share.amount }
+        ensures writer { (writer.new.tickets ≡ writer.old.tickets) × (writer.new.checkpoints ≡ writer.old.checkpoints) × (writer.new.front ≡ writer.old.front) }
+    {
+        let Behind {
+            front,
+            heard,
+            sent,
+            ..
+        } = self;
+        heard.audit(&mut client.heard);
+        writer.sent.audit(sent);
+        front.legal();
+        front.beside(&client.front);
+        front.beside(&writer.front);
     }
 
     /// The desk, where there were as many events of each kind as the gathered shares, and the history that led to it, which has as many replies

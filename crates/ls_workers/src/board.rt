@@ -8,7 +8,7 @@ ghost use Rattle.ls_history.specs.Told.{heard_of, outs_of};
 ghost use Rattle.ls_workers.specs.Count.{Counts};
 ghost use Rattle.ls_workers.specs.Jobs.{HasLimits, HasNoJob, HasNothingMore, IsFinishedAt, IsRefusedAt, IsReturnedAt, IsTakenAt, led_by};
 ghost use Rattle.ls_workers.specs.Refusals.{is_shortage, may_refuse_return, may_refuse_run};
-ghost use Rattle.ls_workers.specs.Seats.{Agrees, AreAll, HasAgreed, HasCause, HasHistory, IsHeard, KnowsTheSame, since, told_by, told_nothing};
+ghost use Rattle.ls_workers.specs.Seats.{Agrees, AreAll, HasAgreed, HasCause, HasHistory, HaveHistory, IsHeard, KnowsTheSame, since, told_by, told_nothing};
 ghost use Rattle.ls_machine.specs.Client.{IsAllowed};
 
 use crate::behind::{Behind, SeatFault};
@@ -270,6 +270,8 @@ impl<C: Crew> Board<C> {
     ///
     /// `SeatMissing`: a seat isn't of this board, or not all workers' are here. `Strayed`: the seats are all here, and the journal isn't what
     /// they were told, or wasn't until a checkpoint, or had another entry where an event was entered. It waits for nothing, and takes no memory.
+    ///
+    /// Whatever it answers, one legal history has just what these two seats were told of the client's events and of the replies.
     pub fn close(
         self,
         client: ClientSeat<C>,
@@ -286,6 +288,7 @@ impl<C: Crew> Board<C> {
         ensures checkpoints { IfOk result (λ desk. desk.base.checkpoints ≡ client.told.checkpoints) }
         ensures strayed { OnOk result (HasAgreed (told_by client.told)) }
         ensures history { IfOk result (HasHistory (heard_of client.front) (outs_of writer.front)) }
+        ensures told { HaveHistory (heard_of client.front) (outs_of writer.front) }
         ensures limits { IfOk result (λ desk. HasLimits C.max_journal C.max_events desk) }
         ensures err { IfErr result (λ fault. HasCause ((client.mark ≡ self.mark) × (writer.mark ≡ self.mark)
             × AreAll (λ seat. seat.mark) (λ seat. seat.number) self.mark self.workers workers.items)
@@ -294,12 +297,17 @@ impl<C: Crew> Board<C> {
             writer.sent.share.amount desk × HasLimits C.max_journal C.max_events desk)
             (told_by client.told) writer.checkpoints writer.tickets.items fault) }
     {
+        let mut client = client;
+        let mut writer = writer;
         let own = client.mark == self.mark && writer.mark == self.mark;
-        if !own || !are_all(&workers, self.mark, self.workers) {
+        let all = own && are_all(&workers, self.mark, self.workers);
+        let Board { behind, .. } = self;
+        let mut behind = behind.into_inner();
+        behind.audit_seats(&mut client, &mut writer);
+        if !all {
             return Err(SeatFault::SeatMissing);
         }
-        let Board { behind, .. } = self;
-        match behind.into_inner().closed(client, writer, workers) {
+        match behind.closed(client, writer, workers) {
             Ok(desk) => Ok(desk),
             Err(desk) => Err(SeatFault::Strayed(desk)),
         }

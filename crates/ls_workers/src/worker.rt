@@ -1,6 +1,6 @@
 //! What a worker does.
 ghost use Rattle.std.specs.Prelude.{◌≡◌, IfNone, IfSome, true};
-ghost use Rattle.ls_workers.specs.Jobs.{HasNoJob};
+ghost use Rattle.ls_workers.specs.Jobs.{HasNoJob, IsNotHeld};
 ghost use Rattle.ls_workers.specs.Refusals.{ends_work, may_refuse_run};
 
 use crate::board::Board;
@@ -27,7 +27,8 @@ fn ended_by(fault: DeskFault) -> Option<DeskFault>
 }
 
 /// Passes the gate with a job, runs it if it is still wanted and brings it back. What ended the work, if something did: the session is full,
-/// the desk doesn't know what ran, or memory was refused. Where the job ended meanwhile its run is dropped.
+/// the desk doesn't know what ran, or memory was refused. Where the job ended meanwhile its run is dropped. Unless something ended the work, no
+/// worker holds the job by what the seat has seen then.
 fn run_one<C: Crew, R: Wait, G: Gate>(
     rt: &R,
     alloc: Global,
@@ -39,12 +40,14 @@ fn run_one<C: Crew, R: Wait, G: Gate>(
 ) -> Option<DeskFault>
     ensures seat { (seat.new.mark ≡ seat.old.mark) × (seat.new.number ≡ seat.old.number) }
     ensures ended { IfSome result (λ fault. ends_work fault ≡ true) }
+    ensures done { IfNone result (IsNotHeld job.ticket seat.new.front) }
 {
     gate.pass(rt, job.ticket);
     if !board.wanted(rt, &mut seat.front, job.ticket) {
         return None;
     }
     let Err((fault, _)) = board.finish(rt, seat, run_keeping(alloc, recent, job)) else {
+        seat.front.legal();
         return None;
     };
     ended_by(fault)

@@ -1,11 +1,12 @@
 use Rattle.std.proofs.Common.{◌∙◌, false, refl, sym, subst, ap, true}
 use Rattle.ls_history.specs.Told.{heard_of, outs_of}
 use Rattle.ls_threads.specs.Settled.{is_settled}
+use Rattle.ls_threads.specs.Ends.{has_failed}
 use Rattle.ls_threads.specs.Writing.{SaysTheRest, WritesFrames}
 use Rattle.ls_threads.specs.declared.ending.Wrote.{Wrote}
 use Rattle.ls_threads.proofs.Ends.{all_is_written, if_ok, ok_shows}
 use Rattle.ls_threads.proofs.Settled.{is_settled_holds}
-use Rattle.ls_threads.proofs.Written.{all_before, all_frames, fine_before, is_served, leave_used}
+use Rattle.ls_threads.proofs.Written.{all_before, all_frames, fine_before, is_served, leave_used, seats_written}
 use Rattle.ls_threads.proofs.serve.closed.Goals as goal
 
 pub returns-in_default-clause-causes : goal.returns-in_default-clause-causes
@@ -62,20 +63,29 @@ returns-clause-served g c = if_ok c.result_of-2.result (λ s e.
 pub returns-then-not-made-clause-frames : goal.returns-then-not-made-clause-frames
 returns-then-not-made-clause-frames g c =
     let w = c.args.ran.written in
-    subst (λ b. WritesFrames b (g.W.Sink.contents c.args.begun.value) (g.W.Sink.contents w.sink)) (sym w.failed) (record { log = w.seat.front; legal = c.legal.ensures; front = c.requires.written.front })
+    subst (λ b. WritesFrames b (g.I.Source.remaining c.args.input.value) (g.I.Source.remaining c.args.ran.done.read.source) (g.W.Sink.contents c.args.begun.value) (g.W.Sink.contents w.sink)) (sym w.failed)
+    (seats_written (has_failed w.end) c.args.ran.done.read.end _ _ _ _ (heard_of c.args.ran.done.read.seat.front) (outs_of w.seat.front) c.close-audited.ensures.told c.requires.heard c.requires.written.front)
 
 pub returns-in_default-clause-frames : goal.returns-in_default-clause-frames
 returns-in_default-clause-frames g c =
     let w = c.args.ran.written in
-    subst (λ b. WritesFrames b (g.W.Sink.contents c.args.begun.value) (g.W.Sink.contents w.sink)) (sym w.failed) (record { log = w.seat.front; legal = c.legal.ensures; front = c.requires.written.front })
+    subst (λ b. WritesFrames b (g.I.Source.remaining c.args.input.value) (g.I.Source.remaining c.args.ran.done.read.source) (g.W.Sink.contents c.args.begun.value) (g.W.Sink.contents w.sink)) (sym w.failed)
+    (seats_written (has_failed w.end) c.args.ran.done.read.end _ _ _ _ (heard_of c.args.ran.done.read.seat.front) (outs_of w.seat.front) c.close-audited.ensures.told c.requires.heard c.requires.written.front)
 
 pub returns-clause-frames : goal.returns-clause-frames
 returns-clause-frames g c =
     let w = c.args.ran.written in
     let f = c.finished-wrote in
-    subst (λ b. WritesFrames b (g.W.Sink.contents c.args.begun.value) (g.W.Sink.contents f.new.sink)) (sym f.ensures.failed)
-    (all_frames w.end f.result c.has_met_full_session-full.result c.in-Ok.desk (heard_of c.args.ran.done.read.seat.front) (outs_of w.seat.front) (g.W.Sink.unflushed c.args.begun.value) (g.W.Sink.unflushed w.sink)
-    (g.W.Sink.contents c.args.begun.value) (g.W.Sink.contents w.sink) (g.W.Sink.contents f.new.sink) c.in-Ok.ensures.history c.requires.written f.ensures.told f.ensures.still)
+    subst (λ b. WritesFrames b (g.I.Source.remaining c.args.input.value) (g.I.Source.remaining c.args.ran.done.read.source) (g.W.Sink.contents c.args.begun.value) (g.W.Sink.contents f.new.sink)) (sym f.ensures.failed)
+    (all_frames w.end f.result c.has_met_full_session-full.result c.in-Ok.desk c.args.ran.done.read.end (g.I.Source.remaining c.args.input.value) (g.I.Source.remaining c.args.ran.done.read.source)
+    (g.W.Sink.contents c.args.begun.value) (g.W.Sink.contents w.sink) (g.W.Sink.contents f.new.sink) (heard_of c.args.ran.done.read.seat.front) (outs_of w.seat.front)
+    (g.W.Sink.unflushed c.args.begun.value) (g.W.Sink.unflushed w.sink) c.in-Ok.ensures.history c.requires.heard c.requires.written f.ensures.told f.ensures.still)
+
+pub returns-clause-good : goal.returns-clause-good
+returns-clause-good g c = if_ok c.result_of-2.result (λ s e.
+    let f = c.finished-wrote in
+    let shown = ok_shows c.args.ran.done.read.end f.result c.args.ran.done.worked c.is_settled-settled.result s (sym c.result_of-2.ensures ∙ e) in
+    f.ensures.failed ∙ shown.not_failed)
 
 pub returns-clause-flushed : goal.returns-clause-flushed
 returns-clause-flushed g c = λ e q.
