@@ -1,5 +1,5 @@
 use Rattle.std.proofs.Common.{rules, refl, Ok, Err, Some, None}
-use Rattle.ls_server.proofs.Served.{served_more, settled_by}
+use Rattle.ls_server.proofs.Serving.{served_more, settled_by}
 use Rattle.ls_server.proofs.Writing.{answers_next, answers_stop, written_none}
 use Rattle.ls_server.proofs.serve.answer_all.Goals as goal
 

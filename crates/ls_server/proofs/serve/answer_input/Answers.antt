@@ -1,5 +1,5 @@
 use Rattle.std.proofs.Common.{rules, arith, Ok, None, [], inl, inr, take, refl, length-take}
-use Rattle.ls_server.proofs.Served.{begins, finished, end_ok, end_err, served_status, served_fault, still_open, still_served, piece_more, write_failed, not_write}
+use Rattle.ls_server.proofs.Serving.{begins, finished, end_ok, end_err, served_status, served_fault, still_open, still_served, piece_more, write_failed, not_write}
 use Rattle.ls_devices.proofs.Known.{or_true, or_false}
 use Rattle.ls_devices.proofs.Input.{consumes_none, consumes_keeps, consumes_consumes}
 use Rattle.ls_server.proofs.serve.answer_input.Goals as goal
