@@ -18,7 +18,7 @@ use Rattle.ls_machine.specs.Journal.{replay_from, IsLegalFrom, IsCutAt, IsPast}
 use Rattle.ls_machine.proofs.Replays.{counted_push, cut_push, legal_push, past_more, past_state, replay_one, replay_push, total_counted, total_one}
 use Rattle.ls_machine.proofs.Taken.{WereTaken, taken_all}
 use Rattle.ls_machine.specs.Outs.{entry_for}
-use Rattle.ls_desk.specs.Anew.{base_after, journal_after}
+use Rattle.ls_desk.specs.Anew.{IsEndedBy, base_after, journal_after}
 use Rattle.ls_desk.specs.Stands.{Seen, Answers, IsOutFor, AreOutsFor, Enters, failed_to, failed_by, failures, fresh, fresh_for, out_of}
 use Rattle.ls_desk.specs.declared.present.Present.{Present}
 use Rattle.ls_desk.specs.own.Kept.{IsKept}
@@ -85,8 +85,8 @@ holds B J C N O longest most room kept = record {
   outs = kept.outs;
 }
 
-abbrev pub seen : Base → List Event → List Out → ℕ → ℕ → Seen
-seen B J O longest most = record { base = B; journal = J; outbox = O; max_journal = longest; max_events = most }
+abbrev pub seen : Base → List Event → List Out → ℕ → ℕ → List Event → Seen
+seen B J O longest most D = record { base = B; journal = J; outbox = O; max_journal = longest; max_events = most; ended = D }
 
 -- an event comes to the journal, which began anew before it or not, and the desk stands for the state after it
 pub record Goes (B : Base) (J : List Event) (C : Counts) (x : Option State) (e : Event) (B' : Base) (J' : List Event) (C' : Counts) (N' : Present) (O' : List Out) (longest most room' : ℕ) : Type 0 where
@@ -239,7 +239,7 @@ long_some true true n m s z long is = (is_le n m long, same_state s z is)
 pub goes : (B : Base) (J : List Event) (C : Counts) (N : Present) (O : List Out) (longest most room : ℕ) (x : Option State) (e : Event)
     (B' : Base) (J' : List Event) (C' : Counts) (N' : Present) (O' : List Out) (room' : ℕ)
     → IsKept B J C N O longest most room
-    → x ≡ fresh_for (seen B J O longest most) e
+    → x ≡ fresh_for (seen B J O longest most []) e
     → Stepped (replay_from B.state J) e N N' O'
     → B' ≡ base_after x C B
     → J' ≡ journal_after x J ++ e ∷ []
@@ -261,21 +261,30 @@ goes B J C N O longest most room (Some z) e B' J' C' N' O' room' kept is_x stepp
     (anew B J C N O longest most room e N' O' room' kept f.0 stepped used reserved))
 
 pub enters : (B : Base) (J : List Event) (C : Counts) (N : Present) (O : List Out) (longest most room : ℕ) (x : Option State) (e : Event)
-    (B' : Base) (J' : List Event) (C' : Counts) (N' : Present) (O' : List Out) (room' : ℕ)
+    (B' : Base) (J' : List Event) (C' : Counts) (N' : Present) (O' : List Out) (room' : ℕ) (D D' : List Event)
     → IsKept B J C N O longest most room
-    → x ≡ fresh_for (seen B J O longest most) e
+    → x ≡ fresh_for (seen B J O longest most []) e
     → Goes B J C x e B' J' C' N' O' longest most room'
-    → Enters (seen B J O longest most) (seen B' J' O' longest most) e
-enters B J C N O longest most room x e B' J' C' N' O' room' kept is_x g = record {
+    → IsEndedBy x J D D'
+    → Enters (seen B J O longest most D) (seen B' J' O' longest most D') e
+enters B J C N O longest most room x e B' J' C' N' O' room' D D' kept is_x g left = record {
   possible = g.possible;
   base = g.base ∙ (λ i. base_after (is_x i) (kept.counts_are i) B);
   journal = g.journal ∙ ap (λ (y : Option State). journal_after y J ++ e ∷ []) is_x;
+  ended = subst (λ (y : Option State). IsEndedBy y J D D') is_x left;
   most = refl;
   most_journal = refl;
   state = g.state;
   counts = sym g.kept.counts_are ∙ (g.counts ∙ ap (λ (c : Counts). count_one c e) kept.counts_are);
   sound = record { past = g.kept.past; first_is = g.kept.first_is; legal = g.kept.legal; cut = g.kept.cut; outs = g.kept.outs };
 }
+
+-- what is left of the journal that ended last, by what there was before room was made
+pub left_by : (x : Option State) (J J1 D D1 D' : List Event) → J1 ≡ J → D1 ≡ D → IsEndedBy x J1 D1 D' → IsEndedBy x J D D'
+left_by x J J1 D D1 D' same_j same_d left =
+    let P : List Event → Type 0 = λ js. IsEndedBy x js D D' in
+    let Q : List Event → Type 0 = λ ds. IsEndedBy x J1 ds D' in
+    subst P same_j (subst Q same_d left)
 
 -- nothing has changed, but there is room
 pub kept_room : (B : Base) (J : List Event) (C : Counts) (N : Present) (O : List Out) (longest most room : ℕ)
@@ -352,5 +361,5 @@ state_is B J C N O longest most room kept =
 long_is : (n m k : ℕ) → n ≡ k → m ≤ n → nat_le m k ≡ true
 long_is n m k same h = grind (arith, nat_tests)
 
-pub fresh_is : (B : Base) (J : List Event) (O : List Out) (longest most n : ℕ) (z : State) → z ≡ replay_from B.state J → n ≡ length J → longest ≤ n → Some z ≡ fresh (seen B J O longest most)
+pub fresh_is : (B : Base) (J : List Event) (O : List Out) (longest most n : ℕ) (z : State) → z ≡ replay_from B.state J → n ≡ length J → longest ≤ n → Some z ≡ fresh (seen B J O longest most [])
 fresh_is B J O longest most n z is len long = ap Some is ∙ sym (λ i. cond (long_is n longest (length J) len long i) (Some (replay_from B.state J)) None)

@@ -89,14 +89,14 @@ current_in B J most past is legal =
     let P : State → Type 0 = λ s. WereEntriesCurrent (past ++ J) s.unsent in
     subst P (past_state most B past J is) (ordered most (past ++ J) (past_legal most B past J is legal)).unsent
 
-pub sends : (B : Base) (J : List Event) (C : Counts) (N : Present) (O : List Out) (longest most room : ℕ) (new : Seen) (o : Out) (os : List Out)
+pub sends : (B : Base) (J : List Event) (C : Counts) (N : Present) (O : List Out) (longest most room : ℕ) (D : List Event) (new : Seen) (o : Out) (os : List Out)
     → IsKept B J C N O longest most room
     → Front (replay_from B.state J).unsent o os
     → O ≡ o ∷ os
     → new.outbox ≡ os
-    → Enters (seen B J O longest most) new (Sent (ticket_of_out o))
-    → Sends (seen B J O longest most) new o
-sends B J C N O longest most room new o os kept f is same went = record {
+    → Enters (seen B J O longest most D) new (Sent (ticket_of_out o))
+    → Sends (seen B J O longest most D) new o
+sends B J C N O longest most room D new o os kept f is same went = record {
   enters = went;
   first = is ∙ ap (λ (xs : List Out). o ∷ xs) (sym same);
   stands_for = (f.entry, f.others, f.is, f.for);
@@ -119,11 +119,11 @@ entry_at js [] i e h is = absurd (cc)
 entry_at js (x ∷ es) zero e h is = let P : Entry → Type 0 = λ y. WasEntryCurrent js y in subst P (same_Some x e is) h.0
 entry_at js (x ∷ es) (suc i) e h is = entry_at js es i e h.1 is
 
-pub stands_at : {A : Type 0} (f : A → Out) (r : Option A) (B : Base) (J : List Event) (C : Counts) (N : Present) (O : List Out) (longest most room : ℕ) (i : ℕ)
+pub stands_at : {A : Type 0} (f : A → Out) (r : Option A) (B : Base) (J : List Event) (C : Counts) (N : Present) (O : List Out) (longest most room : ℕ) (D : List Event) (i : ℕ)
     → IsKept B J C N O longest most room
-    → is_some r ≡ ltb i (length O) → IfSome r (λ x. f x ≡ get_or O i (f x)) → IfSome r (λ x. StandsAt (seen B J O longest most) i (f x))
-stands_at f None B J C N O longest most room i kept some is = tt
-stands_at f (Some x) B J C N O longest most room i kept some is =
+    → is_some r ≡ ltb i (length O) → IfSome r (λ x. f x ≡ get_or O i (f x)) → IfSome r (λ x. StandsAt (seen B J O longest most D) i (f x))
+stands_at f None B J C N O longest most room D i kept some is = tt
+stands_at f (Some x) B J C N O longest most room D i kept some is =
     let found = slice_get_read O (length O) i (f x) refl (ltb-true i (length O) (sym some)) is in
     let e = at_entry (replay_from B.state J).unsent O i (f x) kept.outs found in
     (e.0, e.1, e.2, (kept.past.0, kept.past.1, entry_at (kept.past.0 ++ J) (replay_from B.state J).unsent i e.0 (current_in B J most kept.past.0 kept.past.1 kept.legal) e.1))

@@ -1,5 +1,6 @@
 -- A journal that begins anew.
-use Rattle.std.specs.Prelude.{◌+◌, List, [], Option, Some, None}
+use Rattle.std.specs.Prelude.{◌≡◌, ◌+◌, List, [], Option, Some, None}
+use mathlib.Core.List.{IsPrefix}
 use Rattle.ls_machine.specs.declared.base.Base.{Base}
 use Rattle.ls_machine.specs.declared.base.Counts.{Counts}
 use Rattle.ls_machine.specs.declared.event.Event.{Event}
@@ -14,3 +15,8 @@ base_after (Some state) counts base = record { state = state; counts = counts; c
 abbrev pub journal_after : Option State → List Event → List Event
 journal_after None journal = journal
 journal_after (Some state) journal = []
+
+-- What is left of the journal that ended last. Where there is a state to begin from, that is this journal, whole. Else some of its end may be gone.
+abbrev pub IsEndedBy : Option State → List Event → List Event → List Event → Type 0
+IsEndedBy None journal ended left = IsPrefix left ended
+IsEndedBy (Some state) journal ended left = left ≡ journal

@@ -15,7 +15,7 @@ use Rattle.ls_machine.specs.declared.state.Waiting.{Waiting}
 use Rattle.ls_machine.specs.declared.state.Entry.{Entry}
 use Rattle.ls_machine.specs.declared.state.Entry.TheVariants.{Body, Failure, Outcome}
 use Rattle.ls_machine.specs.declared.state.State.{State}
-use Rattle.ls_desk.specs.Anew.{base_after, journal_after}
+use Rattle.ls_desk.specs.Anew.{IsEndedBy, base_after, journal_after}
 use Rattle.ls_machine.specs.Machine.{IsPossible, step, is_ended, content_modified, internal_error}
 use Rattle.ls_machine.specs.Counts.{count_one, counted, first, is_client, total}
 use Rattle.ls_machine.specs.Journal.{replay_from, IsCutAt, IsLegalFrom, IsPast}
@@ -29,6 +29,8 @@ pub record Seen : Type 0 where
   pub outbox : List Out
   pub max_journal : ℕ
   pub max_events : ℕ
+  -- what is left of the journal that the last checkpoint ended
+  pub ended : List Event
 
 abbrev pub state_of : Seen → State
 state_of d = replay_from d.base.state d.journal
@@ -130,11 +132,13 @@ abbrev pub fresh_for : Seen → Event → Option State
 fresh_for d e = if is_client e then fresh d else None
 
 -- The event is possible, and the journal has it at its end. A client's event that finds the journal as long as it may be makes a checkpoint:
--- the state before it becomes the base, and it is the whole journal. Otherwise the base stays.
+-- the state before it becomes the base, it is the whole journal, and all of the journal that ended is there. Otherwise the base stays, and some of
+-- the end of the journal that ended last may be gone.
 pub record Enters (old new : Seen) (e : Event) : Type 0 where
   pub possible : IsPossible (state_of old) e
   pub base : new.base ≡ base_after (fresh_for old e) (counts_of old) old.base
   pub journal : new.journal ≡ journal_after (fresh_for old e) old.journal ++ e ∷ []
+  pub ended : IsEndedBy (fresh_for old e) old.journal old.ended new.ended
   pub most : new.max_events ≡ old.max_events
   pub most_journal : new.max_journal ≡ old.max_journal
   pub state : state_of new ≡ step (state_of old) e

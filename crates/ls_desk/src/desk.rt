@@ -43,7 +43,8 @@ const MOST_REQUESTS: usize = 1_024;
 
 /// The open documents, the waiting jobs, the unsent replies and the journal of a session.
 ///
-/// Contracts see its base, its journal, its unsent replies and its limits. Its state is the replay of its journal from the base.
+/// Contracts see its base, its journal, its unsent replies and its limits, and what is left of the journal that the last checkpoint ended. Its
+/// state is the replay of its journal from the base.
 pub struct Desk {
     alloc: Global,
     present: Present,
@@ -73,7 +74,7 @@ impl Model for Desk {
 
     ghost Value = { Seen };
 
-    ghost view = { λ d. record { base = d.history.base; journal = d.history.events.items; outbox = d.outbox.items; max_journal = d.max_journal; max_events = d.max_events } };
+    ghost view = { λ d. record { base = d.history.base; journal = d.history.events.items; outbox = d.outbox.items; max_journal = d.max_journal; max_events = d.max_events; ended = d.history.events.ended } };
 
     ghost invariant = { λ d. IsKept d.history.base d.history.events.items d.history.counts d.present d.outbox.items d.max_journal d.max_events d.history.events.room };
 }
@@ -84,7 +85,7 @@ impl Desk {
     pub fn new(alloc: Global, max_journal: usize, max_events: u64) -> Desk
         requires journal { (0 < max_journal) × (max_journal ≤ 1000000) }
         requires events { (0 < max_events) × (max_events ≤ 18446744073709551614) }
-        ensures { result ≡ record { base = first; journal = []; outbox = []; max_journal = max_journal; max_events = max_events } }
+        ensures { result ≡ record { base = first; journal = []; outbox = []; max_journal = max_journal; max_events = max_events; ended = [] } }
     {
         Desk {
             alloc,
@@ -117,6 +118,15 @@ impl Desk {
         ensures { result ≡ self.now.base.checkpoints }
     {
         self.history.base.checkpoints
+    }
+
+    /// What is left of the journal that the last checkpoint ended: all of it right behind the event that made the checkpoint. The desk has none of it
+    /// from now on, and else it stays as it was. Takes no memory.
+    pub fn take_ended(&mut self) -> Vec<Event>
+        ensures ended { result.items ≡ self.old.ended }
+        ensures same { self.new ≡ record self.old { ended = [] } }
+    {
+        self.history.events.take_ended()
     }
 
     /// How many events of each kind there were over the session. There were none where the journal is empty.

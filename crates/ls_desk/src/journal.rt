@@ -1,12 +1,13 @@
 //! The events since a base, and what is left of those before it.
 ghost use Rattle.std.specs.Prelude.{◌≡◌, ◌+◌, ◌<◌, ◌≤◌, ◌++◌, ◌∷◌, [], OnOk, OnErr, length, vec_capacity};
+ghost use mathlib.Core.List.{IsPrefix};
 
 use ls_machine::Event;
 use std::alloc::{AllocError, Global};
 use std::marker::Model;
 use std::mem;
 
-/// How many entries of the journal before go with each event that comes.
+/// How many events of the journal before go with each event that comes.
 const AT_ONCE: usize = 16;
 
 /// For how many entries room is given back at once, and how many are moved at most where a journal grows.
@@ -15,11 +16,18 @@ const PART: usize = 65_536;
 /// For how many events a long journal seeks room: more than a client's event may find there.
 const LONGEST: usize = 1_048_576;
 
-/// Lets a few entries go, and from time to time the room behind them.
-fn let_go(alloc: Global, past: &mut Vec<Event>) {
-    for _ in 0..AT_ONCE {
-        let _ = past.pop();
-    }
+/// Lets a few events go from the end, and from time to time the room behind them.
+fn let_go(alloc: Global, past: &mut Vec<Event>)
+    ensures { IsPrefix past.new.items past.old.items }
+{
+    past.truncate(past.len().saturating_sub(AT_ONCE));
+    give_room_back(alloc, past);
+}
+
+/// Gives the room behind events back: all of it where none is left, and else from time to time.
+fn give_room_back(alloc: Global, past: &mut Vec<Event>)
+    ensures { past.new.items ≡ past.old.items }
+{
     if past.is_empty() {
         *past = Vec::new(alloc);
     } else if past.capacity() - past.len() >= PART {
@@ -42,9 +50,9 @@ fn seek_room(events: &mut Vec<Event>, more: usize)
 }
 
 /// The events since a base. Where the journal begins anew, the one before isn't let go at once, which would take time in proportion to it: a
-/// few of its entries go with each event that comes.
+/// few of its events go with each event that comes, or somebody takes them.
 ///
-/// Contracts see the events, and for how many there is room: in this journal, and in the next.
+/// Contracts see the events, for how many there is room, in this journal and in the next, and what is left of the journal before.
 #[derive(Drop)]
 pub struct Journal {
     alloc: Global,
@@ -61,7 +69,7 @@ impl Model for Journal {
 
     ghost Value = { Held };
 
-    ghost view = { λ j. record { items = j.events.items; room = vec_capacity j.events; next = vec_capacity j.next } };
+    ghost view = { λ j. record { items = j.events.items; room = vec_capacity j.events; next = vec_capacity j.next; ended = j.past.items } };
 
     ghost invariant = { λ j. j.next.items ≡ [] };
 }
@@ -69,7 +77,8 @@ impl Model for Journal {
 impl Journal {
     /// No event. Takes no memory.
     pub fn new(alloc: Global) -> Journal
-        ensures { result.items ≡ [] }
+        ensures items { result.items ≡ [] }
+        ensures ended { result.ended ≡ [] }
     {
         Journal {
             alloc,
@@ -97,6 +106,7 @@ impl Journal {
     pub fn reserve(&mut self, more: usize) -> Result<(), AllocError>
         ensures items { self.new.items ≡ self.old.items }
         ensures next { self.new.next ≡ self.old.next }
+        ensures ended { self.new.ended ≡ self.old.ended }
         ensures more { self.old.room ≤ self.new.room }
         ensures room { OnOk result (length self.new.items + more ≤ self.new.room) }
         ensures full { OnErr result (self.old.room < length self.old.items + more) }
@@ -109,15 +119,17 @@ impl Journal {
     pub fn reserve_next(&mut self, needed: usize) -> Result<(), AllocError>
         ensures items { self.new.items ≡ self.old.items }
         ensures same { self.new.room ≡ self.old.room }
+        ensures ended { self.new.ended ≡ self.old.ended }
         ensures room { OnOk result (needed ≤ self.new.next) }
         ensures full { OnErr result (self.old.next < needed) }
     {
         self.next.reserve(needed)
     }
 
-    /// The next journal takes the place of this one.
+    /// The next journal takes the place of this one, which is the one before from now on, whole.
     pub fn begin_anew(&mut self)
         ensures items { self.new.items ≡ [] }
+        ensures ended { self.new.ended ≡ self.old.items }
         ensures room { self.new.room ≡ self.old.next }
     {
         let next = mem::replace(&mut self.next, Vec::new(self.alloc));
@@ -129,8 +141,27 @@ impl Journal {
         requires { length self.old.items < self.old.room }
         ensures items { self.new.items ≡ self.old.items ++ event ∷ [] }
         ensures room { self.new.room ≡ self.old.room }
+        ensures ended { self.new.ended ≡ self.old.ended }
     {
         self.events.push_reserved(event);
+    }
+
+    /// A few events of the journal before go, from its end.
+    pub fn let_go(&mut self)
+        ensures items { self.new.items ≡ self.old.items }
+        ensures room { self.new.room ≡ self.old.room }
+        ensures ended { IsPrefix self.new.ended self.old.ended }
+    {
         let_go(self.alloc, &mut self.past);
+    }
+
+    /// What is left of the journal before, which has none from now on. Takes no memory.
+    pub fn take_ended(&mut self) -> Vec<Event>
+        ensures ended { result.items ≡ self.old.ended }
+        ensures none { self.new.ended ≡ [] }
+        ensures items { self.new.items ≡ self.old.items }
+        ensures room { self.new.room ≡ self.old.room }
+    {
+        mem::replace(&mut self.past, Vec::new(self.alloc))
     }
 }

@@ -10,11 +10,12 @@
 //! as its client does, in memory that the length of a journal bounds, and not that of the session.
 //!
 //! The journal is legal: each event was possible in the state to which those before it lead, from the base on; and some legal list of events
-//! led to the base. What contracts see of a desk is its base, its journal, its unsent replies and its limits; its state is the replay of the
-//! journal from the base. So the desk can promise of each answer that it sends that it is right for the very text that was asked about.
+//! led to the base. What contracts see of a desk is its base, its journal, its unsent replies and its limits, and what is left of the journal that
+//! the last checkpoint ended; its state is the replay of the journal from the base. So the desk can promise of each answer that it sends that it
+//! is right for the very text that was asked about.
 //!
 //! A call that is refused leaves the desk as it was. No call waits for a whole journal: where there is memory a journal is moved only while it
-//! is short, and the one before a checkpoint is let go bit by bit. No text is copied.
+//! is short, and the one before a checkpoint is let go bit by bit, unless somebody takes it ([`Desk::take_ended`]). No text is copied.
 #![tactic(auto)]
 
 mod desk;

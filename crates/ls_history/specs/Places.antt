@@ -30,7 +30,7 @@ place_of d = record { limit = Some d.max_events; state = state_of d; counts = co
 
 -- a desk that stands there, whose journal begins there
 abbrev pub desk_at : Place → Seen
-desk_at p = record { base = record { state = p.state; counts = p.counts; checkpoints = 0 }; journal = []; outbox = []; max_journal = 0; max_events = unwrap_or p.limit 0 }
+desk_at p = record { base = record { state = p.state; counts = p.counts; checkpoints = 0 }; journal = []; outbox = []; max_journal = 0; max_events = unwrap_or p.limit 0; ended = [] }
 
 -- where the machine's event leads, if there is one
 abbrev pub entered : Place → Option Event → Place

@@ -37,7 +37,7 @@ use Rattle.ls_steps.specs.own.Leaves.{IsLeft}
 
 -- ---- desks
 
-sound_start : (longest most : ℕ) → IsSound (record { base = first; journal = []; outbox = []; max_journal = longest; max_events = most })
+sound_start : (longest most : ℕ) → IsSound (record { base = first; journal = []; outbox = []; max_journal = longest; max_events = most; ended = [] })
 unfolding IsLegalFrom IsCutAt replay_from AreOutsFor
 sound_start longest most = record { past = ([], past_first most); first_is = λ h. refl; legal = tt; cut = tt; outs = tt }
 
@@ -67,7 +67,7 @@ heard_turn g h body turn e t s = (
 )
 
 -- what the desk does doesn't depend on what is said
-meets_alike : (d : Seen) (e : ClientEvent) → meets (record { base = d.base; journal = d.journal; outbox = []; max_journal = d.max_journal; max_events = d.max_events }) e ≡ meets d e
+meets_alike : (d : Seen) (e : ClientEvent) → meets (record { base = d.base; journal = d.journal; outbox = []; max_journal = d.max_journal; max_events = d.max_events; ended = [] }) e ≡ meets d e
 meets_alike d (event.DidOpen uri label text encoding) = refl
 meets_alike d (event.DidChange uri label edits) = refl
 meets_alike d (event.DidClose uri) = refl

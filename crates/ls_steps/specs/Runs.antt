@@ -76,7 +76,7 @@ begun = record { stage = BeforeInitialize; base = first; journal = []; max_journ
 
 -- the desk, as far as its refusals go: they don't depend on what is said of the entries
 abbrev pub desk_of : Going → Seen
-desk_of g = record { base = g.base; journal = g.journal; outbox = []; max_journal = g.max_journal; max_events = g.max_events }
+desk_of g = record { base = g.base; journal = g.journal; outbox = []; max_journal = g.max_journal; max_events = g.max_events; ended = [] }
 
 abbrev pub state_at : Going → State
 state_at g = replay_from g.base.state g.journal

@@ -1,4 +1,4 @@
--- What a journal holds, and for how much it has room.
+-- What a journal holds, what is left of the one before, and for how much there is room.
 use Rattle.std.specs.Prelude.{ℕ, List, Option, Some, None}
 use Rattle.ls_machine.specs.declared.event.Event.{Event}
 use Rattle.ls_machine.specs.declared.state.State.{State}
@@ -8,6 +8,8 @@ pub record Held : Type 0 where
   -- for how many events there is room, and for how many in the journal that comes next
   pub room : ℕ
   pub next : ℕ
+  -- what is left of the journal before
+  pub ended : List Event
 
 -- the room in the journal as it is, or once it begins anew from this state
 abbrev pub room_after : Option State → Held → ℕ

@@ -4,14 +4,14 @@ use Rattle.ls_machine.specs.declared.event.Event.{Event}
 use Rattle.ls_machine.specs.declared.state.State.{State}
 use Rattle.ls_machine.specs.Counts.{total}
 use Rattle.ls_machine.specs.Journal.{replay_from}
-use Rattle.ls_desk.specs.Anew.{journal_after}
+use Rattle.ls_desk.specs.Anew.{IsEndedBy, journal_after}
 use Rattle.ls_machine.specs.declared.event.Event.TheVariants.{Cancelled}
 use Rattle.ls_machine.specs.declared.event.Out.{Out}
 use Rattle.ls_machine.specs.declared.state.Request.{Request}
 use Rattle.ls_machine.specs.declared.state.Waiting.{Waiting}
 use Rattle.ls_machine.specs.Machine.{asks_with, told_if_found, told_end, told_to, request_cancelled}
 use Rattle.ls_desk.specs.Stands.{Seen, Enters, state_of, failed, fresh, fresh_for, used}
-use Rattle.ls_desk.proofs.Grows.{Goes, enters, goes, holds, kept_room, seen, outs_length, failed_outs}
+use Rattle.ls_desk.proofs.Grows.{Goes, enters, goes, holds, kept_room, left_by, seen, outs_length, failed_outs}
 use Rattle.ls_desk.proofs.Events.{cancelled, uncancelled}
 use Rattle.ls_desk.proofs.desk.Desk.cancel.Goals as goal
 use Rattle.ls_desk.proofs.desk.Desk.cancel.Goals.{After-enter, After-enter-in-None}
@@ -31,7 +31,7 @@ invariant_of-self-in_err-room_for_event-in-None c =
 abbrev now : After-enter → State
 now c = replay_from c.self.inside.history.base.state c.self.inside.history.events.items
 
-state_is : (c : After-enter) → c.in_ok-state.state ≡ fresh_for (seen c.self.inside.history.base c.self.inside.history.events.items c.self.inside.outbox.items c.self.inside.max_journal c.self.inside.max_events) (Cancelled c.args.id.now true)
+state_is : (c : After-enter) → c.in_ok-state.state ≡ fresh_for (seen c.self.inside.history.base c.self.inside.history.events.items c.self.inside.outbox.items c.self.inside.max_journal c.self.inside.max_events []) (Cancelled c.args.id.now true)
 state_is c = let P : Seen → Type 0 = λ d. c.in_ok-state.state ≡ fresh d in subst P (sym c.self.view_is) c.in_ok-state.ensures
 
 at_now : (c : After-enter) → position (asks_with c.args.id.now) (state_of c.args.self.now).waiting ≡ Some c.in-Some.at
@@ -79,6 +79,9 @@ roomy c =
     let o = one_at_most c.remove_at-job.result.ticket request_cancelled c.remove_at-job.result.request in
     let l = longer c in omega arith
 
+left : (c : After-enter) → IsEndedBy c.in_ok-state.state c.self.inside.history.events.items c.self.inside.history.events.ended c.enter.new.self.events.ended
+left c = left_by c.in_ok-state.state _ _ _ _ _ c.room_for_replies.ensures.journal c.room_for_replies.ensures.ended c.enter.ensures.ended
+
 went : (c : After-enter) → Goes c.self.inside.history.base c.self.inside.history.events.items c.self.inside.history.counts c.in_ok-state.state (Cancelled c.args.id.now true) c.enter.new.self.base c.enter.new.self.events.items c.enter.new.self.counts
     c.remove_at-job.new.self c.put_failure.new.outbox.items c.self.inside.max_journal c.self.inside.max_events c.enter.new.self.events.room
 went c =
@@ -97,15 +100,15 @@ invariant_of-self-in-Some c = (went c).kept
 
 pub returns-in_ok-room_for_replies-in-Some-clause-ok : goal.returns-in_ok-room_for_replies-in-Some-clause-ok
 returns-in_ok-room_for_replies-in-Some-clause-ok c =
-    let P : Seen → Type 0 = λ d. Enters d (seen c.enter.new.self.base c.enter.new.self.events.items c.put_failure.new.outbox.items c.self.inside.max_journal c.self.inside.max_events) (Cancelled c.args.id.now true) in
-    record { none = c.in_ok-at.ensures.free; enters = subst P c.self.view_is (enters _ _ _ _ _ _ _ _ c.in_ok-state.state _ _ _ _ _ _ _ c.self.invariant (state_is c) (went c)) }
+    let P : Seen → Type 0 = λ d. Enters d (seen c.enter.new.self.base c.enter.new.self.events.items c.put_failure.new.outbox.items c.self.inside.max_journal c.self.inside.max_events c.enter.new.self.events.ended) (Cancelled c.args.id.now true) in
+    record { none = c.in_ok-at.ensures.free; enters = subst P c.self.view_is (enters _ _ _ _ _ _ _ _ c.in_ok-state.state _ _ _ _ _ _ _ _ _ c.self.invariant (state_is c) (went c) (left c)) }
 
 -- ---- none waits
 
 abbrev none_at : After-enter-in-None → State
 none_at c = replay_from c.self.inside.history.base.state c.self.inside.history.events.items
 
-none_state_is : (c : After-enter-in-None) → c.in_ok-state.state ≡ fresh_for (seen c.self.inside.history.base c.self.inside.history.events.items c.self.inside.outbox.items c.self.inside.max_journal c.self.inside.max_events) (Cancelled c.args.id.now false)
+none_state_is : (c : After-enter-in-None) → c.in_ok-state.state ≡ fresh_for (seen c.self.inside.history.base c.self.inside.history.events.items c.self.inside.outbox.items c.self.inside.max_journal c.self.inside.max_events []) (Cancelled c.args.id.now false)
 none_state_is c = let P : Seen → Type 0 = λ d. c.in_ok-state.state ≡ fresh d in subst P (sym c.self.view_is) c.in_ok-state.ensures
 
 none_now : (c : After-enter-in-None) → find (asks_with c.args.id.now) (state_of c.args.self.now).waiting ≡ None
@@ -128,6 +131,9 @@ none_roomy c =
     let j = ap (λ (es : List Event). length (journal_after c.in_ok-state.state es)) c.room_for_event.ensures.journal in
     let k = c.enter-in-None.ensures.capacity in omega arith
 
+none_left : (c : After-enter-in-None) → IsEndedBy c.in_ok-state.state c.self.inside.history.events.items c.self.inside.history.events.ended c.enter-in-None.new.self.events.ended
+none_left c = left_by c.in_ok-state.state _ _ _ _ _ c.room_for_event.ensures.journal c.room_for_event.ensures.ended c.enter-in-None.ensures.ended
+
 none_went : (c : After-enter-in-None) → Goes c.self.inside.history.base c.self.inside.history.events.items c.self.inside.history.counts c.in_ok-state.state (Cancelled c.args.id.now false) c.enter-in-None.new.self.base c.enter-in-None.new.self.events.items c.enter-in-None.new.self.counts
     c.self.inside.present c.self.inside.outbox.items c.self.inside.max_journal c.self.inside.max_events c.enter-in-None.new.self.events.room
 none_went c =
@@ -144,5 +150,5 @@ invariant_of-self-in-None c = (none_went c).kept
 
 pub returns-in_ok-room_for_event-in-None-clause-ok : goal.returns-in_ok-room_for_event-in-None-clause-ok
 returns-in_ok-room_for_event-in-None-clause-ok c =
-    let P : Seen → Type 0 = λ d. Enters d (seen c.enter-in-None.new.self.base c.enter-in-None.new.self.events.items c.self.inside.outbox.items c.self.inside.max_journal c.self.inside.max_events) (Cancelled c.args.id.now false) in
-    record { none = c.in_ok-at.ensures.free; enters = subst P c.self.view_is (enters _ _ _ _ _ _ _ _ c.in_ok-state.state _ _ _ _ _ _ _ c.self.invariant (none_state_is c) (none_went c)) }
+    let P : Seen → Type 0 = λ d. Enters d (seen c.enter-in-None.new.self.base c.enter-in-None.new.self.events.items c.self.inside.outbox.items c.self.inside.max_journal c.self.inside.max_events c.enter-in-None.new.self.events.ended) (Cancelled c.args.id.now false) in
+    record { none = c.in_ok-at.ensures.free; enters = subst P c.self.view_is (enters _ _ _ _ _ _ _ _ c.in_ok-state.state _ _ _ _ _ _ _ _ _ c.self.invariant (none_state_is c) (none_went c) (none_left c)) }

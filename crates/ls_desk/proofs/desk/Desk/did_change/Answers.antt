@@ -7,9 +7,9 @@ use Rattle.ls_machine.specs.declared.state.Waiting.{Waiting}
 use Rattle.ls_machine.specs.declared.state.State.{State}
 use Rattle.ls_machine.specs.Counts.{total}
 use Rattle.ls_machine.specs.Journal.{replay_from}
-use Rattle.ls_desk.specs.Anew.{journal_after}
+use Rattle.ls_desk.specs.Anew.{IsEndedBy, journal_after}
 use Rattle.ls_desk.specs.Stands.{Seen, Enters, state_of, fresh, fresh_for, used}
-use Rattle.ls_desk.proofs.Grows.{Goes, enters, goes, holds, kept_room, seen}
+use Rattle.ls_desk.proofs.Grows.{Goes, enters, goes, holds, kept_room, left_by, seen}
 use Rattle.std.proofs.lemmas.Int.{to_z-of_z}
 use Rattle.ls_text.specs.declared.edit.Edit.{Edit}
 use Rattle.ls_machine.specs.Machine.{is_open, document_of, edited_at, version_if, going_on}
@@ -37,7 +37,7 @@ open_there c = let P : Seen → Type 0 = λ d. is_open c.args.uri (state_of d).d
 outbox_is : (c : After-enter) → c.put_change.new.outbox.items ≡ c.self.inside.outbox.items ++ c.in_ok-replies.replies.items
 outbox_is c = c.in_ok-put_change.ensures.outbox
 
-state_is : (c : After-enter) → c.in_ok-state.state ≡ fresh_for (seen c.self.inside.history.base c.self.inside.history.events.items c.self.inside.outbox.items c.self.inside.max_journal c.self.inside.max_events) (Changed c.args.uri c.args.label c.args.edits (version_if c.self.inside.present.next_version c.in_ok-next.next))
+state_is : (c : After-enter) → c.in_ok-state.state ≡ fresh_for (seen c.self.inside.history.base c.self.inside.history.events.items c.self.inside.outbox.items c.self.inside.max_journal c.self.inside.max_events []) (Changed c.args.uri c.args.label c.args.edits (version_if c.self.inside.present.next_version c.in_ok-next.next))
 state_is c = let P : Seen → Type 0 = λ d. c.in_ok-state.state ≡ fresh d in subst P (sym c.self.view_is) c.in_ok-state.ensures
 
 fits : (c : After-enter) → total c.self.inside.history.counts + 1 + length c.put_change.new.outbox.items ≤ c.self.inside.max_events
@@ -60,6 +60,9 @@ next_is c =
     let r = simp (to_z-of_z, c.ranges.label) at c.in_ok-next.ensures.next in
     subst P (sym c.self.view_is) (r ∙ ap (λ (es : List Edit). next_of (state_of c.args.self.now).next_version (state_of c.args.self.now).next_ticket c.args.uri c.args.label (edited_at (document_of c.args.uri (state_of c.args.self.now).documents) es)) c.as_slice.ensures)
 
+left : (c : After-enter) → IsEndedBy c.in_ok-state.state c.self.inside.history.events.items c.self.inside.history.events.ended c.enter.new.self.events.ended
+left c = left_by c.in_ok-state.state _ _ _ _ _ c.put_change.ensures.journal c.put_change.ensures.ended c.enter.ensures.ended
+
 went : (c : After-enter) → Goes c.self.inside.history.base c.self.inside.history.events.items c.self.inside.history.counts c.in_ok-state.state (Changed c.args.uri c.args.label c.args.edits (version_if c.self.inside.present.next_version c.in_ok-next.next)) c.enter.new.self.base c.enter.new.self.events.items c.enter.new.self.counts
     c.change-version.new.self c.put_change.new.outbox.items c.self.inside.max_journal c.self.inside.max_events c.enter.new.self.events.room
 went c =
@@ -81,7 +84,7 @@ invariant_of-self-2 c = (went c).kept
 
 pub returns-clause-ok : goal.returns-clause-ok
 returns-clause-ok c =
-    let new = (seen c.enter.new.self.base c.enter.new.self.events.items c.put_change.new.outbox.items c.self.inside.max_journal c.self.inside.max_events) in
+    let new = (seen c.enter.new.self.base c.enter.new.self.events.items c.put_change.new.outbox.items c.self.inside.max_journal c.self.inside.max_events c.enter.new.self.events.ended) in
     let P : Seen → Type 0 = λ d. Enters d new (Changed c.args.uri c.args.label c.args.edits (version_if c.self.inside.present.next_version c.in_ok-next.next)) in
     let Q : Option ℕ → Type 0 = λ version. Enters c.args.self.now new (Changed c.args.uri c.args.label c.args.edits version) in
-    record { none = c.in_ok-replies.ensures.none; enters = subst Q (sym c.change-version.ensures.result) (subst P c.self.view_is (enters _ _ _ _ _ _ _ _ c.in_ok-state.state _ _ _ _ _ _ _ c.self.invariant (state_is c) (went c))) }
+    record { none = c.in_ok-replies.ensures.none; enters = subst Q (sym c.change-version.ensures.result) (subst P c.self.view_is (enters _ _ _ _ _ _ _ _ c.in_ok-state.state _ _ _ _ _ _ _ _ _ c.self.invariant (state_is c) (went c) (left c))) }

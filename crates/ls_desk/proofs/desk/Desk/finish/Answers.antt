@@ -7,10 +7,11 @@ use Rattle.ls_machine.specs.declared.event.Event.TheVariants.{Finished}
 use Rattle.ls_machine.specs.declared.event.Out.{Out}
 use Rattle.ls_machine.specs.declared.state.Waiting.{Waiting}
 use Rattle.ls_machine.specs.Machine.{is_held, left_at}
+use Rattle.ls_desk.specs.Anew.{IsEndedBy}
 use Rattle.ls_desk.specs.Stands.{Seen, Enters, state_of, finished, used}
 use Rattle.ls_machine.specs.Same.{is_for}
 use Rattle.ls_desk.specs.Faults.{kept_at, kept_for}
-use Rattle.ls_desk.proofs.Grows.{Goes, enters, goes, holds, kept_room, seen}
+use Rattle.ls_desk.proofs.Grows.{Goes, enters, goes, holds, kept_room, left_by, seen}
 use Rattle.ls_desk.proofs.Events.{finish, finished_length_holds}
 use Rattle.ls_desk.proofs.desk.Desk.finish.Goals as goal
 use Rattle.ls_desk.proofs.desk.Desk.finish.Goals.{After-enter}
@@ -68,6 +69,9 @@ roomy c =
     let o = replies_are c in
     let l = longer c in omega arith
 
+left : (c : After-enter) → IsEndedBy None c.self.inside.history.events.items c.self.inside.history.events.ended c.enter.new.self.events.ended
+left c = left_by None _ _ _ _ _ c.room_for_replies.ensures.journal c.room_for_replies.ensures.ended c.enter.ensures.ended
+
 went : (c : After-enter) → Goes c.self.inside.history.base c.self.inside.history.events.items c.self.inside.history.counts None (Finished c.args.done.ticket (is_none c.args.done.answer)) c.enter.new.self.base c.enter.new.self.events.items c.enter.new.self.counts
     c.remove_at-job.new.self c.put_finished.new.outbox.items c.self.inside.max_journal c.self.inside.max_events c.enter.new.self.events.room
 went c =
@@ -87,8 +91,8 @@ invariant_of-self-2 c = (went c).kept
 
 pub returns-clause-ok : goal.returns-clause-ok
 returns-clause-ok c =
-    let P : Seen → Type 0 = λ d. Enters d (seen c.enter.new.self.base c.enter.new.self.events.items c.put_finished.new.outbox.items c.self.inside.max_journal c.self.inside.max_events) (Finished c.args.done.ticket (is_none c.args.done.answer)) in (
-      record { none = c.in-Ok.ensures.none; enters = subst P c.self.view_is (enters _ _ _ _ _ _ _ _ None _ _ _ _ _ _ _ c.self.invariant refl (went c)) },
+    let P : Seen → Type 0 = λ d. Enters d (seen c.enter.new.self.base c.enter.new.self.events.items c.put_finished.new.outbox.items c.self.inside.max_journal c.self.inside.max_events c.enter.new.self.events.ended) (Finished c.args.done.ticket (is_none c.args.done.answer)) in (
+      record { none = c.in-Ok.ensures.none; enters = subst P c.self.view_is (enters _ _ _ _ _ _ _ _ None _ _ _ _ _ _ _ _ _ c.self.invariant refl (went c) (left c)) },
       c.kept_for-kept.ensures ∙ (ap (λ (b : Bool). kept_for b c.remove_at-job.result.request) c.has_failed-failed.ensures.value ∙ sym (ap (kept_at (is_none c.args.done.answer)) (found_now c))),
     )
 

@@ -6,8 +6,9 @@ use Rattle.ls_machine.specs.declared.state.Waiting.{Waiting}
 use Rattle.ls_machine.specs.declared.state.State.{State}
 use Rattle.ls_machine.specs.Counts.{total}
 use Rattle.ls_machine.specs.Journal.{replay_from}
+use Rattle.ls_desk.specs.Anew.{IsEndedBy}
 use Rattle.ls_desk.specs.Stands.{Seen, Enters, state_of, used}
-use Rattle.ls_desk.proofs.Grows.{Goes, enters, goes, holds, kept_room, seen}
+use Rattle.ls_desk.proofs.Grows.{Goes, enters, goes, holds, kept_room, left_by, seen}
 use Rattle.ls_machine.specs.Machine.{is_held}
 use Rattle.ls_desk.proofs.Events.{returned}
 use Rattle.ls_desk.proofs.desk.Desk.give_back.Goals as goal
@@ -41,6 +42,9 @@ roomy c =
     let j = ap length c.room_for_event.ensures.journal in
     let k = c.enter.ensures.capacity in omega arith
 
+left : (c : After-enter) → IsEndedBy None c.self.inside.history.events.items c.self.inside.history.events.ended c.enter.new.self.events.ended
+left c = left_by None _ _ _ _ _ c.room_for_event.ensures.journal c.room_for_event.ensures.ended c.enter.ensures.ended
+
 went : (c : After-enter) → Goes c.self.inside.history.base c.self.inside.history.events.items c.self.inside.history.counts None (Returned c.args.ticket) c.enter.new.self.base c.enter.new.self.events.items c.enter.new.self.counts
     c.give_back.new.self c.self.inside.outbox.items c.self.inside.max_journal c.self.inside.max_events c.enter.new.self.events.room
 went c =
@@ -58,5 +62,5 @@ invariant_of-self-2 c = (went c).kept
 
 pub returns-clause-ok : goal.returns-clause-ok
 returns-clause-ok c =
-    let P : Seen → Type 0 = λ d. Enters d (seen c.enter.new.self.base c.enter.new.self.events.items c.self.inside.outbox.items c.self.inside.max_journal c.self.inside.max_events) (Returned c.args.ticket) in
-    record { none = c.in_ok-at.ensures.none; enters = subst P c.self.view_is (enters _ _ _ _ _ _ _ _ None _ _ _ _ _ _ _ c.self.invariant refl (went c)) }
+    let P : Seen → Type 0 = λ d. Enters d (seen c.enter.new.self.base c.enter.new.self.events.items c.self.inside.outbox.items c.self.inside.max_journal c.self.inside.max_events c.enter.new.self.events.ended) (Returned c.args.ticket) in
+    record { none = c.in_ok-at.ensures.none; enters = subst P c.self.view_is (enters _ _ _ _ _ _ _ _ None _ _ _ _ _ _ _ _ _ c.self.invariant refl (went c) (left c)) }

@@ -3,6 +3,7 @@ use Rattle.std.specs.Prelude.{None}
 use Rattle.ls_machine.specs.declared.event.Event.TheVariants.{Sent}
 use Rattle.ls_machine.specs.Counts.{total}
 use Rattle.ls_machine.specs.Journal.{replay_from}
+use Rattle.ls_desk.specs.Anew.{IsEndedBy}
 use Rattle.ls_desk.specs.Stands.{Seen, Sends, ticket_of_out}
 use Rattle.ls_desk.proofs.Grows.{Goes, enters, goes, holds, seen}
 use Rattle.ls_desk.proofs.Sends.{kept_same, front_of, Front, sent, sends}
@@ -27,6 +28,9 @@ roomy c =
     let k = c.enter.ensures.capacity in
     let l = shorter c in omega arith
 
+left : (c : After-enter) → IsEndedBy None c.self.inside.history.events.items c.self.inside.history.events.ended c.enter.new.self.events.ended
+left c = c.enter.ensures.ended
+
 went : (c : After-enter) → Goes c.self.inside.history.base c.self.inside.history.events.items c.self.inside.history.counts None (Sent (ticket_of_out c.in_ok-out.out)) c.enter.new.self.base c.enter.new.self.events.items c.enter.new.self.counts
     c.self.inside.present c.pop_front.new.self.items c.self.inside.max_journal c.self.inside.max_events c.enter.new.self.events.room
 went c =
@@ -43,8 +47,8 @@ invariant_of-self-2 c = (went c).kept
 
 pub returns-clause-some : goal.returns-clause-some
 returns-clause-some c =
-    let new = seen c.enter.new.self.base c.enter.new.self.events.items c.pop_front.new.self.items c.self.inside.max_journal c.self.inside.max_events in
+    let new = seen c.enter.new.self.base c.enter.new.self.events.items c.pop_front.new.self.items c.self.inside.max_journal c.self.inside.max_events c.enter.new.self.events.ended in
     let P : Seen → Type 0 = λ d. Sends d new c.in_ok-out.out in
     subst P c.self.view_is
-    (sends _ _ _ _ _ _ _ _ new c.in_ok-out.out c.pop_front.new.self.items c.self.invariant (first c) c.in_ok-out.ensures.items refl
-    (enters _ _ _ _ _ _ _ _ None _ _ _ _ _ _ _ c.self.invariant refl (went c)))
+    (sends _ _ _ _ _ _ _ _ _ new c.in_ok-out.out c.pop_front.new.self.items c.self.invariant (first c) c.in_ok-out.ensures.items refl
+    (enters _ _ _ _ _ _ _ _ None _ _ _ _ _ _ _ _ _ c.self.invariant refl (went c) (left c)))

@@ -7,9 +7,9 @@ use Rattle.ls_machine.specs.declared.state.Waiting.{Waiting}
 use Rattle.ls_machine.specs.declared.state.State.{State}
 use Rattle.ls_machine.specs.Counts.{total}
 use Rattle.ls_machine.specs.Journal.{replay_from}
-use Rattle.ls_desk.specs.Anew.{journal_after}
+use Rattle.ls_desk.specs.Anew.{IsEndedBy, journal_after}
 use Rattle.ls_desk.specs.Stands.{Seen, Enters, state_of, fresh, fresh_for, used}
-use Rattle.ls_desk.proofs.Grows.{Goes, enters, goes, holds, kept_room, seen}
+use Rattle.ls_desk.proofs.Grows.{Goes, enters, goes, holds, kept_room, left_by, seen}
 use Rattle.std.proofs.lemmas.Int.{to_z-of_z}
 use Rattle.ls_machine.specs.Machine.{is_open, measured}
 use Rattle.ls_desk.specs.own.Puts.{next_of, documents_of, jobs_of}
@@ -33,7 +33,7 @@ next_is c =
     (simp (to_z-of_z, c.ranges.label) at c.in_ok-next.ensures)
     ∙ (λ i. next_of (c.self.invariant.version_is i) (c.self.invariant.ticket_is i) c.args.uri c.args.label (Some (measured c.args.encoding c.args.text)))
 
-state_is : (c : After-enter) → c.in_ok-state.state ≡ fresh_for (seen c.self.inside.history.base c.self.inside.history.events.items c.self.inside.outbox.items c.self.inside.max_journal c.self.inside.max_events) (Opened c.args.uri c.args.label c.args.text c.args.encoding c.self.inside.present.next_version)
+state_is : (c : After-enter) → c.in_ok-state.state ≡ fresh_for (seen c.self.inside.history.base c.self.inside.history.events.items c.self.inside.outbox.items c.self.inside.max_journal c.self.inside.max_events []) (Opened c.args.uri c.args.label c.args.text c.args.encoding c.self.inside.present.next_version)
 state_is c = let P : Seen → Type 0 = λ d. c.in_ok-state.state ≡ fresh d in subst P (sym c.self.view_is) c.in_ok-state.ensures
 
 version_is : (c : After-enter) → c.open-version.result ≡ c.self.inside.present.next_version
@@ -50,6 +50,9 @@ roomy c =
     let r = c.in_ok-room_for_text.ensures.room in
     let j = ap (λ (es : List Event). length (journal_after c.in_ok-state.state es)) c.room_for_text.ensures.journal in
     let k = c.enter.ensures.capacity in omega arith
+
+left : (c : After-enter) → IsEndedBy c.in_ok-state.state c.self.inside.history.events.items c.self.inside.history.events.ended c.enter.new.self.events.ended
+left c = left_by c.in_ok-state.state _ _ _ _ _ c.room_for_text.ensures.journal c.room_for_text.ensures.ended c.enter.ensures.ended
 
 went : (c : After-enter) → Goes c.self.inside.history.base c.self.inside.history.events.items c.self.inside.history.counts c.in_ok-state.state (Opened c.args.uri c.args.label c.args.text c.args.encoding c.self.inside.present.next_version) c.enter.new.self.base c.enter.new.self.events.items c.enter.new.self.counts
     c.open-version.new.self c.self.inside.outbox.items c.self.inside.max_journal c.self.inside.max_events c.enter.new.self.events.room
@@ -73,7 +76,7 @@ invariant_of-self-2 c = (went c).kept
 
 pub returns-clause-ok : goal.returns-clause-ok
 returns-clause-ok c =
-    let new = (seen c.enter.new.self.base c.enter.new.self.events.items c.self.inside.outbox.items c.self.inside.max_journal c.self.inside.max_events) in
+    let new = (seen c.enter.new.self.base c.enter.new.self.events.items c.self.inside.outbox.items c.self.inside.max_journal c.self.inside.max_events c.enter.new.self.events.ended) in
     let P : Seen → Type 0 = λ d. Enters d new (Opened c.args.uri c.args.label c.args.text c.args.encoding c.self.inside.present.next_version) in
     let R : ℕ → Type 0 = λ version. Enters c.args.self.now new (Opened c.args.uri c.args.label c.args.text c.args.encoding version) in
-    subst R (sym (version_is c)) (subst P c.self.view_is (enters _ _ _ _ _ _ _ _ c.in_ok-state.state _ _ _ _ _ _ _ c.self.invariant (state_is c) (went c)))
+    subst R (sym (version_is c)) (subst P c.self.view_is (enters _ _ _ _ _ _ _ _ c.in_ok-state.state _ _ _ _ _ _ _ _ _ c.self.invariant (state_is c) (went c) (left c)))

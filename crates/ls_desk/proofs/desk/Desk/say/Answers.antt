@@ -2,9 +2,9 @@ use Rattle.std.proofs.Common.{◌≡◌, ◌+◌, ◌≤◌, ◌++◌, ◌∷◌
 use Rattle.ls_machine.specs.declared.event.Event.{Event}
 use Rattle.ls_machine.specs.declared.event.Event.TheVariants.{Said}
 use Rattle.ls_machine.specs.Counts.{total}
-use Rattle.ls_desk.specs.Anew.{journal_after}
+use Rattle.ls_desk.specs.Anew.{IsEndedBy, journal_after}
 use Rattle.ls_desk.specs.Stands.{Seen, Enters, fresh, fresh_for, used}
-use Rattle.ls_desk.proofs.Grows.{Goes, enters, goes, holds, kept_room, seen}
+use Rattle.ls_desk.proofs.Grows.{Goes, enters, goes, holds, kept_room, left_by, seen}
 use Rattle.ls_machine.specs.declared.event.Out.TheVariants as out
 use Rattle.ls_desk.proofs.Events.{said}
 use Rattle.ls_desk.proofs.desk.Desk.say.Goals as goal
@@ -21,7 +21,7 @@ grown_by c = c.push_back_reserved.ensures.items ∙ (λ i. c.room_for_replies.en
 longer : (c : After-enter) → length c.push_back_reserved.new.self.items ≡ length c.self.inside.outbox.items + 1
 longer c = ap length (grown_by c) ∙ omega (arith, length-append c.self.inside.outbox.items (out.Said c.args.body ∷ []))
 
-state_is : (c : After-enter) → c.in_ok-state.state ≡ fresh_for (seen c.self.inside.history.base c.self.inside.history.events.items c.self.inside.outbox.items c.self.inside.max_journal c.self.inside.max_events) (Said c.args.body)
+state_is : (c : After-enter) → c.in_ok-state.state ≡ fresh_for (seen c.self.inside.history.base c.self.inside.history.events.items c.self.inside.outbox.items c.self.inside.max_journal c.self.inside.max_events []) (Said c.args.body)
 state_is c = let P : Seen → Type 0 = λ d. c.in_ok-state.state ≡ fresh d in subst P (sym c.self.view_is) c.in_ok-state.ensures
 
 fits : (c : After-enter) → total c.self.inside.history.counts + 1 + length c.push_back_reserved.new.self.items ≤ c.self.inside.max_events
@@ -37,6 +37,9 @@ roomy c =
     let j = ap (λ (es : List Event). length (journal_after c.in_ok-state.state es)) c.room_for_replies.ensures.journal in
     let k = c.enter.ensures.capacity in
     let l = longer c in omega arith
+
+left : (c : After-enter) → IsEndedBy c.in_ok-state.state c.self.inside.history.events.items c.self.inside.history.events.ended c.enter.new.self.events.ended
+left c = left_by c.in_ok-state.state _ _ _ _ _ c.room_for_replies.ensures.journal c.room_for_replies.ensures.ended c.enter.ensures.ended
 
 went : (c : After-enter) → Goes c.self.inside.history.base c.self.inside.history.events.items c.self.inside.history.counts c.in_ok-state.state (Said c.args.body) c.enter.new.self.base c.enter.new.self.events.items c.enter.new.self.counts
     c.self.inside.present c.push_back_reserved.new.self.items c.self.inside.max_journal c.self.inside.max_events c.enter.new.self.events.room
@@ -54,5 +57,5 @@ invariant_of-self-2 c = (went c).kept
 
 pub returns-clause-ok : goal.returns-clause-ok
 returns-clause-ok c =
-    let P : Seen → Type 0 = λ d. Enters d (seen c.enter.new.self.base c.enter.new.self.events.items c.push_back_reserved.new.self.items c.self.inside.max_journal c.self.inside.max_events) (Said c.args.body) in
-    record { none = c.in_ok-copy.ensures.none; enters = subst P c.self.view_is (enters _ _ _ _ _ _ _ _ c.in_ok-state.state _ _ _ _ _ _ _ c.self.invariant (state_is c) (went c)) }
+    let P : Seen → Type 0 = λ d. Enters d (seen c.enter.new.self.base c.enter.new.self.events.items c.push_back_reserved.new.self.items c.self.inside.max_journal c.self.inside.max_events c.enter.new.self.events.ended) (Said c.args.body) in
+    record { none = c.in_ok-copy.ensures.none; enters = subst P c.self.view_is (enters _ _ _ _ _ _ _ _ c.in_ok-state.state _ _ _ _ _ _ _ _ _ c.self.invariant (state_is c) (went c) (left c)) }

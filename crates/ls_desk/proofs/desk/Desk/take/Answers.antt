@@ -6,8 +6,9 @@ use Rattle.ls_machine.specs.declared.state.Waiting.{Waiting}
 use Rattle.ls_machine.specs.declared.state.State.{State}
 use Rattle.ls_machine.specs.Counts.{total}
 use Rattle.ls_machine.specs.Journal.{replay_from}
+use Rattle.ls_desk.specs.Anew.{IsEndedBy}
 use Rattle.ls_desk.specs.Stands.{Seen, Enters, state_of, used}
-use Rattle.ls_desk.proofs.Grows.{Goes, enters, goes, holds, kept_room, seen}
+use Rattle.ls_desk.proofs.Grows.{Goes, enters, goes, holds, kept_room, left_by, seen}
 use Rattle.ls_machine.specs.Machine.{is_queued}
 use Rattle.ls_desk.specs.Faults.{IsJobOf}
 use Rattle.ls_desk.proofs.Jobs.{found_job}
@@ -71,6 +72,9 @@ roomy c =
     let j = ap length c.room_for_event.ensures.journal in
     let k = c.enter.ensures.capacity in omega arith
 
+left : (c : After-enter) → IsEndedBy None c.self.inside.history.events.items c.self.inside.history.events.ended c.enter.new.self.events.ended
+left c = left_by None _ _ _ _ _ c.room_for_event.ensures.journal c.room_for_event.ensures.ended c.enter.ensures.ended
+
 went : (c : After-enter) → Goes c.self.inside.history.base c.self.inside.history.events.items c.self.inside.history.counts None (Took c.args.worker) c.enter.new.self.base c.enter.new.self.events.items c.enter.new.self.counts
     c.take.new.self c.self.inside.outbox.items c.self.inside.max_journal c.self.inside.max_events c.enter.new.self.events.room
 went c =
@@ -88,5 +92,5 @@ invariant_of-self-2 c = (went c).kept
 
 pub returns-clause-ok : goal.returns-clause-ok
 returns-clause-ok c =
-    let P : Seen → Type 0 = λ d. Enters d (seen c.enter.new.self.base c.enter.new.self.events.items c.self.inside.outbox.items c.self.inside.max_journal c.self.inside.max_events) (Took c.args.worker) in
-    ((job_found c).0, (job_found c).1, (job_found c).2, record { none = c.in_ok-at.ensures.free; enters = subst P c.self.view_is (enters _ _ _ _ _ _ _ _ None _ _ _ _ _ _ _ c.self.invariant refl (went c)) })
+    let P : Seen → Type 0 = λ d. Enters d (seen c.enter.new.self.base c.enter.new.self.events.items c.self.inside.outbox.items c.self.inside.max_journal c.self.inside.max_events c.enter.new.self.events.ended) (Took c.args.worker) in
+    ((job_found c).0, (job_found c).1, (job_found c).2, record { none = c.in_ok-at.ensures.free; enters = subst P c.self.view_is (enters _ _ _ _ _ _ _ _ None _ _ _ _ _ _ _ _ _ c.self.invariant refl (went c) (left c)) })
