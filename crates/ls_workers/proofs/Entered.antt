@@ -1,11 +1,11 @@
--- What it means for a board that a worker's call, or the writer's, has come to its desk's journal.
-use Rattle.std.proofs.Common.{◌≡◌, ◌+◌, ◌∙◌, ℕ, Bool, ap, sym}
+-- What it means for a board that a call has come to its desk's journal.
+use Rattle.std.proofs.Common.{◌≡◌, ◌+◌, ◌∙◌, ℕ, Bool, ap, arith, sym}
 use Rattle.ls_machine.specs.Counts.{count_one}
 use Rattle.ls_machine.specs.declared.base.Counts as counts
 use Rattle.ls_machine.specs.declared.event.Event.{Event}
 use Rattle.ls_machine.specs.declared.event.Event.TheVariants.{Took, Returned, Finished, Sent}
 use Rattle.ls_desk.specs.Stands.{Seen, Enters, counts_of}
-use Rattle.ls_workers.specs.Count.{Counts}
+use Rattle.ls_workers.specs.Count.{AddsEvents, Counts}
 use Rattle.ls_workers.specs.Jobs.{HasLimits}
 
 -- the limits stay
@@ -24,6 +24,16 @@ counts_by client took returned finished sent d now is a b c e f = record {
 }
 
 -- each event is one more of its kind
+pub counts_client : (client took returned finished sent total : ℕ) (old new : Seen) → AddsEvents 1 0 0 0 0 old new → Counts client took returned finished sent old → total ≡ client + 1
+    → Counts total took returned finished sent new
+counts_client client took returned finished sent total old new adds c is = record {
+  client_is = let a = c.client_is in let b = adds.client_is in omega arith;
+  took_is = let a = c.took_is in let b = adds.took_is in omega arith;
+  returned_is = let a = c.returned_is in let b = adds.returned_is in omega arith;
+  finished_is = let a = c.finished_is in let b = adds.finished_is in omega arith;
+  sent_is = let a = c.sent_is in let b = adds.sent_is in omega arith;
+}
+
 pub counts_take : (client took returned finished sent worker : ℕ) (old new : Seen) → Enters old new (Took worker) → Counts client took returned finished sent old
     → Counts client (took + 1) returned finished sent new
 counts_take client took returned finished sent worker old new enters c =

@@ -1,5 +1,5 @@
 -- What it means for a board that its desk has let a client's event in.
-use Rattle.std.proofs.Common.{◌≡◌, ◌+◌, ◌∷◌, ◌++◌, ◌∙◌, ℕ, ℤ, List, [], Bool, true, false, Option, Some, None, refl, ap, rules}
+use Rattle.std.proofs.Common.{◌≡◌, ◌+◌, ◌∷◌, ◌++◌, ◌∙◌, ℕ, ℤ, List, [], Bool, true, false, Option, Some, None, refl, ap, subst, rules}
 use Rattle.std.specs.Prelude.{if◌then◌else◌}
 use Rattle.std.specs.Str.{chars}
 use Rattle.ls_text.specs.Edits.{is_too_large}
@@ -14,9 +14,9 @@ use Rattle.ls_machine.specs.declared.client.ClientEvent.TheVariants.{DidOpen, Di
 use Rattle.ls_machine.specs.declared.event.Event.{Event}
 use Rattle.ls_machine.specs.declared.event.Event.TheVariants as event
 use Rattle.ls_machine.specs.declared.state.State.{State}
-use Rattle.ls_desk.specs.Anew.{base_after, journal_after}
+use Rattle.ls_desk.specs.Anew.{IsEndedBy, base_after, journal_after}
 use Rattle.ls_desk.specs.Door.{Admits, IsTextOf, entered_at}
-use Rattle.ls_desk.specs.Stands.{Seen, counts_of, fresh, fresh_for, state_of}
+use Rattle.ls_desk.specs.Stands.{Seen, counts_of, fresh, fresh_for, is_long, state_of}
 use Rattle.ls_workers.specs.Count.{AddsEvents}
 use Rattle.ls_workers.specs.Jobs.{HasLimits}
 
@@ -40,6 +40,15 @@ notes_entry old new e a admits =
 
 pub base_is : (old new : Seen) (e : ClientEvent) (a : ClientAnswer) → Admits e a old new → new.base ≡ base_after (fresh old) (counts_of old) old.base
 base_is old new e a admits = admits.accepts.enters.base ∙ ap (λ (s : Option State). base_after s (counts_of old) old.base) (anew old e)
+
+-- a checkpoint leaves the whole journal that it ended
+whole : (b : Bool) (s : State) (journal ended left : List Event) → b ≡ true → IsEndedBy (if b then Some s else None) journal ended left → left ≡ journal
+whole true s journal ended left is by = by
+whole false s journal ended left is by = absurd (cc (is))
+
+pub ended_is : (old new : Seen) (e : ClientEvent) (a : ClientAnswer) → Admits e a old new → is_long old ≡ true → new.ended ≡ old.journal
+ended_is old new e a admits long =
+    whole (is_long old) (state_of old) old.journal old.ended new.ended long (subst (λ (s : Option State). IsEndedBy s old.journal old.ended new.ended) (anew old e) admits.accepts.enters.ended)
 
 one_more : (c : Counts) (s : State) (e : ClientEvent) → count_one c (entered_at s e) ≡ record c { client = c.client + 1 }
 one_more c s (DidOpen uri label text encoding) = refl

@@ -1,7 +1,9 @@
 pub mod Beside
+pub mod Compared
 pub mod Entered
 pub mod Entering
 pub mod FirstWaiting
+pub mod Hearing
 pub mod Numbers
 pub mod Placed
 pub mod Refused

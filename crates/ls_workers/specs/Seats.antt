@@ -1,5 +1,5 @@
 -- The seats that a board is closed with.
-use Rattle.std.specs.Prelude.{◌≡◌, ◌<◌, ◌-◌, ◌==◌, ◌⊎◌, ◌↔◌, ℕ, List, [], length, Bool, true, false, IsTrue, Result, count_by, if◌then◌else◌, slice_get, vec_len, vec_capacity}
+use Rattle.std.specs.Prelude.{◌≡◌, ◌<◌, ◌-◌, ◌==◌, ◌↔◌, ◌++◌, ◌∷◌, ℕ, List, [], All, length, Bool, true, false, Result, Ok, count_by, if◌then◌else◌, slice_get, vec_len, vec_capacity}
 use Rattle.std.specs.List.{list_all}
 use Rattle.ls_machine.specs.declared.event.Event.{Event}
 use Rattle.ls_desk.specs.Anew.{base_after, journal_after}
@@ -10,8 +10,11 @@ use Rattle.ls_machine.specs.declared.client.ClientAnswer.{ClientAnswer}
 use Rattle.ls_machine.specs.declared.event.DeskFault.{DeskFault}
 use Rattle.ls_machine.specs.declared.event.Out.{Out}
 use Rattle.ls_history.specs.declared.happened.Happened.{Happened}
-use Rattle.ls_history.specs.History.{IsHistoryOf}
+use Rattle.ls_history.specs.declared.happened.Happened.TheVariants as happened
+use Rattle.ls_history.specs.History.{HasLedTo, IsHistoryOf}
 use Rattle.ls_history.specs.Told.{heard_of, outs_of}
+use Rattle.ls_workers.specs.Jobs.{HasLimits}
+use Rattle.ls_workers.specs.declared.ended.Ended.{Ended}
 use Rattle.ls_workers.specs.declared.seats.ToldClient as held
 use Rattle.ls_workers.specs.declared.behind.SeatFault.{SeatFault}
 use Rattle.ls_workers.specs.declared.behind.SeatFault.TheVariants.{SeatMissing, Strayed}
@@ -31,43 +34,66 @@ Agrees journal list tickets = (client_events journal ≡ list) × (sent_tickets 
 abbrev pub since : {X : Type 0} → ℕ → ℕ → List X → List X
 since checkpoints seen list = if seen == checkpoints then list else []
 
--- the last entry of the journal isn't the event with its answer
-abbrev pub Strays : ClientEvent → ClientAnswer → List Event → Type 0
-Strays e answer journal = slice_get journal (length journal - 1) ≡ entry_of e answer → ⊥
+-- the last entry of the journal is the event with its answer
+abbrev pub IsLast : ClientEvent → ClientAnswer → List Event → Type 0
+IsLast e answer journal = slice_get journal (length journal - 1) ≡ entry_of e answer
 
--- what a client's seat was told: the events since the last checkpoint with their answers, the number of checkpoints, and whether the journal had
--- another entry where one of its events was entered
+-- a list that ended with a journal is the client's events of it, as far as both are there
+abbrev pub AreSame : Ended → Type 0
+AreSame ended = client_events ended.journal.items ≡ ended.list.items
+
+-- what a client's seat was told: the events since the last checkpoint with their answers, the number of checkpoints, whether a difference was
+-- found, and what of earlier lists and of their journals isn't compared yet
 pub record ToldClient : Type 0 where
   pub list : List Event
   pub checkpoints : ℕ
   pub strayed : Bool
+  pub ended : List Ended
 
 -- it was told nothing
 abbrev pub told_nothing : ToldClient
-told_nothing = record { list = []; checkpoints = 0; strayed = false }
+told_nothing = record { list = []; checkpoints = 0; strayed = false; ended = [] }
 
 -- what a seat holds that was told
 abbrev pub told_by : held.ToldClient → ToldClient
-told_by told = record { list = told.list.items; checkpoints = told.checkpoints; strayed = told.strayed }
+told_by told = record { list = told.list.items; checkpoints = told.checkpoints; strayed = told.strayed; ended = told.ended.items }
+
+-- no difference was found, and there is none in what isn't compared yet
+abbrev pub HasAgreed : ToldClient → Type 0
+HasAgreed told = (told.strayed ≡ false) × All AreSame told.ended
+
+-- nothing has come to a seat, though some of what had ended may have been compared
+pub record KnowsTheSame (old new : ToldClient) : Type 0 where
+  pub list : new.list ≡ old.list
+  pub checkpoints : new.checkpoints ≡ old.checkpoints
+  pub agreed : HasAgreed new ↔ HasAgreed old
 
 -- an entry needs no memory any more, whether its event makes a checkpoint or not
 pub record HasRoom (told : held.ToldClient) : Type 0 where
   pub list : vec_len told.list < vec_capacity told.list
   pub spare : vec_len told.spare < vec_capacity told.spare
-  pub past : vec_len told.past < vec_capacity told.past
+  pub ended : vec_len told.ended < vec_capacity told.ended
 
 -- An event with its answer comes to the journal and to the seat's list. Where the event makes a checkpoint, list and journal begin anew with
--- it. The seat keeps whether the journal's entry differed.
+-- it. It is a difference where the journal's last entry is another, or where the list that ends isn't the client's events of the journal that ends.
 pub record Heard (e : ClientEvent) (answer : ClientAnswer) (before after : Seen) (old new : ToldClient) : Type 0 where
   pub journal : Notes e answer (journal_after (fresh before) before.journal) after.journal
   pub base : after.base ≡ base_after (fresh before) (counts_of before) before.base
   pub list : Notes e answer (if is_long before then [] else old.list) new.list
   pub checkpoints : new.checkpoints ≡ (if is_long before then after.base.checkpoints else old.checkpoints)
-  pub strayed : IsTrue new.strayed ↔ (IsTrue old.strayed ⊎ Strays e answer after.journal)
+  pub agreed : HasAgreed new ↔ (HasAgreed old × IsLast e answer after.journal × (is_long before ≡ true → client_events before.journal ≡ old.list))
 
--- the same: there are the desk before and the desk after
-abbrev pub IsHeard : ClientEvent → ClientAnswer → ToldClient → ToldClient → Type 0
-IsHeard e answer old new = (before after : Seen) × Heard e answer before after old new
+-- The same, by the history that the seat has seen then. It has led to the desk after the event, and up to its last entry, which is the event's, it
+-- had led to the desk before, which has these limits.
+pub record IsHeard (e : ClientEvent) (answer : ClientAnswer) (journal events : ℕ) (old new : ToldClient) (log : List Happened) : Type 0 where
+  pub before : Seen
+  pub after : Seen
+  pub earlier : List Happened
+  pub log_is : log ≡ earlier ++ happened.Heard e (Ok answer) ∷ []
+  pub led_before : HasLedTo before earlier
+  pub led_after : HasLedTo after log
+  pub limits : HasLimits journal events before
+  pub heard : Heard e answer before after old new
 
 -- what the seats were told is what the desk's journal has, and how many checkpoints there were
 abbrev pub AgreesAll : Seen → ToldClient → ℕ → List ℕ → Type 0
@@ -78,8 +104,8 @@ AgreesAll desk client seen tickets =
 abbrev pub HasHistory : List (ClientEvent × Result ClientAnswer DeskFault) → List Out → Seen → Type 0
 HasHistory heard outs desk = (log : List Happened) × IsHistoryOf desk log × (heard_of log ≡ heard) × (outs_of log ≡ outs)
 
--- Why a board isn't closed: the seats aren't all its own; or they are, with these counts, and the journal had another entry where an event was
--- entered, or what the seats were told isn't what it has now.
+-- Why a board isn't closed: the seats aren't all its own; or they are, with these counts, and a difference was found or is there in what had ended,
+-- or what the seats were told isn't what the journal has now.
 abbrev pub HasCause : Type 0 → (Seen → Type 0) → ToldClient → ℕ → List ℕ → SeatFault → Type 0
 HasCause AreOwn HasCounts client seen tickets SeatMissing = AreOwn → ⊥
-HasCause AreOwn HasCounts client seen tickets (Strayed desk) = AreOwn × HasCounts desk × (IsTrue client.strayed ⊎ (AgreesAll desk client seen tickets → ⊥))
+HasCause AreOwn HasCounts client seen tickets (Strayed desk) = AreOwn × HasCounts desk × (HasAgreed client × AgreesAll desk client seen tickets → ⊥)

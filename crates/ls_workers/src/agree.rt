@@ -1,15 +1,16 @@
 //! Whether what the seats were told is what a journal has.
-ghost use Rattle.std.specs.Prelude.{◌≡◌, ◌↔◌, ◌⊎◌, ◌-◌, IsTrue, Some, length, slice_get, true, false};
+ghost use Rattle.std.specs.Prelude.{◌≡◌, ◌↔◌, ◌-◌, All, IsTrue, Some, length, slice_get, true, false};
 ghost use Rattle.std.specs.Option.{option_map};
 ghost use Rattle.ls_machine.specs.Client.{client_event, client_events, sent_ticket, sent_tickets};
-ghost use Rattle.ls_workers.specs.Seats.{Agrees, AgreesAll, since, told_by};
+ghost use Rattle.ls_workers.specs.Seats.{Agrees, AgreesAll, AreSame, HasAgreed, since, told_by};
 
+use crate::ended::Ended;
 use crate::same::same_event;
 use crate::seats::ToldClient;
 use ls_desk::{Desk, Event};
 
 /// The event where it is a client's.
-fn client_event(event: &Event) -> Option<&Event>
+pub fn client_event(event: &Event) -> Option<&Event>
     ensures { option_map (λ entry. entry.now) result ≡ client_event event.now }
 {
     match event {
@@ -45,7 +46,7 @@ pub fn ends_with(journal: &[Event], entry: &Event) -> bool
 }
 
 /// Whether these are the client's events of a journal.
-fn same_events(journal: &[Event], list: &[Event]) -> bool
+pub fn same_events(journal: &[Event], list: &[Event]) -> bool
     ensures { IsTrue result ↔ (client_events journal.now ≡ list.now) }
 {
     let mut count = 0;
@@ -108,10 +109,29 @@ fn agrees_all(desk: &Desk, told: &ToldClient, seen: u64, tickets: &[u64]) -> boo
     agrees(desk.journal(), &told.list, tickets) && desk.checkpoints() == told.checkpoints
 }
 
-/// Whether what the seats were told isn't what the journal of a desk has, or this had another entry where an event was entered.
-pub fn strays(desk: &Desk, told: &ToldClient, seen: u64, tickets: &[u64]) -> bool
-    ensures some { result ≡ true → (IsTrue told.now.strayed ⊎ (AgreesAll desk.now (told_by told.now) seen tickets.now → ⊥)) }
-    ensures none { result ≡ false → ((told.now.strayed ≡ false) × AgreesAll desk.now (told_by told.now) seen tickets.now) }
+/// Whether each list that ended with a journal is the client's events of it.
+fn ended_agree(ended: &[Ended]) -> bool
+    ensures { IsTrue result ↔ All AreSame ended.now }
 {
-    told.strayed || !agrees_all(desk, told, seen, tickets)
+    for at in 0..ended.len() {
+        if !ended[at].agrees() {
+            return false;
+        }
+    }
+    true
+}
+
+/// Whether no difference was found in what a client's seat was told, and there is none in what isn't compared yet.
+fn has_agreed(told: &ToldClient) -> bool
+    ensures { IsTrue result ↔ HasAgreed (told_by told.now) }
+{
+    !told.strayed && ended_agree(&told.ended)
+}
+
+/// Whether what the seats were told isn't what the journal of a desk has, or a difference was found or is there in what had ended.
+pub fn strays(desk: &Desk, told: &ToldClient, seen: u64, tickets: &[u64]) -> bool
+    ensures some { result ≡ true → HasAgreed (told_by told.now) × AgreesAll desk.now (told_by told.now) seen tickets.now → ⊥ }
+    ensures none { result ≡ false → HasAgreed (told_by told.now) × AgreesAll desk.now (told_by told.now) seen tickets.now }
+{
+    !has_agreed(told) || !agrees_all(desk, told, seen, tickets)
 }

@@ -4,6 +4,7 @@ ghost use Rattle.ls_machine.specs.Machine.{is_queued, waits};
 ghost use Rattle.ls_desk.specs.Stands.{IsSound, state_of, ticket_of_out};
 ghost use mathlib.Core.List.{IsPrefix};
 ghost use Rattle.ls_history.specs.Ends.{ended_by, is_over, stop_of};
+ghost use Rattle.ls_history.specs.declared.happened.Happened.TheVariants as happened;
 ghost use Rattle.ls_history.specs.History.{HasLedTo};
 ghost use Rattle.ls_history.specs.Told.{heard_of, outs_of};
 ghost use Rattle.ls_machine.specs.declared.client.ClientEvent.{ClientEvent};
@@ -13,7 +14,7 @@ ghost use Rattle.ls_machine.specs.Client.{HasSmallText, IsAllowed, note_of, open
 ghost use Rattle.ls_desk.specs.Faults.{take_fault, give_back_fault, finish_fault};
 ghost use Rattle.ls_workers.specs.Jobs.{HasLimits, IsFinishedAt, IsRefusedAt, IsReturnedAt, IsTakenAt, led_by};
 ghost use Rattle.ls_workers.specs.Refusals.{is_shortage, may_refuse_return, may_refuse_run};
-ghost use Rattle.ls_workers.specs.Seats.{Agrees, AgreesAll, HasHistory, HasRoom, Heard, since, told_by};
+ghost use Rattle.ls_workers.specs.Seats.{Agrees, AgreesAll, HasAgreed, HasHistory, HasRoom, Heard, since, told_by};
 ghost use Rattle.ls_workers.specs.Ends.{first_waiting, is_first, has_job, has_job_for, has_news};
 
 use crate::agree::strays;
@@ -33,7 +34,7 @@ use std::sync::ledger::{Book, Share};
 pub enum SeatFault {
     /// A seat's mark isn't the board's, or the workers' numbers aren't all there, each once. The desk is gone.
     SeatMissing,
-    /// What the seats were told isn't what the journal of this desk, the board's, has, or had where an event was entered.
+    /// What the seats were told isn't what the journal of this desk, the board's, has, or had until a checkpoint, or had where an event was entered.
     Strayed(Desk),
 }
 
@@ -205,7 +206,8 @@ impl<C: Crew> Behind<C> {
     }
 
     /// Enters a client's event. The seat has room for one entry more, which is compared with the journal's, and the note is the event's. Where the
-    /// event makes a checkpoint, the seat's list begins anew. The history has the event with its answer, or its refusal.
+    /// event makes a checkpoint, the seat's list begins anew, and the seat has what it had beside the journal that ended. The history has the event
+    /// with its answer, or its refusal.
     pub fn client(
         &mut self,
         rt: &impl Wait,
@@ -221,6 +223,8 @@ impl<C: Crew> Behind<C> {
         requires none { IfNone note (opens_too_large event ≡ true) }
         requires room { HasRoom seat.old.told }
         ensures history { heard_of seat.new.front ≡ heard_of seat.old.front ++ (said, result) ∷ [] }
+        ensures added { seat.new.front ≡ self.old.front ++ happened.Heard said result ∷ [] }
+        ensures all { seat.new.front ≡ self.new.front }
         ensures ok { OnOk result (seat.new.asked.share.amount ≡ seat.old.asked.share.amount + 1) }
         ensures heard { IfOk result (λ answer. Heard event answer self.old.desk self.new.desk
             (told_by seat.old.told) (told_by seat.new.told)) }
@@ -474,7 +478,7 @@ impl<C: Crew> Behind<C> {
     }
 
     /// The desk, where the seats are all of the board's own: what `Board::close` says of it. `Err` has a desk whose journal isn't what the seats
-    /// were told, or had another entry where an event was entered.
+    /// were told, or wasn't until a checkpoint, or had another entry where an event was entered.
     pub fn closed(
         self,
         client: ClientSeat<C>,
@@ -488,14 +492,14 @@ impl<C: Crew> Behind<C> {
             writer.sent.share.amount desk) }
         ensures agrees { IfOk result (λ desk. Agrees desk.journal client.told.list.items (since desk.base.checkpoints writer.checkpoints writer.tickets.items)) }
         ensures checkpoints { IfOk result (λ desk. desk.base.checkpoints ≡ client.told.checkpoints) }
-        ensures strayed { OnOk result (client.told.strayed ≡ false) }
+        ensures strayed { OnOk result (HasAgreed (told_by client.told)) }
         ensures history { IfOk result (HasHistory (heard_of client.front) (outs_of writer.front)) }
         ensures limits { IfOk result (λ desk. HasLimits C.max_journal C.max_events desk) }
         ensures counted { IfErr result (λ desk. Counts client.asked.share.amount (sum_by (λ seat. seat.took.share.amount) workers.items)
             (sum_by (λ seat. seat.returned.share.amount) workers.items) (sum_by (λ seat. seat.finished.share.amount) workers.items)
             writer.sent.share.amount desk) }
         ensures limited { IfErr result (λ desk. HasLimits C.max_journal C.max_events desk) }
-        ensures err { IfErr result (λ desk. IsTrue client.told.strayed ⊎ (AgreesAll desk (told_by client.told) writer.checkpoints writer.tickets.items → ⊥)) }
+        ensures err { IfErr result (λ desk. HasAgreed (told_by client.told) × AgreesAll desk (told_by client.told) writer.checkpoints writer.tickets.items → ⊥) }
     {
         let ClientSeat {
             mark: _,

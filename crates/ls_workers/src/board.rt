@@ -8,7 +8,7 @@ ghost use Rattle.ls_history.specs.Told.{heard_of, outs_of};
 ghost use Rattle.ls_workers.specs.Count.{Counts};
 ghost use Rattle.ls_workers.specs.Jobs.{HasLimits, HasNoJob, HasNothingMore, IsFinishedAt, IsRefusedAt, IsReturnedAt, IsTakenAt, led_by};
 ghost use Rattle.ls_workers.specs.Refusals.{is_shortage, may_refuse_return, may_refuse_run};
-ghost use Rattle.ls_workers.specs.Seats.{Agrees, AreAll, HasCause, HasHistory, IsHeard, since, told_by, told_nothing};
+ghost use Rattle.ls_workers.specs.Seats.{Agrees, AreAll, HasAgreed, HasCause, HasHistory, IsHeard, KnowsTheSame, since, told_by, told_nothing};
 ghost use Rattle.ls_machine.specs.Client.{IsAllowed};
 
 use crate::behind::{Behind, SeatFault};
@@ -109,12 +109,12 @@ impl<C: Crew> Board<C> {
     }
 
     /// Enters a client's event, and notes it with its answer in the seat, which remembers whether the journal has another entry. Where the event
-    /// makes a checkpoint, the seat's list begins anew with it, and what it had goes a few entries at a time with the calls that follow. What it
-    /// needs memory for in the seat it makes before it takes the lock, and the text of a document that is opened: the desk shares that text with
-    /// the note.
+    /// makes a checkpoint, the seat's list begins anew with it. What it had and the journal that ended are compared a few events at a time with the
+    /// calls that follow, and go; what is left is compared where the board is closed. The seat remembers a difference. What a call needs memory for
+    /// in the seat it makes before it takes the lock, and the text of a document that is opened: the desk shares that text with the note.
     ///
     /// It waits for the lock alone. The faults are those of the event's own call at the desk, `SessionFull` and `Memory`; after one the seat
-    /// is as it was.
+    /// is as it was, but that some more of what had ended may have been compared.
     pub fn client(
         &self,
         rt: &impl Wait,
@@ -124,9 +124,8 @@ impl<C: Crew> Board<C> {
         requires { IsAllowed event }
         ensures history { heard_of seat.new.front ≡ heard_of seat.old.front ++ (event, result) ∷ [] }
         ensures ok { OnOk result (seat.new.asked.share.amount ≡ seat.old.asked.share.amount + 1) }
-        ensures heard { IfOk result (λ answer. IsHeard event answer
-            (told_by seat.old.told) (told_by seat.new.told)) }
-        ensures err { OnErr result ((seat.new.asked.share.amount ≡ seat.old.asked.share.amount) × (told_by seat.new.told ≡ told_by seat.old.told)) }
+        ensures heard { IfOk result (λ answer. IsHeard event answer C.max_journal C.max_events (told_by seat.old.told) (told_by seat.new.told) seat.new.front) }
+        ensures err { OnErr result ((seat.new.asked.share.amount ≡ seat.old.asked.share.amount) × KnowsTheSame (told_by seat.old.told) (told_by seat.new.told)) }
         ensures mark { seat.new.mark ≡ seat.old.mark }
     {
         let Ok(note) = seat.told.prepare_note(&event) else {
@@ -264,12 +263,13 @@ impl<C: Crew> Board<C> {
         self.changed.notify_all();
     }
 
-    /// Takes all seats back, and gives the desk, which has the limits of the one that the board was made over. There were as many events of each kind as the seats counted, and its journal has the client's
-    /// events since the last checkpoint with the answers that its seat was given, and the tickets that the writer's seat was given since. There were
-    /// as many checkpoints as the client's seat has seen.
+    /// Takes all seats back, and gives the desk, which has the limits of the one that the board was made over. There were as many events of each
+    /// kind as the seats counted, and its journal has the client's events since the last checkpoint with the answers that its seat was given, and
+    /// the tickets that the writer's seat was given since. There were as many checkpoints as the client's seat has seen. The lists that these ended
+    /// were the client's events of the journals that they ended.
     ///
     /// `SeatMissing`: a seat isn't of this board, or not all workers' are here. `Strayed`: the seats are all here, and the journal isn't what
-    /// they were told, or had another entry where an event was entered. It waits for nothing, and takes no memory.
+    /// they were told, or wasn't until a checkpoint, or had another entry where an event was entered. It waits for nothing, and takes no memory.
     pub fn close(
         self,
         client: ClientSeat<C>,
@@ -284,7 +284,7 @@ impl<C: Crew> Board<C> {
             writer.sent.share.amount desk) }
         ensures agrees { IfOk result (λ desk. Agrees desk.journal client.told.list.items (since desk.base.checkpoints writer.checkpoints writer.tickets.items)) }
         ensures checkpoints { IfOk result (λ desk. desk.base.checkpoints ≡ client.told.checkpoints) }
-        ensures strayed { OnOk result (client.told.strayed ≡ false) }
+        ensures strayed { OnOk result (HasAgreed (told_by client.told)) }
         ensures history { IfOk result (HasHistory (heard_of client.front) (outs_of writer.front)) }
         ensures limits { IfOk result (λ desk. HasLimits C.max_journal C.max_events desk) }
         ensures err { IfErr result (λ fault. HasCause ((client.mark ≡ self.mark) × (writer.mark ≡ self.mark)

@@ -1,5 +1,5 @@
 //! What a client's event does at a desk: whether it makes a checkpoint, and what it enters.
-ghost use Rattle.std.specs.Prelude.{◌≡◌, ◌++◌, ◌∷◌, [], IfOk, IfSome, OnOk, OnErr, Some, false};
+ghost use Rattle.std.specs.Prelude.{◌≡◌, ◌++◌, ◌∷◌, [], IfOk, IfSome, OnOk, OnErr, Some, false, true};
 ghost use Rattle.ls_workers.specs.Count.{AddsEvents};
 ghost use Rattle.ls_machine.specs.Client.{HasSmallText, Notes, IsAllowed, entry_of, filled, note_of, opens_too_large};
 ghost use Rattle.ls_machine.specs.Counts.{no_events};
@@ -30,7 +30,7 @@ pub fn is_long(desk: &Desk) -> bool
     desk.journal().len() >= desk.max_journal()
 }
 
-#[tactic(auto, using(crate::proofs::Entering::notes_entry, crate::proofs::Entering::base_is, crate::proofs::Entering::adds_one, crate::proofs::Entering::same_limits))]
+#[tactic(auto, using(crate::proofs::Entering::notes_entry, crate::proofs::Entering::base_is, crate::proofs::Entering::ended_is, crate::proofs::Entering::adds_one, crate::proofs::Entering::same_limits))]
 /// Enters a client's event, whose note it is: the desk shares the text of an opening with the note. A text that is too large has no note. The
 /// history has the event with its answer, or its refusal.
 pub fn enter<C: BookName>(
@@ -49,6 +49,7 @@ pub fn enter<C: BookName>(
     ensures ok { IfOk result (λ answer. Notes event answer (journal_after (fresh desk.old) desk.old.journal) desk.new.journal) }
     ensures base { OnOk result (desk.new.base ≡ base_after (fresh desk.old) (counts_of desk.old) desk.old.base) }
     ensures counts { OnOk result (AddsEvents 1 0 0 0 0 desk.old desk.new) }
+    ensures ended { OnOk result (is_long desk.old ≡ true → desk.new.ended ≡ desk.old.journal) }
     ensures limits { OnOk result (HasLimits desk.old.max_journal desk.old.max_events desk.new) }
     ensures told { IfOk result (λ answer. entry_of event answer ≡ Some (filled (note_of event) answer)) }
     ensures fits { OnOk result (opens_too_large event ≡ false) }

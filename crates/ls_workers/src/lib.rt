@@ -14,15 +14,17 @@
 //! - What a call says of the desk is so where the history has led that its seat has seen then: a job that is taken is the first queued there, a
 //!   refusal has its cause there, and where a worker or the writer is given nothing more, the board has ended by then, and nothing is left there.
 //! - The client's seat also lists each event that it entered since the last checkpoint, with the answer that it got. Each is compared with the
-//!   journal's last entry where it is entered. At a checkpoint the list begins anew.
+//!   journal's last entry where it is entered. At a checkpoint the list begins anew. The one that ended and the journal that ended with it are
+//!   compared too, at most 16 events with each call that follows, and the seat remembers a difference.
 //! - The writer's seat lists the ticket of each reply that it was given since the last checkpoint that it has seen.
-//! - [`Board::close`] takes all seats back and tests their lists against the journal. It gives the desk only where all agree, as each entry of the
-//!   client's did where it was entered, and then there were as many events of each kind as the seats counted.
+//! - [`Board::close`] takes all seats back and tests their lists against the journal, and what isn't compared yet of the client's earlier lists
+//!   against the journals that ended with them. It gives the desk only where all agree, as each entry of the client's did where it was entered, and
+//!   then there were as many events of each kind as the seats counted.
 //!
 //! What takes long is done while the lock is free: [`work`] passes its gate and runs its job, and the text of a document that is opened is made
 //! before the lock is taken, as all that a call needs memory for in its seat. Under the lock the edits of a change are applied, which stand on the
 //! text that the desk has just then, a run's text is compared with its job's, and a client's event with its entry. What the client's list had
-//! before a checkpoint goes later, at most 16 entries with each call. A thread that waits for a job or a reply sleeps until something has changed.
+//! before a checkpoint is compared while the lock is free, as it goes. A thread that waits for a job or a reply sleeps until something has changed.
 #![tactic(auto)]
 
 mod agree;
@@ -30,6 +32,7 @@ mod behind;
 mod board;
 mod calls;
 mod crew;
+mod ended;
 mod laws;
 mod ledgers;
 mod notes;
@@ -39,6 +42,7 @@ mod worker;
 
 pub use behind::SeatFault;
 pub use board::Board;
+pub use ended::Ended;
 pub use laws::first_waiting_is_let_go;
 pub use ledgers::{
     Blanks, Crew, Ledgers, OfClient, OfFinished, OfHeard, OfReturned, OfSent, OfTook,

@@ -1,11 +1,12 @@
 //! Seats: what the client's reader, the workers and the writer hold.
-ghost use Rattle.std.specs.Prelude.{◌≡◌, ◌↔◌, ◌⊎◌, ◌+◌, ◌-◌, ◌++◌, ◌∷◌, ◌<◌, ◌^◌, [], IfOk, IfNone, IfSome, IsTrue, OnOk, Some, length, slice_get, vec_len, vec_capacity, true, false, if◌then◌else◌};
-ghost use Rattle.ls_machine.specs.Client.{HasSmallText, filled, note_of, opens_too_large};
+ghost use Rattle.std.specs.Prelude.{◌≡◌, ◌↔◌, ◌+◌, ◌-◌, ◌++◌, ◌∷◌, ◌<◌, ◌^◌, [], All, IfOk, IfNone, IfSome, OnOk, Some, length, slice_get, vec_len, vec_capacity, true, false, if◌then◌else◌};
+ghost use Rattle.ls_machine.specs.Client.{HasSmallText, client_events, filled, note_of, opens_too_large};
 ghost use mathlib.Core.List.{IsPrefix};
 ghost use Rattle.ls_history.specs.Told.{heard_of, outs_of};
-ghost use Rattle.ls_workers.specs.Seats.{HasRoom, since, told_by, told_nothing};
+ghost use Rattle.ls_workers.specs.Seats.{AreSame, HasAgreed, HasRoom, KnowsTheSame, since, told_by, told_nothing};
 
 use crate::agree::ends_with;
+use crate::ended::Ended;
 use crate::ledgers::{Ledgers, OfClient, OfFinished, OfHeard, OfReturned, OfSent, OfTook};
 use crate::notes::{filled, note_of};
 use ls_desk::{Desk, Event};
@@ -74,25 +75,12 @@ pub struct ToldClient {
     pub list: Vec<Event>,
     /// Another list, which is empty, with which it begins anew.
     pub spare: Vec<Event>,
-    /// What it had before earlier checkpoints, which goes a few entries at a time.
-    pub past: Vec<Vec<Event>>,
+    /// What it had before earlier checkpoints, beside the journals that these ended, as far as it isn't compared yet.
+    pub ended: Vec<Ended>,
     /// How many checkpoints its events have made.
     pub checkpoints: u64,
-    /// Whether the journal had another entry where one of them was entered.
+    /// Whether a difference was found: the journal had another entry where one of them was entered, or a list that ended isn't its journal's.
     pub strayed: bool,
-}
-
-/// Lets at most 16 entries of lists go that are needed no more, and a list that has none.
-fn let_go(past: &mut Vec<Vec<Event>>) {
-    let Some(list) = past.last_mut() else {
-        return;
-    };
-    for _ in 0..16 {
-        drop(list.pop());
-    }
-    if list.is_empty() {
-        drop(past.pop());
-    }
 }
 
 impl ToldClient {
@@ -103,59 +91,81 @@ impl ToldClient {
         ToldClient {
             list: Vec::new(alloc),
             spare: Vec::new(alloc),
-            past: Vec::new(alloc),
+            ended: Vec::new(alloc),
             checkpoints: 0,
             strayed: false,
         }
     }
 
+    /// Compares a few events of a journal that ended with the list that ended with it. They go, and a difference is kept. Takes no memory.
+    fn compare_some(&mut self)
+        ensures { KnowsTheSame (told_by self.old) (told_by self.new) }
+    {
+        let Some(mut ended) = self.ended.pop() else {
+            return;
+        };
+        let agree = ended.compare_some();
+        self.strayed = self.strayed || !agree;
+        if !ended.is_done() {
+            self.ended.push_reserved(ended);
+        }
+    }
+
     /// The note of an event, its answer aside, for which there is room then. `None` where the event's text is too large for any desk.
-    /// A few entries of earlier lists go.
+    /// A few events of what had ended are compared.
     pub(crate) fn prepare_note(&mut self, event: &ClientEvent) -> Result<Option<Event>, AllocError>
         ensures some { IfOk result (λ noted. IfSome noted (λ note. note ≡ note_of event.now)) }
         ensures none { IfOk result (λ noted. IfNone noted (opens_too_large event.now ≡ true)) }
         ensures fits { IfOk result (λ noted. IfSome noted (λ note. (opens_too_large event.now ≡ false) × HasSmallText note)) }
         ensures room { OnOk result (HasRoom self.new) }
-        ensures kept { told_by self.new ≡ told_by self.old }
+        ensures kept { KnowsTheSame (told_by self.old) (told_by self.new) }
     {
-        let_go(&mut self.past);
+        self.compare_some();
         self.list.reserve(1)?;
         self.spare.reserve(1)?;
-        self.past.reserve(1)?;
+        self.ended.reserve(1)?;
         note_of(*self.list.allocator(), event)
     }
 
-    /// An event comes with its answer. Where it made a checkpoint the list begins anew with it. It is kept whether the journal has another entry.
-    /// Takes no memory, and lets none go.
-    fn add(&mut self, anew: bool, checkpoints: u64, strays: bool, entry: Event)
+    /// Where an event made a checkpoint at a desk, the list begins anew, and what it had comes beside the journal that ended, to be compared. Takes no
+    /// memory, and lets none go.
+    fn begin_anew(&mut self, anew: bool, desk: &mut Desk)
         requires { HasRoom self.old }
-        ensures list { self.new.list.items ≡ (if anew then [] else self.old.list.items) ++ entry ∷ [] }
-        ensures checkpoints { self.new.checkpoints ≡ (if anew then checkpoints else self.old.checkpoints) }
-        ensures strayed { IsTrue self.new.strayed ↔ (IsTrue self.old.strayed ⊎ IsTrue strays) }
+        ensures list { self.new.list.items ≡ (if anew then [] else self.old.list.items) }
+        ensures checkpoints { self.new.checkpoints ≡ (if anew then desk.old.base.checkpoints else self.old.checkpoints) }
+        ensures strayed { self.new.strayed ≡ self.old.strayed }
+        ensures ended { All AreSame self.new.ended.items ↔ (All AreSame self.old.ended.items × (anew ≡ true → client_events desk.old.ended ≡ self.old.list.items)) }
+        ensures room { vec_len self.new.list < vec_capacity self.new.list }
+        ensures desk { record desk.old { ended = desk.new.ended } ≡ desk.new }
     {
-        if anew {
-            let alloc = *self.list.allocator();
-            let mut spare = mem::replace(&mut self.spare, Vec::new(alloc));
-            spare.clear();
-            let past = mem::replace(&mut self.list, spare);
-            self.past.push_reserved(past);
-            self.checkpoints = checkpoints;
+        if !anew {
+            return;
         }
-        self.strayed = self.strayed || strays;
-        self.list.push_reserved(entry);
+        let alloc = *self.list.allocator();
+        let mut spare = mem::replace(&mut self.spare, Vec::new(alloc));
+        spare.clear();
+        let list = mem::replace(&mut self.list, spare);
+        let journal = desk.take_ended();
+        self.ended.push_reserved(Ended { list, journal });
+        self.checkpoints = desk.checkpoints();
     }
 
-    /// An event was entered at a desk with its answer, and comes with its note. It is kept whether the desk's journal has another entry. Where the
-    /// event made a checkpoint the list begins anew with it. Takes no memory, and lets none go.
-    pub(crate) fn hear(&mut self, anew: bool, desk: &Desk, note: Event, answer: ClientAnswer)
+    /// An event was entered at a desk with its answer, and comes with its note. It is a difference where the desk's journal has another entry. Where
+    /// the event made a checkpoint the list begins anew with it, and what it had is compared later with the journal that ended, which the desk lets
+    /// go. Takes no memory, and lets none go.
+    pub(crate) fn hear(&mut self, anew: bool, desk: &mut Desk, note: Event, answer: ClientAnswer)
         requires { HasRoom self.old }
         ensures list { self.new.list.items ≡ (if anew then [] else self.old.list.items) ++ filled note answer ∷ [] }
-        ensures checkpoints { self.new.checkpoints ≡ (if anew then desk.now.base.checkpoints else self.old.checkpoints) }
-        ensures strayed { IsTrue self.new.strayed ↔ (IsTrue self.old.strayed ⊎ (slice_get desk.now.journal (length desk.now.journal - 1) ≡ Some (filled note answer) → ⊥)) }
+        ensures checkpoints { self.new.checkpoints ≡ (if anew then desk.old.base.checkpoints else self.old.checkpoints) }
+        ensures agreed { HasAgreed (told_by self.new) ↔ (HasAgreed (told_by self.old) × (slice_get desk.old.journal (length desk.old.journal - 1) ≡ Some (filled note answer))
+            × (anew ≡ true → client_events desk.old.ended ≡ self.old.list.items)) }
+        ensures desk { record desk.old { ended = desk.new.ended } ≡ desk.new }
     {
         let entry = filled(note, answer);
-        let strays = !ends_with(desk.journal(), &entry);
-        self.add(anew, desk.checkpoints(), strays, entry);
+        let is_last = ends_with(desk.journal(), &entry);
+        self.begin_anew(anew, desk);
+        self.strayed = self.strayed || !is_last;
+        self.list.push_reserved(entry);
     }
 }
 

@@ -1,12 +1,17 @@
-use Rattle.std.proofs.Common.{◌∙◌, ◌+◌, ℕ, length, List, Ok, ap, refl, subst, sym}
+use Rattle.std.proofs.Common.{◌≡◌, ◌∙◌, ◌+◌, ℕ, length, List, Ok, Some, ap, refl, rules, subst, sym}
+use Rattle.ls_machine.specs.Client.{filled, note_of}
+use Rattle.ls_machine.specs.declared.event.Event.{Event}
 use Rattle.ls_desk.specs.Stands.{Seen}
 use Rattle.ls_workers.specs.Count.{Counts}
 use Rattle.ls_workers.specs.Jobs.{HasLimits}
+use Rattle.ls_workers.specs.Seats.{told_by}
 use Rattle.ls_history.specs.declared.happened.Happened.{Happened}
 use Rattle.ls_history.specs.Told.{heard_of}
 use Rattle.ls_history.specs.declared.happened.Happened.TheVariants.{Heard}
 use Rattle.ls_history.proofs.Stops.{stop_more}
 use Rattle.ls_history.proofs.Histories.{heard_more, hears_more, sends_keep_heard}
+use Rattle.ls_workers.proofs.Entered.{counts_client}
+use Rattle.ls_workers.proofs.Hearing.{heard, same_counts, same_led, same_limits}
 use Rattle.ls_workers.proofs.behind.Behind.client.Goals as goal
 
 pub returns-clause-ends : goal.returns-clause-ends
@@ -67,3 +72,42 @@ returns-clause-history g c =
     let seat = c.args.seat.now in
     ap heard_of c.again.ensures
     ∙ heard_more seat.front now.front c.enter-reply.new.front g.said (Ok c.in-Ok.answer) c.beside.ensures (sym now.hears ∙ (sym (c.audit.ensures.whole seat.whole_heard) ∙ seat.all_heard)) c.in-Ok.ensures.added
+
+pub invariant_of-self-2-clause-counts : goal.invariant_of-self-2-clause-counts
+invariant_of-self-2-clause-counts g c =
+    let now = c.args.self.now in
+    same_counts c.one_more.new.book.total now.took.total now.returned.total now.finished.total now.sent.total c.enter-reply.new.desk c.hear.new.desk c.hear.ensures.desk
+    (counts_client now.asked.total now.took.total now.returned.total now.finished.total now.sent.total c.one_more.new.book.total now.desk c.enter-reply.new.desk c.in-Ok.ensures.counts now.counts c.one_more.ensures.total)
+
+pub invariant_of-self-2-clause-limits : goal.invariant_of-self-2-clause-limits
+invariant_of-self-2-clause-limits g c =
+    let now = c.args.self.now in
+    let limits = c.in-Ok.ensures.limits in
+    same_limits g.C.Crew.max_journal g.C.Crew.max_events c.enter-reply.new.desk c.hear.new.desk c.hear.ensures.desk
+    (record { journal_is = limits.journal_is ∙ now.limits.journal_is; events_is = limits.events_is ∙ now.limits.events_is })
+
+pub invariant_of-self-2-clause-led : goal.invariant_of-self-2-clause-led
+invariant_of-self-2-clause-led g c = same_led c.enter-reply.new.front c.enter-reply.new.desk c.hear.new.desk c.hear.ensures.desk c.enter-reply.ensures.led
+
+pub returns-clause-heard : goal.returns-clause-heard
+returns-clause-heard g c =
+    let now = c.args.self.now in
+    let answer = c.in-Ok.answer in
+    let entered = c.in-Ok.ensures in
+    let came = c.hear.ensures in
+    let noted : c.in-Some.note ≡ note_of c.args.event = search rules in
+    let entry = filled c.in-Some.note answer in
+    heard c.args.event answer entry c.is_long-long.result now.desk c.enter-reply.new.desk c.hear.new.desk (told_by c.args.seat.now.told) (told_by c.hear.new.self)
+    (record { journal = entered.ok; base = entered.base; ended = entered.ended; entry_is = entered.told ∙ ap (λ (note : Event). Some (filled note answer)) (sym noted) })
+    c.is_long-long.ensures
+    (record { list = came.list; checkpoints = came.checkpoints; agreed = came.agreed })
+    came.desk
+
+pub returns-in_default-clause-added : goal.returns-in_default-clause-added
+returns-in_default-clause-added g c = c.again.ensures ∙ c.enter-reply.ensures.added
+
+pub returns-clause-added : goal.returns-clause-added
+returns-clause-added g c = c.again.ensures ∙ c.in-Ok.ensures.added
+
+pub returns-clause-all : goal.returns-clause-all
+returns-clause-all g c = c.again.ensures
