@@ -1,5 +1,5 @@
-//! How a board ends, and that lists which aren't those of the journal are found out, unless it has begun anew since, when what the client's list
-//! had goes. It has one worker, and one document is opened.
+//! How a board ends, and that lists which aren't those of the journal are found out, also those of a journal that has begun anew since. It has
+//! one worker, and one document is opened.
 ghost use Rattle.std.specs.Prelude.{◌≡◌, ◌+◌, ◌<◌, nat_lt, if◌then◌else◌};
 
 use super::calls::{DESKS, counts, has_no_job, hover, next_ticket, nth_desk, opening, run_one};
@@ -94,7 +94,7 @@ fn asks_late<C: Crew, R: Wait>(
     Ok(findings == 1 && sent == Some(1) && asked == ClientAnswer::Ticket(2))
 }
 
-// No event leaves more behind than the list that it has begun anew.
+// No event leaves more behind than what it has ended.
 fn renews<C: Crew, R: Wait>(
     rt: &R,
     board: &Board<C>,
@@ -102,7 +102,7 @@ fn renews<C: Crew, R: Wait>(
 ) -> Result<bool, DeskFault> {
     for _ in 0..20 {
         let answer = board.client(rt, client, ClientEvent::Cancel(Id::Number(9)))?;
-        if answer != ClientAnswer::Cancelled(false) || client.told.past.len() > 1 {
+        if answer != ClientAnswer::Cancelled(false) || client.told.ended.len() > 1 {
             return Ok(false);
         }
     }
@@ -126,14 +126,12 @@ fn stops<C: Crew, R: Wait>(
     no_job && no_reply && asked && !unasked
 }
 
-// Closes the board, whose desk has this number, and says whether it answers as it must. The first desk's journal begins anew with each event of
-// the client.
+// Closes the board, and says whether it answers as it must.
 fn closes<C: Crew>(
     board: Board<C>,
     mut client: ClientSeat<C>,
     mut writer: WriterSeat<C>,
     workers: Vec<WorkerSeat<C>>,
-    number: usize,
     session: Session,
 ) -> bool
     requires { (C.workers ≡ C.parts) × (0 < C.parts) }
@@ -157,7 +155,7 @@ fn closes<C: Crew>(
     match session {
         Session::Drained => !strayed && counts == (2, 2, 0, 2, 2),
         Session::Unsent => strayed && counts == (2, 2, 0, 2, 2),
-        Session::Altered => strayed == (number > 0) && counts == (2, 2, 0, 2, 2),
+        Session::Altered => strayed && counts == (2, 2, 0, 2, 2),
         Session::Stopped => !strayed && counts == (1, 0, 0, 0, 0),
         Session::Forgotten => strayed && counts == (1, 0, 0, 0, 0),
         Session::Unheard => !strayed && counts == (2, 1, 0, 1, 1),
@@ -196,7 +194,7 @@ fn one_worker<C: Crew, R: Wait>(
         }
         Session::Renewed => renews(rt, &board, &mut client) == Ok(true),
     };
-    let closed = closes(board, client, writer, workers, number, session);
+    let closed = closes(board, client, writer, workers, session);
     Ok(opened && ended && closed)
 }
 
