@@ -144,6 +144,7 @@ fn answer_input<R: Source, W: Sink>(
     ensures served { ServedIs (R.remaining reader.old) (R.remaining reader.new)
         ((R.failed reader.new ≡ true) ⊎ (R.reads reader.new + 1 ≡ reads)) (W.failed writer.new ≡ true)
         (W.contents writer.old) result (W.contents writer.new) }
+    ensures good { OnOk result (W.failed writer.new ≡ false) }
     ensures flushed { is_write result ≡ false → W.unflushed writer.old ≡ false → W.unflushed writer.new ≡ false }
 {
     for i in 1..reads {
@@ -186,6 +187,7 @@ pub fn serve_limited<R: Source, W: Sink>(
     ensures whole { (input : List ℕ) → R.remaining reader.old ≡ Some input → (status : Status) × (bytes : List ℕ)
         × IsOutput true input status bytes
         × RunIs input status bytes (R.remaining reader.new) (W.contents writer.old) result (W.contents writer.new) }
+    ensures good { OnOk result (W.failed writer.new ≡ false) }
     ensures flushed { is_write result ≡ false → W.unflushed writer.old ≡ false → W.unflushed writer.new ≡ false }
 {
     let Ok(mut buffer) = vec![in alloc; 0u8; READ_MOST] else {
@@ -220,6 +222,7 @@ pub fn serve_plain<R: Source, W: Sink>(
     ensures whole { (input : List ℕ) → R.remaining reader.old ≡ Some input → (status : Status) × (bytes : List ℕ)
         × IsOutput true input status bytes
         × RunIs input status bytes (R.remaining reader.new) (W.contents writer.old) result (W.contents writer.new) }
+    ensures good { OnOk result (W.failed writer.new ≡ false) }
     ensures flushed { is_write result ≡ false → W.unflushed writer.old ≡ false → W.unflushed writer.new ≡ false }
 {
     serve_limited(alloc, reader, writer, READS_END)

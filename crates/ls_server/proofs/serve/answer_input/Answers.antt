@@ -113,3 +113,21 @@ returns-in-Ok-Some-clause-flushed g c = λ w p. c.in-Ok-Some.ensures.flushed ref
 
 pub returns-in-Err-answer_piece-clause-flushed : goal.returns-in-Err-answer_piece-clause-flushed
 returns-in-Err-answer_piece-clause-flushed g c = λ w p. c.in-Err-answer_piece.ensures.flushed (not_write c.in-Err-answer_piece.fault w) (c.loop-i.invariant.flushed p)
+
+pub returns-in-Err-Failed-clause-good : goal.returns-in-Err-Failed-clause-good
+returns-in-Err-Failed-clause-good g c = tt
+
+pub returns-in-Ok-end-clause-good : goal.returns-in-Ok-end-clause-good
+returns-in-Ok-end-clause-good g c = c.loop-i.invariant.sink
+
+pub returns-in-Err-clause-good : goal.returns-in-Err-clause-good
+returns-in-Err-clause-good g c = c.loop-i.invariant.sink
+
+pub returns-clause-good : goal.returns-clause-good
+returns-clause-good g c = tt
+
+pub returns-in-Ok-Some-clause-good : goal.returns-in-Ok-Some-clause-good
+returns-in-Ok-Some-clause-good g c = or_false _ (g.W.Sink.failed c.loop-i.writer) c.loop-i.invariant.sink c.in-Ok-Some.ensures.failed
+
+pub returns-in-Err-answer_piece-clause-good : goal.returns-in-Err-answer_piece-clause-good
+returns-in-Err-answer_piece-clause-good g c = tt
