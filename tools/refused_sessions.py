@@ -207,8 +207,9 @@ def counted(run):
 
 
 def refused_by_turns(program, made, number):
-    """A session by turns in which this allocation is refused."""
-    return runs.by_turns(program, TURNS, LAST_TURN, rows.in_front(made, first_refused=number, last_refused=number), PATIENCE)
+    """A session by turns in which this allocation is refused; with the number 0 none is, and each turn has the time that it takes."""
+    patience = PATIENCE if number else float("inf")
+    return runs.by_turns(program, TURNS, LAST_TURN, rows.in_front(made, first_refused=number, last_refused=number), patience)
 
 
 def cases_by_turns(program, made):
