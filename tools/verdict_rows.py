@@ -568,7 +568,11 @@ def as_told(tools, name):
 
 def keys():
     """Nothing is taken from the store that was kept of something else. Where `rt` has no store there is none to be wrong."""
-    for what, changes, others in PARTS_OF_A_KEY if DOES_KEEP else ():
+    for what, changes, others in PARTS_OF_A_KEY:
+        if not DOES_KEEP:
+            # (so that there are as many rows with any kit)
+            yield f"nothing is kept, and so with a change of {what}", DOES_KEEP, False
+            continue
         with tempfile.TemporaryDirectory() as at, mock.patch.object(kit.RT, "STORE", f"{at}/store"):
             with as_told("the tools", "the kit"):
                 store, crate, edit = stored(f"{at}/before", {})
