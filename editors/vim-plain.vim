@@ -32,6 +32,7 @@ def Asked(method: string, params: dict<any>): any
   endif
   const reply = ch_evalexpr(job, {method: method, params: params}, {timeout: 10000})
   if reply->has_key('error')
+    redraw
     echo reply.error.message
   endif
   return reply->get('result', null)
@@ -125,7 +126,9 @@ def Show(ranges: list<dict<any>>, texts: list<string>)
   if len(places) == 1
     normal! m'
     cursor(places[0].lnum, places[0].col)
-  elseif !empty(places)
+  elseif empty(places)
+    echo 'no place'
+  else
     setloclist(0, places)
     lopen
   endif
@@ -180,6 +183,10 @@ def Restart()
 enddef
 
 def Edit()
+  if &encoding != 'utf-8'
+    echomsg 'abnf_ls needs "set encoding=utf-8" in the vimrc'
+    return
+  endif
   setlocal commentstring=;%s comments=:;
   # A rename proposes the word under the cursor: the whole name.
   setlocal iskeyword+=-

@@ -1,7 +1,8 @@
 #!/usr/bin/env bash
 # Runs a real Vim with no package in a terminal of tmux against the language server, by the set-up that editors/vim-plain.vim gives: opens
 # a grammar, looks at its diagnostic, asks for a hover, goes to a definition, lists references and the outline, renames a name, looks at
-# the new name that is proposed for one with a hyphen, takes the code action, starts the server anew, asks again, and ends.
+# the new name that is proposed for one with a hyphen, takes the code action, starts the server anew, asks again, and ends. Another Vim,
+# whose encoding isn't UTF-8, must start no server, since columns would be others there, and say so.
 # Usage: vim.sh PROGRAM. VIM_PROGRAM names the editor (vim if left out). Status 0: all right, 1: a wrong answer, 2: it could not be
 # tried. The snippet is taken as it stands, but for the path of the program.
 set -euo pipefail
@@ -17,6 +18,7 @@ shows "a diagnostic" 'error: bad character'
 go 3 12; keys K; shows "a hover" 'shortest length 2' 'example hi'; keys l
 shows "no hover behind it" '3,13'
 go 3 12; keys g d; shows "a definition" '4,1'
+go 4 13; keys g d; shows "no definition of a text" 'no place'
 go 5 1; keys g r r; shows "references" 'a.abnf|3 col 21' 'a.abnf|5 col 1' 'a.abnf|6 col 1' 'a.abnf|6 col 22'; keys ':lclose' Enter
 go 5 1; keys g O; shows "the outline" 'a.abnf|8 col 1' '| use'; keys ':lclose' Enter
 go 7 13; keys g r n; keys C-u; keys -l salutation; keys Enter
@@ -28,4 +30,9 @@ sed 's/^salutation/; example hi\n&/' "$folder/renamed" > "$folder/with_example"
 writes "the text with the example" "$folder/with_example" ':w' Enter
 old=$(server); keys ':AbnfRestart' Enter; is_new "$old"
 go 3 13; keys K; shows "a hover after it" 'shortest length 2' 'example hi'
+keys ':qa!' Enter; sleep 1
+start env LC_ALL=C "$editor" -n "$file"
+keys ':messages' Enter; shows "another encoding is refused" 'abnf_ls needs "set encoding=utf-8" in the vimrc'
+is "and no server runs" "$(server)" none
+keys Enter
 finish ':qa!' Enter
