@@ -51,7 +51,7 @@ def is_answered(codes, allowed):
 def fault_of_stream(program, stream):
     """What is wrong with a run on these bytes; None where nothing is."""
     plain = Plain(stream)
-    status, said, wrote = runs.ended(program, stream)
+    status, said, wrote = runs.outcome(program, stream)
     bodies, rest = runs.bodies_of(wrote)
     line = f"framing fault {plain.fault} {FAULTS[plain.fault]}\n".encode() if plain.fault else b""
     if (status, said, rest) != (plain.status, line, b""):
@@ -189,7 +189,7 @@ def answers_to(count):
 
 def fault_of_front(program, front):
     """How a run on this front of the first session's bytes ended, where that was wrong."""
-    status, said, wrote = runs.ended(program, runs.frames(FIRST)[:front])
+    status, said, wrote = runs.outcome(program, runs.frames(FIRST)[:front])
     bodies, rest = runs.bodies_of(wrote)
     found = status, said, rest, sorted(bodies)
     return None if found == (*ends_at(front), b"", sorted(answers_to(whole_frames(front)[0]))) else (front, found)
@@ -205,7 +205,7 @@ def cases(program, count=COUNT, seed=SEED):
 
 
 def main(program=rows.SERVER, count=COUNT, seed=SEED):
-    return rows.told(cases(program, int(count), int(seed)))
+    return rows.report(cases(program, int(count), int(seed)))
 
 
 if __name__ == "__main__":

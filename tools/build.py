@@ -18,15 +18,15 @@ import sys
 import tempfile
 import time
 
-TOP = os.path.dirname(os.path.dirname(os.path.realpath(__file__)))
+from workspace import EDITS, LIST, NO_COMPILE, TOP, copy_crates, crates_below, sum_of
+
 OUT = os.path.join(TOP, "out")
-CRATES = os.path.join(TOP, "crates.txt")
 SERVER = "abnf_ls"
 PROGRAMS = (SERVER, "abnf_findings", "served_plainly", "refused_memory")
 LOG = os.path.join(OUT, "build.log")
 # What of a crate's folder is proved, and what proofs and runs don't read.
 PARTS = ("proofs", "specs", "src")
-NOT_COPIED = ("out", "edits", "must-not-compile")
+NOT_COPIED = ("out", EDITS, NO_COMPILE)
 # The lines that tell of a crate that its proof begins, and how it has ended.
 BEGINS = re.compile(r"begins: (\w+)")
 ENDED = re.compile(r"rt: (\w+) (proved|is kept|NOT PROVED)")
@@ -43,24 +43,6 @@ def stop(status, text):
     sys.exit(status)
 
 
-def crates_below(program):
-    """The program's crate and each that it needs, lowest first, each with all crates below it. Crates of tests aren't among them."""
-    with open(CRATES, encoding="utf-8") as file:
-        lines = [line.partition("#")[0].partition(":") for line in file]
-    uses = {head.split()[0]: libraries.split() for head, colon, libraries in lines if colon}
-    below = {}
-
-    def visit(name):
-        if name not in below:
-            own = [it for it in uses[name] if it in uses]
-            for it in own:
-                visit(it)
-            below[name] = set(own).union(*(below[it] for it in own))
-
-    visit(program)
-    return below
-
-
 def lines_of(crate):
     """How many lines the proofs of a crate have to do with."""
     total = 0
@@ -72,11 +54,6 @@ def lines_of(crate):
     return total
 
 
-def sum_of(path):
-    with open(path, "rb") as file:
-        return hashlib.sha256(file.read()).hexdigest()
-
-
 class Program:
     """A program: where it is to lie, and where the sum of the sources lies that it was built from."""
 
@@ -85,7 +62,7 @@ class Program:
         self.built_from = f"{self.path}.sources"
 
     def sources(self):
-        yield CRATES
+        yield os.path.join(TOP, LIST)
         for name in sorted(crates_below(self.name)):
             for part in PARTS:
                 for folder, folders, files in os.walk(os.path.join(TOP, "crates", name, part)):
@@ -112,7 +89,7 @@ class Program:
         """Proves and links it in a copy of its crates, and moves it in place."""
         say(f"proving and building {self.name}, which takes some minutes the first time; the toolchain's words go to {LOG}")
         with tempfile.TemporaryDirectory(prefix="abnf_ls-build-") as folder, open(LOG, "wb") as log:
-            copy_crates(crates_below(self.name), folder)
+            copy_crates(TOP, folder, crates_below(self.name), NOT_COPIED)
             self.install(Proofs(self.name, log).run(folder), built_from)
         say(f"{self.path} is built; its SHA-256 sum is {sum_of(self.path)}")
 
@@ -125,21 +102,6 @@ class Program:
         with open(self.built_from + ".new", "w", encoding="utf-8") as file:
             file.write(built_from)
         os.replace(self.built_from + ".new", self.built_from)
-
-
-def copy_crates(names, folder):
-    """Copies these crates to a folder as a repository of their own, so that edits don't reach what is being proved."""
-    with open(CRATES, encoding="utf-8") as file:
-        lines = [line for line in file if line.partition(":")[0].split()[:1] in [[name] for name in names]]
-    with open(os.path.join(folder, "crates.txt"), "w", encoding="utf-8") as file:
-        file.writelines(lines)
-    shutil.copy(os.path.join(TOP, "HANDLES"), folder)
-    for name in names:
-        crate = os.path.join(TOP, "crates", name)
-        # (a module may have the name of such a folder)
-        shutil.copytree(crate, os.path.join(folder, "crates", name), ignore=lambda at, _: NOT_COPIED if at == crate else ())
-    # (the toolchain looks no further for the top of the repository)
-    os.mkdir(os.path.join(folder, ".git"))
 
 
 def end_with_parent():

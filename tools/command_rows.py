@@ -9,7 +9,7 @@ may stand there. Each check is a text, a certificate, and the status with what s
 import sys
 
 import rows
-from runs import ended
+from runs import outcome
 
 
 def lines(*all_lines):
@@ -123,17 +123,17 @@ def example_cases(program, files):
     """Each row's example, and the check of it."""
     for text, rule, wanted, cert in EXAMPLES:
         file = files.written("g.abnf", text)
-        status, said, wrote = ended(program, None, ["example", file, rule])
+        status, said, wrote = outcome(program, None, ["example", file, rule])
         head, _, tail = wrote.decode().partition("\n\n")
         of = f"example {rule} of {text[:40]!r}"
         yield of, (status, said, head, tail if cert is not None else None), (0, b"", wanted, cert)
-        yield f"check of the {of}", ended(program, None, ["check", file, files.written("c", wrote)]), YES
+        yield f"check of the {of}", outcome(program, None, ["check", file, files.written("c", wrote)]), YES
 
 
 def check_cases(program, files):
     """Certificates that aren't accepted, and texts that are none."""
     for text, cert, wanted in CHECKS:
-        found = ended(program, None, ["check", files.written("g.abnf", text), files.written("c", cert)])
+        found = outcome(program, None, ["check", files.written("g.abnf", text), files.written("c", cert)])
         yield f"check of {cert[:40]!r} for {text!r}", found, wanted
 
 
@@ -145,7 +145,7 @@ def cases(program):
 
 
 def main(words):
-    return rows.told(cases(*words or [rows.SERVER]))
+    return rows.report(cases(*words or [rows.SERVER]))
 
 
 if __name__ == "__main__":

@@ -14,7 +14,6 @@ Beside the counts it fails where a test, an edit or a crate stands where nothing
 something names what another crate says for itself alone (specs/own/), and where a page tells another figure than counts.txt
 (tools/figures.py).
 """
-import collections
 import contextlib
 import importlib
 import io
@@ -23,7 +22,7 @@ import re
 import sys
 
 import figures
-from rows import TOP
+from workspace import EDITS, NO_COMPILE, SAME_MEANING, TOP, crates, out_of_place, places, text_of
 
 COUNTS = os.path.join(TOP, "counts.txt")
 # The rows that the last gate found
@@ -53,7 +52,6 @@ LOOPS = {
 }
 # The tools of rows that try the gate's own tools
 OWN_ROWS = ("verdict_rows", "counts_rows", "documents_rows", "stage_rows")
-EDITS, NO_COMPILE, SAME_MEANING = "edits", "must-not-compile", "tools/same_meaning"
 TEST = re.compile(r"(?m)^ *#\[test\]")
 # A function as tests are, with the attributes above it
 LIKE_A_TEST = re.compile(r"(?m)^((?: *#\[.*\]\n)*) *(?:pub(?:\(\w+\))? )?fn (\w+)\(\w+: HostRuntime\)")
@@ -62,11 +60,6 @@ ROOTS = ("lib.rt", "main.rt", "mod.rt")
 SAID_IN = (".rt", ".antt")
 # A module of what a crate says for itself alone
 OWN = re.compile(r"Rattle\.(\w+)\.specs\.own\.(\w+)")
-
-
-def text_of(path):
-    with open(path, encoding="utf-8") as file:
-        return file.read()
 
 
 def parsed(text):
@@ -83,19 +76,19 @@ def written(counts):
     return "\n".join([HEAD, *map("".join, kinds.values())])
 
 
-def differences(told, found):
-    """A line for each count that isn't as told."""
-    for name in dict.fromkeys([*told, *found]):
-        count, wanted = found.get(name, 0), told.get(name, 0)
+def differences(listed, found):
+    """A line for each count that isn't as listed."""
+    for name in dict.fromkeys([*listed, *found]):
+        count, wanted = found.get(name, 0), listed.get(name, 0)
         if count < wanted:
             yield f"{name}: {count or 'none'}, and {wanted} in counts.txt: {wanted - count} missing"
         elif count > wanted:
             yield f"{name}: {count}, and {wanted or 'none'} in counts.txt: `{RAISE}` puts it there"
 
 
-def raised(told, found):
-    """The counts as told, with those put in that are higher or new."""
-    return {name: max(told.get(name, 0), found.get(name, 0)) for name in dict.fromkeys([*found, *told]) if name in told or found[name]}
+def raised(listed, found):
+    """The counts as listed, with those put in that are higher or new."""
+    return {name: max(listed.get(name, 0), found.get(name, 0)) for name in dict.fromkeys([*found, *listed]) if name in listed or found[name]}
 
 
 def of_kind(counts, is_row):
@@ -106,12 +99,6 @@ def of_kind(counts, is_row):
 def files_in(*path, end=".edit"):
     folder = os.path.join(TOP, *path)
     return sum(it.endswith(end) for it in os.listdir(folder)) if os.path.isdir(folder) else 0
-
-
-def crates():
-    """The crates of crates.txt, in its order."""
-    lines = (line.partition("#")[0] for line in text_of(os.path.join(TOP, "crates.txt")).splitlines())
-    return [line.split()[0].rstrip(":") for line in lines if ":" in line]
 
 
 def sources(crate):
@@ -181,16 +168,6 @@ def unread(texts):
             yield f"{path}: no file has it as a module, so nothing reads it"
 
 
-def out_of_place(paths, names):
-    """The edits, and the crates' folders, of these paths that nothing looks for, where the crates have these names."""
-    known = {at for name in names for at in (f"{SAME_MEANING}/{name}", f"crates/{name}/{EDITS}", f"crates/{name}/{NO_COMPILE}")}
-    for folder, count in collections.Counter(os.path.dirname(it) for it in paths if it.endswith(".edit")).items():
-        if folder not in known:
-            yield f"{folder}: {count} edits lie there, where nothing looks for any"
-    for name in sorted({path.split("/")[1] for path in paths if path.startswith("crates/") and path.count("/") > 1} - {*names}):
-        yield f"crates/{name}: crates.txt doesn't have it"
-
-
 def alike(texts):
     """The edits among these files, by their paths, that have the bytes of another one of their crate: both count, and show one thing."""
     first = {}
@@ -211,14 +188,6 @@ def misused(texts):
                 yield f"crates/{path}: names {owner}'s own {name}, of which no public contract speaks"
 
 
-def places():
-    """The paths of all files of the crates and tools, but for those that are built."""
-    for top in ("crates", "tools"):
-        for at, folders, files in os.walk(os.path.join(TOP, top)):
-            folders[:] = sorted(it for it in folders if it not in ("out", "__pycache__"))
-            yield from (os.path.relpath(os.path.join(at, it), TOP) for it in sorted(files))
-
-
 def keep_rows(found):
     """Keeps how many rows a gate has found, for --raise."""
     os.makedirs(os.path.dirname(FOUND_ROWS), exist_ok=True)
@@ -226,9 +195,9 @@ def keep_rows(found):
         file.writelines(f"{name} {count}\n" for name, count in found.items())
 
 
-def faults(told):
+def faults(listed):
     """All that isn't as counts.txt tells, or that stands where nothing looks for it."""
-    yield from differences(of_kind(told, False), of_sources())
+    yield from differences(of_kind(listed, False), of_sources())
     names, paths = crates(), [*places()]
     yield from out_of_place(paths, names)
     yield from alike({it: text_of(os.path.join(TOP, it)) for it in paths if it.endswith(".edit")})
@@ -236,29 +205,29 @@ def faults(told):
     for crate in names:
         texts = sources(crate)
         yield from (f"crates/{crate}/src/{it}" for some in (unmarked, unread) for it in some(texts))
-    yield from figures.faults(told)
+    yield from figures.faults(listed)
 
 
-def raise_all(told):
+def raise_all(listed):
     """Puts the counts that are higher or new into counts.txt, and the figures into the pages."""
     found = {**of_sources(), **(parsed(text_of(FOUND_ROWS)) if os.path.exists(FOUND_ROWS) else {})}
-    counts = raised(told, found)
+    counts = raised(listed, found)
     with open(COUNTS, "w", encoding="utf-8") as file:
         file.write(written(counts))
     figures.write(counts)
     for name in counts:
-        if counts[name] != told.get(name):
-            print(f"{name}: {told.get(name, 'none')} before, {counts[name]} now")
+        if counts[name] != listed.get(name):
+            print(f"{name}: {listed.get(name, 'none')} before, {counts[name]} now")
     return counts
 
 
 def main(words):
-    told = parsed(text_of(COUNTS)) if os.path.exists(COUNTS) else {}
+    listed = parsed(text_of(COUNTS)) if os.path.exists(COUNTS) else {}
     if words == ["--raise"]:
-        told = raise_all(told)
+        listed = raise_all(listed)
     elif words:
         sys.exit("usage: tools/counts.py [--raise]")
-    found = [*faults(told)]
+    found = [*faults(listed)]
     for line in found:
         print(f"counts: {line}")
     print(f"counts: {'as counts.txt has them' if not found else 'FAILED'}")

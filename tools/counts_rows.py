@@ -14,6 +14,7 @@ import figures
 import program_ends
 import rows
 import sums
+import workspace
 
 TOLD = {"crates": 2, "tests a": 3, "edits a": 2, "edits b": 4, "rows p tool": 7, "rows p.by-rattle tool": 7}
 RAISE = f"`{counts.RAISE}` puts it there"
@@ -63,14 +64,16 @@ READ = (
     ("a folder that is a module", {"lib.rt": "mod a;\n", "a/mod.rt": "mod b;\n", "a/b.rt": "", "a/c.rt": ""}, [f"a/c.rt: {NO_MODULE}"]),
 )
 
+ONLY_FOLDERS = f"crates/a/edit: a crate has only folders {', '.join(workspace.FOLDERS)}"
 # Paths of files, and what is said of those that nothing looks for, where the crates are a and b
 PLACED = (
     ("edits in their places", ["crates/a/edits/x.edit", "crates/b/must-not-compile/x.edit", "tools/same_meaning/a/x.edit"], []),
     ("other files", ["crates/a/src/lib.rt", "crates/a/edits/README.md", "tools/counts.py"], []),
-    ("another folder", ["crates/a/edit/x.edit", "crates/a/edit/y.edit"], ["crates/a/edit: 2 edits lie there, where nothing looks for any"]),
+    ("another folder", ["crates/a/edit/x.edit", "crates/a/edit/y.edit"], ["crates/a/edit: 2 edits lie there, where nothing looks for any", ONLY_FOLDERS]),
     ("a folder below", ["crates/a/edits/more/x.edit"], ["crates/a/edits/more: 1 edits lie there, where nothing looks for any"]),
     ("the same meaning of no crate", ["tools/same_meaning/x.edit"], ["tools/same_meaning: 1 edits lie there, where nothing looks for any"]),
-    ("a crate that isn't told", ["crates/c/src/lib.rt"], ["crates/c: crates.txt doesn't have it"]),
+    ("a crate that isn't listed", ["crates/c/src/lib.rt"], ["crates/c: crates.txt doesn't have it"]),
+    ("a folder of another name", ["crates/a/edit/README.md"], [ONLY_FOLDERS]),
 )
 
 # Edits by their paths, and what is said of those that are others once more
@@ -90,7 +93,7 @@ OWNED = (
     ("a module of like name", {"b/src/x.rt": "ghost use Rattle.a.specs.owned.Kept.{IsKept};"}, []),
 )
 
-FIGURE = figures.Figure("README.md", "| edits | {} in {} crates |", lambda told: figures.all_of(told, "edits"))
+FIGURE = figures.Figure("README.md", "| edits | {} in {} crates |", lambda listed: figures.all_of(listed, "edits"))
 WRONG = "README.md: '| edits | {} in {} crates |' has 1,006, 2, and not 6, 2"
 # A page's text, what is wrong with its figure by TOLD, and the text once it is written anew
 TOLD_FIGURES = (
@@ -146,7 +149,7 @@ def source_cases():
     for what, texts, lines in READ:
         yield f"files: {what}", [*counts.unread(texts)], lines
     for what, paths, lines in PLACED:
-        yield f"places: {what}", [*counts.out_of_place(paths, ["a", "b"])], lines
+        yield f"places: {what}", [*workspace.out_of_place(paths, ["a", "b"])], lines
     for what, texts, lines in ALIKE:
         yield f"alike: {what}", [*counts.alike(texts)], lines
     for what, texts, lines in OWNED:
@@ -161,8 +164,8 @@ def figure_cases():
 
 
 def sum_cases():
-    for what, told, made, lines in SUMMED:
-        yield f"sums: {what}", sums.differences(told, "kit 1", made, "kit 2"), lines
+    for what, listed, made, lines in SUMMED:
+        yield f"sums: {what}", sums.differences(listed, "kit 1", made, "kit 2"), lines
     yield "sums: as they are written", sums.parsed(sums.written({"p": A, "q": B}, "kit 1")), ({"p": A, "q": B}, "kit 1")
 
 
@@ -181,7 +184,7 @@ def tally_cases():
         found = [(it.is_good(), it.count) for it in program_ends.cases_of(broken_tool, "p")]
     yield "a tool that breaks off", found, [(True, 1), (False, 0)]
     with contextlib.redirect_stdout(io.StringIO()):
-        ends = rows.told([]), rows.told([("a row", 1, 1)]), rows.told([("a row", 1, 2)])
+        ends = rows.report([]), rows.report([("a row", 1, 1)]), rows.report([("a row", 1, 2)])
     yield "a tool that is run by hand: none, one that is good, one that isn't", ends, (1, 0, 1)
 
 
@@ -191,4 +194,4 @@ def cases():
 
 
 if __name__ == "__main__":
-    sys.exit(rows.told(cases()))
+    sys.exit(rows.report(cases()))

@@ -39,7 +39,7 @@ def left_output(program, front):
     client.stops_reading()
     client.turn(runs.frames(FIRST[given:]), lambda read: True)
     ends = (2, b"write failed\n") if any(ANSWERS[given:]) else (0, b"")
-    return client.ended(), (*ends, runs.frames(broken_input.answers_to(len(FIRST)))[:front])
+    return client.outcome(), (*ends, runs.frames(broken_input.answers_to(len(FIRST)))[:front])
 
 
 def output_fronts(step):
@@ -65,7 +65,7 @@ def cases(program, step=STEP):
 
 def main(words):
     (program,), tries_all = rows.programs_of(words, rows.SERVER)
-    return rows.told(cases(program, 1 if tries_all else STEP))
+    return rows.report(cases(program, 1 if tries_all else STEP))
 
 
 if __name__ == "__main__":

@@ -185,4 +185,4 @@ def cases():
 
 
 if __name__ == "__main__":
-    sys.exit(rows.told(cases()))
+    sys.exit(rows.report(cases()))

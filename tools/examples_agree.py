@@ -10,10 +10,10 @@ import re
 import sys
 
 import findings_rows
+from workspace import TOP
 
 SOURCE = "crates/example_grammars/src/lib.rt"
 MATCHER = ("examples", "github", "matcher.json")
-TOP = os.path.dirname(os.path.dirname(os.path.abspath(__file__)))
 FINDING = re.compile(r"\d+:\d+: (error|warning): ")
 DRAFT = "a draft: \u00e9.md"
 

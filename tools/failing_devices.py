@@ -212,7 +212,7 @@ def all_cases(program, piece, step, fault_in):
 
         def ran(fault):
             with open(path, "rb") as given:
-                run = runs.ended(program, None, stdin=given, env=rows.in_front(made, **fault.at_calls), seconds=SECONDS)
+                run = runs.outcome(program, None, stdin=given, env=rows.in_front(made, **fault.at_calls), seconds=SECONDS)
             return fault, fault_in(fault, wanted, run)
 
         found = rows.side_by_side(ran, faults(wanted, piece, step))
@@ -234,7 +234,7 @@ def plain_cases(program, piece=PIECE, step=STEP):
 def main(words):
     (program, plain), tries_all = rows.programs_of(words, rows.SERVER, rows.PLAIN)
     sizes = (1, 1) if tries_all else (PIECE, STEP)
-    return rows.told(itertools.chain(cases(program, *sizes), plain_cases(plain, *sizes)))
+    return rows.report(itertools.chain(cases(program, *sizes), plain_cases(plain, *sizes)))
 
 
 if __name__ == "__main__":

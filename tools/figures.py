@@ -25,7 +25,7 @@ class Figure(NamedTuple):
 
     page: str
     words: str
-    told: Any
+    value: Any
 
     def form(self):
         words = [re.escape(it).replace(r"\{\}", r"([0-9][0-9,]*)") for it in self.words.split()]
@@ -34,10 +34,10 @@ class Figure(NamedTuple):
     def wanted(self, counts):
         """The figures by the counts; None where one of these isn't there."""
         try:
-            told = self.told(counts)
+            found = self.value(counts)
         except KeyError:
             return None
-        return tuple(f"{it:,}" for it in (told if isinstance(told, tuple) else (told,)))
+        return tuple(f"{it:,}" for it in (found if isinstance(found, tuple) else (found,)))
 
     def fault(self, text, counts):
         """What is wrong with the figures in the page's text; None where nothing is."""
@@ -61,7 +61,7 @@ def count_of(name):
     return lambda counts: counts[name]
 
 
-def sum_of(*names):
+def total_of(*names):
     """The sum of these counts."""
     return lambda counts: sum(counts[name] for name in names)
 
@@ -81,9 +81,9 @@ def gate_took(_counts):
     return round(float(minutes)), int(processors)
 
 
-SESSIONS, REPLIES = (sum_of(*(f"list {it}_rows.{name}" for it in ("session", "encoding"))) for name in ("SESSIONS", "REPLIES"))
-REFUSED_TO_THREADS = sum_of("cases refused_sessions.FIRST", "cases refused_sessions.SAMPLE")
-RANDOM_TEXTS = sum_of(*(f"cases random_texts.COUNTS.{it}" for it in ("utf-8", "utf-16", "utf-32")))
+SESSIONS, REPLIES = (total_of(*(f"list {it}_rows.{name}" for it in ("session", "encoding"))) for name in ("SESSIONS", "REPLIES"))
+REFUSED_TO_THREADS = total_of("cases refused_sessions.FIRST", "cases refused_sessions.SAMPLE")
+RANDOM_TEXTS = total_of(*(f"cases random_texts.COUNTS.{it}" for it in ("utf-8", "utf-16", "utf-32")))
 KNOWN_FILES = counts_of("list findings_rows.WITH_ROWS", "list findings_rows.GRAMMAR_ROWS")
 FIGURES = (
     Figure(README, "./test # proves and tests all from nothing: {} minutes on {} processors, when last timed", gate_took),

@@ -11,7 +11,7 @@ import sys
 
 import refused_memory
 import rows
-from runs import HUNG, ended
+from runs import HUNG, outcome
 from sums import kit
 
 USAGE = b"usage: abnf_findings [--strict | --rules | --grammar] [--with FILE].. [--format abnf | markdown | xml] FILE..\n"
@@ -286,22 +286,22 @@ def row_cases(program, files):
     """Each row, from a file and from standard input, and where warnings don't pass."""
     for text, found in ROWS:
         what, file = f"findings of {text[:40]!r}", files.written("g.abnf", text)
-        yield what, ended(program, None, [file]), (status_of(found, False), b"", printed(file, found))
-        yield f"strict {what}", ended(program, None, ["--strict", file]), (status_of(found, True), b"", printed(file, found))
-        yield f"{what}, from standard input", ended(program, text.encode(), ["-"]), (status_of(found, False), b"", printed("-", found))
+        yield what, outcome(program, None, [file]), (status_of(found, False), b"", printed(file, found))
+        yield f"strict {what}", outcome(program, None, ["--strict", file]), (status_of(found, True), b"", printed(file, found))
+        yield f"{what}, from standard input", outcome(program, text.encode(), ["-"]), (status_of(found, False), b"", printed("-", found))
 
 
 def rule_cases(program, files):
     """The rules of each text, and of texts beside a file that can't be read."""
     for text, found in RULE_ROWS:
         what, file = f"rules of {text[:40]!r}", files.written("g.abnf", text)
-        yield what, ended(program, None, ["--rules", file]), (0, b"", printed(file, found))
-        yield f"{what}, from standard input", ended(program, text.encode(), ["--rules", "-"]), (0, b"", printed("-", found))
+        yield what, outcome(program, None, ["--rules", file]), (0, b"", printed(file, found))
+        yield f"{what}, from standard input", outcome(program, text.encode(), ["--rules", "-"]), (0, b"", printed("-", found))
     good, none = files.written("good.abnf", 'a = "x"'), files.path("none")
     is_good = printed(good, ("1:1: a: shortest length 1: x",))
-    yield "rules, and no file", ended(program, None, ["--rules", none, good]), (2, f"cannot read {none}\n".encode(), is_good)
+    yield "rules, and no file", outcome(program, None, ["--rules", none, good]), (2, f"cannot read {none}\n".encode(), is_good)
     for arguments in (["--rules"], [good, "--rules"], ["--rules", "--strict", good]):
-        yield f"the arguments {arguments}", ended(program, None, arguments), (5, USAGE, b"")
+        yield f"the arguments {arguments}", outcome(program, None, arguments), (5, USAGE, b"")
 
 
 def draft_cases(program, files):
@@ -310,28 +310,28 @@ def draft_cases(program, files):
         for text, found, told in drafts:
             what, file = f"the draft {text[:40]!r}", files.written(f"draft.{ending}", text)
             is_printed, status = printed(file, found), status_of(found, False)
-            yield what, ended(program, None, [file]), (status, b"", is_printed)
-            yield f"strict {what}", ended(program, None, ["--format", format, "--strict", file]), (status_of(found, True), b"", is_printed)
-            from_input = ended(program, text.encode(), ["--format", format, "-"])
+            yield what, outcome(program, None, [file]), (status, b"", is_printed)
+            yield f"strict {what}", outcome(program, None, ["--format", format, "--strict", file]), (status_of(found, True), b"", is_printed)
+            from_input = outcome(program, text.encode(), ["--format", format, "-"])
             yield f"{what}, from standard input", from_input, (status, b"", printed("-", found))
             rules = (status, b"", is_printed) if told is None else (0, b"", printed(file, told))
-            yield f"rules of {what}", ended(program, None, ["--rules", file]), rules
+            yield f"rules of {what}", outcome(program, None, ["--rules", file]), rules
 
 
 def format_cases(program, files):
     """What a file is by its name, and the options that tell it."""
     for name in ("a.mkd", "a.markdown"):
         file = files.written(name, "```abnf\na = ?\n```\n")
-        yield f"a draft {name}", ended(program, None, [file]), (1, b"", printed(file, ("2:5: error: bad character [syntax]",)))
+        yield f"a draft {name}", outcome(program, None, [file]), (1, b"", printed(file, ("2:5: error: bad character [syntax]",)))
     for name in ("a.abnf", "md", "a.md.txt", "a.MD", "xml", "a.XML"):
         file = files.written(name, "a = ?\n")
-        yield f"a grammar {name}", ended(program, None, [file]), (1, b"", printed(file, ("1:5: error: bad character [syntax]",)))
+        yield f"a grammar {name}", outcome(program, None, [file]), (1, b"", printed(file, ("1:5: error: bad character [syntax]",)))
     plain, good = files.written("plain.md", 'a = "x"'), files.written("good.abnf", 'a = "x"')
-    yield "a grammar in spite of its name", ended(program, None, ["--format", "abnf", plain]), (0, b"", b"")
-    yield "a draft behind a grammar", ended(program, None, [good, plain]), (0, b"", printed(plain, NO_GRAMMAR))
+    yield "a grammar in spite of its name", outcome(program, None, ["--format", "abnf", plain]), (0, b"", b"")
+    yield "a draft behind a grammar", outcome(program, None, [good, plain]), (0, b"", printed(plain, NO_GRAMMAR))
     for words in ("--format", "--format abnf", "--format XML", "--format Abnf", "--format abnf --format abnf", "--format --strict"):
-        yield f"the arguments {words} and a file", ended(program, None, [*words.split(), *[good] * (words != "--format abnf")]), (5, USAGE, b"")
-    yield "a format behind a file", ended(program, None, [good, "--format", "abnf"]), (5, USAGE, b"")
+        yield f"the arguments {words} and a file", outcome(program, None, [*words.split(), *[good] * (words != "--format abnf")]), (5, USAGE, b"")
+    yield "a format behind a file", outcome(program, None, [good, "--format", "abnf"]), (5, USAGE, b"")
 
 
 def with_cases(program, files):
@@ -340,24 +340,24 @@ def with_cases(program, files):
         known = [word for other, its in others for word in ("--with", files.written(other, its))]
         what, file = f"{text[:40]!r} with {len(others)} files", files.written(name, text)
         is_printed, status = printed(file, found), status_of(found, False)
-        yield what, ended(program, None, [*known, file]), (status, b"", is_printed)
-        yield f"strict {what}", ended(program, None, ["--strict", *known, file]), (status_of(found, True), b"", is_printed)
-        yield f"{what}, twice", ended(program, None, [*known, file, file]), (status, b"", 2 * is_printed)
+        yield what, outcome(program, None, [*known, file]), (status, b"", is_printed)
+        yield f"strict {what}", outcome(program, None, ["--strict", *known, file]), (status_of(found, True), b"", is_printed)
+        yield f"{what}, twice", outcome(program, None, [*known, file, file]), (status, b"", 2 * is_printed)
         rules = (status, b"", is_printed) if told is None else (0, b"", printed(file, told))
-        yield f"rules of {what}", ended(program, None, ["--rules", *known, file]), rules
+        yield f"rules of {what}", outcome(program, None, ["--rules", *known, file]), rules
     bad, core, none = files.written("bad.abnf", "a = ?"), files.written("core.abnf", CORE), files.path("none")
     no_text, faulty = files.written("no_text", b'a = "\xff"'), files.written("faulty.xml", "<rfc><!-- a")
     for file, line in ((none, "cannot read"), (files.folder, "cannot read"), (no_text, "not a text:"), (faulty, "not a text:")):
-        yield f"{line} a file of --with", ended(program, None, ["--with", core, "--with", file, bad]), (2, f"{line} {file}\n".encode(), b"")
+        yield f"{line} a file of --with", outcome(program, None, ["--with", core, "--with", file, bad]), (2, f"{line} {file}\n".encode(), b"")
     widest = files.written("widest.abnf", 4_194_304 * b" ")
     is_bad = printed(bad, ("1:5: error: bad character [syntax]",))
-    too_large = ended(program, None, ["--with", core, widest, bad])
+    too_large = outcome(program, None, ["--with", core, widest, bad])
     yield "a joined grammar that is too large", too_large, (2, f"not a text: {widest}\n".encode(), is_bad)
     own = [os.path.join(rows.TOP, "examples", *it) for it in (("rfc3986.abnf",), ("known", "rfc9110.abnf"))]
     link = files.written("link.abnf", 'Link = "<" URI-Reference ">" *( ows ";" OWS token [ BWS "=" BWS ( token / quoted-string ) ] )')
-    yield "names of standards", ended(program, None, ["--strict", "--with", own[0], "--with", own[1], link]), (0, b"", b"")
+    yield "names of standards", outcome(program, None, ["--strict", "--with", own[0], "--with", own[1], link]), (0, b"", b"")
     for words in (["--with"], ["--with", core], ["--grammar", "--with", core, bad], [bad, "--with", core]):
-        yield f"the arguments {words[:-1]}", ended(program, None, words), (5, USAGE, b"")
+        yield f"the arguments {words[:-1]}", outcome(program, None, words), (5, USAGE, b"")
 
 
 def without_places(lines):
@@ -369,23 +369,23 @@ def grammar_cases(program, files):
     """The grammar of each file, and that in it the same is found as in the file, but for places."""
     for name, text, grammar in GRAMMAR_ROWS:
         what, file = f"the grammar of {text[:40]!r}", files.written(name, text)
-        yield what, ended(program, None, ["--grammar", file]), (0, b"", grammar.encode())
-        yield f"{what}, twice", ended(program, None, ["--grammar", file, file]), (0, b"", 2 * grammar.encode())
+        yield what, outcome(program, None, ["--grammar", file]), (0, b"", grammar.encode())
+        yield f"{what}, twice", outcome(program, None, ["--grammar", file, file]), (0, b"", 2 * grammar.encode())
     for ending, drafts in (("md", DRAFT_ROWS), ("xml", XML_ROWS)):
         for text, found, told in drafts:
             what, file = f"the grammar of the draft {text[:40]!r}", files.written(f"draft.{ending}", text)
-            status, said, grammar = ended(program, None, ["--grammar", file])
+            status, said, grammar = outcome(program, None, ["--grammar", file])
             if found == NO_GRAMMAR or told is None:
                 yield what, (status, said, grammar), (status_of(found, False), b"", printed(file, found))
                 continue
             yield what, (status, said), (0, b"")
-            status, _, wrote = ended(program, None, [files.written("grammar.abnf", grammar)])
+            status, _, wrote = outcome(program, None, [files.written("grammar.abnf", grammar)])
             wanted = without_places(printed(file, found))
             yield f"findings in {what}", (status, without_places(wrote)), (status_of(found, False), wanted)
     none, good = files.path("none"), files.written("good.abnf", 'a = "x"')
-    yield "a grammar, and no file", ended(program, None, ["--grammar", none, good]), (2, f"cannot read {none}\n".encode(), b'a = "x"')
+    yield "a grammar, and no file", outcome(program, None, ["--grammar", none, good]), (2, f"cannot read {none}\n".encode(), b'a = "x"')
     for words in (["--grammar"], ["--grammar", "--rules", good], ["--strict", "--grammar", good], ["--grammar", "--grammar", good]):
-        yield f"the arguments {words}", ended(program, None, words), (5, USAGE, b"")
+        yield f"the arguments {words}", outcome(program, None, words), (5, USAGE, b"")
 
 
 def argument_cases(program, files):
@@ -393,18 +393,18 @@ def argument_cases(program, files):
     good, bad = files.written("good.abnf", 'a = "x"'), files.written("bad.abnf", "a = ?")
     is_bad = printed(bad, ("1:5: error: bad character [syntax]",))
     for words in (["--help"], ["--help", "-x"], ["--strict", "--help", "--strict"]):
-        yield f"the arguments {words}", ended(program, None, words), (0, b"", HELP)
+        yield f"the arguments {words}", outcome(program, None, words), (0, b"", HELP)
     told = f"abnf_findings {version()} ({told_kit()})\n".encode()
     for words in (["--version"], ["--version", "--help"], ["--rules", "--version"]):
-        yield f"the arguments {words}", ended(program, None, words), (0, b"", told)
+        yield f"the arguments {words}", outcome(program, None, words), (0, b"", told)
     full = os.open("/dev/full", os.O_WRONLY)
     for option in ("--help", "--version"):
-        yield f"{option} to an output that is full", ended(program, None, [option], stdout=full), (2, b"write failed\n", b"")
+        yield f"{option} to an output that is full", outcome(program, None, [option], stdout=full), (2, b"write failed\n", b"")
     os.close(full)
-    yield "files behind --", ended(program, None, ["--", bad]), (1, b"", is_bad)
-    yield "a file like an option behind --", ended(program, None, ["--strict", "--", good, "--strict"]), (2, b"cannot read --strict\n", b"")
+    yield "files behind --", outcome(program, None, ["--", bad]), (1, b"", is_bad)
+    yield "a file like an option behind --", outcome(program, None, ["--strict", "--", good, "--strict"]), (2, b"cannot read --strict\n", b"")
     for words in (["--"], ["-x", "--help"], [good, "--help"], [good, "--", bad], ["--with"], ["--with", good], ["--with", "--strict", good], ["--rules", "--grammar", good]):
-        yield f"the arguments {words}", ended(program, None, words), (5, USAGE, b"")
+        yield f"the arguments {words}", outcome(program, None, words), (5, USAGE, b"")
 
 
 def version_cases():
@@ -420,14 +420,14 @@ def bound_cases(program, files):
         file = files.written("many.abnf", 'aa = "x"' + uses * "\n / ab")
         hint = ", did you mean aa?" if uses * 17 <= 100_000 else ""
         lines = tuple(f"{line}:4: error: undefined rule ab{hint} [undefined]" for line in range(2, uses + 2))
-        yield f"{uses} names that stand for nothing", ended(program, None, [file]), (1, b"", printed(file, lines))
+        yield f"{uses} names that stand for nothing", outcome(program, None, [file]), (1, b"", printed(file, lines))
     for rules in (99_983, 99_984):
         file = files.written("wide.abnf", "".join(f"x{number:06} = %x61\n" for number in range(rules)) + 'aa = yy00000 / "x"')
         hint = ", did you mean x000000?" if rules + 17 <= 100_000 else ""
-        yield f"a name among {rules + 1} rules", ended(program, None, [file]), (1, b"", printed(file, (f"{rules + 1}:6: error: undefined rule yy00000{hint} [undefined]",)))
+        yield f"a name among {rules + 1} rules", outcome(program, None, [file]), (1, b"", printed(file, (f"{rules + 1}:6: error: undefined rule yy00000{hint} [undefined]",)))
     file, other = files.written("one.abnf", 'a = ab / "x"'), files.written("many.abnf", 'aa = "x"' + 5_883 * "\n / ab")
     near = printed(file, ("1:5: error: undefined rule ab, did you mean aa? [undefined]",))
-    yield "a name beside a known file with many that stand for nothing", ended(program, None, ["--with", other, file]), (1, b"", near)
+    yield "a name beside a known file with many that stand for nothing", outcome(program, None, ["--with", other, file]), (1, b"", near)
 
 
 def example_cases(program):
@@ -436,7 +436,7 @@ def example_cases(program):
     folders = (examples, os.path.join(examples, "known"))
     files = sorted(os.path.join(folder, it) for folder in folders for it in os.listdir(folder) if it.endswith(".abnf"))
     for some in (files, *([it] for it in files)):
-        yield f"examples, {len(some)} of them", ended(program, None, ["--strict", *some]), (0, b"", b"")
+        yield f"examples, {len(some)} of them", outcome(program, None, ["--strict", *some]), (0, b"", b"")
 
 
 def file_cases(program, files):
@@ -447,12 +447,12 @@ def file_cases(program, files):
     widest, none = files.written("widest.abnf", b" " * 4_194_304), files.path("none")
     is_bad = printed(bad, ("1:5: error: bad character [syntax]",))
     is_doubtful = printed(doubtful, ("1:1: warning: no earlier definition of a [no-base]",))
-    yield "a text of the greatest size", ended(program, None, [widest]), (0, b"", b"")
+    yield "a text of the greatest size", outcome(program, None, [widest]), (0, b"", b"")
     wide_draft = files.written("widest.md", b"```abnf\n" + 16_383 * (b";" + 254 * b"x" + b"\n") + b"a = ?")
-    yield "a draft of nearly that size", ended(program, None, [wide_draft]), (1, b"", printed(wide_draft, ("16385:5: error: bad character [syntax]",)))
-    yield "several files, in their order", ended(program, None, [doubtful, good, bad, doubtful]), (1, b"", is_doubtful + is_bad + is_doubtful)
-    yield "warnings alone", ended(program, None, [good, doubtful]), (0, b"", is_doubtful)
-    yield "warnings alone, strict", ended(program, None, ["--strict", good, doubtful]), (1, b"", is_doubtful)
+    yield "a draft of nearly that size", outcome(program, None, [wide_draft]), (1, b"", printed(wide_draft, ("16385:5: error: bad character [syntax]",)))
+    yield "several files, in their order", outcome(program, None, [doubtful, good, bad, doubtful]), (1, b"", is_doubtful + is_bad + is_doubtful)
+    yield "warnings alone", outcome(program, None, [good, doubtful]), (0, b"", is_doubtful)
+    yield "warnings alone, strict", outcome(program, None, ["--strict", good, doubtful]), (1, b"", is_doubtful)
     for what, file, line in (
         ("no file", none, f"cannot read {none}"),
         ("a folder", files.folder, f"cannot read {files.folder}"),
@@ -460,21 +460,21 @@ def file_cases(program, files):
         ("a file that is too large", large, f"not a text: {large}"),
         ("a file without an end", "/dev/zero", "not a text: /dev/zero"),
     ):
-        yield what, ended(program, None, [file]), (2, f"{line}\n".encode(), b"")
-        yield f"{what}, between others", ended(program, None, [bad, file, doubtful]), (2, f"{line}\n".encode(), is_bad + is_doubtful)
+        yield what, outcome(program, None, [file]), (2, f"{line}\n".encode(), b"")
+        yield f"{what}, between others", outcome(program, None, [bad, file, doubtful]), (2, f"{line}\n".encode(), is_bad + is_doubtful)
     full = os.open("/dev/full", os.O_WRONLY)
-    yield "an output that is full", ended(program, None, [bad], stdout=full), (2, b"write failed\n", b"")
-    yield "an output that is full and not needed", ended(program, None, [good], stdout=full), (0, b"", b"")
+    yield "an output that is full", outcome(program, None, [bad], stdout=full), (2, b"write failed\n", b"")
+    yield "an output that is full and not needed", outcome(program, None, [good], stdout=full), (0, b"", b"")
     os.close(full)
     for arguments in ([], ["--strict"], ["--halp"], [good, "--strict"], ["--strict", "--strict", good], ["-x"], [good, b"\xff"]):
-        yield f"the arguments {arguments}", ended(program, None, arguments), (5, USAGE, b"")
+        yield f"the arguments {arguments}", outcome(program, None, arguments), (5, USAGE, b"")
 
 
 def refusals(program, made, words):
     """How it ends with each allocation refused in turn, and last with none refused."""
     found = []
     for number in range(1, refused_memory.MOST):
-        found.append(ended(program, None, words, env=rows.in_front(made, refused_allocation=number)))
+        found.append(outcome(program, None, words, env=rows.in_front(made, refused_allocation=number)))
         if not found[-1][1] or found[-1][0] == HUNG:
             break
     return found
@@ -533,7 +533,7 @@ def cases(program):
 
 
 def main(words):
-    return rows.told(cases(*words or [rows.FINDINGS]))
+    return rows.report(cases(*words or [rows.FINDINGS]))
 
 
 if __name__ == "__main__":

@@ -15,7 +15,8 @@ import subprocess
 import sys
 import time
 
-TOP = os.path.dirname(os.path.dirname(os.path.abspath(__file__)))
+from workspace import TOP, crates
+
 TICKS = os.sysconf("SC_CLK_TCK")
 KINDS = ("proof", "edits", "tests")
 PAGE = os.path.join(TOP, "docs", "GATE.md")
@@ -74,11 +75,6 @@ def watched(gate):
 def edits_of(crate):
     folder = os.path.join(TOP, "crates", crate, "edits")
     return sum(it.endswith(".edit") for it in os.listdir(folder)) if os.path.isdir(folder) else 0
-
-
-def crates():
-    with open(os.path.join(TOP, "crates.txt"), encoding="utf-8") as file:
-        return [line.split()[0].rstrip(":") for line in file if ":" in line.partition("#")[0]]
 
 
 def table(seconds, works):

@@ -149,7 +149,7 @@ UNBUILT = (
 
 def copied(programs, copy):
     """A copy of what an install reads, in which these programs stand for those that are built from its sources."""
-    for name in ("install", "build", "crates.txt", "tools/build.py", "tools/install.py"):
+    for name in ("install", "build", "crates.txt", "tools/build.py", "tools/install.py", "tools/workspace.py"):
         os.makedirs(os.path.dirname(os.path.join(copy, name)), exist_ok=True)
         shutil.copy(os.path.join(TOP, name), os.path.join(copy, name))
     for name in ("man", "editors"):
@@ -293,7 +293,7 @@ def cases(*programs):
 
 def main(words):
     folder = words[0] if words else os.path.join(TOP, "out")
-    return rows.told(cases(*(os.path.join(folder, it) for it in PROGRAMS)))
+    return rows.report(cases(*(os.path.join(folder, it) for it in PROGRAMS)))
 
 
 if __name__ == "__main__":

@@ -10,13 +10,13 @@ import sys
 import tempfile
 
 from edits import checks, copies
-from edits.files import BAD_NAME, edits_in, read, write
+from edits.files import BAD_NAME, edits_in, read
 from edits.kit import DOES_KEEP, RTLIB, crates_of
-from edits.libraries import Gate, Libraries, copy_crates
+from edits.libraries import Gate, Libraries
 from edits.store import NoStore, Store
 from edits.verdict import STALE, TIMED_OUT, TOO_LONG
+from workspace import NO_COMPILE, TOP, copy_crates, write
 
-TOP = os.path.dirname(os.path.dirname(os.path.abspath(__file__)))
 NOTHING_PROVED = ("--only", "")
 # How a check ends that has found an error.
 IS_WRONG = 1
@@ -43,7 +43,7 @@ def tried(crate, path):
         copies.copied(crate.folder, folder)
         for name, text in texts.items():
             write(f"{folder}/{name}", text)
-        ended = checks.checked(crate, folder, NOTHING_PROVED)
+        ended = checks.run(crate, folder, NOTHING_PROVED)
     return verdict(ended, others["error"][0])
 
 
@@ -51,7 +51,7 @@ def results_in(folder):
     """What each edit comes to, on a copy of the crates in this folder."""
     copy_crates(TOP, folder)
     crates, results = crates_of(folder), {}
-    found = {it: edits_in(f"{it.folder}/must-not-compile") for it in crates}
+    found = {it: edits_in(f"{it.folder}/{NO_COMPILE}") for it in crates}
     needed = {below for it, (good, _) in found.items() if good for below in it.below()}
     libraries = Libraries(TOP, Store(crates) if DOES_KEEP else NoStore(), Gate(None))
     lost = {it for it, is_there in libraries.arriving([it for it in crates if it in needed]) if not is_there}
@@ -60,7 +60,7 @@ def results_in(folder):
         for it in good:
             is_whole = lost.isdisjoint(crate.below())
             why = False, "NOT TRIED: a library below its crate isn't proved"
-            results[f"{crate.name}/{it}"] = tried(crate, f"{crate.folder}/must-not-compile/{it}") if is_whole else why
+            results[f"{crate.name}/{it}"] = tried(crate, f"{crate.folder}/{NO_COMPILE}/{it}") if is_whole else why
     return results
 
 

@@ -36,7 +36,7 @@ import rows
 import session_rows
 import shaken_threads
 import threaded_sessions
-from runs import ended, frame, frames
+from runs import outcome, frame, frames
 
 USAGE = b"usage: abnf_ls [example FILE RULE | check FILE CERT]\n"
 
@@ -52,49 +52,49 @@ IS_NO_REQUEST = frame(b'{"error":{"code":-32600,"message":"invalid request"},"id
 def with_device(program, given, path, flags, arguments=(), **at):
     device = os.open(path, flags)
     try:
-        return ended(program, given, arguments, **{name: device for name in at})
+        return outcome(program, given, arguments, **{name: device for name in at})
     finally:
         os.close(device)
 
 
 def long_cases(program):
     """Each of these messages is an event when it is answered, and one more when the answer is written."""
-    status, said, wrote = ended(program, NO_REQUEST * 500_001)
+    status, said, wrote = outcome(program, NO_REQUEST * 500_001)
     yield "more events than a journal has", (status, said, wrote == IS_NO_REQUEST * 500_001), (1, b"", True)
 
 
 def end_cases(program):
     """What each case is, how the program ended in it, and how it must end."""
     for argument in ("--stdio", b"\xff"):
-        yield f"the argument {argument}", ended(program, NO_REQUEST, [argument]), (5, USAGE, b"")
-    yield "no input", ended(program, b""), (1, b"", b"")
-    yield "no exit", ended(program, NO_REQUEST), (1, b"", IS_NO_REQUEST)
-    yield "exit alone", ended(program, EXIT), (1, b"", b"")
-    yield "a cut frame", ended(program, NO_REQUEST[:-1]), (2, b"framing fault 7 Truncated\n", b"")
+        yield f"the argument {argument}", outcome(program, NO_REQUEST, [argument]), (5, USAGE, b"")
+    yield "no input", outcome(program, b""), (1, b"", b"")
+    yield "no exit", outcome(program, NO_REQUEST), (1, b"", IS_NO_REQUEST)
+    yield "exit alone", outcome(program, EXIT), (1, b"", b"")
+    yield "a cut frame", outcome(program, NO_REQUEST[:-1]), (2, b"framing fault 7 Truncated\n", b"")
     bad = b"Content-Length: -1\r\n\r\n"
-    yield "a bad length behind a frame", ended(program, NO_REQUEST + bad), (2, b"framing fault 5 BadLength\n", IS_NO_REQUEST)
+    yield "a bad length behind a frame", outcome(program, NO_REQUEST + bad), (2, b"framing fault 5 BadLength\n", IS_NO_REQUEST)
     full = os.open("/dev/full", os.O_WRONLY)
-    yield "an output that is full", ended(program, NO_REQUEST, stdout=full), (2, b"write failed\n", b"")
+    yield "an output that is full", outcome(program, NO_REQUEST, stdout=full), (2, b"write failed\n", b"")
     os.close(full)
     read_end, write_end = os.pipe()
     os.close(read_end)
-    yield "an output that nobody reads", ended(program, NO_REQUEST, stdout=write_end), (2, b"write failed\n", b"")
+    yield "an output that nobody reads", outcome(program, NO_REQUEST, stdout=write_end), (2, b"write failed\n", b"")
     os.close(write_end)
     folder = os.open("/", os.O_RDONLY)
-    yield "an input that can't be read", ended(program, None, stdin=folder), (2, b"read failed\n", b"")
+    yield "an input that can't be read", outcome(program, None, stdin=folder), (2, b"read failed\n", b"")
     os.close(folder)
-    status, said, wrote = ended(program, INITIALIZE + SHUTDOWN + EXIT)
+    status, said, wrote = outcome(program, INITIALIZE + SHUTDOWN + EXIT)
     yield "shutdown and exit", (status, said, wrote[-len(IS_SHUT_DOWN):]), (0, b"", IS_SHUT_DOWN)
     for arguments in (["example", "x"], ["example", "x", "a", "a"], ["Example", "x", "a"], ["example", "x", b"\xff"]):
-        yield f"the arguments {arguments}", ended(program, None, arguments), (5, USAGE, b"")
+        yield f"the arguments {arguments}", outcome(program, None, arguments), (5, USAGE, b"")
 
 
 def session_cases(worked, program):
     """What is written in each of the worked sessions, and how it ends."""
     for what, said, answered, status in worked.SESSIONS:
-        yield what, ended(program, frames(said)), (status, b"", frames(answered))
+        yield what, outcome(program, frames(said)), (status, b"", frames(answered))
     for what, said, answered, versions in worked.REPLIES:
-        status, line, wrote = ended(program, frames(said))
+        status, line, wrote = outcome(program, frames(said))
         yield what, (status, line, *threaded_sessions.split(wrote)), (1, b"", frames(answered), versions, b"")
 
 
@@ -103,8 +103,8 @@ def frame_cases(program):
     before, answered = frames([session_rows.INITIALIZE]), frames([session_rows.CAPABILITIES])
     for stream, fault in session_rows.FRAMES:
         line = f"framing fault {fault}\n".encode()
-        yield f"{fault}: {stream[:60]}", ended(program, before + stream), (2, line, answered)
-    other_form = ended(program, b"content-length:  002 \r\n\r\n{}")
+        yield f"{fault}: {stream[:60]}", outcome(program, before + stream), (2, line, answered)
+    other_form = outcome(program, b"content-length:  002 \r\n\r\n{}")
     yield "a header part of another form", other_form, (1, b"", frames([session_rows.INVALID_REQUEST]))
 
 
@@ -120,7 +120,7 @@ def file_rows(program, files):
     large, large_cert = files.sparse("large.abnf", 4_194_305), files.sparse("large", 268_435_457)
     widest = files.written("widest.abnf", b" " * 4_194_304)
     none, folder = files.path("none"), files.folder
-    yield "a text of the greatest size", ended(program, None, ["example", widest, "a"]), (0, b"", b"undefined\n\n")
+    yield "a text of the greatest size", outcome(program, None, ["example", widest, "a"]), (0, b"", b"undefined\n\n")
     for what, arguments, line in (
         ("no file", ["example", none, "a"], f"cannot read {none}"),
         ("a folder", ["example", folder, "a"], f"cannot read {folder}"),
@@ -134,7 +134,7 @@ def file_rows(program, files):
         ("a file that isn't UTF-8, and no certificate", ["check", bad, none], f"not a text: {bad}"),
         ("a file that is too large, and a bad certificate", ["check", large, no_cert], f"not a text: {large}"),
     ):
-        yield what, ended(program, None, arguments), (2, f"{line}\n".encode(), b"")
+        yield what, outcome(program, None, arguments), (2, f"{line}\n".encode(), b"")
     for arguments in (["example", good, "a"], ["check", good, cert]):
         full = with_device(program, None, "/dev/full", os.O_WRONLY, arguments=arguments, stdout=True)
         yield f"{arguments[0]} with an output that is full", full, (2, b"write failed\n", b"")
@@ -206,7 +206,7 @@ class Tally:
         print(f"program_ends: {line}")
         self.failed += 1
 
-    def take(self, word, told):
+    def take(self, word, listed):
         """Takes in what is handed in."""
         found = re.fullmatch(r"(?:(\w+): )?(\d+) passed, (\d+) failed(?:, status (\d+))?", word)
         if not found:
@@ -216,32 +216,32 @@ class Tally:
         self.passed, self.failed = self.passed + passed, self.failed + failed
         if status and not failed:
             self.fails(f"{name} ended with the status {status}")
-        if passed + failed < least(name, told):
-            self.fails(f"{name}: {passed + failed} were tried, and counts.txt has {least(name, told)}")
+        if passed + failed < least(name, listed):
+            self.fails(f"{name}: {passed + failed} were tried, and counts.txt has {least(name, listed)}")
 
     def run(self):
         """Takes in all cases, and gives how many rows each tool has had for each program."""
         found = collections.Counter()
         for program, tool, case in all_cases():
-            print(f"{program}, {case.told()}", flush=True)
+            print(f"{program}, {case.line()}", flush=True)
             self.passed, self.failed = self.passed + case.is_good(), self.failed + (not case.is_good())
             found[f"{counts.ROWS} {program} {tool}"] += case.count
         return found
 
 
-def least(name, told):
+def least(name, listed):
     """How many a tool of this name must at least tell of, by counts.txt."""
     kinds = {"crates": ("crates",), "edits": ("edits", "same-meaning"), "tests": ("tests",)}.get(name, ())
-    return sum(count for it, count in told.items() if it.partition(" ")[0] in kinds)
+    return sum(count for it, count in listed.items() if it.partition(" ")[0] in kinds)
 
 
 def main(words):
-    told, tally = counts.parsed(counts.text_of(counts.COUNTS)), Tally()
+    listed, tally = counts.parsed(counts.text_of(counts.COUNTS)), Tally()
     for word in words:
-        tally.take(word, told)
+        tally.take(word, listed)
     found = tally.run()
     counts.keep_rows(found)
-    for line in counts.differences(counts.of_kind(told, True), found):
+    for line in counts.differences(counts.of_kind(listed, True), found):
         tally.fails(line)
     print(f"{tally.passed} passed, {tally.failed} failed")
     return 1 if tally.failed else 0

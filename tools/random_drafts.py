@@ -18,7 +18,7 @@ import sys
 
 import rows
 from random_texts import random_text
-from runs import ended
+from runs import outcome
 
 COUNT, SEED = 200, 1
 WORDS = ("", "Some words.", "\u00e9\u4e2d\U0001f600", "    an = indented block", "- an item", "# A title", "``no = fence``", "<!-- -->")
@@ -73,7 +73,7 @@ def draft_of(dice, lines):
 
 def told(program, options, text, name):
     """How a run on a text from standard input ends, with its lines under another name."""
-    status, said, wrote = ended(program, text.encode(), [*options, "-"])
+    status, said, wrote = outcome(program, text.encode(), [*options, "-"])
     return status, said, [f"{name}{line[1:]}" for line in wrote.decode().splitlines()]
 
 
@@ -155,7 +155,7 @@ def cases(program):
 
 def main(words):
     program, count, seed = [*words, *[rows.FINDINGS, COUNT, SEED][len(words) :]]
-    return rows.told(itertools.chain(draft_cases(program, int(count), seed), known_cases(program, int(count), seed)))
+    return rows.report(itertools.chain(draft_cases(program, int(count), seed), known_cases(program, int(count), seed)))
 
 
 if __name__ == "__main__":

@@ -405,7 +405,7 @@ def answers_of(program, messages):
     """What is answered to each request: its result, or the text of its error; and what is published of each version. Nothing is where the program
     doesn't end as it must."""
     said = runs.frames(json.dumps({"jsonrpc": "2.0", **message}) for message in messages)
-    status, line, wrote = runs.ended(program, said, seconds=SECONDS)
+    status, line, wrote = runs.outcome(program, said, seconds=SECONDS)
     if (status, line) != (1, b""):
         print(f"it ended with {status} {line}")
         return {}
@@ -475,7 +475,7 @@ def cases(program, seed=SEED, counts=None):
 
 
 def main(program=rows.PLAIN, seed=SEED, count=600, *encodings):
-    return rows.told(cases(program, int(seed), dict.fromkeys(encodings or UNITS, int(count))))
+    return rows.report(cases(program, int(seed), dict.fromkeys(encodings or UNITS, int(count))))
 
 
 if __name__ == "__main__":

@@ -36,7 +36,7 @@ ANSWERS = (CAPABILITIES, CLEAN, OUTLINE, HOVERED, RENAMED, DOWN)
 
 def refused(program, made, arguments, given, first, last):
     """A run in which these allocations are refused."""
-    return runs.ended(program, given, arguments, env=rows.in_front(made, first_refused=first, last_refused=last))
+    return runs.outcome(program, given, arguments, env=rows.in_front(made, first_refused=first, last_refused=last))
 
 
 def all_refused(program, made, arguments, given):
@@ -103,7 +103,7 @@ def session_cases(program):
 
 def main(words):
     (program, plain), _ = rows.programs_of(words, rows.SERVER, rows.PLAIN)
-    return rows.told(itertools.chain(command_cases(program), session_cases(plain)))
+    return rows.report(itertools.chain(command_cases(program), session_cases(plain)))
 
 
 if __name__ == "__main__":

@@ -50,15 +50,15 @@ import time
 import traceback
 
 from edits import checks
-from edits.files import BAD_NAME, edits_in, unread_folders
+from edits.files import BAD_NAME, edits_in
 from edits.kit import DOES_KEEP, RT, RTLIB, crates_of
-from edits.libraries import Gate, Libraries, copy_crates
+from edits.libraries import Gate, Libraries
 from edits.store import NoStore, Store
 from edits.trial import KINDS, Trial
 from edits.verdict import is_at_a_bound
+from workspace import SAME_MEANING, TOP, copy_crates, out_of_place, places
 
-TOP = os.path.dirname(os.path.dirname(os.path.abspath(__file__)))
-SAME_MEANING = os.path.join(TOP, "tools", "same_meaning")
+SAME = f"{TOP}/{SAME_MEANING}"
 
 
 @contextlib.contextmanager
@@ -113,10 +113,10 @@ def untested(trials, folder):
 
 def unread(trials, crates, names):
     """What is said of all that no trial would read: folders, names that fit nothing, a self-test that would try nothing."""
-    said = [f"{at}: {why}" for at, why in unread_folders(TOP, [it.name for it in crates])]
-    bad = {crate: edits_in(at)[1] for crate, at in same_meaning(SAME_MEANING).items()}
+    said = [*out_of_place(places(TOP), [it.name for it in crates])]
+    bad = {crate: edits_in(at)[1] for crate, at in same_meaning(SAME).items()}
     said += [f"tools/same_meaning/{crate}/{it}: {BAD_NAME}" for crate, found in bad.items() for it in found]
-    why = None if names else untested(trials, SAME_MEANING)
+    why = None if names else untested(trials, SAME)
     said += [why] if why else []
     known = {it.crate.name for it in trials if it.edits} | {f"{it.crate.name}/{edit.name}" for it in trials for edit in it.edits}
     said += [f"{it}: there is no such edit, and no crate of this name that has edits" for it in names if it not in known]
@@ -134,7 +134,7 @@ def tried(trials, crates, given, libraries):
             return trial, trial.run()
         except Exception:  # noqa: BLE001 (whatever it is, the other crates' edits are tried)
             trial.not_tried(trial.edits, "this tool failed")
-            return trial, [traceback.format_exc(), *trial.told()]
+            return trial, [traceback.format_exc(), *trial.lines()]
 
     with concurrent.futures.ThreadPoolExecutor(given.jobs) as pool:
 
@@ -152,7 +152,7 @@ def tried(trials, crates, given, libraries):
             for trial in [it for it in trials if not is_there and crate in it.crate.below()]:
                 trials.remove(trial)
                 trial.not_tried(trial.edits, f"its library {crate.name} isn't proved")
-                print("\n".join(trial.told()), flush=True)
+                print("\n".join(trial.lines()), flush=True)
                 results += trial.results.values()
         for it in concurrent.futures.as_completed(running):
             trial, said = it.result()
@@ -178,7 +178,7 @@ def run(given, folder):
     copy_crates(TOP, folder)
     crates = crates_of(folder)
     store = Store(crates) if DOES_KEEP else NoStore()
-    same = same_meaning(SAME_MEANING) if not given.names else {}
+    same = same_meaning(SAME) if not given.names else {}
     trials = [Trial(it, given, store, same.get(it.name)) for it in crates]
     unfit = [*unread(trials, crates, given.names), *(line for it in trials for line in it.unfit())]
     edits = sum(len(it.edits) for it in trials)

@@ -60,7 +60,7 @@ def all_runs(program, made):
     """The status, the output and the standard error of a run with each allocation refused, and at last with none."""
 
     def run(number):
-        status, said, wrote = runs.ended(program, b"", env=rows.in_front(made, refused_allocation=number))
+        status, said, wrote = runs.outcome(program, b"", env=rows.in_front(made, refused_allocation=number))
         return status, wrote, said
 
     for first in range(1, MOST, TOGETHER):
@@ -131,7 +131,7 @@ def cases(program):
 
 
 def main(words):
-    return rows.told(cases(*words or [rows.built("refused_memory")]))
+    return rows.report(cases(*words or [rows.built("refused_memory")]))
 
 
 if __name__ == "__main__":

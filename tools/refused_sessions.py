@@ -160,7 +160,7 @@ class Wanted:
             count = len(runs.bodies_of(client.wrote)[0])
             leads = "id" in said or said.get("method", 5) in (5, "textDocument/didOpen", "textDocument/didChange")
             client.turn(runs.frames([message]), lambda wrote, many=count + leads: len(runs.bodies_of(wrote)[0]) >= many)
-        status, said, wrote = client.ended()
+        status, said, wrote = client.outcome()
         bodies, rest = runs.bodies_of(wrote)
         self.is_whole = (status, said, rest, len(bodies)) == (0, b"", b"", len(REQUESTS) + 1 + 4)
         self.bodies = {key_of(body): {body} for body in bodies}
@@ -196,7 +196,7 @@ def limits(numbers, most):
 
 def refused(program, made, first, last):
     """A run in which these allocations are refused."""
-    return runs.ended(program, GIVEN, env=rows.in_front(made, first_refused=first, last_refused=last))
+    return runs.outcome(program, GIVEN, env=rows.in_front(made, first_refused=first, last_refused=last))
 
 
 def counted(run):
@@ -243,7 +243,7 @@ def cases(program, sample=SAMPLE, seed=SEED):
 
 def main(words):
     (program,), tries_all = rows.programs_of(words, rows.SERVER)
-    return rows.told(cases(program, None if tries_all else SAMPLE))
+    return rows.report(cases(program, None if tries_all else SAMPLE))
 
 
 if __name__ == "__main__":

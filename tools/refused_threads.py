@@ -31,9 +31,9 @@ int pthread_create(void *thread, const void *attributes, void *(*start)(void *),
 """
 
 
-def ended(program, made, number):
+def outcome(program, made, number):
     """The status, the standard error and the output of a run in which this thread is refused."""
-    status, said, wrote = runs.ended(program, NO_REQUEST, env=rows.in_front(made, refused_thread=number))
+    status, said, wrote = runs.outcome(program, NO_REQUEST, env=rows.in_front(made, refused_thread=number))
     return status, said, len(wrote)
 
 
@@ -41,12 +41,12 @@ def cases(program):
     """What was tried, how the program ended, and how it must end: the last run is one in which no thread is refused."""
     with rows.library(LIBRARY) as made:
         for number in range(1, THREADS + 1):
-            yield f"thread {number} refused", ended(program, made, number), (6, b"out of memory\n", 0)
-        yield "no thread refused", ended(program, made, THREADS + 1), (1, b"", 101)
+            yield f"thread {number} refused", outcome(program, made, number), (6, b"out of memory\n", 0)
+        yield "no thread refused", outcome(program, made, THREADS + 1), (1, b"", 101)
 
 
 def main(words):
-    return rows.told(cases(*words or [rows.SERVER]))
+    return rows.report(cases(*words or [rows.SERVER]))
 
 
 if __name__ == "__main__":

@@ -289,7 +289,7 @@ class Heard(NamedTuple):
 
 def plainly(program, session, environment=None):
     """All messages in one write."""
-    status, said, wrote = runs.ended(program, runs.frames(session.messages), env=environment)
+    status, said, wrote = runs.outcome(program, runs.frames(session.messages), env=environment)
     return Heard(status, said, *runs.bodies_of(wrote), len(session.messages))
 
 
@@ -312,7 +312,7 @@ def replayed(program, session, way, environment, seconds=shaken_threads.SECONDS)
         if came:
             came, some = client.says(runs.frames(session.messages[start:end]), due, seconds)
             bodies, sent = bodies + some, end
-    status, said, wrote = client.ended()
+    status, said, wrote = client.outcome()
     some, rest = runs.bodies_of(wrote)
     return Heard(status, shaken_threads.COUNTED.sub(b"", said), bodies + some, rest, sent)
 
@@ -344,7 +344,7 @@ def is_in_order(keys):
 
 def in_its_own(program, session, key):
     """What is wrong with what a process publishes that opens just this text; None where nothing is."""
-    status, said, wrote = runs.ended(program, runs.frames([session.messages[0], opened(*key, session.texts[key])]))
+    status, said, wrote = runs.outcome(program, runs.frames([session.messages[0], opened(*key, session.texts[key])]))
     found = (status, said, wrote)
     wanted = (1, b"", runs.frames([session.bodies["1"], session.bodies[key]]))
     return None if found == wanted else (session.number, key, status, said, difference(wrote, wanted[2]))
@@ -472,7 +472,7 @@ def cases(program):
 
 def main(words):
     (program, plain), _ = rows.programs_of(words, rows.SERVER, rows.PLAIN)
-    return rows.told(itertools.chain(plain_cases(plain), cases(program)))
+    return rows.report(itertools.chain(plain_cases(plain), cases(program)))
 
 
 if __name__ == "__main__":

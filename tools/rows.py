@@ -11,8 +11,8 @@ import tempfile
 from typing import Any, NamedTuple
 
 import preload
+from workspace import TOP
 
-TOP = os.path.dirname(os.path.dirname(os.path.abspath(__file__)))
 # What the name of a program ends in that each of the two compilers builds
 COMPILERS = ("", ".by-rattle")
 # So much is told of what was found and of what was wanted.
@@ -39,18 +39,18 @@ class Case(NamedTuple):
     def is_good(self):
         return self.found == self.wanted
 
-    def told(self):
+    def line(self):
         """The line that says what the case came to."""
         if self.is_good():
             return f"{self.what}: as it must be"
         return f"{self.what}: FAILED: {str(self.found)[:MOST_TOLD]}, and not {str(self.wanted)[:MOST_TOLD]}"
 
 
-def told(cases):
+def report(cases):
     """Prints what each case came to, and at last how many passed and failed. Gives the status of the tool."""
     passed = failed = 0
     for case in (Case(*it) for it in cases):
-        print(case.told(), flush=True)
+        print(case.line(), flush=True)
         passed, failed = passed + case.is_good(), failed + (not case.is_good())
     print(f"{passed} passed, {failed} failed")
     return 1 if failed or not passed else 0

@@ -45,7 +45,7 @@ def stopped(process):
     return HUNG
 
 
-def ended(program, given, arguments=(), stdin=subprocess.PIPE, stdout=subprocess.PIPE, env=None, seconds=SECONDS):
+def outcome(program, given, arguments=(), stdin=subprocess.PIPE, stdout=subprocess.PIPE, env=None, seconds=SECONDS):
     """The status of a run, its standard error and its standard output."""
     ran = subprocess.Popen([program, *arguments], stdin=stdin, stdout=stdout, stderr=subprocess.PIPE, env=env)
     try:
@@ -97,8 +97,8 @@ class Client:
         self.process.stdout.close()
         self.is_open = False
 
-    def ended(self):
-        """Closes the input, reads what still comes, and answers as `ended` does."""
+    def outcome(self):
+        """Closes the input, reads what still comes, and answers as `outcome` does."""
         self.process.stdin.close()
         self.turn(b"", lambda wrote: not self.is_open)
         try:
@@ -121,4 +121,4 @@ def by_turns(program, turns, rest=b"", env=None, patience=float("inf")):
         if not client.turn(frame(as_bytes(message)), lambda wrote: len(bodies_of(wrote)[0]) >= count, patience=patience):
             break
     client.turn(rest, lambda wrote: True)
-    return client.ended()
+    return client.outcome()

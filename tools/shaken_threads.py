@@ -421,7 +421,7 @@ class Wanted:
 
     def __init__(self, plain, talk):
         self.talk = talk
-        self.status, said, self.wrote = runs.ended(plain, runs.frames(talk.messages), seconds=SECONDS)
+        self.status, said, self.wrote = runs.outcome(plain, runs.frames(talk.messages), seconds=SECONDS)
         bodies, rest = runs.bodies_of(self.wrote)
         self.keys = keys_of(self.wrote) or []
         self.replies = set(filter(is_reply, self.keys))
@@ -462,7 +462,7 @@ def ran(program, made, dice, talk, way):
         if not client.say(given, due):
             break
         time.sleep(dice.choice((0, 0, 0.002)) * dice.random())
-    return client.ended()
+    return client.outcome()
 
 
 def counted(said):
@@ -522,7 +522,7 @@ def cases(program, count=COUNT, seed=SEED, plain=rows.PLAIN):
 
 
 def main(program=rows.SERVER, count=COUNT, seed=SEED, plain=rows.PLAIN):
-    return rows.told(cases(program, int(count), seed, plain))
+    return rows.report(cases(program, int(count), seed, plain))
 
 
 if __name__ == "__main__":

@@ -10,7 +10,7 @@ all that the machine did; with more than one job they tell little.
 import os
 import sys
 
-TOP = os.path.dirname(os.path.dirname(os.path.abspath(__file__)))
+from workspace import TOP
 
 
 def kept(crate):

@@ -26,8 +26,8 @@ import sums
 import tests_ran
 import verdict_rows
 from edits import checks
-from edits.files import write
 from edits.store import NoStore
+from workspace import sum_of, write
 
 COMPILE_ERROR = "src/lib.rt:5:5: error[borrow-e0515]: cannot return value referencing local variable `b`"
 OTHER_ERROR = "src/lib.rt:5:5: error[borrow-e0505]: cannot move out of `b` because it is borrowed"
@@ -85,12 +85,12 @@ def made_repository(**provers_faults):
         made = replaced(
             refused_edits,
             TOP=top,
-            SAME_MEANING=same,
+            SAME=same,
             DOES_KEEP=False,
             Libraries=NoLibraries,
-            copy_crates=lambda top, folder: None,
+            copy_crates=lambda top, to: None,
             crates_of=lambda folder: [verdict_rows.Crate(f"{top}/made")],
-            unread_folders=lambda top, names: [],
+            places=lambda top: (),
         )
         with made:
             yield top
@@ -149,11 +149,11 @@ def compile_stages():
                 must_not_compile,
                 DOES_KEEP=False,
                 Libraries=NoLibraries,
-                copy_crates=lambda top, folder: None,
+                copy_crates=lambda top, to: None,
                 crates_of=lambda folder, at=at: [verdict_rows.Crate(f"{at}/made")],
             )
             ended = checks.Ended(status, f"{log}\n")
-            with played, replaced(checks, checked=lambda *_, ended=ended: ended), replaced(checks.RTLIB, guarded=lambda: ()):
+            with played, replaced(checks, run=lambda *_, ended=ended: ended), replaced(checks.RTLIB, guarded=lambda: ()):
                 yield f"must not compile: {what}", ends_with(must_not_compile.main)[1], wanted
 
 
@@ -170,13 +170,13 @@ SUM_STAGES = (
 
 
 def sum_stages():
-    for what, told, made, line, status in SUM_STAGES:
+    for what, listed, made, line, status in SUM_STAGES:
         with rows.files() as files:
-            for name, text in (told or {}).items():
+            for name, text in (listed or {}).items():
                 files.written(name, text)
-            listed = {name: sums.sum_of(files.path(name)) for name in told or {}}
-            if told is not None:
-                files.written("sums.txt", sums.written(listed, "kit 1"))
+            sums_of_files = {name: sum_of(files.path(name)) for name in listed or {}}
+            if listed is not None:
+                files.written("sums.txt", sums.written(sums_of_files, "kit 1"))
             for name in ("p", "q"):
                 with contextlib.suppress(FileNotFoundError):
                     os.remove(files.path(name))
@@ -192,7 +192,7 @@ def sum_stages():
 
 # ---- the runs of programs
 
-TOLD = {"crates": 2, "edits a": 3, "rows p tool": 2}
+COUNTS = {"crates": 2, "edits a": 3, "rows p tool": 2}
 WELL = ("crates: 2 passed, 0 failed, status 0", "edits: 3 passed, 0 failed, status 0", "sums: 2 passed, 0 failed, status 0")
 # What is handed in, the rows of the played tool, and what comes of it.
 RUN_STAGES = (
@@ -212,8 +212,8 @@ RUN_STAGES = (
 def run_stages():
     for what, words, found, line, status in RUN_STAGES:
         played = replaced(program_ends, all_cases=lambda found=found: (("p", "tool", rows.Case(*it)) for it in found))
-        told = replaced(counts, parsed=lambda text: TOLD, text_of=lambda path: "", keep_rows=lambda found: None)
-        with played, told:
+        counted = replaced(counts, parsed=lambda text: COUNTS, text_of=lambda path: "", keep_rows=lambda found: None)
+        with played, counted:
             yield f"runs: {what}", ends_with(program_ends.main, list(words)), (line, status)
 
 
@@ -241,8 +241,8 @@ def test_stages():
     for what, log, line, status in TEST_STAGES:
         with rows.files() as files:
             path = files.written("log", log)
-            told = replaced(counts, parsed=lambda text: TESTS, text_of=lambda it, path=path, log=log: log if it == path else "")
-            with told:
+            counted = replaced(counts, parsed=lambda text: TESTS, text_of=lambda it, path=path, log=log: log if it == path else "")
+            with counted:
                 yield f"tests: {what}", ends_with(tests_ran.main, [path]), (line, status)
 
 
@@ -251,10 +251,10 @@ def test_stages():
 def line_stages():
     """A stage that says line by line what is wrong ends well only where it says nothing."""
     for found, ends in (((), ("as counts.txt has them", 0)), (("a", "b"), ("FAILED", 1))):
-        played = replaced(counts, faults=lambda told, found=found: iter(found), parsed=lambda text: TOLD, text_of=lambda path: "")
+        played = replaced(counts, faults=lambda listed, found=found: iter(found), parsed=lambda text: COUNTS, text_of=lambda path: "")
         with played:
             yield f"counts: {len(found)} faults", ends_with(counts.main, []), (f"counts: {ends[0]}", ends[1])
-    with replaced(counts, parsed=lambda text: TOLD, text_of=lambda path: ""):
+    with replaced(counts, parsed=lambda text: COUNTS, text_of=lambda path: ""):
         yield "counts: another word", bool(ends_with(counts.main, ["--other"])[1]), True
     for found, ends in (((), ("as the repository is", 0)), (("a",), ("FAILED", 1))):
         with replaced(documents, faults=lambda tree, found=found: iter(found), whole_tree=lambda: None):
@@ -287,7 +287,7 @@ def gate_stages():
 def told_stages():
     """A tool of rows fails where a row does, and where there is none."""
     for found, ends in (((), 1), ((("a", 1, 1),), 0), ((("a", 1, 1), ("b", 1, 2)), 1)):
-        yield f"rows: {len(found)}", ends_with(rows.told, found)[1], ends
+        yield f"rows: {len(found)}", ends_with(rows.report, found)[1], ends
 
 
 def cases():
@@ -298,4 +298,4 @@ def cases():
 if __name__ == "__main__":
     # (what says how cases went is tried here too, so its own word isn't enough)
     wrong = [what for what, found, wanted in told_stages() if found != wanted]
-    sys.exit(rows.told(cases()) or len(wrong))
+    sys.exit(rows.report(cases()) or len(wrong))

@@ -8,26 +8,17 @@ the one whose crates are proved here: sums.txt has the SHA-256 sum of each, in t
 crates and with the kit, whose compiler and libraries make the program. --write puts the sums of the programs that are built into
 sums.txt, and leaves that of one that isn't as it is. The last line is 'N passed, M failed'.
 """
-import hashlib
 import os
 import subprocess
 import sys
 
-from rows import FINDINGS, SERVER, TOP
+from rows import FINDINGS, SERVER
+from workspace import TOP, sum_of
 
 SUMS = os.path.join(TOP, "sums.txt")
 PROGRAMS = (SERVER, FINDINGS)
 WRITE = "tools/sums.py --write"
 BY = "# By "
-
-
-def sum_of(path):
-    """The sum of a program; None where there is none."""
-    try:
-        with open(path, "rb") as file:
-            return hashlib.sha256(file.read()).hexdigest()
-    except FileNotFoundError:
-        return None
 
 
 def kit():
@@ -47,18 +38,18 @@ def written(sums, by):
     return f"{BY}{by}\n" + "".join(f"{total}  {name}\n" for name, total in sums.items())
 
 
-def difference(name, told, made):
+def difference(name, listed, made):
     """What is wrong with the sum of a program as it was made; None where nothing is."""
-    if made == told:
+    if made == listed:
         return None
     if made is None:
         return f"{name}: there is no program"
-    return f"{name}: its sum is {made}, and {told or 'none'} in sums.txt"
+    return f"{name}: its sum is {made}, and {listed or 'none'} in sums.txt"
 
 
-def differences(told, by, made, now_by):
-    """A line for each sum that isn't as told; the last line is what to do."""
-    found = [line for name in dict.fromkeys([*told, *made]) if (line := difference(name, told.get(name), made.get(name)))]
+def differences(listed, by, made, now_by):
+    """A line for each sum that isn't as listed; the last line is what to do."""
+    found = [line for name in dict.fromkeys([*listed, *made]) if (line := difference(name, listed.get(name), made.get(name)))]
     if found:
         found.append(f"built by {now_by}, and sums.txt written by {by}; where code, kit or compiler have changed, `{WRITE}` writes it anew")
     return found
@@ -66,21 +57,21 @@ def differences(told, by, made, now_by):
 
 def main(words):
     made = {os.path.basename(path): sum_of(path) for path in PROGRAMS}
-    told, by = {}, "no kit"
+    listed, by = {}, "no kit"
     if os.path.exists(SUMS):
         with open(SUMS, encoding="utf-8") as file:
-            told, by = parsed(file.read())
+            listed, by = parsed(file.read())
     if words == ["--write"]:
-        told.update({name: total for name, total in made.items() if total})
+        listed.update({name: total for name, total in made.items() if total})
         with open(SUMS, "w", encoding="utf-8") as file:
-            file.write(written(told, kit()))
+            file.write(written(listed, kit()))
         by = kit()
     elif words:
         sys.exit("usage: tools/sums.py [--write]")
-    for line in differences(told, by, made, kit()):
+    for line in differences(listed, by, made, kit()):
         print(f"sums: {line}")
-    passed = sum(bool(total) and told.get(name) == total for name, total in made.items())
-    failed = len({**told, **made}) - passed
+    passed = sum(bool(total) and listed.get(name) == total for name, total in made.items())
+    failed = len({**listed, **made}) - passed
     print(f"{passed} passed, {failed} failed")
     return 1 if failed else 0
 

@@ -34,11 +34,11 @@ def ran(log):
 def main(words):
     if len(words) != 1:
         sys.exit("usage: tools/tests_ran.py LOG")
-    told = {name.split()[1]: count for name, count in counts.parsed(counts.text_of(counts.COUNTS)).items() if name.startswith("tests ")}
+    listed = {name.split()[1]: count for name, count in counts.parsed(counts.text_of(counts.COUNTS)).items() if name.startswith("tests ")}
     found = ran(counts.text_of(words[0]))
     passed = failed = 0
-    for name in dict.fromkeys([*told, *found]):
-        count, wanted = found.get(name, 0), told.get(name, 0)
+    for name in dict.fromkeys([*listed, *found]):
+        count, wanted = found.get(name, 0), listed.get(name, 0)
         passed, failed = passed + min(count, wanted), failed + abs(count - wanted)
         if count != wanted:
             print(f"tests of {name}: {count or 'none'} ran, and {wanted or 'none'} in counts.txt")

@@ -114,7 +114,7 @@ def at_once(program, first, answer, group):
     for number, (messages, bodies) in enumerate(group, 10):
         said += [moved(message, number) for message in messages]
         wanted += [moved(body, number) for body in bodies]
-    status, line, wrote = runs.ended(program, runs.frames(said))
+    status, line, wrote = runs.outcome(program, runs.frames(said))
     bodies, rest = runs.bodies_of(wrote)
     return (status, line, rest), sorted(bodies), sorted(map(runs.as_bytes, wanted))
 
@@ -136,7 +136,7 @@ def cases(program):
 
 
 def main(words):
-    return rows.told(cases(*words or [rows.SERVER]))
+    return rows.report(cases(*words or [rows.SERVER]))
 
 
 if __name__ == "__main__":

@@ -18,7 +18,7 @@ import rows
 from edits import checks, copies, kit
 from edits import store as stores
 from edits.copies import Copy
-from edits.files import edits_in, lines_of, text_of, unread_folders, write
+from edits.files import edits_in, lines_of
 from edits.functions import Source, is_in
 from edits.kit import DOES_KEEP, once_a_call
 from edits.libraries import Gate, Libraries
@@ -37,6 +37,7 @@ from edits.verdict import (
     why_unclean,
 )
 from refused_edits import unread, untested
+from workspace import text_of, write
 
 END, WHOLE_END = "only=3 holes=9", "logic=not-proved"
 F, G, H, TWIN = "fn made::f: ", "fn made::g: ", "fn made::h: ", "fn made::f_twin0: "
@@ -174,12 +175,9 @@ def texts():
     yield "an edit that must not compile", lines_of(f"error: e\nfile: src/lib.rt\n{PAIR}", ("file", "old", "new", "error"))[1], None
     with tempfile.TemporaryDirectory() as at:
         os.makedirs(f"{at}/crates/made/edits/more")
-        os.makedirs(f"{at}/crates/made/edit")
-        os.makedirs(f"{at}/crates/other/edits")
         for name in ("a.edit", "b.md", "c.edits", "d", "README.md"):
             write(f"{at}/crates/made/edits/{name}", "")
         yield "files", edits_in(f"{at}/crates/made/edits"), (["a.edit"], ["b.md", "c.edits", "d", "more"])
-        yield "folders", [it for it, _ in unread_folders(at, ["made"])], ["crates/made/edit", "crates/other"]
 
 
 SOURCE = """pub fn f(a: u8) -> u8
@@ -326,7 +324,7 @@ PLAYED = (
 @contextlib.contextmanager
 def made_crate(store=None, is_kept=False, is_unedited=False, **provers_faults):
     """A made-up crate's trial, with a played prover."""
-    was = checks.checked, checks.MEMORY
+    was = checks.run, checks.MEMORY
     with tempfile.TemporaryDirectory() as at:
         proofs = {f"proofs/{path}": text for path, text in PROOFS.items()}
         for path, text in {"src/lib.rt": SOURCE, "specs/Words.antt": "word : Nat\nword = 1\n", **proofs}.items():
@@ -337,13 +335,13 @@ def made_crate(store=None, is_kept=False, is_unedited=False, **provers_faults):
             for name, text in found.items():
                 write(f"{folder}/{name}.edit", text)
         given = argparse.Namespace(names=[], unedited=is_unedited, kept=is_kept, log=None, top=at)
-        checks.checked, checks.MEMORY = Prover(**provers_faults).checked, argparse.Namespace(of=lambda crate: contextlib.nullcontext())
+        checks.run, checks.MEMORY = Prover(**provers_faults).checked, argparse.Namespace(of=lambda crate: contextlib.nullcontext())
         try:
             # (which functions have their turn is no matter of the day here)
             with mock.patch.object(copies, "is_its_turn", lambda name: False):
                 yield Trial(Crate(f"{at}/made"), given, store or NoStore(), f"{at}/same/made")
         finally:
-            checks.checked, checks.MEMORY = was
+            checks.run, checks.MEMORY = was
 
 
 def played():
@@ -515,7 +513,7 @@ def remembered():
         store.kept.at = store.folder
         os.makedirs(f"{store.folder}/edits")
         write(f"{store.folder}/edits/n", f'{{"edit": "n", "kind": "{KINDS[True]}", "text": "t"}}')
-        yield "what is kept of the same meaning", (store.told("n", True), store.told("n", False), store.told("m", True)), ("t", None, None)
+        yield "what is kept of the same meaning", (store.kept_text("n", True), store.kept_text("n", False), store.kept_text("m", True)), ("t", None, None)
 
 
 # A made-up repository of two crates: what an edit's verdict rests on there.
@@ -579,11 +577,12 @@ def keys():
                 store.keep(crate, {store.name(crate, edit): (edit, "refused")}, ["f"])
             with as_told(others.get("tools", "the tools"), others.get("kit", "the kit")):
                 store, crate, edit = stored(f"{at}/after", changes)
-                found = store.told(store.name(crate, edit), False), store.has_shown(crate, "f")
+                found = store.kept_text(store.name(crate, edit), False), store.has_shown(crate, "f")
         # (that a function is shown to be proved rests on no edit)
         yield f"what is kept, with a change of {what}", found, ("refused" if what == "nothing" else None, what in ("nothing", "the edit"))
     here = os.path.dirname(os.path.abspath(stores.__file__))
-    for path in (f"{os.path.dirname(here)}/refused_edits.py", *sorted(f"{here}/{it}" for it in os.listdir(here) if it.endswith(".py"))):
+    own = [f"{os.path.dirname(here)}/{it}.py" for it in ("refused_edits", "workspace")]
+    for path in (*own, *sorted(f"{here}/{it}" for it in os.listdir(here) if it.endswith(".py"))):
         total = stores.sum_of_tools()
         with mock.patch.object(stores, "text_of", lambda it, path=path: "other" if it == path else text_of(it)):
             yield f"the sum of the tools without {os.path.basename(path)}", stores.sum_of_tools() != total, True
@@ -620,4 +619,4 @@ def cases():
 
 
 if __name__ == "__main__":
-    sys.exit(rows.told(cases()))
+    sys.exit(rows.report(cases()))

@@ -54,7 +54,7 @@ class Processes:
         for it in [*self.running]:
             self.kill(it)
 
-    def ended(self, words, folder, seconds):
+    def run(self, words, folder, seconds):
         """Runs a command in a folder, and kills it when it has taken so many seconds."""
         with tempfile.TemporaryFile("w+", encoding="utf-8", errors="replace") as out:
             process = subprocess.Popen(words, cwd=folder, stdin=subprocess.DEVNULL, stdout=out, stderr=subprocess.STDOUT)
@@ -76,11 +76,11 @@ class Processes:
 PROCESSES = Processes()
 
 
-def checked(crate, folder, flags, kept=None):
+def run(crate, folder, flags, kept=None):
     """Checks what stands in a folder as this crate, over what an earlier check kept where that is given."""
     over = ("--incremental", kept) if kept else ()
     words = [RTLIB.RATTLE, "check", *crate.words([*ONE_JOB, *flags], keeps=False), *over]
-    return PROCESSES.ended([*RTLIB.guarded(), *words], folder, 60 * MINUTES)
+    return PROCESSES.run([*RTLIB.guarded(), *words], folder, 60 * MINUTES)
 
 
 class Memory:

@@ -6,9 +6,10 @@ import tempfile
 import time
 import zlib
 
-from edits.files import read, text_of, write
+from edits.files import read
 from edits.functions import FUNCTION, without_body
 from edits.kit import PARTS, RT
+from workspace import text_of, write
 
 # In so many days each function with twins is a control once.
 DAYS = 30

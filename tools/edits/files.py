@@ -7,24 +7,13 @@ import os
 import re
 
 from edits.kit import RT
+from workspace import text_of
 
 NAME = re.compile(r"[A-Za-z0-9_-][A-Za-z0-9_.-]*\.edit")
 BAD_NAME = "BAD EDIT: its name is of letters, digits, _, - and . and ends in .edit (but for a README.md)"
-# What a crate's folder may hold: a folder of another name, as edit/, would be read by nobody.
-FOLDERS = ("src", "specs", "proofs", "c", "data", "edits", "must-not-compile", "out")
 # What may stand before a line: nothing is the head of the file.
 BEFORE = {"file": ("", "new", "checked", "error"), "old": ("file", "new", "checked"), "new": ("old",)}
 BEFORE["checked"] = BEFORE["error"] = BEFORE["file"]
-
-
-def text_of(path):
-    with open(path, encoding="utf-8") as file:
-        return file.read()
-
-
-def write(path, text):
-    with open(path, "w", encoding="utf-8") as file:
-        file.write(text)
 
 
 def word_of(line, words):
@@ -67,13 +56,3 @@ def edits_in(folder):
     names = sorted(os.listdir(folder)) if os.path.isdir(folder) else []
     good = [it for it in names if NAME.fullmatch(it) and os.path.isfile(f"{folder}/{it}")]
     return good, [it for it in names if it not in good and it != "README.md"]
-
-
-def unread_folders(top, names):
-    """What is said of each folder of a checkout's crates that nothing reads, by its path: crates.txt has these names."""
-    for name in sorted(os.listdir(f"{top}/crates")):
-        if name not in names:
-            yield f"crates/{name}", "crates.txt has no such crate"
-            continue
-        inside = [it for it in sorted(os.listdir(f"{top}/crates/{name}")) if os.path.isdir(f"{top}/crates/{name}/{it}")]
-        yield from ((f"crates/{name}/{it}", f"a crate has only folders {', '.join(FOLDERS)}") for it in inside if it not in FOLDERS)

@@ -3,7 +3,7 @@ import collections
 import os
 import re
 
-from edits.files import text_of
+from workspace import text_of
 
 # A function with a body, as rt fmt lays it out: what stands above it, how far in it stands, its name and its body.
 FUNCTION = re.compile(

@@ -14,17 +14,6 @@ from edits.kit import crates_of
 PATH = "{}/crates/{}/out/rlib/{}.rlib"
 
 
-def copy_crates(top, to):
-    """Copies what a check reads of a checkout, without what stands in out/."""
-    # (it is the top of a repository, for `rt`)
-    os.makedirs(f"{to}/.git")
-    made_there = {os.path.join(top, "crates", it): ["out"] for it in os.listdir(f"{top}/crates")}
-    shutil.copytree(f"{top}/crates", f"{to}/crates", symlinks=True, ignore=lambda at, _: made_there.get(at, []))
-    for it in ("crates.txt", "HANDLES"):
-        if os.path.isfile(f"{top}/{it}"):
-            shutil.copyfile(f"{top}/{it}", f"{to}/{it}")
-
-
 class Gate:
     """An `rt ci` that runs as long as a file is there, to which it writes what it says; without a file none."""
 

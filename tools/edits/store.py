@@ -9,8 +9,8 @@ import json
 import os
 import threading
 
-from edits.files import text_of
 from edits.kit import RT
+from workspace import text_of
 
 # What is kept of an edit: that it is refused, as it must be, or that it means the same as before; and of a function, that it is shown to be
 # proved in a copy in which all others are left out.
@@ -21,7 +21,7 @@ SHOWN = "is proved in a copy"
 def sum_of_tools():
     """The sum of all files of these tools."""
     here = os.path.dirname(os.path.abspath(__file__))
-    files = [f"{os.path.dirname(here)}/refused_edits.py", *sorted(glob.glob(f"{here}/*.py"))]
+    files = [*(f"{os.path.dirname(here)}/{it}.py" for it in ("refused_edits", "workspace")), *sorted(glob.glob(f"{here}/*.py"))]
     return hashlib.sha256("\0".join(text_of(it) for it in files).encode()).hexdigest()
 
 
@@ -60,7 +60,7 @@ class Store:
         except (OSError, ValueError, KeyError, TypeError):
             return None
 
-    def told(self, name, is_same):
+    def kept_text(self, name, is_same):
         """What an earlier run said of the edit of this name, where it went well."""
         return self.found(name, KINDS[is_same])
 
@@ -91,7 +91,7 @@ class NoStore:
     def name(self, crate, edit):
         return None
 
-    def told(self, name, is_same):
+    def kept_text(self, name, is_same):
         return None
 
     def has_shown(self, crate, function):

@@ -6,9 +6,10 @@ import tempfile
 import threading
 
 from edits import checks, copies, kit
-from edits.files import BAD_NAME, edits_in, write
+from edits.files import BAD_NAME, edits_in
 from edits.functions import ANSWERS, Source, is_in
 from edits.verdict import IS_FINAL, TIMED_OUT, against, against_named, is_lemma, read_check, refusal, verdict_alone, why_unclean
+from workspace import write
 
 SAME = "MEANS THE SAME AS BEFORE"
 # The kinds of edits that mean the same of which there must be one each, as the tool has ways of its own for them.
@@ -18,18 +19,18 @@ KINDS = (DEFINITION, BODY, WITH_ANSWERS, WITH_INVARIANTS)
 HEARD = threading.local()
 
 
-def checked_for_rt(crate, texts, flags, kept):
+def run_for_rt(crate, texts, flags, kept):
     """What `rt` calls to check a crate with these texts in place of its own: in bounded time."""
     with copies.room() as folder:
         copies.copied(crate.folder, folder)
         for path, text in texts.items():
             write(f"{folder}/{path}", text)
-        ended = checks.checked(crate, folder, [it for it in flags if it not in checks.ONE_JOB], kept)
+        ended = checks.run(crate, folder, [it for it in flags if it not in checks.ONE_JOB], kept)
     HEARD.log = ended.stdout
     return ended
 
 
-kit.RT.checked = checked_for_rt
+kit.RT.checked = run_for_rt
 
 
 class Trial:
@@ -67,9 +68,9 @@ class Trial:
     def unfit(self):
         """What is said of each edit that can't be made."""
         self.results.update({it.name: (False, f"BAD EDIT: {it.why}") for it in self.edits if it.why})
-        return self.told()
+        return self.lines()
 
-    def told(self):
+    def lines(self):
         return [f"{self.crate.name}/{name}: {text}" for name, (_, text) in sorted(self.results.items())]
 
     def not_tried(self, edits, why):
@@ -84,10 +85,10 @@ class Trial:
             if not could_be:
                 return None, "its edits can't be made together"
             with checks.MEMORY.of(self.crate):
-                ended = checks.checked(self.crate, folder, flags, kept)
+                ended = checks.run(self.crate, folder, flags, kept)
                 if ended.returncode == -signal.SIGKILL:
                     # most likely for memory
-                    ended = checks.checked(self.crate, folder, flags, kept)
+                    ended = checks.run(self.crate, folder, flags, kept)
             self.checks += 1
             said, why = read_check(ended.returncode, ended.stdout, self.crate.name, lambda *at: self.source.function_at(folder, *at))
             edited = made.edited() | self.source.with_cycles(named)
@@ -181,17 +182,17 @@ class Trial:
                 said, why = self.check(made, kept, named)
                 lacking = [] if why else sorted({*made.edited(), *named} - said.proved)
                 self.results[f"copy {number}"] = not why and not lacking, why or "; ".join(lacking) or "all of it is proved"
-        return self.told()
+        return self.lines()
 
     def remembered(self):
         """The names of the edits in the store, of all that are tried; and those that are left to be tried."""
         names = {it: self.store.name(self.crate, it) for it in self.edits}
-        told = {it: self.store.told(name, it.is_same) for it, name in names.items()}
-        if any(it.is_same and not text for it, text in told.items()):
+        kept_texts = {it: self.store.kept_text(name, it.is_same) for it, name in names.items()}
+        if any(it.is_same and not text for it, text in kept_texts.items()):
             # (they are to stand among real ones)
-            told = {}
-        self.results.update({it.name: (True, text) for it, text in told.items() if text})
-        return names, [it for it in names if not told.get(it)]
+            kept_texts = {}
+        self.results.update({it.name: (True, text) for it, text in kept_texts.items() if text})
+        return names, [it for it in names if not kept_texts.get(it)]
 
     def run(self):
         if self.given.unedited:
@@ -208,4 +209,4 @@ class Trial:
         if not self.given.kept:
             self.store.keep(self.crate, {names[it]: (it, self.results[it.name][1]) for it in left if self.results[it.name][0]}, self.shown)
         earlier = len(names) - len(left)
-        return [*self.told(), f"{self.crate.name}: {counts}, {len(alone)} alone, {earlier} by earlier runs; {self.checks} checks"]
+        return [*self.lines(), f"{self.crate.name}: {counts}, {len(alone)} alone, {earlier} by earlier runs; {self.checks} checks"]

@@ -52,13 +52,13 @@ class Said:
     def __init__(self):
         self.faults, self.proved, self.waiting, self.untold = collections.defaultdict(list), set(), set(), set()
 
-    def hear(self, name, told, goals):
+    def hear(self, name, words, goals):
         """Takes in a function's line, before which stand its goals that aren't proved."""
-        if UNTOLD.match(told):
+        if UNTOLD.match(words):
             self.untold.add(name)
-        elif goals or not PROVED.match(told) and not WAITS.match(told):
-            self.faults[name] += goals or [f"fn {name}: {told}"]
-        elif PROVED.match(told) and f".proofs.{name.replace('::', '.')}.Proof." not in told:
+        elif goals or not PROVED.match(words) and not WAITS.match(words):
+            self.faults[name] += goals or [f"fn {name}: {words}"]
+        elif PROVED.match(words) and f".proofs.{name.replace('::', '.')}.Proof." not in words:
             self.proved.add(name)
         else:
             # (or its proof itself is left out)
