@@ -1,4 +1,5 @@
 """Copies of a crate in which many edits stand, each in a function, or a twin of one, of its own."""
+import collections
 import copy
 import os
 import shutil
@@ -6,8 +7,7 @@ import tempfile
 import time
 import zlib
 
-from edits.files import read
-from edits.functions import FUNCTION, without_body
+from edits.functions import put
 from edits.kit import PARTS, RT
 from workspace import text_of, write
 
@@ -24,9 +24,9 @@ pub {name}_spec : {{M : Type 1}} → statement M
 class Edit:
     """An edit, and the functions whose bodies alone it changes, or none where it changes something else."""
 
-    def __init__(self, file, source, is_same):
+    def __init__(self, file, source, is_same, found):
         self.file, self.name, self.is_same, self.twins = file, os.path.basename(file), is_same, {}
-        self.texts, others, self.why = read(file, source.folder)
+        self.texts, others, self.why = found
         self.functions, self.checked = source.changed(self.texts), others["checked"]
         unknown = [it for it in self.checked if not source.has_function(it)]
         if not self.why and unknown:
@@ -137,21 +137,20 @@ class Maker:
         whole = {*whole, *(name for some in others for it in some for name in it.functions)}
         return [*([Copy(twins, whole)] if twins or whole else []), *(Copy(it) for it in others)]
 
-    def make_twins(self, folder, edit):
-        """Makes an edit in twins of its functions, each of which stands behind the function itself and has a copy of its answers."""
-        for path, text in edit.texts.items():
-            text = text_of(f"{self.source.folder}/{path}") if self.is_unedited else text
-            twins = {self.source.name_of(it, path): it for it in FUNCTION.finditer(text)}
-
-            def with_twin(it):
-                name = self.source.name_of(it, path)
-                if name not in edit.twins:
-                    return it[0]
-                twin, short = twins[name], edit.twins[name].rpartition("::")[2]
-                return f"{it[0]}\n\n{text[twin.start() : twin.start(3)]}{short}{text[twin.end(3) : twin.end()]}"
-
-            write(f"{folder}/{path}", FUNCTION.sub(with_twin, text_of(f"{folder}/{path}")))
-        for name, twin in edit.twins.items():
+    def make_twins(self, folder, edits):
+        """Makes edits in twins of their functions, each of which stands behind the function itself and has a copy of its answers."""
+        twins = collections.defaultdict(list)
+        for edit in edits:
+            for path, text in edit.texts.items():
+                made = self.source.functions(path, self.source.texts[path] if self.is_unedited else text)
+                for name in edit.twins.keys() & made.keys():
+                    twins[path, name].append(made[name].renamed(edit.twins[name].rpartition("::")[2]))
+        for path in dict.fromkeys(path for path, _ in twins):
+            text = text_of(f"{folder}/{path}")
+            functions = self.source.functions(path, text).items()
+            behind = [(it.place.end, it.place.end, f"\n\n{twin}") for name, it in functions for twin in twins.get((path, name), ())]
+            write(f"{folder}/{path}", put(text, behind))
+        for name, twin in (it for edit in edits for it in edit.twins.items()):
             own, other = (f"{folder}/proofs/{it.replace('::', '/')}" for it in (name, twin))
             for file in os.listdir(own) if os.path.isdir(own) else []:
                 os.makedirs(other, exist_ok=True)
@@ -165,10 +164,11 @@ class Maker:
         contract, as before.
         """
         source, left = self.source, {*self.source.bodies()} - {*functions}
-        for path, (_, bodies) in source.files.items():
-            if not left.isdisjoint(bodies):
-                text = text_of(f"{folder}/{path}")
-                write(f"{folder}/{path}", FUNCTION.sub(lambda it: without_body(it) if source.name_of(it, path) in left else it[0], text))
+        texts = {path: text_of(f"{folder}/{path}") for path, own in source.files.items() if not left.isdisjoint(own)}
+        source.read([*texts.values()])
+        for path, text in texts.items():
+            out = [it for name, it in source.functions(path, text).items() if name in left]
+            write(f"{folder}/{path}", put(text, [(it.place.start, it.place.end, it.without_body()) for it in out]))
         for name in left:
             at, short = f"{folder}/proofs/{name.replace('::', '/')}", name.rpartition("::")[2]
             shutil.rmtree(at, ignore_errors=True)
@@ -192,7 +192,7 @@ class Maker:
         crate of laws the law with the shortest proof.
         """
         bodies = {name: body for name, body in self.source.bodies().items() if name not in functions}
-        some = sorted((it for it in bodies if bodies[it].count("\n") > 3), key=lambda it: len(bodies[it]))
+        some = sorted((it for it in bodies if bodies[it].count("\n") > 4), key=lambda it: len(bodies[it]))
         laws = sorted({*self.source.laws()} - {*functions}, key=lambda it: (self.source.proof_length(it), it)) if not some else []
         return [*some, *laws][:1]
 
@@ -206,8 +206,7 @@ class Maker:
             return False, [], []
         if not made.edited() | made.whole | {*named}:
             return True, [], []
-        for edit in (it for it in made.edits if it.twins):
-            self.make_twins(folder, edit)
+        self.make_twins(folder, [it for it in made.edits if it.twins])
         controls = self.controls(made)
         stand = {*made.edited(), *made.whole, *controls, *named}
         witness = self.witness(stand | made.bases())

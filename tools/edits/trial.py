@@ -6,7 +6,7 @@ import tempfile
 import threading
 
 from edits import checks, copies, kit
-from edits.files import BAD_NAME, edits_in
+from edits.files import BAD_NAME, edits_in, read
 from edits.functions import ANSWERS, Source, is_in
 from edits.verdict import IS_FINAL, TIMED_OUT, against, against_named, is_lemma, read_check, refusal, verdict_alone, why_unclean
 from workspace import write
@@ -53,7 +53,9 @@ class Trial:
         is_meant = not self.given.names or self.crate.name in self.given.names
         self.results.update({it: (False, BAD_NAME) for it in bad if is_meant})
         names = [it for it in good if is_meant or f"{self.crate.name}/{it}" in self.given.names]
-        return [copies.Edit(f"{folder}/{it}", self.source, is_same) for it in names]
+        found = {f"{folder}/{it}": read(f"{folder}/{it}", self.source.folder) for it in names}
+        self.source.read([text for texts, _, _ in found.values() for path, text in texts.items() if path in self.source.files])
+        return [copies.Edit(file, self.source, is_same, it) for file, it in found.items()]
 
     def kinds(self, edit):
         """Of which kinds an edit is."""
