@@ -45,10 +45,10 @@ NUMBERS = (
 )
 # The same of tests in crates: the file, and how the number stands there
 LOOPS = {
-    "random_steps.SESSIONS": ("crates/random_steps/src/replies.rt", r"(?m)^const SESSIONS: u64 = ([0-9_]+);"),
-    "random_steps.MESSAGES": ("crates/random_steps/src/replies.rt", r"(?m)^const MESSAGES: usize = ([0-9_]+);"),
+    "worked_sessions.random.SESSIONS": ("crates/worked_sessions/src/random/replies.rt", r"(?m)^const SESSIONS: u64 = ([0-9_]+);"),
+    "worked_sessions.random.MESSAGES": ("crates/worked_sessions/src/random/replies.rt", r"(?m)^const MESSAGES: usize = ([0-9_]+);"),
     "worked_grammars.random": ("crates/worked_grammars/src/random.rt", r"(?m)^    for _ in 0\.\.([0-9_]+) \{"),
-    "worked_texts.seams": ("crates/worked_texts/src/seams.rt", r"(?m)^    for round in 0\.\.([0-9_]+)u32 \{"),
+    "worked_grammars.seams": ("crates/worked_grammars/src/lines/seams.rt", r"(?m)^    for round in 0\.\.([0-9_]+)u32 \{"),
 }
 # The tools of rows that try the gate's own tools
 OWN_ROWS = ("source_rows", "verdict_rows", "counts_rows", "documents_rows", "stage_rows")

@@ -109,11 +109,11 @@ FIGURES = (
     Figure(TESTING, "| random drafts | {} |", count_of("cases random_drafts.COUNT")),
     Figure(TESTING, "| random streams | {} |", count_of("cases broken_input.COUNT")),
     Figure(TESTING, "| allocations refused to threads | {} |", REFUSED_TO_THREADS),
-    Figure(TESTING, "| random sessions | {} of {} messages |", counts_of("cases random_steps.SESSIONS", "cases random_steps.MESSAGES")),
+    Figure(TESTING, "| random sessions | {} of {} messages |", counts_of("cases worked_sessions.random.SESSIONS", "cases worked_sessions.random.MESSAGES")),
     Figure(TESTING, "| sessions with shaken threads | {} |", count_of("cases shaken_threads.COUNT")),
     Figure(TESTING, "| random grammars | {} |", count_of("cases worked_grammars.random")),
     # (two tests each make so many)
-    Figure(TESTING, "| random edits of long texts | {} |", lambda counts: 2 * counts["cases worked_texts.seams"]),
+    Figure(TESTING, "| random edits of long texts | {} |", lambda counts: 2 * counts["cases worked_grammars.seams"]),
 )
 
 

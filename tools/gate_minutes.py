@@ -4,8 +4,9 @@
     tools/gate_minutes.py [--write] [COMMAND ..]
 
 All that the command prints goes to out/gate.log. The table has, for each crate, the processor minutes of its proof, of its edits that
-must be refused and of the proof of its tests. They are read from /proc twice a second while the command runs. With --write the table goes
-into docs/GATE.md, in the place of the one that stands there: to be done from nothing, on a machine that does nothing else.
+must be refused and of the proof of its tests. They are read from /proc twice a second while the command runs. Below it stand the edits that
+are refused only at a bound. With --write all that goes into docs/GATE.md, in the place of what stands there: to be done from nothing, on a
+machine that does nothing else.
 """
 import collections
 import os
@@ -13,13 +14,17 @@ import re
 import resource
 import subprocess
 import sys
+import textwrap
 import time
 
+from edits.verdict import is_at_a_bound
 from workspace import TOP, crates
 
 TICKS = os.sysconf("SC_CLK_TCK")
 KINDS = ("proof", "edits", "tests")
 PAGE = os.path.join(TOP, "docs", "GATE.md")
+WIDTH = 100
+EDIT = re.compile(r"(?m)^(\w+)/([\w.-]+)\.edit: (refused, .*)")
 PLACE = re.compile(r"(?s)(<!-- the figures of one run -->\n).*?(<!-- their end -->)")
 
 
@@ -98,6 +103,21 @@ def line_of(name, row, edits, tries):
     return f"| {name} | {' | '.join(told[it] for it in KINDS)} | {sum(row[it] for it in KINDS):.1f} |"
 
 
+def at_a_bound(log):
+    """The edits that a gate's log says to be refused only at a bound, by crate."""
+    found = collections.defaultdict(list)
+    for crate, name, text in EDIT.findall(log):
+        if is_at_a_bound(text):
+            found[crate].append(f"`{name}`")
+    total = sum(map(len, found.values()))
+    return "\n".join([f"{total} edits are refused only at a bound:", "", *(f"- `{it}`: {', '.join(names)}." for it, names in found.items())])
+
+
+def wrapped(text):
+    """A text whose list items are no wider than a page."""
+    return "\n".join(textwrap.fill(it, WIDTH, subsequent_indent="  ", break_on_hyphens=False) for it in text.splitlines())
+
+
 def main(words):
     does_write = words[:1] == ["--write"]
     os.makedirs(f"{TOP}/out", exist_ok=True)
@@ -108,10 +128,11 @@ def main(words):
         seconds, works = watched(gate)
     used = resource.getrusage(resource.RUSAGE_CHILDREN)
     said = f"{(time.time() - began) / 60:.1f} minutes on {len(os.sched_getaffinity(0))} processors, {(used.ru_utime + used.ru_stime) / 60:.1f} of all together."
-    figures = f"{table(seconds, works)}\n\n{said}\n"
+    with open(f"{TOP}/out/gate.log", encoding="utf-8", errors="replace") as file:
+        log = file.read()
+    figures = f"{table(seconds, works)}\n\n{said}\n\n{wrapped(at_a_bound(log))}\n"
     print(f"{figures}out/gate.log ends:")
-    with open(f"{TOP}/out/gate.log", encoding="utf-8", errors="replace") as log:
-        print("".join(log.readlines()[-2:]), end="")
+    print("\n".join(log.splitlines()[-2:]))
     if does_write and not gate.returncode:
         with open(PAGE, encoding="utf-8") as file:
             page = file.read()

@@ -13,8 +13,9 @@ from typing import Any, NamedTuple
 import preload
 from workspace import TOP
 
-# What the name of a program ends in that each of the two compilers builds
-COMPILERS = ("", ".by-rattle")
+# What the name of a program ends in that each of the two compilers builds: LLVM, and Rattle's own
+BY_RATTLE = ".by-rattle"
+COMPILERS = ("", BY_RATTLE)
 # So much is told of what was found and of what was wanted.
 MOST_TOLD = 2000
 

@@ -6,6 +6,8 @@
 #[cfg(test)]
 mod arguments;
 #[cfg(test)]
+mod drafts;
+#[cfg(test)]
 mod grammars;
 #[cfg(test)]
 mod hints;

@@ -12,6 +12,8 @@ mod grammars;
 #[cfg(test)]
 mod lengths;
 #[cfg(test)]
+mod lines;
+#[cfg(test)]
 mod names;
 #[cfg(test)]
 mod one_name;

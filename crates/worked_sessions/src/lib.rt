@@ -8,6 +8,8 @@
 #![tactic(auto)]
 
 #[cfg(test)]
+mod across;
+#[cfg(test)]
 mod bodies;
 #[cfg(test)]
 mod by_steps;
@@ -25,6 +27,8 @@ mod many;
 mod messages;
 #[cfg(test)]
 mod overtaking;
+#[cfg(test)]
+mod random;
 #[cfg(test)]
 mod replies;
 #[cfg(test)]

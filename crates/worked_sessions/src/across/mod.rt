@@ -3,18 +3,10 @@
 //!
 //! The crates below prove what each call answers. Here is shown, with worked values, that the calls succeed where memory is ample, which
 //! no contract can show. Whole sessions, as bytes, run through the built program (`tools/session_rows.py`).
-#![tactic(auto)]
 
-#[cfg(test)]
 mod answers;
-#[cfg(test)]
 mod bodies;
-#[cfg(test)]
 mod commands;
 mod devices;
-#[cfg(test)]
 mod failing;
-#[cfg(test)]
 mod full;
-
-pub use devices::{FailingSink, FailingSource};

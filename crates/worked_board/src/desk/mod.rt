@@ -3,21 +3,12 @@
 //! They stand above the crate that they test, since a crate with tests is proved twice. No contract says that there is memory: here each call
 //! succeeds once, up to the limits of a session, on desks whose journals are short and long. Each test lets its desk go before it judges, at one place, since a way out of a function
 //! with a desk in hand is dear to prove.
-#![tactic(auto)]
 
-#[cfg(test)]
 mod answers;
-#[cfg(test)]
 mod cancels;
-#[cfg(test)]
 mod checkpoints;
-#[cfg(test)]
 mod limits;
-#[cfg(test)]
 mod refusals;
-#[cfg(test)]
 mod steps;
-#[cfg(test)]
 mod strange;
-#[cfg(test)]
 mod whole;

@@ -1,5 +1,5 @@
 use Rattle.std.proofs.lemmas.List.{get_or_default}
-use Rattle.worked_texts.proofs.marks.has_tokens_at.Goals as goal
+use Rattle.worked_grammars.proofs.lines.marks.has_tokens_at.Goals as goal
 
 pub token_at-requires : goal.token_at-requires
 token_at-requires c = (

@@ -1,6 +1,6 @@
 use Rattle.std.proofs.Common.{◌∙◌, ◌++◌, ap, sym, subst}
 use Rattle.abnf_token.specs.Marks.{AreMarks}
-use Rattle.worked_texts.proofs.marks.has_tokens_at_marks.Goals as goal
+use Rattle.worked_grammars.proofs.lines.marks.has_tokens_at_marks.Goals as goal
 
 pub has_tokens_at-requires : goal.has_tokens_at-requires
 has_tokens_at-requires c =

@@ -4,19 +4,11 @@
 //! A client opens, changes and closes two documents, asks about them and cancels what it asked. A run goes through all that it says in random
 //! steps, and writes the same by a journal that begins anew after 1 to 4 events. What it must be told is found without the run: a new session
 //! is served plainly, one message after the other, in which a document with that very text is opened and that one request is asked.
-#![tactic(auto)]
 
-#[cfg(test)]
 mod client;
-#[cfg(test)]
 mod dice;
-#[cfg(test)]
 mod frames;
-#[cfg(test)]
 mod messages;
-#[cfg(test)]
 mod plain;
-#[cfg(test)]
 mod replies;
-#[cfg(test)]
 mod schedule;

@@ -1,6 +1,6 @@
 //! Sessions whose devices fail, or interrupt what they do.
 
-use super::{FailingSink, FailingSource};
+use super::devices::{FailingSink, FailingSource};
 use ls_server::{Ending, serve_limited, serve_plain};
 use std::alloc::{AllocError, Global};
 use std::test::Fail;
