@@ -18,7 +18,7 @@ import sys
 import tempfile
 import time
 
-from workspace import EDITS, LIST, NO_COMPILE, TOP, copy_crates, crates_below, sum_of
+from workspace import EDITS, LIST, NO_COMPILE, TOP, copy_crates, crates_below, sum_of, text_of
 
 OUT = os.path.join(TOP, "out")
 SERVER = "abnf_ls"
@@ -27,6 +27,9 @@ LOG = os.path.join(OUT, "build.log")
 # What of a crate's folder is proved, and what proofs and runs don't read.
 PARTS = ("proofs", "specs", "src")
 NOT_COPIED = ("out", EDITS, NO_COMPILE)
+# A crate's line in the gate's figures, which begin with the minutes of its proof, and by a guess how many lines take as long as one minute.
+TIMED = re.compile(r"(?m)^\| `(\w+)` \| ([0-9.]+) \|")
+LINES_A_MINUTE = 1900
 # The lines that tell of a crate that its proof begins, and how it has ended.
 BEGINS = re.compile(r"begins: (\w+)")
 ENDED = re.compile(r"rt: (\w+) (proved|is kept|NOT PROVED)")
@@ -52,6 +55,14 @@ def lines_of(crate):
                 with open(os.path.join(folder, name), "rb") as file:
                     total += file.read().count(b"\n")
     return total
+
+
+def work_of(names):
+    """How much there is to prove of each of these crates: the minutes that its proof took in the gate's last timed run, and where that had no
+    such crate, about as many as its lines take."""
+    page = os.path.join(TOP, "docs", "GATE.md")
+    minutes = {name: float(it) for name, it in TIMED.findall(text_of(page))} if os.path.exists(page) else {}
+    return {it: minutes.get(it) or lines_of(it) / LINES_A_MINUTE for it in names}
 
 
 class Program:
@@ -114,12 +125,12 @@ class Proofs:
 
     def __init__(self, program, log):
         self.program, self.below, self.log = program, crates_below(program), log
-        lines = {name: lines_of(name) for name in self.below}
-        # The lines of the longest chain of crates that begins with each, which tell how much is left.
-        self.chains = dict(lines)
+        work = work_of(self.below)
+        # The work of the longest chain of crates that begins with each, which tells how much is left.
+        self.chains = dict(work)
         for name in reversed([*self.below]):
             for it in self.below[name]:
-                self.chains[it] = max(self.chains[it], lines[it] + self.chains[name])
+                self.chains[it] = max(self.chains[it], work[it] + self.chains[name])
         self.begun, self.done, self.failed = [], set(), []
         self.start_time = time.monotonic()
 

@@ -177,6 +177,14 @@ def alike(texts):
             yield f"{path}: it has the bytes of {os.path.basename(kept)}"
 
 
+def unnamed(libraries, texts):
+    """The libraries of a crate's line in crates.txt that none of its sources, specs and proofs names."""
+    text = "\n".join(texts)
+    for it in libraries:
+        if not re.search(rf"\b{it}::|\bRattle\.{it}\.|\buse {it}\b", text):
+            yield f"crates.txt gives it {it}, which it names nowhere"
+
+
 def misused(texts):
     """The files, by their paths in crates/, that name a module of a crate's specs/own/ where only that crate's private statements may."""
     for path, text in texts.items():
@@ -201,7 +209,11 @@ def faults(listed):
     names, paths = crates(), [*places()]
     yield from out_of_place(paths, names)
     yield from alike({it: text_of(os.path.join(TOP, it)) for it in paths if it.endswith(".edit")})
-    yield from misused({it[len("crates/") :]: text_of(os.path.join(TOP, it)) for it in paths if it.startswith("crates/") and it.endswith(SAID_IN)})
+    said = {it: text_of(os.path.join(TOP, it)) for it in paths if it.startswith("crates/") and it.endswith(SAID_IN)}
+    yield from misused({it[len("crates/") :]: text for it, text in said.items()})
+    for crate, libraries in crates().items():
+        own = [text for path, text in said.items() if path.startswith(f"crates/{crate}/")]
+        yield from (f"crates/{crate}: {it}" for it in unnamed(libraries, own))
     for crate in names:
         texts = sources(crate)
         yield from (f"crates/{crate}/src/{it}" for some in (unmarked, unread) for it in some(texts))

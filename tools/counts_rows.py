@@ -83,6 +83,17 @@ ALIKE = (
     ("one once more", {"crates/a/edits/x.edit": "1", "crates/a/edits/y.edit": "1"}, ["crates/a/edits/y.edit: it has the bytes of x.edit"]),
 )
 
+# Texts of a crate that uses the library b, and whether one of them names it
+NAMED = (
+    ("a path", ["use std::vec::Vec;\nfn f() { b::g() }"], True),
+    ("a use", ["use b;"], True),
+    ("a macro's path", ["#[derive(b::Error)]"], True),
+    ("a definition", ["fn f()\n    ensures { Rattle.b.specs.B.Is }\n{}"], True),
+    ("a proof", ["fn f() {}", "use Rattle.b.proofs.f.Met\n"], True),
+    ("another name", ["use bb::f;\nuse Rattle.bb.specs.B.{b}\n// b, and crate::ab::c\n"], False),
+    ("nothing", [], False),
+)
+
 USE = "use Rattle.a.specs.own.Kept.{IsKept}\n"
 # Files of crates, by their paths, and what is said of those that name another's own statements
 OWNED = (
@@ -152,6 +163,8 @@ def source_cases():
         yield f"places: {what}", [*workspace.out_of_place(paths, ["a", "b"])], lines
     for what, texts, lines in ALIKE:
         yield f"alike: {what}", [*counts.alike(texts)], lines
+    for what, texts, is_named in NAMED:
+        yield f"named: {what}", [*counts.unnamed(["b"], texts)], [] if is_named else ["crates.txt gives it b, which it names nowhere"]
     for what, texts, lines in OWNED:
         yield f"own: {what}", [*counts.misused(texts)], lines
 

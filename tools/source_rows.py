@@ -43,6 +43,7 @@ READ = (
 TOLD_APART = (
     ("a function", "fn f(a: u8) -> u8 { a }", (False, True, True)),
     ("a law", "fn f()\n    ensures { a }\n{}", (True, True, True)),
+    ("one that takes nothing", "fn f() -> u8 { 1 }", (False, True, True)),
     ("a law that takes something", "fn f(a: u8) {}", (False, True, True)),
     ("one of a cycle", "#[cycle(c)]\nfn f(a: u8) -> u8 { f(a) }", (False, False, True)),
     ("one whose comment names a cycle", "// #[cycle(c)]\nfn f(a: u8) -> u8 { a }", (False, True, True)),
@@ -59,7 +60,8 @@ CHANGED = (
     ("a body", ("    a\n", "    a + 1\n"), {"f"}),
     ("two bodies", ("a\n}\n", "b\n}\n", "f(a)", "f(b)"), {"f", "g"}),
     ("a head", ("fn f(a: u8)", "fn f(a: u16)"), set()),
-    ("what stands above", ("#[inline]\n", ""), set()),
+    ("a head and a body", ("fn f(a: u8)", "fn f(a: u16)", "    a\n", "    b\n"), set()),
+    ("what stands above and a body", ("#[inline]\n", "", "    a\n", "    b\n"), set()),
     ("a body that is empty then", ("    f(a)\n", ""), set()),
     ("a function more, out of a body", ("    a\n}", "    a\n}\n\nfn h() {\n    a\n}"), set()),
     ("a function more, in a body", ("    a\n}", "    fn h() {\n        a\n    }\n    a\n}"), {"f"}),
