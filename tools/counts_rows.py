@@ -7,7 +7,9 @@ The gate runs them before any proof.
 """
 import contextlib
 import io
+import os
 import sys
+import tempfile
 
 import counts
 import figures
@@ -65,6 +67,24 @@ READ = (
 )
 
 ONLY_FOLDERS = f"crates/a/edit: a crate has only folders {', '.join(workspace.FOLDERS)}"
+# Lines as in crates.txt, and the crates that they list: each with what stands before the colon, and with its libraries
+LISTED = (
+    ("nothing", "", {}),
+    ("two crates", "a:\nb: a c\n", {"a": ([], []), "b": ([], ["a", "c"])}),
+    ("what a crate may", "a may_wait=4: b\n", {"a": (["may_wait=4"], ["b"])}),
+    ("comments", "# a: b\n\nc: # d\n", {"c": ([], [])}),
+)
+CHECKOUT = {
+    "crates.txt": "# Each crate.\na:\nb may_wait=4: a\nc: a\n",
+    "HANDLES": "Handles allowed: Wait.\n",
+    **{f"crates/{crate}/{path}": crate for crate in "abc" for path in ("src/lib.rt", "src/out/mod.rt", "out/log", "edits/x.edit")},
+}
+OF_A = ["src/lib.rt", "src/out/mod.rt"]
+# The crates that are copied, the folders that are left, and the files that a copy has then
+COPIED = (
+    (None, ("out",), [*(f"crates/{crate}/{it}" for crate in "abc" for it in ("edits/x.edit", *OF_A))], CHECKOUT["crates.txt"]),
+    (["a", "b"], ("out", "edits"), [*(f"crates/{crate}/{it}" for crate in "ab" for it in OF_A)], "# Each crate.\na:\nb may_wait=4: a\n"),
+)
 # Paths of files, and what is said of those that nothing looks for, where the crates are a and b
 PLACED = (
     ("edits in their places", ["crates/a/edits/x.edit", "crates/b/must-not-compile/x.edit", "tools/same_meaning/a/x.edit"], []),
@@ -159,6 +179,17 @@ def source_cases():
         yield f"tests: {what}", [*counts.unmarked(texts)], lines
     for what, texts, lines in READ:
         yield f"files: {what}", [*counts.unread(texts)], lines
+    for what, text, wanted in LISTED:
+        yield f"listed: {what}", workspace.listed(text), wanted
+    for names, left_out, paths, lines in COPIED:
+        with tempfile.TemporaryDirectory() as at:
+            for path, text in CHECKOUT.items():
+                os.makedirs(os.path.dirname(f"{at}/from/{path}"), exist_ok=True)
+                workspace.write(f"{at}/from/{path}", text)
+            workspace.copy_crates(f"{at}/from", f"{at}/to", names, left_out)
+            made = sorted(os.path.relpath(f"{folder}/{it}", f"{at}/to") for folder, _, files in os.walk(f"{at}/to") for it in files)
+            found = made, workspace.text_of(f"{at}/to/crates.txt"), os.path.isdir(f"{at}/to/.git")
+            yield f"a copy of {names or 'all'}", found, (["HANDLES", *sorted(["crates.txt", *paths])], lines, True)
     for what, paths, lines in PLACED:
         yield f"places: {what}", [*workspace.out_of_place(paths, ["a", "b"])], lines
     for what, texts, lines in ALIKE:

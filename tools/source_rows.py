@@ -6,8 +6,9 @@ import tempfile
 
 import rows
 from edits import syntax
+from edits.copies import Maker
 from edits.functions import Source
-from workspace import write
+from workspace import text_of, write
 
 F = ("f", "{ 1 }")
 # What a text is, the text, and the name and the body of each function that is found in it; None of one that is no source.
@@ -98,6 +99,10 @@ def cases():
         yield "a twin", f.renamed("f_twin0"), BEFORE.partition("\n\n")[0].replace("fn f", "fn f_twin0")
         yield "without a body", g.without_body(), "fn g(a: u8) -> u8 { loop {} }"
         yield "whose line it is", [source.function_at(folder, "src/lib.rt", it)[1] for it in range(1, 10)], [*"fffff", None, *"ggg"]
+    with tempfile.TemporaryDirectory() as folder:
+        Maker(source_of(BEFORE, folder), False).leave_out(folder, {"f"})
+        wanted = BEFORE.replace("{\n    f(a)\n}", "{ loop {} }"), True
+        yield "g is left out", (text_of(f"{folder}/src/lib.rt"), os.path.isfile(f"{folder}/proofs/g/Proof.antt")), wanted
     for texts in ([], ["fn f() {}"], ["fn f() {}", '"', "fn g() {}"]):
         found = [it and [function.name for function in it.functions] for it in syntax.read(texts)]
         yield f"{len(texts)} texts at once", found, [["f"], None, ["g"]] if len(texts) == 3 else [["f"]] * len(texts)
