@@ -1,6 +1,6 @@
 -- A journal and a list that are compared from their ends.
-use Rattle.std.proofs.Common.{◌≡◌, ◌++◌, ◌∷◌, ◌∙◌, [], List, Option, Some, None, Bool, true, false, append-nil, refl, sym, ap}
-use Rattle.std.specs.Prelude.{◌↔◌, IsTrue, option_to_list}
+use Rattle.std.proofs.Common.{◌≡◌, ◌++◌, ◌∷◌, ◌∙◌, [], List, Option, Some, None, Bool, true, false, append-nil, refl, sym, ap, subst}
+use Rattle.std.specs.Prelude.{◌↔◌, ◌&&◌, IsTrue, option_to_list}
 use Rattle.std.specs.List.{cons_option}
 use Rattle.std.proofs.lemmas.List.{same_from_push}
 use Rattle.std.proofs.lemmas.List.Elements.{filter_map-append}
@@ -45,3 +45,13 @@ pub entry_missing : (js ks list rest : List Event) (e f : Event) → js ≡ ks +
 entry_missing js ks list rest e f is found none =
     let parts : client_events js ≡ client_events ks ++ f ∷ [] = split js ks e (Some f) is found in
     ((λ q. absurd (push_some (client_events ks) f (sym parts ∙ (q ∙ none)))), (λ q. absurd (not_false (client_events ks ≡ rest) q)))
+
+-- what was compared before and what is compared now are the same, where both are
+pub both_same : (P Q R : Type 0) (agree last : Bool) → P ↔ (IsTrue agree × Q) → Q ↔ (IsTrue last × R) → P ↔ (IsTrue (last && agree) × R)
+both_same P Q R true true old new = ((λ p. (refl, (new.0 (old.0 p).1).1)), (λ r. old.1 (refl, new.1 (refl, r.1))))
+both_same P Q R true false old new = ((λ p. new.0 (old.0 p).1), (λ r. absurd (not_false R r)))
+both_same P Q R false true old new = ((λ p. absurd (not_false Q (old.0 p))), (λ r. absurd (not_false R r)))
+both_same P Q R false false old new = ((λ p. absurd (not_false Q (old.0 p))), (λ r. absurd (not_false R r)))
+
+pub still_same : (P Q R : Type 0) (before last now : Bool) → P ↔ (IsTrue before × Q) → Q ↔ (IsTrue last × R) → now ≡ (last && before) → P ↔ (IsTrue now × R)
+still_same P Q R before last now old new is = subst (λ (b : Bool). P ↔ (IsTrue b × R)) (sym is) (both_same P Q R before last old new)

@@ -19,3 +19,18 @@ returns-clause-nothing g c =
     (λ none sound.
     nothing_more was.desk was.stop log (subst IsSound none.0 sound) (ap place_of (sym none.0) ∙ (now.led ∙ sym (ap (replay beginning) all))) (sym stays ∙ (now.ended ∙ sym (ap stop_of all))) news none.2)
     c.next_out.ensures.nothing c.next_out.ensures.sound
+
+pub returns-clause-history : goal.returns-clause-history
+returns-clause-history g c = c.next_out.ensures.history
+
+pub returns-clause-unseen : goal.returns-clause-unseen
+returns-clause-unseen g c = c.next_out.ensures.unseen
+
+pub returns-clause-follows : goal.returns-clause-follows
+returns-clause-follows g c = c.next_out.ensures.follows
+
+pub returns-clause-some : goal.returns-clause-some
+returns-clause-some g c = c.next_out.ensures.some
+
+pub returns-clause-mark : goal.returns-clause-mark
+returns-clause-mark g c = c.next_out.ensures.mark
