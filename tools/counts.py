@@ -51,7 +51,7 @@ LOOPS = {
     "worked_grammars.seams": ("crates/worked_grammars/src/lines/seams.rt", r"(?m)^    for round in 0\.\.([0-9_]+)u32 \{"),
 }
 # The tools of rows that try the gate's own tools
-OWN_ROWS = ("source_rows", "verdict_rows", "counts_rows", "documents_rows", "stage_rows")
+OWN_ROWS = ("source_rows", "reference_rows", "verdict_rows", "counts_rows", "documents_rows", "stage_rows")
 TEST = re.compile(r"(?m)^ *#\[test\]")
 # A function as tests are, with the attributes above it
 LIKE_A_TEST = re.compile(r"(?m)^((?: *#\[.*\]\n)*) *(?:pub(?:\(\w+\))? )?fn (\w+)\(\w+: HostRuntime\)")
