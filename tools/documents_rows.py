@@ -138,7 +138,7 @@ PAGES = (
     (documents.layout_faults, "README.md", f"{'word ' * 60}\n\n- word\n", ["README.md:1: a line has 300 columns, and may have 100"]),
     (documents.layout_faults, "docs/B.md", f"a\n\n{LONG}\n", ["docs/B.md:3: a paragraph has 81 words, and may have 80"]),
     (documents.layout_faults, "docs/B.md", "- a\n- b\n" * 90, []),
-    (documents.layout_faults, "README.md", "a\n" * 70 + "\n" * 231, ["README.md: it has 301 lines, and may have 300"]),
+    (documents.layout_faults, "README.md", "a\n" * 70 + "\n" * 111, ["README.md: it has 181 lines, and may have 180"]),
 )
 
 
