@@ -5,7 +5,6 @@
 
 runs a program that is built. Each row is a text and its lines without the name of the file; the severity in a line tells how the run ends.
 """
-import json
 import os
 import sys
 
@@ -13,6 +12,7 @@ import refused_memory
 import rows
 from runs import HUNG, outcome
 from sums import kit
+from workspace import version
 
 USAGE = b"usage: abnf_findings [--strict | --rules | --grammar] [--with FILE].. [--format abnf | markdown | xml] FILE..\n"
 HELP = USAGE + b"""Prints what is found in the ABNF grammars of files: of drafts in Markdown or RFCXML too.
@@ -264,12 +264,6 @@ GRAMMAR_ROWS = (
 def told_kit():
     """The kit that the program names, with the logic of the kit that is here: kits of several names have the same logic."""
     return f"rattle-kit-13f {kit().partition(' ')[2]}"
-
-
-def version():
-    """The version, as the extension for VS Code has it."""
-    with open(os.path.join(rows.TOP, "editors", "vscode", "package.json"), encoding="utf-8") as file:
-        return json.load(file)["version"]
 
 
 def status_of(found, strict):

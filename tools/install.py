@@ -17,7 +17,10 @@ PROGRAMS = ("abnf_ls", "abnf_findings")
 USAGE = "usage: ./install [--uninstall] [PREFIX]"
 OWN = os.path.join("share", "abnf_ls")
 LIST = os.path.join(OWN, "installed")
-IN_SNIPPETS = b"/path/to/abnf_ls/out/abnf_ls"
+# The folder of the programs, as the editors' files have it
+IN_SNIPPETS = b"/path/to/abnf_ls/out"
+# What of editors/ is no such file: the trials, and what `npm install` lays beside the extension for VS Code
+NO_SNIPPETS = {"try", "node_modules", "package-lock.json"}
 CANNOT, WRONG_USE = 1, 5
 
 
@@ -45,18 +48,27 @@ def quoted(path):
     return path.replace("\\", "\\\\").replace('"', '\\"').encode()
 
 
+def snippets():
+    """Each file for an editor, by its path in editors/: its bytes."""
+    editors = os.path.join(TOP, "editors")
+    for folder, folders, files in os.walk(editors):
+        folders[:] = sorted({*folders} - NO_SNIPPETS)
+        for path in (os.path.join(folder, it) for it in sorted({*files} - NO_SNIPPETS)):
+            yield os.path.relpath(path, editors), read(path)
+
+
+def filled(snippet, folder):
+    """A file for an editor, with the folder in which the programs are to lie."""
+    return snippet.replace(IN_SNIPPETS, quoted(folder))
+
+
 def contents(prefix):
     """Each file that is put under the prefix, by its path there: its bytes, and its mode."""
-    program = quoted(os.path.join(prefix, "bin", PROGRAMS[0]))
     for name in PROGRAMS:
         yield os.path.join("bin", name), read(TOP, "out", name), 0o755
         yield os.path.join("share", "man", "man1", f"{name}.1"), read(TOP, "man", f"{name}.1"), 0o644
-    editors = os.path.join(TOP, "editors")
-    for folder, folders, files in os.walk(editors):
-        folders[:] = sorted({*folders} - {"try", "node_modules"})
-        for path in (os.path.join(folder, it) for it in sorted(files)):
-            place = os.path.join(OWN, "editors", os.path.relpath(path, editors))
-            yield place, read(path).replace(IN_SNIPPETS, program), 0o644
+    for path, snippet in snippets():
+        yield os.path.join(OWN, "editors", path), filled(snippet, os.path.join(prefix, "bin")), 0o644
 
 
 class Installed:

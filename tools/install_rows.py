@@ -26,14 +26,18 @@ FILES = (
     "bin/abnf_findings",
     "bin/abnf_ls",
     "share/abnf_ls/editors/emacs-abnf-mode.el",
+    "share/abnf_ls/editors/emacs-drafts.el",
     "share/abnf_ls/editors/emacs-eglot.el",
     "share/abnf_ls/editors/emacs-lsp-mode.el",
     "share/abnf_ls/editors/helix-languages.toml",
     "share/abnf_ls/editors/kate-abnf.xml",
     "share/abnf_ls/editors/kate-settings.json",
     "share/abnf_ls/editors/neovim-0.11.lua",
+    "share/abnf_ls/editors/neovim-drafts.lua",
     "share/abnf_ls/editors/neovim.lua",
+    "share/abnf_ls/editors/vim-ale-drafts.vim",
     "share/abnf_ls/editors/vim-ale.vim",
+    "share/abnf_ls/editors/vim-drafts.vim",
     "share/abnf_ls/editors/vim-plain.vim",
     "share/abnf_ls/editors/vim-ycm.vim",
     "share/abnf_ls/editors/vscode/extension.js",
@@ -147,9 +151,9 @@ UNBUILT = (
 )
 
 
-def copied(programs, copy):
-    """A copy of what an install reads, in which these programs stand for those that are built from its sources."""
-    for name in ("install", "build", "crates.txt", "tools/build.py", "tools/install.py", "tools/workspace.py"):
+def copied(programs, copy, more=()):
+    """A copy of what an install reads, and of these files more, in which these programs stand for those that are built from its sources."""
+    for name in ("install", "build", "crates.txt", "tools/build.py", "tools/install.py", "tools/workspace.py", *more):
         os.makedirs(os.path.dirname(os.path.join(copy, name)), exist_ok=True)
         shutil.copy(os.path.join(TOP, name), os.path.join(copy, name))
     for name in ("man", "editors"):
@@ -166,12 +170,12 @@ def copied(programs, copy):
 class Place:
     """A folder in which a row works, with a home and a PATH of its own."""
 
-    def __init__(self, folder, checkout):
+    def __init__(self, folder, checkout, needed=NEEDED):
         self.folder, self.checkout = folder, checkout
         self.path = os.path.join(folder, "work \u00e4")
         self.bin = os.path.join(folder, "bin")
         os.mkdir(self.bin)
-        for name in NEEDED:
+        for name in needed:
             os.symlink(shutil.which(name), os.path.join(self.bin, name))
 
     def lay(self, before):
@@ -214,8 +218,8 @@ class Place:
         return found
 
 
-def row_cases(place):
-    for what, before, calls, behind in ROWS:
+def row_cases(place, those=ROWS):
+    for what, before, calls, behind in those:
         place.lay(before)
         for number, (words, (status, said)) in enumerate(calls, 1):
             wanted = (status, tuple(f"install: {it}".replace("{}", place.path) for it in said))
@@ -240,8 +244,13 @@ def command_of(settings):
         return None
 
 
+def named_in(snippet, folder):
+    """How often a snippet names each program, as it lies in this folder, between double quotes."""
+    return [snippet.count(b'"' + quoted(os.path.join(folder, name)) + b'"') for name in PROGRAMS]
+
+
 def content_cases(place, programs):
-    """What is put in place: the programs as they are, to be run by all, and snippets that name the server where it lies."""
+    """What is put in place: the programs as they are, to be run by all, and snippets that name them where they lie."""
     place.lay({})
     yield "an install for its contents", place.call([ODD]), DONE
     prefix = os.path.join(place.path, ODD)
@@ -250,14 +259,14 @@ def content_cases(place, programs):
         yield f"{name} as it is", (read(put) == read(program), oct(os.stat(put).st_mode & 0o777)), (True, "0o755")
         page = os.path.join(prefix, "share", "man", "man1", f"{name}.1")
         yield f"the page of {name} as it is", (read(page), oct(os.stat(page).st_mode & 0o777)), (read(TOP, "man", f"{name}.1"), "0o644")
-    server, editors = os.path.join(prefix, "bin", "abnf_ls"), os.path.join(prefix, "share", "abnf_ls", "editors")
-    yield "the server in Kate's settings", command_of(read(editors, "kate-settings.json")), [server]
+    folder, editors = os.path.join(prefix, "bin"), os.path.join(prefix, "share", "abnf_ls", "editors")
+    yield "the server in Kate's settings", command_of(read(editors, "kate-settings.json")), [os.path.join(folder, "abnf_ls")]
     for path in (it[len("share/abnf_ls/editors/") :] for it in FILES if it.startswith("share/abnf_ls/editors/")):
         snippet, template = read(editors, path), read(TOP, "editors", path)
-        count = template.count(b'"/path/to/abnf_ls/out/abnf_ls"')
+        named = named_in(template, "/path/to/abnf_ls/out")
         yield f"no path is left in {path}", snippet.count(b"/path/to"), 0
-        yield f"the server in {path}", snippet.count(b'"' + quoted(server) + b'"'), count
-        yield f"each path in {path} stands between double quotes", template.count(b"/path/to"), count
+        yield f"the programs in {path}", named_in(snippet, folder), named
+        yield f"each path in {path} stands between double quotes", template.count(b"/path/to"), sum(named)
 
 
 def full_cases(place):

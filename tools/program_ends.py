@@ -21,6 +21,7 @@ import broken_input
 import command_rows
 import counts
 import cut_pipes
+import dist_rows
 import encoding_rows
 import failing_devices
 import findings_rows
@@ -193,7 +194,8 @@ def all_cases():
             for tool, some in tools:
                 yield from ((program, tool, case) for case in cases_of(some, path))
     if os.path.isfile(rows.SERVER) and os.path.isfile(rows.FINDINGS):
-        yield from (("install", "install_rows", case) for case in cases_of(install_rows.cases, rows.SERVER, rows.FINDINGS))
+        for what, tool in (("install", install_rows), ("dist", dist_rows)):
+            yield from ((what, tool.__name__, case) for case in cases_of(tool.cases, rows.SERVER, rows.FINDINGS))
 
 
 class Tally:

@@ -1,6 +1,8 @@
-"""The checkout as the tools see it: its crates by crates.txt, what stands where nothing looks for it, copies of crates, sums of files."""
+"""The checkout as the tools see it: its crates by crates.txt, what stands where nothing looks for it, copies of crates, sums of files, and the
+version."""
 import collections
 import hashlib
+import json
 import os
 import shutil
 
@@ -29,6 +31,11 @@ def sum_of(path):
             return hashlib.sha256(file.read()).hexdigest()
     except FileNotFoundError:
         return None
+
+
+def version():
+    """The version, as the extension for VS Code has it. (tools/findings_rows.py compares the program and the manual pages with it.)"""
+    return json.loads(text_of(f"{TOP}/editors/vscode/package.json"))["version"]
 
 
 def listed(text):

@@ -20,8 +20,14 @@ set_up() { # EDITOR PROGRAM
     'name    =/ "x"/hello/name ?' 'id-right = hello' 'use      = id-right' > "$file"
   cp -- "$file" "$folder/whole"
 }
+drafts() { # in place of the grammar: in Markdown, with findings in lines 4 to 6; in RFCXML, with one in line 2; and one without a grammar
+  file=$folder/draft-a.md
+  printf '%s\n' '# A draft' '' '~~~ abnf' "a = <é€e$(printf '\314\201')😀> nope" 'b = b "x"' 'c = "x" / nope' '~~~' > "$file"
+  printf '%s\n' '<rfc><artwork type="abnf">' 'a = "x" / nope' '</artwork></rfc>' > "$folder/draft-b.xml"
+  printf '%s\n' '# A draft' 'a = nope' > "$folder/draft-c.md"
+}
 snippet() { # FILE: as it is installed, with the program's path in it
-  sed "s#/path/to/abnf_ls/out/abnf_ls#$folder/the program#" "$editors/$1"
+  sed "s#/path/to/abnf_ls/out/abnf_[a-z]*#$folder/the program#" "$editors/$1"
 }
 is() { # WHAT GOT WANTED
   if [ "$2" = "$3" ]; then passed=$((passed + 1)); echo "ok   $1"; return; fi
