@@ -153,7 +153,7 @@ def compare(names, commands):
 def instructions(command, given):
     """How many instructions a server takes for its whole input."""
     counting = ["valgrind", "--tool=callgrind", "--callgrind-out-file=/dev/null", *command]
-    ran = subprocess.run(counting, input=given, stdout=subprocess.PIPE, stderr=subprocess.PIPE, check=True)
+    ran = subprocess.run(counting, input=given, stdout=subprocess.DEVNULL, stderr=subprocess.PIPE, check=True)
     return int(re.search(rb"Collected : (\d+)", ran.stderr)[1])
 
 
@@ -179,11 +179,15 @@ def compare_instructions(names, commands):
     count_asked("a request that is refused", INITIALIZE, request(9, "barrier") * 100, 100, commands)
 
 
+def compiled(source, program):
+    """A program that rustc makes of this source."""
+    subprocess.run(["rustc", *FLAGS, source, "-o", program], check=True)
+    return program
+
+
 def built_plain(folder):
     """The server in plain Rust, built into a folder."""
-    plain = os.path.join(folder, "plain")
-    subprocess.run(["rustc", *FLAGS, SOURCE, "-o", plain], check=True)
-    return plain
+    return compiled(SOURCE, os.path.join(folder, "plain"))
 
 
 def main():

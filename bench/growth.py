@@ -1,159 +1,136 @@
 #!/usr/bin/env python3
-"""Looks for texts that cost more than in proportion to their size.
+"""Looks for texts that cost more than in proportion to their size, or much more than the server in plain Rust takes.
 
-Run it from anywhere: bench/growth.py [PROGRAM], with PROGRAM as for bench.py. Each text has a form that strains one part of the server, and is
-made in two sizes, one a quarter of the other. For each question the milliseconds at the larger size are printed and how often that of the
-smaller goes into them: some 4 says that the cost is in proportion, 16 that it goes with the square. Times are the lesser of two runs, which
-end with the answer; the opening ends with its findings. Behind them stand the most bytes of memory that the server took for a byte of the text.
+    bench/growth.py [--times] [--instructions] [--questions] [--only=NAME] [PROGRAM ['SERVER ..']]
+
+PROGRAM and SERVER are those of beside.py: what is left out is the crate served_plainly, and the server in plain Rust. Each text has a form that
+strains one part of the server (forms.py), and is made in two sizes, one a quarter of the other. There are three tables, of which the words choose
+some. With --only the forms alone are measured whose name has that.
+
+--times: the dearest of the edits that are typed into each form, to its findings. The figures are the milliseconds of processor time at the smaller
+size and at the larger one, the least of some rounds, and how often the one goes into the other; behind it stand the most bytes of memory that the
+server took for a byte of the texts; and then the same of the other server. The last figure is how often the other's time goes into the program's,
+for the edit and at the size where that is most.
+
+--instructions: the millions of instructions that the program takes for these edits, on average, at both sizes. They are counted by valgrind where it
+is installed, on as many processors as this is let run on. Some 4 times at the larger size says that the work is in proportion, 16 that it goes with
+the square.
+
+--questions: the milliseconds of each question at the larger size, and how often that of the smaller goes into them. Times are the lesser of two runs,
+which end with the answer; the opening ends with its findings. Behind them stand the most bytes of memory that the server took for a byte of the text.
+
+It ends nonzero where an edit takes more than GROWTH times the instructions at the larger size (or the time, where they can't be counted), or more
+than BESIDE times the processor time of the other server.
 """
+import concurrent.futures
+import os
+import shutil
 import sys
+import tempfile
 
-from bench import INITIALIZE, SYMBOLS, Server, about, opened, typed
+from bench import INITIALIZE, PROGRAM, SYMBOLS, Server, about, opened, typed
+from beside import Timed, count_one
+from forms import FORMS, in_turn, most_bytes
+from real import both_servers, changed
 
 RUNS = 2
+ROUNDS = 5
 QUARTER = 4
+GROWTH, BESIDE = 5, 3
+# Fewer seconds are those of a message, whatever the text is.
+LEAST = 1e-4
+TABLES = ("--times", "--instructions", "--questions")
+ONLY = "--only="
 
 
-def on_one_line(count):
-    """One rule in one line, of names that no rule defines."""
-    return "a = " + " / ".join(f"n{number}" for number in range(count)) + "\n"
+def chosen_forms():
+    """The forms that are measured."""
+    words = [word.removeprefix(ONLY) for word in sys.argv[1:] if word.startswith(ONLY)]
+    return [form for form in FORMS if all(word in form.name for word in words)]
 
 
-def many_alternatives(count):
-    """One rule of alternatives, each in a line of its own."""
-    return "a = b\n" + " / b\n" * count
+def made(form):
+    """The texts of a form in both sizes, and what is typed into them."""
+    for count in (form.count // QUARTER, form.count):
+        texts = form.texts(count)
+        yield texts, form.typed(*texts)
 
 
-def one_name(count):
-    """One name, named again and again."""
-    return "a = b\n" + "b = a a a a\n" * count
+def uri(document):
+    return f"file:///{document}"
 
 
-def deep_brackets(count):
-    """Rules of brackets as deep as a rule may nest."""
-    return "".join(f"r{number} = {'(' * 60}{'[' * 4}a{']' * 4}{')' * 60}\n" for number in range(count))
+def begun(texts):
+    """The messages that open texts."""
+    return [opened(text, uri(at)) for at, text in enumerate(texts)]
 
 
-def faulty_blocks(count):
-    """Rules that break off."""
-    return "".join(f"r{number} = ( a\n" for number in range(count))
+def messages(notices):
+    return [changed(*it.edits, uri=uri(it.document)) for it in notices]
 
 
-def one_chain(count):
-    """Each rule is 4096 times the next one: least lengths of very many digits."""
-    return "".join(f"r{number} = 4096r{number + 1}\n" for number in range(count)) + f'r{count} = "x"\n'
+def cost(command, texts, notices):
+    """The seconds of processor time that a server takes for each notice, and the most bytes of memory for a byte of the texts."""
+    server, given = Timed(command), messages(notices)
+    server.until_answered(INITIALIZE)
+    for message in begun(texts) + given:
+        server.until_answered(message)
+    memory = server.memory() * 1024 / most_bytes(texts, notices)
+    idle = min(server.took(b"") for _ in range(20))
+    times = [[server.took(it) - idle for it in given] for _ in range(ROUNDS)]
+    server.end()
+    return [max(min(column), LEAST) for column in zip(*times)], memory
 
 
-def shallow_chain(count):
-    """Each rule is the next one."""
-    return "".join(f"r{number} = r{number + 1}\n" for number in range(count)) + f'r{count} = "x"\n'
+def compare_times():
+    """Prints what is typed into each form beside the other server. Gives what is beyond a bound."""
+    beyond = []
+    print(f"{'milliseconds of an edit':<36} {'the program':>38}   {'the other server':>38}    ratio")
+    with tempfile.TemporaryDirectory() as folder:
+        commands = both_servers(folder)
+        for form in chosen_forms():
+            sizes = [*made(form)]
+            ours, others = ([cost(command, *size) for size in sizes] for command in commands)
+            ratio = max(one / other for (mine, _), (theirs, _) in zip(ours, others) for one, other in zip(mine, theirs))
+            print(f"{form.name:<36} {said(ours)}   {said(others)} {ratio:8.2f}", flush=True)
+            if ratio > BESIDE:
+                beyond.append(f"{form.name}: {ratio:.1f} times the processor time of the other server")
+            if not shutil.which("valgrind") and grown(ours) > GROWTH:
+                beyond.append(f"{form.name}: {grown(ours):.1f} times the processor time")
+    return beyond
 
 
-def one_ring(count):
-    """Each rule is the next one, and the last is the first: none generates anything."""
-    return "".join(f"r{number} = r{(number + 1) % count}\n" for number in range(count))
+def grown(costs):
+    """How often the time of the dearest notice at the smaller size goes into that at the larger one."""
+    (small, _), (large, _) = costs
+    return max(large) / max(small)
 
 
-def comments(count):
-    """No rule but the first: lines of comments."""
-    return "a = b\n" + "; nothing but a comment of a usual length\n" * count
+def said(costs):
+    """The times of the dearest notice at both sizes, and the memory at the larger one."""
+    (small, _), (large, memory) = costs
+    return f"{max(small) * 1e3:9.3f} {max(large) * 1e3:10.3f} ({grown(costs):4.1f}) {memory:6.1f} B/B"
 
 
-def undefined(count):
-    """Names that no rule defines, one to a rule."""
-    return "".join(f"r{number} = u{number}\n" for number in range(count))
+def counted(form):
+    """The instructions of a notice, on average, at both sizes."""
+    sizes = [(b"".join([INITIALIZE, *begun(texts)]), messages(notices)) for texts, notices in made(form)]
+    return [count_one([PROGRAM], begin, b"".join(given), len(given)) for begin, given in sizes]
 
 
-def twice_defined(count):
-    """Each rule is defined twice."""
-    return "".join(f'r{number % (count // 2)} = "x"\n' for number in range(count))
-
-
-def names_on_one_line(count):
-    """One line of one name again and again, in a row."""
-    return "a =" + " a" * count + "\n"
-
-
-def brackets_on_one_line(count):
-    """One line of brackets as deep as a rule may nest, again and again."""
-    return "a =" + f" {'(' * 64}a{')' * 64}" * count + "\n"
-
-
-def comment_on_one_line(count):
-    """One line that is a comment of signs which begin another one."""
-    return "a = b ;" + ";" * count + "\n"
-
-
-def one_undefined_name(count):
-    """Rules that all use one name that no rule defines."""
-    return "".join(f"r{number} = u\n" for number in range(count))
-
-
-def one_name_defined(count):
-    """Definitions of one name."""
-    return 'a = "x"\n' * count
-
-
-def one_name_added_to(count):
-    """One rule, and additions to it."""
-    return 'a = "x"\n' + 'a =/ "x"\n' * count
-
-
-def nothing_to_add_to(count):
-    """Additions to names that have no rule."""
-    return "".join(f'r{number} =/ "x"\n' for number in range(count))
-
-
-def unproductive_chain(count):
-    """Each rule is the next one, and the last is itself: none generates anything."""
-    return "".join(f"r{number} = r{number + 1}\n" for number in range(count)) + f"r{count} = r{count}\n"
-
-
-def alternatives_of_one_character(count):
-    """One rule of alternatives of one character on one line."""
-    return "a = a" + "/a" * count + "\n"
-
-
-def repeats_of_repeats(count):
-    """Rules of repeats of repeats, as deep as a rule may nest."""
-    return "".join(f"r{number} = {'2(' * 63}2a{')' * 63}\n" for number in range(count))
-
-
-def chain_of_repeats(count):
-    """Each rule is many times a bracket of many times the next one."""
-    return "".join(f"r{number} = 3*(2*r{number + 1})\n" for number in range(count)) + f'r{count} = "x"\n'
-
-
-def wide_characters(count):
-    """Comments of characters that are two UTF-16 units each."""
-    return "a = b\n" + f"; {chr(0x1F600) * 20}\n" * count
-
-
-FORMS = (
-    ("all on one line", on_one_line, 400_000),
-    ("one rule of alternatives", many_alternatives, 800_000),
-    ("one name everywhere", one_name, 340_000),
-    ("deep brackets", deep_brackets, 28_000),
-    ("faulty blocks", faulty_blocks, 280_000),
-    ("4096 times the next rule", one_chain, 100_000),
-    ("a chain", shallow_chain, 200_000),
-    ("a ring", one_ring, 200_000),
-    ("comments", comments, 96_000),
-    ("undefined names", undefined, 200_000),
-    ("each rule twice", twice_defined, 240_000),
-    ("characters of two units", wide_characters, 48_000),
-    ("one name on one line", names_on_one_line, 2_000_000),
-    ("brackets on one line", brackets_on_one_line, 32_000),
-    ("a comment on one line", comment_on_one_line, 4_190_000),
-    ("one undefined name", one_undefined_name, 100_000),
-    ("one name defined", one_name_defined, 100_000),
-    ("one name added to", one_name_added_to, 100_000),
-    ("nothing to add to", nothing_to_add_to, 100_000),
-    ("an unproductive chain", unproductive_chain, 100_000),
-    ("letters and slashes", alternatives_of_one_character, 2_000_000),
-    ("repeats of repeats", repeats_of_repeats, 20_000),
-    ("a chain of repeats", chain_of_repeats, 100_000),
-)
+def compare_instructions():
+    """Prints the instructions of what is typed into each form. Gives what is beyond a bound."""
+    if not shutil.which("valgrind"):
+        print("valgrind isn't installed: no instructions are counted")
+        return []
+    beyond, forms = [], chosen_forms()
+    print(f"{'millions of instructions of an edit':<36} {'smaller':>10} {'larger':>10}")
+    with concurrent.futures.ThreadPoolExecutor(len(os.sched_getaffinity(0))) as pool:
+        for form, (small, large) in zip(forms, pool.map(counted, forms)):
+            print(f"{form.name:<36} {small / 1e6:10.3f} {large / 1e6:10.3f} ({large / small:4.1f})", flush=True)
+            if large > GROWTH * small:
+                beyond.append(f"{form.name}: {large / small:.1f} times the instructions")
+    return beyond
 
 
 def questions(text):
@@ -185,23 +162,43 @@ def taken(text):
     return dict(zip(("opening", *asked), (min(column) for column in zip(*times)))), most
 
 
-def main():
+def asked_forms():
+    """The forms whose questions are asked: of those with the same text the first, and none with several documents."""
+    first = {}
+    for form in chosen_forms():
+        if form.typed is not in_turn:
+            first.setdefault(form.text, form)
+    return first.values()
+
+
+def ask_all():
+    """Prints what each question takes about the text of each form. Nothing is bounded."""
     worst = 0.0
-    for name, form, count in FORMS:
-        small, large = form(count // QUARTER), form(count)
+    for form in asked_forms():
+        small, large = (form.text(count) for count in (form.count // QUARTER, form.count))
         before, _ = taken(small)
         after, memory = taken(large)
         size = len(large.encode())
-        grown = size / len(small.encode())
-        said = []
+        more = size / len(small.encode())
+        said_of = []
         for question, seconds in after.items():
             times = seconds / before[question]
             # Below a millisecond a time is that of a message, whatever the text is.
             if seconds > 0.001:
-                worst = max(worst, times / grown)
-            said.append(f"{question} {seconds * 1e3:.1f} ({times:.1f})")
-        print(f"{name:<26} {size:>8} bytes   {'   '.join(said)}   {memory / size:.0f} bytes a byte", flush=True)
+                worst = max(worst, times / more)
+            said_of.append(f"{question} {seconds * 1e3:.1f} ({times:.1f})")
+        print(f"{form.name:<36} {size:>8} bytes   {'   '.join(said_of)}   {memory / size:.0f} bytes a byte", flush=True)
     print(f"the worst is {worst:.1f} times what is in proportion")
+    return []
+
+
+def main():
+    tables = [word for word in TABLES if word in sys.argv[1:]] or TABLES
+    ways = dict(zip(TABLES, (compare_times, compare_instructions, ask_all)))
+    beyond = [line for word in tables for line in ways[word]()]
+    for line in beyond:
+        print(f"beyond a bound: {line}")
+    return 1 if beyond else 0
 
 
 if __name__ == "__main__":

@@ -97,11 +97,11 @@ def asked(text):
     return {name: several.get(name) or ([each[0][name][0]], each[0][name][1]) for name in ALL}
 
 
-def changed(edit):
-    """The message of an edit."""
-    (start, first), (end, last), new = edit
-    span = {"start": {"line": start, "character": first}, "end": {"line": end, "character": last}}
-    return notice("textDocument/didChange", textDocument={"uri": "file:///g", "version": 4}, contentChanges=[{"range": span, "text": new}])
+def changed(*edits, uri="file:///g"):
+    """The message of edits that are made at once."""
+    ends = [[{"line": line, "character": character} for line, character in edit[:2]] for edit in edits]
+    changes = [{"range": dict(zip(("start", "end"), both)), "text": new} for both, (*_, new) in zip(ends, edits)]
+    return notice("textDocument/didChange", textDocument={"uri": uri, "version": 4}, contentChanges=changes)
 
 
 def replayed(kind, text):
@@ -187,11 +187,16 @@ def printed(texts, commands, form, figures):
         print(f"{question:<28} {name:<22} {form.format(*ours)}   {form.format(*other)} {ratio:8.2f}", flush=True)
 
 
+def both_servers(folder):
+    """The commands of the program and of the other server; where none is named it is built into this folder."""
+    return [(PROGRAM,), tuple(shlex.split(ARGUMENTS[1])) if ARGUMENTS[1:] else (built_plain(folder),)]
+
+
 def main():
     texts = grammars()
     texts = {**texts, "all joined": joined(texts), **shapes(1_000, 1_000)}
     with tempfile.TemporaryDirectory() as folder:
-        commands = [(PROGRAM,), tuple(shlex.split(ARGUMENTS[1])) if ARGUMENTS[1:] else (built_plain(folder),)]
+        commands = both_servers(folder)
         if "--time" in sys.argv[1:]:
             texts.update(shapes(100_000, 40_000))
             form = "{:9.3f} ms {:8.1f} faults {:8.1f} B/B"

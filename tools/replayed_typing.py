@@ -1,18 +1,19 @@
 #!/usr/bin/env python3
-"""Replays typing in two documents at a time, and compares what is published of each version with what a new session has for its text.
+"""Replays typing in several documents at a time, and compares what is published of each version with what a new session has for its text.
 
     tools/replayed_typing.py [PROGRAM [PLAIN]]
 
 The documents are the grammars of examples/, small ones and random ones, and in some sessions both are the same. The edits are those of
 typed_edits, some in one document and some in the other. Now and then a document is closed, opened with the text of the other one, closed,
-and opened again. What must be published of a version is what the plain reading of random_texts and plain_findings has for its text, byte
-for byte, and beside some versions a hover is answered by it too. Of a sample of the versions a process of its own, which opens just that
-text, must publish the same.
+and opened again. Or there are four documents, with an edit in each by turns, and some are closed for a turn. What must be published of a
+version is what the plain reading of random_texts and plain_findings has for its text, byte for byte, and beside some versions a hover is
+answered by it too. So is a rename that is asked for, whose edits are made next where it is granted. Of a sample of the versions a process
+of its own, which opens just that text, must publish the same.
 
 PLAIN serves on one thread. PROGRAM has four workers, and no setting for that: a small library in front of the C library's holds workers
 back, so that one works, or two, or all four; and all four are shaken by the library of shaken_threads. Each version is waited for, or some
-messages come at once: then one that the next overtakes may have no findings. At last memory is refused: then as many findings may be
-missing, or hovers have the error -32603, as allocations were refused, and none may be wrong.
+messages come at once, up to a rename, whose answer is waited for: then one that the next overtakes may have no findings. At last memory
+is refused: then as many findings may be missing, or hovers have the error -32603, as allocations were refused, and none may be wrong.
 
 It counts of each code how often a finding came or went in a line that no edit had touched, and fails where one that depends on other
 blocks did so too seldom.
@@ -39,7 +40,7 @@ import typed_edits
 from random_texts import UNITS, random_text
 from refused_sessions import key_of
 from session_rows import closed
-from typed_edits import KINDS, SMALL_GRAMMARS, Document, findings_of, reading_of
+from typed_edits import KINDS, SMALL_GRAMMARS, Document, Rename, findings_of, reading_of
 
 SEED = 1
 # At least so many edits are typed
@@ -52,7 +53,9 @@ RANDOM_GRAMMARS = 12
 # So many of the small grammars are also both documents of a session.
 TWINS = 5
 # In a grammar of so many characters edits of all kinds are made, and in one with fewer or more so many kinds
-MIDDLING, SOME_KINDS = range(700, 2500), 11
+MIDDLING, SOME_KINDS = range(700, 2500), 9
+# In so many documents it is typed by turns, edits of so many kinds in each, and behind its turn a document is closed so often
+IN_TURN, KINDS_IN_TURN, CLOSED = 4, 5, 0.06
 # One of so many versions has a hover beside it.
 HOVERS = 5
 # The findings that depend on other blocks, and how often each must have come or gone where no edit was made
@@ -63,6 +66,8 @@ PATIENCE, AT_ONCE = 1, 12
 # The kinds of edits of the sessions in which memory is refused
 FOR_REFUSALS = ("adds_or_defines", "generates_nothing", "prose", "duplicate", "bracket", "base_indent", "enter_in_a_rule", "reached_prose")
 INTERNAL = (-32603, "internal error")
+# The code of a rename's error (LSP 3.17, "RequestFailed" in "Response Message")
+REFUSED_RENAME = -32803
 # Where a line begins behind another
 LINE_START = re.compile("(?<=\n)|(?<=\r)(?!\n)")
 
@@ -121,20 +126,23 @@ def notice(method, document, **params):
 
 
 class Session:
-    """What a client says that types in two documents: its messages, what each of them is about or leads to, and the bodies that must come,
-    by what they are about."""
+    """What a client says that types in several documents: its messages, what each of them is about or leads to, and the bodies that must
+    come, by what they are about."""
 
     def __init__(self, number, texts, kinds, hovers=HOVERS, most=1 << 30):
         self.number, self.dice, self.hovers, self.most = number, random.Random(f"{SEED} {number}"), hovers, most
         self.encoding = [*UNITS][number % len(UNITS)]
         self.messages, self.leads, self.bodies, self.texts = [], [], {}, {}
+        # the places of the messages whose answers an editor waits for before it says more
+        self.waits = set()
         self.label = self.requests = self.edits = 0
         self.kinds, self.far = collections.Counter(), collections.Counter()
         self.say(encoding_rows.offers(f'["{self.encoding}"]').encode(), "1", encoding_rows.agreed(self.encoding).encode())
         self.docs = [Document(self.dice, f"file:///typed-{at}", text, self.encoding) for at, text in enumerate(texts)]
         for doc in self.docs:
             self.open_one(doc, doc.text)
-        self.type_all([self.all_of(doc, some) for doc, some in zip(self.docs, kinds)])
+        typists = [self.all_of(doc, some) for doc, some in zip(self.docs, kinds)]
+        (self.type_by_turns if len(texts) > 2 else self.type_all)(typists)
 
     def say(self, message, key, body=None):
         self.messages.append(message)
@@ -168,21 +176,43 @@ class Session:
         self.version(doc.uri, doc.text, notice("didChange", {"uri": doc.uri, "version": self.label}, contentChanges=changes))
         self.far.update(far_changes(before, doc.text, self.encoding))
 
+    def ask(self, method, uri, at, answered, **params):
+        """A request about a position, and what is answered."""
+        self.requests += 1
+        number, about = 100 + self.requests, {"textDocument": {"uri": uri}, "position": dict(zip(("line", "character"), at)), **params}
+        message = body_of(id=number, method=f"textDocument/{method}", params=about)
+        self.say(message, json.dumps(number), body_of(id=number, **answered))
+
     def hover(self, uri, reading):
         """A hover at some name."""
-        self.requests += 1
-        number, at = 100 + self.requests, reading.start_of(self.dice.choice(reading.places)) if reading.places else (0, 0)
-        about = {"textDocument": {"uri": uri}, "position": dict(zip(("line", "character"), at))}
-        message = body_of(id=number, method="textDocument/hover", params=about)
-        self.say(message, json.dumps(number), body_of(id=number, result=reading.hover(at)))
+        at = reading.start_of(self.dice.choice(reading.places)) if reading.places else (0, 0)
+        self.ask("hover", uri, at, {"result": reading.hover(at)})
+
+    def rename(self, doc, old, new):
+        """A rename that is asked for at some place of a name, and the changes that make its edits, from the last to the first; None where it
+        is refused."""
+        reading = doc.reading()
+        at = reading.start_of(self.dice.choice(reading.named(old)))
+        renamed = reading.rename(at, new)
+        is_granted = not isinstance(renamed, str)
+        if is_granted:
+            answered = {"result": {"changes": {doc.uri: [{"newText": new, "range": it} for it in renamed]}}}
+        else:
+            answered = {"error": {"code": REFUSED_RENAME, "message": renamed}}
+        self.waits.add(len(self.messages))
+        self.ask("rename", doc.uri, at, answered, newName=new)
+        return [doc.put(*it, new) for it in doc.offsets(old)] if is_granted else None
 
     def all_of(self, doc, kinds):
         """Makes the edits of these kinds in a document, one at each step."""
         for kind in kinds:
             steps, before = kind(doc), doc.text
             while (changes := next(steps, None)) is not None:
-                self.change(doc, before, changes)
-                self.kinds[kind.__name__] += 1
+                if isinstance(changes, Rename):
+                    changes = self.rename(doc, *changes)
+                if changes is not None:
+                    self.change(doc, before, changes)
+                    self.kinds[kind.__name__] += 1
                 before = doc.text
                 yield
 
@@ -196,6 +226,21 @@ class Session:
                     del left[at]
             if self.dice.random() < 0.04:
                 self.open_again(self.docs[at], self.docs[1 - at])
+
+    def type_by_turns(self, typists):
+        """Types a key in each document, and again, until all is typed. Some are closed, and opened at their next turn."""
+        left, shut = dict(enumerate(typists)), set()
+        while left:
+            for at in [*left]:
+                doc = self.docs[at]
+                if at in shut:
+                    self.open_one(doc, doc.text)
+                    shut.remove(at)
+                if next(left[at], left) is left:
+                    del left[at]
+                elif self.dice.random() < CLOSED:
+                    self.close_one(doc)
+                    shut.add(at)
 
 
 def far_changes(before, after, encoding):
@@ -233,13 +278,20 @@ def pairs():
     yield from zip(SMALL_GRAMMARS[:TWINS], SMALL_GRAMMARS)
 
 
+def fours():
+    """The texts of the documents of each session in which these have turns: other ones, and one of them four times."""
+    yield from zip(*(SMALL_GRAMMARS[at::IN_TURN] for at in range(IN_TURN)))
+    yield (SMALL_GRAMMARS[0],) * IN_TURN
+
+
 @functools.lru_cache(maxsize=None)
 def sessions():
     """All of them. In each text edits of all kinds are made, or of some, in turn."""
     dice, turn, made = random.Random(SEED), itertools.cycle(KINDS), []
-    for number, pair in enumerate(pairs()):
-        kinds = [KINDS if len(text) in MIDDLING else [next(turn) for _ in range(SOME_KINDS)] for text in pair]
-        made.append(Session(number, pair, [dice.sample(it, len(it)) for it in kinds]))
+    for some in (*pairs(), *fours()):
+        count = KINDS_IN_TURN if len(some) == IN_TURN else SOME_KINDS
+        kinds = [KINDS if len(text) in MIDDLING else [next(turn) for _ in range(count)] for text in some]
+        made.append(Session(len(made), some, [dice.sample(it, len(it)) for it in kinds]))
     return made
 
 
@@ -259,11 +311,12 @@ def one_by_one(session):
 
 
 def in_bursts(session):
-    """Some messages at once: the places of the first and of that behind the last, and what must come: each reply, and the findings of the
-    last version of each document that is open then."""
+    """Some messages at once, up to one that an editor waits for: the places of the first and of that behind the last, and what must come:
+    each reply, and the findings of the last version of each document that is open then."""
     dice, start = random.Random(session.number), 0
     while start < len(session.messages):
         end = min(len(session.messages), start + dice.choice((2, 2, 3, 5, 9)))
+        end = next((at + 1 for at in range(start, end) if at in session.waits), end)
         keys = session.leads[start:end]
         last = {key[0]: key for key in keys if isinstance(key, tuple)}
         yield start, end, {*last.values(), *(it for it in keys if isinstance(it, str))} & {*session.bodies}
@@ -418,8 +471,8 @@ def said_of(counts):
 def made_cases():
     """What there is in the sessions: enough edits, each kind, and findings that came or went far from an edit."""
     kinds, far = (sum((getattr(it, name) for it in sessions()), collections.Counter()) for name in ("kinds", "far"))
-    edits = sum(kinds.values())
-    yield f"{edits} edits in {2 * len(sessions())} documents", edits >= EDITS, True
+    edits, documents = sum(kinds.values()), sum(len(it.docs) for it in sessions())
+    yield f"{edits} edits in {documents} documents", edits >= EDITS, True
     yield f"the edits by their kinds: {said_of(kinds)}", [it.__name__ for it in KINDS if not kinds[it.__name__]], []
     yield f"findings that came or went where no edit was made: {said_of(far)}", [code for code in FAR if far[code] < LEAST_FAR], []
 

@@ -1,8 +1,9 @@
 """Edits of ABNF texts as they are typed: key by key, at once, or several in one change.
 
 A kind of edits is a function of a document. It gives lists of changes, as a client tells them (LSP 3.17,
-"TextDocumentContentChangeEvent"), and the document has the text that each of them leaves. Most kinds end at the text at which they began.
-What a kind needs and doesn't find in a text is an empty item there, so each kind goes through in any text.
+"TextDocumentContentChangeEvent"), and the document has the text that each of them leaves. In place of changes it may give a rename that is
+to be asked for, whose edits then are the changes. Most kinds end at the text at which they began. What a kind needs and doesn't find in a
+text is an empty item there, so each kind goes through in any text.
 """
 import functools
 import os
@@ -54,6 +55,13 @@ class Item(NamedTuple):
     text: str
     start: int
     end: int
+
+
+class Rename(NamedTuple):
+    """A rename that is asked for at some place of a name."""
+
+    old: str
+    new: str
 
 
 class Block(NamedTuple):
@@ -463,6 +471,54 @@ def several_at_once(doc):
         yield [doc.back_to(before)]
 
 
+def two_at_once(doc):
+    """Two edits in one notice: the one behind first, which moves nothing; the one before first, which moves the other to another line; both
+    in one line; and one in what the other put in."""
+    before, (one, other) = doc.text, sorted((doc.item(), doc.item()), key=lambda it: it.start)
+    line, option = "; two\n    ", " [b]"
+    yield [doc.put(other.end, other.end, option), doc.put(one.start, one.start, line)]
+    yield [doc.back_to(before)]
+    yield [doc.put(one.start, one.start, line), doc.put(other.end + len(line), other.end + len(line), option)]
+    yield [doc.back_to(before)]
+    yield [doc.put(one.start, one.start, "b "), doc.put(one.end + len("b "), one.end + len("b "), option)]
+    yield [doc.back_to(before)]
+    yield [doc.put(one.end, one.end, option), doc.put(one.end + len(" ["), one.end + len(" [b"), "2" + doc.name())]
+    yield [doc.back_to(before)]
+
+
+def renamed_in_order(doc, old, new):
+    """The changes that rename from the first place to the last, so that each moves those behind it."""
+    moved = 0
+    for start, end in reversed(doc.offsets(old)):
+        yield doc.put(start + moved, end + moved, new)
+        moved += len(new) - (end - start)
+
+
+def renamed_in_twenty_places(doc):
+    """A name comes to stand in so many places, a rename of it is asked for and its edits are made at once; one is asked for that must be
+    refused; and each place gets its name again."""
+    before, name = doc.text, doc.name()
+    uses = f'\n{name} =/ "x"\ntwenty-places = {name}' + f"\n  / {name} {name}" * 9
+    yield [doc.put(len(before), len(before), uses)]
+    yield Rename(name, "renamed")
+    yield Rename("renamed", "DIGIT")
+    yield [*renamed_in_order(doc, "renamed", name)]
+    yield [doc.back_to(before)]
+
+
+def text_pasted(doc):
+    """The whole text is pasted behind itself, another one before a block, and another one in place of it all; each paste is undone, and the
+    first ones are done again and undone."""
+    before = doc.text
+    for at, text in ((len(before), "\n" + before), (doc.block().start, doc.dice.choice(SMALL_GRAMMARS))):
+        yield [doc.put(at, at, text)]
+        after = doc.text
+        for it in (before, after, before):
+            yield [doc.back_to(it)]
+    yield [doc.put(0, len(before), doc.dice.choice(SMALL_GRAMMARS))]
+    yield [doc.put(0, len(doc.text), before)]
+
+
 def at_random(doc):
     before = doc.text
     for _ in range(6):
@@ -499,4 +555,5 @@ KINDS = (
     *(enter_in_a_rule, enter_before_a_rule, base_indent, rules_pasted, rules_deleted, rule_moved, word_moved, prose, reached_prose),
     *(empty_repeat, empty_range, bracket, deep_brackets, duplicate, added_to, generates_nothing, last_choices, core_names, line_ends),
     *(wide_characters, whole_text, several_at_once, at_random, undone, lines_moved, nothing_changed),
+    *(two_at_once, renamed_in_twenty_places, text_pasted),
 )
