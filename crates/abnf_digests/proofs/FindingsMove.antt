@@ -149,7 +149,7 @@ module _ (text other : List ℕ) (front old new : ℕ) (bare_items : List BareIt
     all_match =
         let h = blocks_parted text other front old new blocks fresh replaced said other_said in
         let quiet : AllQuiet h.gone = gone_quiet h.before front h.gone_are.bounds h.gone h.behind h.are (omega arith) h.gone_are.all h.gone_are.each in
-        let alike = middles_alike ls others front old new h.gone h.come bare_items h.gone_are h.come_are told other_told quiet in
+        let alike = middles_alike ls others front old front new h.gone h.come bare_items h.gone_are h.come_are told other_told quiet in
         let fronts : AllZip Match h.before h.first = zip_to Carried Match (λ x y c. inl c) h.before h.first h.fronts in
         let backs : AllZip Match h.behind h.last = zip_to Carried Match (λ x y c. inl c) h.behind h.last h.backs in
         let parts : AllZip (IsReplaced ls front old) h.gone h.come =

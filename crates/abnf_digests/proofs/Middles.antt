@@ -56,11 +56,11 @@ lists_alike (g ∷ gone) (c ∷ come) e p q n =
     let rest = lists_alike gone come h.1 p.1 q.1 n.1 in
     ((λ i. one.0 i ∷ rest.0 i), (one.1, rest.1), (λ i. one.2 i ∷ rest.2 i))
 
-pub middles_alike : (ls others : List Text) (front old new : ℕ) (gone come : List Block) (bare_items : List BareItem)
-    → AreBetween ls front old gone → AreBetween others front new come → AreBareItems ls front old bare_items → AreBareItems others front new bare_items
+pub middles_alike : (ls others : List Text) (from to there end : ℕ) (gone come : List Block) (bare_items : List BareItem)
+    → AreBetween ls from to gone → AreBetween others there end come → AreBareItems ls from to bare_items → AreBareItems others there end bare_items
     → AllByRecursion (λ (b : Block). fault_shown b.said ≡ None) gone
     → (map digest_of gone ≡ map digest_of come) × AllByRecursion (λ (b : Block). fault_shown b.said ≡ None) come
     × (map has_own_findings gone ≡ map has_own_findings come)
-middles_alike ls others front old new gone come bare_items p q a b n =
-    lists_alike gone come (sym (groups_are ls front old gone bare_items p a) ∙ groups_are others front new come bare_items q b)
+middles_alike ls others from to there end gone come bare_items p q a b n =
+    lists_alike gone come (sym (groups_are ls from to gone bare_items p a) ∙ groups_are others there end come bare_items q b)
     (each_says ls p.bounds gone p.each) (each_says others q.bounds come q.each) n

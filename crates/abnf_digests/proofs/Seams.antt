@@ -23,7 +23,7 @@ pub record Cut (ls : List Text) (from at : ℕ) (bs : List (ℕ × ℕ)) : Type 
 no_overlap : (ls : List Text) (at first end : ℕ) → IsSeam ls at → IsBlock ls first end → first < at → end ≤ at
 no_overlap ls at first end seam is less =
     elim (cases_lt at end) [
-      | inl over ↦ never (begins_at ls at) (seam.begins (omega (arith, less)) (omega (arith, over, is.within))) (is.rest at (omega (arith, less)) over)
+      | inl over ↦ never (begins_at ls at) (seam.begins first less is.begins (omega (arith, over, is.within))) (is.rest at (omega (arith, less)) over)
       | inr up ↦ up
     ]
 
@@ -83,7 +83,7 @@ module _ (ls others : List Text) (at : ℕ) (here : IsSeam ls at) (there : IsSea
           | inl before ↦ sym (same end before) ∙ is.ends (omega (arith, before, here.within))
           | inr seam ↦
               let e : at ≡ end = omega (arith, seam, up) in
-              ap (begins_at others) (sym e) ∙ there.begins (omega (arith, e, is.some)) (omega (arith, e, less))
+              ap (begins_at others) (sym e) ∙ there.begins first (omega (arith, e, is.some)) (sym (same first (omega (arith, up, is.some))) ∙ is.begins) (omega (arith, e, less))
         ];
   }
 

@@ -10,7 +10,7 @@ use Rattle.abnf_productive.specs.Yields.{Yields, RuleYields}
 abbrev pub something : Part
 something = series []
 
--- what never does
+-- what never generates anything
 abbrev pub nothing : Part
 nothing = alt end
 
@@ -18,13 +18,17 @@ nothing = alt end
 abbrev pub is_above : ℕ → Option ℕ → Bool
 is_above least most = option_map_or (λ m. nat_lt m least) most false
 
--- of a repetition, whose minimum may be above its maximum: its body must generate something, or need not; or nothing helps
+-- The gist of a repetition, by whether its minimum is above its maximum, and by its minimum: its body must generate
+-- something, or need not; or nothing helps.
 abbrev pub repeated_gist : Bool → ℕ → Part → Part
 repeated_gist true least body = rep 1 (Some 0) body
 repeated_gist false zero body = rep 0 None body
 repeated_gist false (suc n) body = rep 1 None body
 
--- the gist of a part, and of parts
+-- The gist of a part, and of parts side by side: what is left where it only matters whether a tree generates anything and
+-- which rules it leads to. A text or a series is `something`, and so is a range, unless it is turned round: then it is
+-- `nothing`. Of a repetition is left whether its body must generate something, and whether its minimum is above its maximum.
+-- Names are in small letters.
 abbrev mutual
   pub gist : Part → Part
   gist (quoted text exact) = something
@@ -40,7 +44,7 @@ abbrev mutual
   gists end = end
   gists (next p ps) = next (gist p) (gists ps)
 
--- A part whose names are in small letters, with the rule for which each of them stands.
+-- A part, and parts side by side, whose names are in small letters, with the rule for which each name stands.
 abbrev mutual
   pub relinked : (Name → Option ℕ) → Part → Part
   relinked number (quoted text exact) = quoted text exact

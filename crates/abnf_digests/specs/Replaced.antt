@@ -5,7 +5,8 @@ use Rattle.abnf_syntax.specs.Blocks.{base_indent, IsSeam, AreBlocksUpTo}
 use Rattle.abnf_names.specs.Said.{Block, AreWithin}
 use Rattle.abnf_digests.specs.Digests.{digest_of}
 
--- The lines before `front` are the same, and those of the first text from `old` on are those of the other one from `new` on.
+-- A part of the lines is replaced by other lines: those before `front` are the same, and those of the first text from `old`
+-- on are those of the other one from `new` on. No block goes over these places, and the indent of the blocks stays.
 pub record AreReplaced (ls others : List Text) (front old new : ℕ) : Type 0 where
   pub base : base_indent ls ≡ base_indent others
   pub before : (n : ℕ) → n < front → slice_index_or ls n [] ≡ slice_index_or others n []
@@ -21,7 +22,8 @@ pub record AreBetween (ls : List Text) (from to : ℕ) (blocks : List Block) : T
   pub all : AreBlocksUpTo ls from to bounds
   pub each : AreWithin ls bounds blocks
 
--- The blocks before and behind the part that is replaced keep their digests.
+-- The blocks before and behind the part that is replaced keep their digests: those in between go, and those of the other
+-- text's lines in between come.
 pub record KeepDigests (ls others : List Text) (front old new : ℕ) (blocks fresh : List Block) : Type 0 where
   pub before : List Block
   pub gone : List Block

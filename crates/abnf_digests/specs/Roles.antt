@@ -1,4 +1,4 @@
--- What is told of heads by the heads before them, and what two texts find alike.
+-- What is known of heads by the heads before them, and what two texts find alike.
 use Rattle.std.specs.Prelude.{◌≡◌, ◌↔◌, ℕ, Bool, not, ◌&&◌, List, [], ◌∷◌, ◌++◌, filter, Option, option_map}
 use Rattle.std.specs.Option.{is_some}
 use Rattle.abnf_syntax.specs.declared.block.Head.{Head}
@@ -9,6 +9,7 @@ use Rattle.abnf_names.specs.Rules.{adds, defined, names_of, rules_of}
 use Rattle.abnf_lint.specs.Unproductive.{IsUnproductive}
 use Rattle.abnf_digests.specs.Digests.{Digest, adds_by, defined_by}
 
+-- the name is one of these
 abbrev pub is_among : List Name → Name → Bool
 is_among names name = is_some (rule_number names name)
 
@@ -22,7 +23,8 @@ pub record Role : Type 0 where
   pub has_no_base : Bool
   pub is_first : Bool
 
--- of a name, where blocks before have heads with these names, and `=` blocks among them with those of `bases`
+-- the role of a head with this name, where blocks before have heads with these names, and `=` blocks among them with those of
+-- `bases`
 abbrev pub role : List Name → List Name → Name → Bool → Role
 role heads bases name adds = record {
   is_duplicate = not adds && is_among bases name;
@@ -30,29 +32,34 @@ role heads bases name adds = record {
   is_first = not (is_among heads name);
 }
 
+-- the role of a head behind these blocks
 abbrev pub role_of : List Block → Head → Role
 role_of before head = role (defined before) (names_with_base before) (name_of head) head.adds
 
--- the roles of the heads of blocks behind those before
+-- the roles of the heads of blocks behind those before; a block without a head has none
 abbrev pub roles_after : List Block → List Block → List (Option Role)
 roles_after before [] = []
 roles_after before (block ∷ blocks) = option_map (role_of before) (head_of block.items) ∷ roles_after (before ++ block ∷ []) blocks
 
 -- ---- the same by digests
 
+-- by digests, the names that `=` blocks define
 abbrev pub based_by : List Digest → List Name
 based_by digests = defined_by (filter (λ digest. not (adds_by digest)) digests)
 
+-- by digests of the blocks before, the role of a head
 abbrev pub role_by : List Digest → Name × Bool → Role
 role_by before head = role (defined_by before) (based_by before) head.0 head.1
 
+-- by digests, the roles of the heads of blocks behind those before
 abbrev pub roles_by : List Digest → List Digest → List (Option Role)
 roles_by before [] = []
 roles_by before (digest ∷ digests) = option_map (role_by before) digest.head ∷ roles_by (before ++ digest ∷ []) digests
 
 -- ---- two texts
 
--- The same names stand for rules, the same rules generate nothing, and the heads have the same roles, block for block.
+-- Both texts find alike: the same names stand for rules, the same rules generate nothing, and the heads have the same roles,
+-- block for block.
 pub record FindAlike (blocks others : List Block) : Type 0 where
   pub names : names_of blocks ≡ names_of others
   pub unproductive : (r : ℕ) → IsUnproductive (rules_of blocks) r ↔ IsUnproductive (rules_of others) r

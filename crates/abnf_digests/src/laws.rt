@@ -18,7 +18,7 @@ ghost use Rattle.abnf_digests.specs.Replaced.{AreReplaced, KeepDigests};
 ghost use Rattle.abnf_digests.specs.Roles.{roles_after, roles_by, FindAlike};
 ghost use Rattle.abnf_digests.specs.SameLines.{AreSameLines, fault_kind};
 
-/// Digests tell the names of the rules, those of the needed core rules among them.
+/// The names of the rules follow from digests, those of the needed core rules among them.
 pub fn digests_name_the_rules()
     ensures { (blocks : List Block) → names_of blocks ≡ names_by (map digest_of blocks) }
 {}
@@ -29,12 +29,12 @@ pub fn gists_yield_alike()
     ensures { (rules : List Part) (p : Part) → IsLike rules p (gist p) }
 {}
 
-/// The rules that digests tell are the gists of the text's rules.
+/// The rules that follow from digests are the gists of the text's rules.
 pub fn digests_tell_the_gists_of_rules()
     ensures { (blocks : List Block) → map gist (rules_of blocks) ≡ rules_by (map digest_of blocks) }
 {}
 
-/// Digests tell which rules generate nothing and lead to no opaque part.
+/// From digests it follows which rules generate nothing and lead to no opaque part.
 pub fn digests_tell_what_is_unproductive()
     ensures { (blocks : List Block) (r : ℕ) → IsUnproductive (rules_of blocks) r ↔ IsUnproductive (rules_by (map digest_of blocks)) r }
 {}
@@ -47,7 +47,7 @@ pub fn digests_know_no_lines()
         (digest_of block ≡ digest_of other) × (fault_kind block ≡ fault_kind other) × (has_own_findings block ≡ has_own_findings other) }
 {}
 
-/// Digests tell which heads are duplicates, which add to nothing, and which are the first of their names.
+/// From digests it follows which heads are duplicates, which add to nothing, and which are the first of their names.
 pub fn digests_tell_roles()
     ensures { (blocks : List Block) → roles_after [] blocks ≡ roles_by [] (map digest_of blocks) }
 {}
@@ -58,16 +58,16 @@ pub fn equal_digests_find_alike()
     ensures { (blocks others : List Block) → map digest_of blocks ≡ map digest_of others → FindAlike blocks others }
 {}
 
-/// Where a part of a text is replaced, between places over which no block goes, the blocks before and behind it keep their digests. So
-/// those of the lines in between are all that must be read anew.
+/// Where a part of a text is replaced, between places over which no block goes, and the indent of the blocks stays, the
+/// blocks before and behind it keep their digests. So those of the lines in between are all that must be read anew.
 pub fn one_part_is_read_anew()
     ensures { (text other : List ℕ) (front old new : ℕ) (blocks fresh : List Block) →
         AreReplaced (line_texts text) (line_texts other) front old new → AreSaid text blocks → AreSaid other fresh →
         KeepDigests (line_texts text) (line_texts other) front old new blocks fresh }
 {}
 
-/// Where a part of a text is replaced by other lines that say the same of blocks, and nothing is found in that part, all that is found
-/// in the text is found in the other one, moved with its lines, and nothing else.
+/// Where a part of a text is replaced by other lines that say the same of blocks, and nothing is found in that part, all
+/// that is found in the text is found in the other one, moved with its lines, and nothing else.
 pub fn findings_move()
     ensures { (text other : List ℕ) (front old new : ℕ) (bare_items : List BareItem) (rows : List Finding) →
         length text < 2 ^ 62 → length other < 2 ^ 62 → AreReplaced (line_texts text) (line_texts other) front old new →

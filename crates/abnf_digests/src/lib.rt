@@ -3,7 +3,7 @@
 //! The digest of a block has the name that it defines, the names that it uses, and the gists of the alternatives that it says. A gist is
 //! what is left of a tree where it only matters whether it generates anything and which rules it leads to.
 //!
-//! Digests tell which names stand for rules, which rules generate nothing, and what is found at heads. They know no lines: where a part
+//! Digests say which names stand for rules, which rules generate nothing, and what is found at heads. They know no lines: where a part
 //! of a text is replaced, only the blocks of that part have new digests. There is no code here: the functions are laws, and do nothing.
 #![tactic(auto)]
 

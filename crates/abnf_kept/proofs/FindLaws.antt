@@ -66,15 +66,15 @@ same_found ls at b other p q told =
 
 -- ---- the block at a place
 
-some_same : {X : Type 0} (o : Option X) (x y : X) → o ≡ Some x → o ≡ Some y → x ≡ y
+pub some_same : {X : Type 0} (o : Option X) (x y : X) → o ≡ Some x → o ≡ Some y → x ≡ y
 some_same o x y e f = cc (e, f)
 
-block_at : (ls : List Text) (from : ℕ) (bs : List (ℕ × ℕ)) (at : ℕ) (b : ℕ × ℕ) → AreBlocks ls from bs → slice_get bs at ≡ Some b → IsBlock ls b.0 b.1
+pub block_at : (ls : List Text) (from : ℕ) (bs : List (ℕ × ℕ)) (at : ℕ) (b : ℕ × ℕ) → AreBlocks ls from bs → slice_get bs at ≡ Some b → IsBlock ls b.0 b.1
 block_at ls from [] at b h e = absurd (cc (e))
 block_at ls from (c ∷ bs) zero b h e = subst (λ (x : ℕ × ℕ). IsBlock ls x.0 x.1) (some_same (Some c) c b refl e) h.2
 block_at ls from (c ∷ bs) (suc at) b h e = block_at ls c.1 bs at b h.3 e
 
-within_at : (ls : List Text) (bs : List (ℕ × ℕ)) (blocks : List Block) (at : ℕ) (b : ℕ × ℕ) (block : Block) → AreWithin ls bs blocks → slice_get bs at ≡ Some b
+pub within_at : (ls : List Text) (bs : List (ℕ × ℕ)) (blocks : List Block) (at : ℕ) (b : ℕ × ℕ) (block : Block) → AreWithin ls bs blocks → slice_get bs at ≡ Some b
     → slice_get blocks at ≡ Some block → IsWithin ls b block
 within_at ls [] blocks at b block h e f = absurd (cc (e))
 within_at ls (c ∷ bs) [] at b block h e f = absurd h

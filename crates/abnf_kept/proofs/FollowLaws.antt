@@ -33,15 +33,16 @@ few_lines text ls e small = subst (λ (x : List Text). length x < 2 ^ 63) (sym e
 
 -- Where none of what is found in a text is found in a part, and the part's lines say the same of blocks as those in their place, it is what is found in the other text, moved with its lines.
 pub rows_moved : (text other : List ℕ) (ours theirs : List Text) (rows lent moved : List Finding) (part : Difference) → ours ≡ line_texts text → theirs ≡ line_texts other
-    → length text < 2 ^ 62 → length other < 2 ^ 62 → AreReplaced ours theirs part.front part.old part.new → lent ≡ rows → AreFoundOutside part lent → SayTheSame ours theirs part
+    → length text < 2 ^ 62 → length other < 2 ^ 62 → AreReplaced ours theirs part.front part.old part.new → lent ≡ rows → AreFoundOutside part lent → SayTheSame ours part.front part.old theirs part.front part.new
     → moved ≡ map (moved_finding part.front part.old part.new) rows → AreRows text rows → AreRows other moved
 rows_moved text other ours theirs rows lent moved part ours_are theirs_are small there replaced lent_is outside same moved_is are =
     let in_texts : AreReplaced (line_texts text) (line_texts other) part.front part.old part.new =
     subst (λ (ls : List Text). AreReplaced ls (line_texts other) part.front part.old part.new) ours_are
     (subst (λ (ls : List Text). AreReplaced ours ls part.front part.old part.new) theirs_are replaced)
     in
-    let said : SayTheSame (line_texts text) (line_texts other) part =
-    subst (λ (ls : List Text). SayTheSame ls (line_texts other) part) ours_are (subst (λ (ls : List Text). SayTheSame ours ls part) theirs_are same)
+    let said : SayTheSame (line_texts text) part.front part.old (line_texts other) part.front part.new =
+    subst (λ (ls : List Text). SayTheSame ls part.front part.old (line_texts other) part.front part.new) ours_are
+    (subst (λ (ls : List Text). SayTheSame ours part.front part.old ls part.front part.new) theirs_are same)
     in
     let none : AreFoundOutside part rows = subst (λ (fs : List Finding). AreFoundOutside part fs) lent_is outside in
     subst (AreRows other) (sym moved_is)

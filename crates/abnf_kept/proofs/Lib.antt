@@ -7,3 +7,4 @@ pub mod KeptLists
 pub mod FollowedBlocks
 pub mod ReadLaws
 pub mod FindLaws
+pub mod CopiedBlocks

@@ -1,5 +1,5 @@
 -- Parts in which two texts differ.
-use Rattle.std.proofs.Common.{◌≡◌, ℕ, zero, suc, ◌+◌, ◌-◌, ◌<◌, ◌≤◌, List, [], length, take, drop, get_or, sym, ap, subst, ◌∙◌, arith, inl, inr, ◌⊎◌}
+use Rattle.std.proofs.Common.{◌≡◌, ℕ, zero, suc, ◌+◌, ◌-◌, ◌<◌, ◌≤◌, List, [], length, take, drop, get_or, sym, ap, subst, ◌∙◌, arith, inl, inr}
 use Rattle.std.proofs.lemmas.List.{get_or-take, get_or-drop}
 use Rattle.std.specs.Prelude.{slice_index_or}
 use Rattle.std.proofs.lemmas.Bool.{cases_lt}
@@ -55,24 +55,27 @@ back_more ls others old new some there same h = record {
         let theirs : (new - 1) + suc n ≡ new + n = omega arith in
         ap (λ k. slice_index_or ls k []) ours ∙ h.same n ∙ sym (ap (λ k. slice_index_or others k []) theirs)
 
--- one line less
-pub back_less : (ls others : List Text) (old new : ℕ) → old < length ls → IsBack ls others old new → IsBack ls others (old + 1) (new + 1)
-back_less ls others old new less h = record {
-  within = (omega arith, omega (arith, h.count));
+-- the same from a later line on
+pub back_from : (ls others : List Text) (old new at there : ℕ) → old ≤ at → at ≤ length ls → there ≡ (at - old) + new → IsBack ls others old new → IsBack ls others at there
+back_from ls others old new at there more within moved h = record {
+  within = (within, omega (arith, more, within, moved, h.count));
   same = λ n.
-      let ours : (old + 1) + n ≡ old + suc n = omega arith in
-      let theirs : (new + 1) + n ≡ new + suc n = omega arith in
-      ap (λ k. slice_index_or ls k []) ours ∙ h.same (suc n) ∙ sym (ap (λ k. slice_index_or others k []) theirs);
-  count = omega (arith, h.count);
+      let ours : at + n ≡ old + ((at - old) + n) = omega (arith, more) in
+      let theirs : new + ((at - old) + n) ≡ there + n = omega (arith, moved) in
+      ap (λ k. slice_index_or ls k []) ours ∙ (h.same ((at - old) + n) ∙ ap (λ k. slice_index_or others k []) theirs);
+  count = omega (arith, more, moved, h.count);
 }
 
--- over the ends of texts goes no block
-pub seam_at_end : (ls : List Text) (at : ℕ) → at ≡ length ls → IsSeam ls at
-seam_at_end ls at e = record { within = omega (arith, e); begins = λ some less. absurd (omega (arith, e, less)) }
+-- less of the lines at the front
+pub front_less : (ls others : List Text) (front less : ℕ) → less ≤ front → IsFront ls others front → IsFront ls others less
+front_less ls others front less up h = record {
+  within = (omega (arith, up, h.within.0), omega (arith, up, h.within.1));
+  same = λ n before. h.same n (omega (arith, before, up));
+}
 
-pub ends_are_seams : (ls others : List Text) (old new : ℕ) → IsBack ls others old new → (IsSeam ls old × IsSeam others new → ⊥) → old < length ls
-ends_are_seams ls others old new h none = by (cases_lt old (length ls))
-  where
-    by : (old < length ls) ⊎ (length ls ≤ old) → old < length ls
-    by (inl less) = less
-    by (inr more) = absurd (none (seam_at_end ls old (omega (arith, more, h.within.0)), seam_at_end others new (omega (arith, more, h.within.0, h.count))))
+-- over the first line and over the end goes no block
+pub seam_at_start : (ls : List Text) → IsSeam ls 0
+seam_at_start ls = record { within = omega arith; begins = λ before less begins some. absurd (omega (arith, less)) }
+
+pub seam_at_end : (ls : List Text) (at : ℕ) → at ≡ length ls → IsSeam ls at
+seam_at_end ls at e = record { within = omega (arith, e); begins = λ before some begins less. absurd (omega (arith, e, less)) }

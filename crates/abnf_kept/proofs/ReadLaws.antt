@@ -1,5 +1,5 @@
 -- Blocks that are read and kept, one after the other.
-use Rattle.std.proofs.Common.{◌≡◌, ◌∙◌, ◌<◌, ◌≤◌, ◌+◌, ℕ, true, List, [], ◌∷◌, ◌++◌, length, map, refl, sym, ap, subst, append-nil, append_assoc, arith}
+use Rattle.std.proofs.Common.{◌≡◌, ◌∙◌, ◌<◌, ◌≤◌, ◌+◌, ℕ, true, List, [], ◌∷◌, ◌++◌, length, map, refl, sym, ap, subst, append-nil, append_assoc}
 use Rattle.std.proofs.lemmas.List.{map-append}
 use Rattle.abnf_token.specs.Classes.{Text}
 use Rattle.abnf_syntax.specs.declared.block.Block as source
@@ -92,9 +92,6 @@ module _ (ls : List Text) (from to : ℕ) (start : Stored) where
   }
 
 -- ---- all blocks of a text
-
-pub start_seam : (ls : List Text) → IsSeam ls 0
-start_seam ls = record { within = omega arith; begins = λ more less. absurd (omega arith) }
 
 pub all_kept : (ls : List Text) (start now : Stored) → AreKept start [] [] → AddsBetween ls 0 (length ls) start now → IsKeptOf ls now
 all_kept ls start now none added = record {

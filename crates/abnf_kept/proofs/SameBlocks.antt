@@ -22,7 +22,7 @@ use Rattle.abnf_digests.proofs.Seams.{AreMoved}
 
 -- ---- items of tokens
 
-abbrev Seen : List (Token × Bool) → Type 0
+abbrev pub Seen : List (Token × Bool) → Type 0
 Seen views = (items : List Item) × (map view items ≡ views)
 
 seen_behind : (apart : Bool) (ts : List (Option Token)) → Seen (items_behind apart ts)
@@ -34,7 +34,7 @@ seen_behind apart (Some t ∷ ts) = by (is_item t.kind) refl (seen_behind false 
     by true e kept past = (record { token = t; apart = apart; solid = e } ∷ kept.0, rw e (ap (λ l. (t, apart) ∷ l) kept.1))
     by false e kept past = (past.0, rw e past.1)
 
-seen : (ts : List (Option Token)) → Seen (items_of ts)
+pub seen : (ts : List (Option Token)) → Seen (items_of ts)
 seen [] = ([], refl)
 seen (None ∷ ts) = seen ts
 seen (Some t ∷ ts) = by (is_item t.kind) refl (seen_behind false ts) (seen ts)
@@ -45,7 +45,7 @@ seen (Some t ∷ ts) = by (is_item t.kind) refl (seen_behind false ts) (seen ts)
 
 -- ---- what items say
 
-said_by : (items : List Item) → ((rule : Rule) × Derives items rule) ⊎ ((fault : SyntaxFault) × Faults items fault) → (said : Result Rule SyntaxFault) × BlockSays items said
+pub said_by : (items : List Item) → ((rule : Rule) × Derives items rule) ⊎ ((fault : SyntaxFault) × Faults items fault) → (said : Result Rule SyntaxFault) × BlockSays items said
 said_by items (inl rule) = (Ok rule.0, rule.1)
 said_by items (inr fault) = (Err fault.0, fault.1)
 

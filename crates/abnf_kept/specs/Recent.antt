@@ -1,14 +1,35 @@
--- The last two texts that were diagnosed, each with what is found in it.
-use Rattle.std.specs.Prelude.{◌≡◌, ◌⊎◌, Option, None}
+-- The texts that were diagnosed last.
+use Rattle.std.specs.Prelude.{◌≡◌, ℕ, ◌-◌, ◌<◌, ◌⊎◌, ◌++◌, List, [], ◌∷◌, length, Option, Some, None, nat_lt, remove, slice_index_or, if◌then◌else◌}
 use Rattle.abnf_kept.specs.Known.{Known}
 
-pub record Texts : Type 0 where
-  pub last : Option Known
-  pub before : Option Known
+-- each with what is found in it, the newest last (none of them is None)
+abbrev pub Texts : Type 0
+Texts = List (Option Known)
 
 -- One of them was taken, or none.
 abbrev pub IsTaken : Texts → Option Known → Texts → Type 0
 IsTaken old taken new =
-    ((taken ≡ old.last) × (new ≡ record { last = None; before = old.before }))
-    ⊎ ((taken ≡ old.before) × (new ≡ record { last = old.last; before = None }))
+    ((at : ℕ) × (at < length old) × (taken ≡ slice_index_or old at None) × (new ≡ remove old at))
     ⊎ ((taken ≡ None) × (new ≡ old))
+
+-- so many are kept at most
+abbrev pub most_texts : ℕ
+most_texts = 4
+
+-- one more behind them; where there are as many as may be the oldest goes
+abbrev pub with_text : Texts → Option Known → Texts
+with_text texts text = (if nat_lt (length texts) most_texts then texts else remove texts 0) ++ text ∷ []
+
+-- one more where there is one
+abbrev pub with_text_if : Texts → Option Known → Texts
+with_text_if texts None = texts
+with_text_if texts (Some text) = with_text texts (Some text)
+
+-- What one of them was taken as.
+abbrev pub lent : Option Known → Texts
+lent None = []
+lent (Some text) = Some text ∷ []
+
+-- the last one of some others behind them
+abbrev pub with_last : Texts → Texts → Texts
+with_last texts others = with_text_if texts (slice_index_or others (length others - 1) None)

@@ -1,31 +1,42 @@
 //! The blocks of a text, as they are kept.
 
-ghost use Rattle.std.specs.Prelude.{◌≡◌, ◌≤◌, ◌<◌, ◌^◌, ℕ, List, [], IfOk, IfSome, OnOk, length};
+ghost use Rattle.std.specs.Prelude.{◌≡◌, ◌≤◌, ◌<◌, ◌^◌, ℕ, List, [], None, IfOk, IfSome, IsSomeAnd, OnOk, length, true};
 ghost use Rattle.abnf_syntax.specs.Blocks.{IsSeam, line_texts};
 ghost use Rattle.abnf_lint.specs.Rows.{AreRows};
 ghost use Rattle.abnf_digests.specs.Replaced.{AreReplaced};
 ghost use Rattle.abnf_outcome.specs.KeptBlocks.{IsKeptOf};
 ghost use Rattle.abnf_outcome.specs.Outcomes.{IsOutcome};
 ghost use Rattle.abnf_kept.specs.own.Reads.{AddsBetween, FindsIn};
+ghost use Rattle.abnf_kept.specs.own.Reads as spec;
 
 use crate::difference::Difference;
+use crate::walk::say_the_same;
 use abnf_lint::Finding;
 use abnf_names::section_of;
-use abnf_outcome::{Digests, Outcome};
-use abnf_syntax::{Block, Sheet, Spare};
+use abnf_outcome::{BlockDigest, Digests, Outcome};
+use abnf_syntax::{Block, Item, Sheet, Spare};
+use abnf_token::{Folded, Kind};
 use ls_lists::List;
 use std::alloc::{AllocError, Global};
 use std::marker::Model;
 
-/// How many names and words may be left behind beside as many as were read at first.
-const ROOM: usize = 1024;
+/// How many names may be new behind those that were read with all blocks. The seed of their table is made of the text that was read
+/// then, so whoever writes the next one may choose names that meet in it: of more the text is read anew, with a seed of its own.
+const NEW_NAMES: usize = 1024;
+
+/// How many words may be left behind beside as many as were read with all blocks.
+const LEFT_WORDS: usize = 1024;
+
+/// So many blocks before and behind a place are compared with one that may be the block there.
+const REACH: usize = 2;
 
 /// What is kept of the blocks of a text. Contracts see it as digests have it.
 #[derive(Drop)]
 pub struct KeptBlocks {
     digests: Digests,
-    /// How many names and words there were when all blocks were read.
-    size: usize,
+    /// How many names and words there may be before all blocks are better read anew.
+    most_names: usize,
+    most_words: usize,
 }
 
 impl Model for KeptBlocks {
@@ -36,36 +47,134 @@ impl Model for KeptBlocks {
     ghost view = { λ b. b.digests };
 }
 
-/// How many names and words there are.
-fn size_of(digests: &Digests) -> usize {
-    digests.name_count().saturating_add(digests.word_count())
+/// Whether there are at most so many names with those of a block, each of its new ones counted as often as it stands there.
+fn has_room(digests: &Digests, items: &[Item<'_>], most: usize) -> Result<bool, AllocError> {
+    let mut count = digests.name_count();
+    if items.len() <= most.saturating_sub(count) {
+        return Ok(true);
+    }
+    for item in items {
+        if item.token.kind == Kind::Name && !digests.has_name(Folded(item.token.text))? {
+            if count >= most {
+                return Ok(false);
+            }
+            count += 1;
+        }
+    }
+    Ok(true)
 }
 
-/// Keeps the blocks of the lines from one place up to another, over neither of which a block goes, behind the others. One after the other
-/// is read and let go; the room of its items serves the next one.
+/// The text before: the lines whose blocks are kept, most of which may stand in the next one too, and how many names there may be then.
+#[derive(Clone, Copy)]
+struct Before<'k, 's> {
+    sheet: &'k Sheet<'s>,
+    /// The places of the blocks that may come again: from one up to another.
+    from: usize,
+    to: usize,
+    most_names: usize,
+}
+
+impl<'k, 's> Before<'k, 's> {
+    /// Which of the blocks that are kept says what these lines say, and has no findings of its own: one of a few about a place.
+    fn like(
+        &self,
+        blocks: &[BlockDigest],
+        about: usize,
+        sheet: &Sheet,
+        first: usize,
+        end: usize,
+    ) -> Option<usize>
+        requires { first ≤ end }
+        ensures { IfSome result (spec.IsLike self.now.sheet.now self.now.to blocks.now sheet.now first end) }
+    {
+        let to = self.to.min(blocks.len()).min(about.saturating_add(REACH));
+        for at in about.saturating_sub(REACH)..to {
+            let block = blocks[at];
+            if !block.has_own
+                && block.first <= block.behind
+                && say_the_same(self.sheet, block.first, block.behind, sheet, first, end)
+            {
+                return Some(at);
+            }
+        }
+        None
+    }
+}
+
+/// Which block of the text before says what these lines say, if there is such a text.
+fn like(
+    before: &Option<Before>,
+    blocks: &[BlockDigest],
+    about: usize,
+    sheet: &Sheet,
+    first: usize,
+    end: usize,
+) -> Option<usize>
+    requires { first ≤ end }
+    ensures { IfSome result (λ at. IsSomeAnd before.now (λ b. spec.IsLike b.sheet.now b.to blocks.now sheet.now first end at)) }
+{
+    match before {
+        Some(before) => before.like(blocks, about, sheet, first, end),
+        None => None,
+    }
+}
+
+/// Whether a block's names have room, if there is a bound for them.
+fn is_room_for(
+    digests: &Digests,
+    items: &[Item<'_>],
+    before: &Option<Before>,
+) -> Result<bool, AllocError>
+    ensures { before.now ≡ None → IfOk result (λ is. is ≡ true) }
+{
+    match before {
+        Some(before) => has_room(digests, items, before.most_names),
+        None => Ok(true),
+    }
+}
+
+/// Keeps the blocks of the lines from one place up to another, over neither of which a block goes, behind the others. What is kept of a
+/// block of the text before that says the same is kept once more; else a block is read and let go, and the room of its items serves the
+/// next one. Where the text before sets a bound on names and they come to be more, it says so, and no more is known of what is kept.
 fn read(
     alloc: Global,
     sheet: &Sheet,
     from: usize,
     to: usize,
+    before: Option<Before>,
     digests: &mut Digests,
-) -> Result<(), AllocError>
+) -> Result<bool, AllocError>
     requires order { from ≤ to }
     requires seams { IsSeam sheet.now from × IsSeam sheet.now to }
-    ensures { OnOk result (AddsBetween sheet.now from to digests.old digests.new) }
+    requires before { IfSome before (λ b. IsKeptOf b.sheet.now digests.old × (b.to ≤ length digests.old.kept)) }
+    ensures added { IfOk result (λ are_all. are_all ≡ true → AddsBetween sheet.now from to digests.old digests.new) }
+    ensures unbounded { before.entry ≡ None → IfOk result (λ are_all. are_all ≡ true) }
 {
     let mut spare = Spare::new(alloc);
     let mut room = List::new(alloc);
+    let mut about = match &before {
+        Some(before) => before.from,
+        None => 0,
+    };
     let mut first = sheet.next_block(from, to);
     'blocks: while first < to {
         let end = sheet.next_block(first + 1, to);
-        let block = Block::of(room, sheet, first, end)?;
-        let section = section_of(alloc, block)?;
-        digests.push(alloc, &mut spare, &section)?;
-        room = section.block.items;
+        if let Some(at) = like(&before, digests.blocks(), about, sheet, first, end) {
+            digests.push_again(at, first, end)?;
+            about = at.saturating_add(1);
+        } else {
+            let block = Block::of(room, sheet, first, end)?;
+            if !is_room_for(digests, block.items.as_slice(), &before)? {
+                return Ok(false);
+            }
+            let section = section_of(alloc, block)?;
+            digests.push(alloc, &mut spare, &section)?;
+            room = section.block.items;
+            about = about.saturating_add(1);
+        }
         first = end;
     }
-    Ok(())
+    Ok(true)
 }
 
 impl KeptBlocks {
@@ -78,17 +187,26 @@ impl KeptBlocks {
         ensures { IfOk result (λ blocks. IsKeptOf sheet.now blocks) }
     {
         let mut digests = Digests::new(alloc, sheet.seed());
-        read(alloc, sheet, 0, sheet.count(), &mut digests)?;
-        let size = size_of(&digests);
-        Ok(KeptBlocks { digests, size })
+        read(alloc, sheet, 0, sheet.count(), None, &mut digests)?;
+        Ok(KeptBlocks {
+            most_names: digests.name_count().saturating_add(NEW_NAMES),
+            most_words: digests
+                .word_count()
+                .saturating_mul(2)
+                .saturating_add(LEFT_WORDS),
+            digests,
+        })
     }
 
-    /// Whether so many names and words are left behind that all blocks are better read anew.
-    pub fn is_worn(&self) -> bool {
-        size_of(&self.digests) > self.size.saturating_mul(2).saturating_add(ROOM)
+    /// The blocks, in order.
+    pub fn blocks(&self) -> &[BlockDigest]
+        ensures { result.now ≡ self.now.kept }
+    {
+        self.digests.blocks()
     }
 
-    /// What is to be kept of the blocks of another text, which differs in a part alone. Only the part's blocks are read.
+    /// What is to be kept of the blocks of another text, which differs in a part alone. Only the part's blocks are read, unless too many
+    /// words are left behind, or too many names are new.
     ///
     /// # Errors
     ///
@@ -105,15 +223,41 @@ impl KeptBlocks {
         requires small { length theirs.now < 2 ^ 63 }
         ensures { IfOk result (λ blocks. IsKeptOf theirs.now blocks) }
     {
-        let KeptBlocks { mut digests, size } = self;
+        let KeptBlocks {
+            mut digests,
+            most_names,
+            most_words,
+        } = self;
+        if digests.word_count() > most_words {
+            return KeptBlocks::of(alloc, theirs);
+        }
         let blocks = digests.blocks();
         let count = blocks.len();
         let from = blocks.partition_point(|block| block.first < part.front);
         let to = blocks.partition_point(|block| block.first < part.old);
-        read(alloc, theirs, part.front, part.new, &mut digests)?;
+        let before = Before {
+            sheet: ours,
+            from,
+            to,
+            most_names,
+        };
+        if !read(
+            alloc,
+            theirs,
+            part.front,
+            part.new,
+            Some(before),
+            &mut digests,
+        )? {
+            return KeptBlocks::of(alloc, theirs);
+        }
         let come = digests.blocks().len() - count;
         digests.replace(from, to, come, part.old, part.new);
-        Ok(KeptBlocks { digests, size })
+        Ok(KeptBlocks {
+            digests,
+            most_names,
+            most_words,
+        })
     }
 
     /// Adds what is found in the block at a place.
@@ -136,28 +280,22 @@ impl KeptBlocks {
         self.digests.push_found(alloc, outcome, at, &section, found)
     }
 
-    /// What is found in the text whose lines these are. `None` where its blocks don't tell.
+    /// What is found in the text whose lines these are.
     ///
     /// # Errors
     ///
     /// Where an allocation is refused.
-    pub fn findings(
-        &self,
-        alloc: Global,
-        sheet: &Sheet,
-    ) -> Result<Option<List<Finding>>, AllocError>
+    pub fn findings(&self, alloc: Global, sheet: &Sheet) -> Result<List<Finding>, AllocError>
         requires { IsKeptOf sheet.now self.now }
-        ensures { IfOk result (λ found. IfSome found (λ rows. (text : List ℕ) → sheet.now ≡ line_texts text → AreRows text rows)) }
+        ensures { IfOk result (λ rows. (text : List ℕ) → sheet.now ≡ line_texts text → AreRows text rows) }
     {
-        let Some(outcome) = self.digests.outcome(alloc)? else {
-            return Ok(None);
-        };
+        let outcome = self.digests.outcome(alloc)?;
         let mut found = List::new(alloc);
         for at in 0..self.digests.blocks().len() {
             if !self.digests.is_quiet(&outcome, at) {
                 self.push_found(alloc, sheet, &outcome, at, &mut found)?;
             }
         }
-        Ok(Some(found))
+        Ok(found)
     }
 }

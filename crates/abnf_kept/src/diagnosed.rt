@@ -1,29 +1,29 @@
 //! What is kept of a text that was diagnosed.
 
-ghost use Rattle.std.specs.Prelude.{◌≡◌, ◌<◌, ◌^◌, IfOk, IfSome, length};
+ghost use Rattle.std.specs.Prelude.{◌≡◌, IfOk};
 ghost use Rattle.std.specs.Arc.{arc_value};
-ghost use Rattle.abnf_syntax.specs.Blocks.{line_texts};
+ghost use Rattle.abnf_syntax.specs.Blocks.{line_texts, IsTop};
 ghost use Rattle.abnf_lint.specs.Rows.{AreRows};
-ghost use Rattle.abnf_digests.specs.Replaced.{AreReplaced};
 ghost use Rattle.abnf_outcome.specs.KeptBlocks.{IsKeptOf};
 
 use crate::blocks::KeptBlocks;
 use crate::difference::Difference;
-use crate::walk::same_bare_items;
+use crate::walk::say_the_same;
 use abnf_lint::Finding;
-use abnf_syntax::Sheet;
+use abnf_syntax::{Sheet, Top};
 use ls_lists::List;
 use ls_text::Snapshot;
 use std::alloc::{AllocError, Global};
 use std::marker::Model;
 use std::sync::Arc;
 
-/// A text, and what is found in it.
+/// A text, where its blocks begin, what is found in it, and what is kept of its blocks.
 pub struct Diagnosed {
     snapshot: Arc<Snapshot>,
+    /// The first line with content.
+    top: Top,
     findings: List<Finding>,
-    /// The text's blocks, if they tell what is found.
-    blocks: Option<KeptBlocks>,
+    blocks: KeptBlocks,
 }
 
 // Not derived, so that what lets one go is proved without its fields.
@@ -31,6 +31,7 @@ impl Drop for Diagnosed {
     fn drop(self) {
         let Diagnosed {
             snapshot: _,
+            top: _,
             findings: _,
             blocks: _,
         } = self;
@@ -38,9 +39,8 @@ impl Drop for Diagnosed {
 }
 
 impl Model for Diagnosed {
-    ghost use Rattle.std.specs.Prelude.{IfSome};
     ghost use Rattle.std.specs.Arc.{arc_value};
-    ghost use Rattle.abnf_syntax.specs.Blocks.{line_texts};
+    ghost use Rattle.abnf_syntax.specs.Blocks.{line_texts, IsTop};
     ghost use Rattle.abnf_lint.specs.Rows.{AreRows};
     ghost use Rattle.abnf_outcome.specs.KeptBlocks.{IsKeptOf};
     ghost use Rattle.abnf_kept.specs.Known.{Known};
@@ -50,32 +50,23 @@ impl Model for Diagnosed {
     ghost view = { λ d. record { text = arc_value d.snapshot; findings = d.findings } };
 
     ghost invariant = { λ d.
-        AreRows (arc_value d.snapshot) d.findings × IfSome d.blocks (IsKeptOf (line_texts (arc_value d.snapshot))) };
+        AreRows (arc_value d.snapshot) d.findings × IsKeptOf (line_texts (arc_value d.snapshot)) d.blocks
+        × IsTop (line_texts (arc_value d.snapshot)) d.top.line d.top.indent };
 }
 
 impl Diagnosed {
-    /// A text, and what is found in it.
-    pub fn new(snapshot: Arc<Snapshot>, findings: List<Finding>) -> Diagnosed
-        requires { AreRows (arc_value snapshot) findings }
-        ensures { result ≡ record { text = arc_value snapshot; findings = findings } }
-    {
-        Diagnosed {
-            snapshot,
-            findings,
-            blocks: None,
-        }
-    }
-
-    /// A text, with what its blocks tell to be found in it. `None` where they don't tell.
+    /// A text, all of whose blocks are read, and what is found in it.
     ///
     /// # Errors
     ///
     /// Where an allocation is refused.
-    pub fn of(alloc: Global, snapshot: Arc<Snapshot>) -> Result<Option<Diagnosed>, AllocError>
-        ensures { IfOk result (λ found. IfSome found (λ diagnosed. diagnosed.text ≡ arc_value snapshot)) }
+    pub fn of(alloc: Global, snapshot: Arc<Snapshot>) -> Result<Diagnosed, AllocError>
+        ensures { IfOk result (λ diagnosed. diagnosed.text ≡ arc_value snapshot) }
     {
-        let blocks = KeptBlocks::of(alloc, &Sheet::of(&snapshot))?;
-        told_by_blocks(alloc, snapshot, Some(blocks))
+        let sheet = Sheet::of(&snapshot);
+        let top = sheet.top();
+        let blocks = KeptBlocks::of(alloc, &sheet)?;
+        with_blocks(alloc, snapshot, top, blocks)
     }
 
     /// The text.
@@ -93,84 +84,58 @@ impl Diagnosed {
         self.findings.as_slice()
     }
 
-    /// Another text, where this one tells what is found there: what is found moves with its lines, or only a part of the text is read.
-    /// Else it is `None`.
+    /// Another text, and what is found in it. Of a text that differs from this one in a part, the part's blocks are read alone, unless so
+    /// many names are new there that all are better read anew. Where the part says the same of blocks, what is found moves with its lines.
     ///
     /// # Errors
     ///
     /// Where an allocation is refused.
-    pub fn followed(
-        self,
-        alloc: Global,
-        snapshot: Arc<Snapshot>,
-    ) -> Result<Option<Diagnosed>, AllocError>
-        ensures { IfOk result (λ found. IfSome found (λ diagnosed. diagnosed.text ≡ arc_value snapshot)) }
+    pub fn followed(self, alloc: Global, snapshot: Arc<Snapshot>) -> Result<Diagnosed, AllocError>
+        ensures { IfOk result (λ diagnosed. diagnosed.text ≡ arc_value snapshot) }
     {
         let Diagnosed {
             snapshot: before,
+            top,
             findings,
             blocks,
         } = self;
-        let ours = Sheet::of(&before);
-        let theirs = Sheet::of(&snapshot);
-        let Some(part) = Difference::between(&ours, &theirs) else {
-            return Ok(None);
+        let ours = Sheet::with_top(&before, top);
+        let theirs = ours.followed(&snapshot);
+        let top = theirs.top();
+        let Some(part) = Difference::between(&ours, &theirs, blocks.blocks()) else {
+            return Diagnosed::of(alloc, snapshot);
         };
-        let moves = part.is_clean(findings.as_slice()) && same_bare_items(&ours, &theirs, &part);
-        let blocks = followed_blocks(alloc, blocks, &ours, &theirs, &part)?;
+        let moves = part.is_clean(findings.as_slice())
+            && say_the_same(&ours, part.front, part.old, &theirs, part.front, part.new);
+        let blocks = blocks.followed(alloc, &ours, &theirs, &part)?;
         if moves {
-            return Ok(Some(Diagnosed {
+            return Ok(Diagnosed {
                 findings: part.moved(findings),
                 snapshot,
+                top,
                 blocks,
-            }));
+            });
         }
-        told_by_blocks(alloc, snapshot, blocks)
+        with_blocks(alloc, snapshot, top, blocks)
     }
 }
 
-/// What is kept of the blocks of another text, which differs in a part alone; nothing where it isn't worth it.
-fn followed_blocks(
-    alloc: Global,
-    blocks: Option<KeptBlocks>,
-    ours: &Sheet,
-    theirs: &Sheet,
-    part: &Difference,
-) -> Result<Option<KeptBlocks>, AllocError>
-    requires kept { IfSome blocks (IsKeptOf ours.now) }
-    requires replaced { AreReplaced ours.now theirs.now part.now.front part.now.old part.now.new }
-    requires small { length theirs.now < 2 ^ 63 }
-    ensures { IfOk result (λ blocks. IfSome blocks (IsKeptOf theirs.now)) }
-{
-    match blocks {
-        Some(blocks) => {
-            if blocks.is_worn() {
-                return Ok(None);
-            }
-            Ok(Some(blocks.followed(alloc, ours, theirs, part)?))
-        }
-        None => Ok(None),
-    }
-}
-
-/// A text with what is kept of its blocks, if they tell what is found.
-fn told_by_blocks(
+/// A text with what is kept of its blocks, and what these say to be found in it.
+fn with_blocks(
     alloc: Global,
     snapshot: Arc<Snapshot>,
-    blocks: Option<KeptBlocks>,
-) -> Result<Option<Diagnosed>, AllocError>
-    requires { IfSome blocks (IsKeptOf (line_texts (arc_value snapshot))) }
-    ensures { IfOk result (λ found. IfSome found (λ diagnosed. diagnosed.text ≡ arc_value snapshot)) }
+    top: Top,
+    blocks: KeptBlocks,
+) -> Result<Diagnosed, AllocError>
+    requires top { IsTop (line_texts (arc_value snapshot)) top.line top.indent }
+    requires blocks { IsKeptOf (line_texts (arc_value snapshot)) blocks }
+    ensures { IfOk result (λ diagnosed. diagnosed.text ≡ arc_value snapshot) }
 {
-    let Some(blocks) = blocks else {
-        return Ok(None);
-    };
-    let Some(findings) = blocks.findings(alloc, &Sheet::of(&snapshot))? else {
-        return Ok(None);
-    };
-    Ok(Some(Diagnosed {
+    let findings = blocks.findings(alloc, &Sheet::with_top(&snapshot, top))?;
+    Ok(Diagnosed {
         snapshot,
+        top,
         findings,
-        blocks: Some(blocks),
-    }))
+        blocks,
+    })
 }

@@ -5,6 +5,7 @@ ghost use Rattle.abnf_syntax.specs.Blocks.{IsSeam};
 ghost use Rattle.abnf_digests.specs.Replaced.{AreReplaced};
 ghost use Rattle.abnf_kept.specs.own.Parts as spec;
 
+use abnf_outcome::BlockDigest;
 use abnf_syntax::Sheet;
 
 /// Lines of a text, and those that stand in their place in another one.
@@ -58,56 +59,92 @@ fn are_seams(ours: &Sheet, at: usize, theirs: &Sheet, there: usize) -> bool
     is_here && is_there
 }
 
-/// The same part from a place on over which no block goes.
-fn from_seams(ours: &Sheet, theirs: &Sheet, part: Difference) -> Difference
+/// Where the last of some blocks begins that doesn't begin behind a line; the first line, where there is none.
+fn start_before(blocks: &[BlockDigest], line: usize) -> usize
+    ensures { result ≤ line }
+{
+    let count = blocks.partition_point(|block| block.first <= line);
+    if count == 0 {
+        0
+    } else {
+        blocks[count - 1].first.min(line)
+    }
+}
+
+/// Where the first of some blocks begins that doesn't begin before a line; behind so many lines, where there is none.
+fn start_behind(blocks: &[BlockDigest], line: usize, count: usize) -> usize
+    requires { line ≤ count }
+    ensures { (line ≤ result) × (result ≤ count) }
+{
+    let place = blocks.partition_point(|block| block.first < line);
+    match blocks.get(place) {
+        Some(block) => block.first.max(line).min(count),
+        None => count,
+    }
+}
+
+/// The same part from a place on over which no block goes: its own front, or that of the block there, if these are the blocks of our lines.
+fn from_seams(ours: &Sheet, theirs: &Sheet, blocks: &[BlockDigest], part: Difference) -> Difference
     requires { spec.IsPart ours.now theirs.now part }
     ensures part { spec.IsPart ours.now theirs.now result }
     ensures fronts { IsSeam ours.now result.front × IsSeam theirs.now result.front }
 {
-    let mut front = part.front;
-    while !are_seams(ours, front, theirs, front) {
-        front -= 1;
+    if are_seams(ours, part.front, theirs, part.front) {
+        return part;
     }
+    let start = start_before(blocks, part.front);
     Difference {
-        front,
+        front: if are_seams(ours, start, theirs, start) {
+            start
+        } else {
+            0
+        },
         old: part.old,
         new: part.new,
     }
 }
 
-/// The same part up to a place over which no block goes.
-fn to_seams(ours: &Sheet, theirs: &Sheet, part: Difference) -> Difference
+/// The same part up to a place over which no block goes: its own end, or that of the block there, if these are the blocks of our lines.
+fn to_seams(ours: &Sheet, theirs: &Sheet, blocks: &[BlockDigest], part: Difference) -> Difference
     requires part { spec.IsPart ours.now theirs.now part }
     requires fronts { IsSeam ours.now part.front × IsSeam theirs.now part.front }
     ensures part { spec.IsPart ours.now theirs.now result }
     ensures fronts { IsSeam ours.now result.front × IsSeam theirs.now result.front }
     ensures backs { IsSeam ours.now result.old × IsSeam theirs.now result.new }
 {
-    let mut old = part.old;
-    let mut new = part.new;
-    while !are_seams(ours, old, theirs, new) {
-        old += 1;
-        new += 1;
+    if are_seams(ours, part.old, theirs, part.new) {
+        return part;
     }
-    Difference {
-        front: part.front,
-        old,
-        new,
+    let (count, theirs_count) = (ours.count(), theirs.count());
+    let old = start_behind(blocks, part.old, count);
+    let new = old - part.old + part.new;
+    if are_seams(ours, old, theirs, new) {
+        Difference {
+            front: part.front,
+            old,
+            new,
+        }
+    } else {
+        Difference {
+            front: part.front,
+            old: count,
+            new: theirs_count,
+        }
     }
 }
 
 impl Difference {
-    /// The part in which two texts differ, between places over which no block goes in either of them. There is none where the indents of
-    /// their blocks differ.
-    pub fn between(ours: &Sheet, theirs: &Sheet) -> Option<Difference>
+    /// The part in which two texts differ, between places over which no block goes in either of them; it is short where these are the blocks
+    /// of our lines. There is none where the indents of their blocks differ.
+    pub fn between(ours: &Sheet, theirs: &Sheet, blocks: &[BlockDigest]) -> Option<Difference>
         ensures { IfSome result (λ part. AreReplaced ours.now theirs.now part.front part.old part.new) }
     {
         if ours.base() != theirs.base() {
             return None;
         }
         let part = up_to_back(ours, theirs, same_front(ours, theirs));
-        let part = from_seams(ours, theirs, part);
-        let part = to_seams(ours, theirs, part);
+        let part = from_seams(ours, theirs, blocks, part);
+        let part = to_seams(ours, theirs, blocks, part);
         Some(part)
     }
 }

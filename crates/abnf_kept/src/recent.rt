@@ -1,13 +1,16 @@
 //! The texts that were diagnosed last.
 
-ghost use Rattle.std.specs.Prelude.{◌≡◌, None, Some, IsTrue};
-ghost use Rattle.std.specs.Option.{option_or};
-ghost use Rattle.abnf_kept.specs.Recent.{IsTaken};
+ghost use Rattle.std.specs.Prelude.{◌≡◌, ◌<◌, [], IfSome, Option, Some, length};
+ghost use Rattle.abnf_kept.specs.Known.{Known};
+ghost use Rattle.abnf_kept.specs.Recent.{IsTaken, lent, with_last, with_text};
 
 use crate::diagnosed::Diagnosed;
-use abnf_syntax::Sheet;
+use arrayvec::ArrayVec;
 use ls_text::Snapshot;
 use std::marker::Model;
+
+/// How many texts are kept: of as many documents where an author changes several in turn.
+const MOST: usize = 4;
 
 /// How many lines of two texts are compared from the front, and how many from the back.
 const SAMPLES: usize = 4;
@@ -15,16 +18,19 @@ const SAMPLES: usize = 4;
 /// How many of all these are the same where one text is made of the other by few edits.
 const ENOUGH: usize = 3;
 
-/// The last two texts that were diagnosed, of two documents where an author changes two in turn.
+/// So many lines are looked at for one that isn't empty: empty ones are the same in most texts.
+const REACH: usize = 8;
+
+/// The texts that were diagnosed last, the newest last. Contracts see them as a list.
 pub struct Recent {
-    last: Option<Diagnosed>,
-    before: Option<Diagnosed>,
+    // (Options, since the vector fills the places that aren't used.)
+    texts: ArrayVec<Option<Diagnosed>, MOST>,
 }
 
 // Not derived, so that what lets one go is proved without its fields.
 impl Drop for Recent {
     fn drop(self) {
-        let Recent { last: _, before: _ } = self;
+        let Recent { texts: _ } = self;
     }
 }
 
@@ -33,66 +39,105 @@ impl Model for Recent {
 
     ghost Value = { Texts };
 
-    ghost view = { λ r. record { last = r.last; before = r.before } };
+    ghost view = { λ r. r.texts.items };
+}
+
+/// The first line from one on that isn't empty, if one of a few isn't.
+fn sample(snapshot: &Snapshot, from: usize) -> &str {
+    for at in from..from.saturating_add(REACH) {
+        if let Some(line) = snapshot.line(at) {
+            if !line.is_empty() {
+                return line;
+            }
+        }
+    }
+    ""
 }
 
 /// How many of some lines are the same in both texts, at the same places from the front or from the back.
-fn same_samples(ours: &Sheet, theirs: &Sheet) -> usize {
-    let (more, others) = (ours.count(), theirs.count());
+fn same_samples(ours: &Snapshot, theirs: &Snapshot) -> usize {
+    let (more, others) = (ours.line_count(), theirs.line_count());
     let count = more.min(others);
     let mut same = 0;
-    for sample in 0..SAMPLES {
-        let at = count / SAMPLES * sample;
-        if ours.line(at) == theirs.line(at) {
+    for number in 0..SAMPLES {
+        let at = count / SAMPLES * number;
+        if sample(ours, at) == sample(theirs, at) {
             same += 1;
         }
-        if ours.line(more - count + at) == theirs.line(others - count + at) {
+        if sample(ours, more - count + at) == sample(theirs, others - count + at) {
             same += 1;
         }
     }
     same
 }
 
-/// Whether a text was diagnosed of which some lines stand in this one.
-fn is_near(diagnosed: &Option<Diagnosed>, sheet: &Sheet) -> bool {
-    match diagnosed {
-        Some(diagnosed) => same_samples(&Sheet::of(diagnosed.snapshot()), sheet) >= ENOUGH,
-        None => false,
+/// Which of some texts is nearest to another one, the newest of several; none where none is near.
+fn nearest(texts: &[Option<Diagnosed>], snapshot: &Snapshot) -> Option<usize>
+    ensures { IfSome result (λ at. at < length texts.now) }
+{
+    let mut nearest = None;
+    let mut most = ENOUGH;
+    for at in 0..texts.len() {
+        if let Some(diagnosed) = &texts[at] {
+            let same = same_samples(diagnosed.snapshot(), snapshot);
+            if same >= most {
+                nearest = Some(at);
+                most = same;
+            }
+        }
     }
+    nearest
 }
 
 impl Recent {
     /// None yet.
     pub fn new() -> Recent
-        ensures { result ≡ record { last = None; before = None } }
+        ensures { result ≡ [] }
     {
         Recent {
-            last: None,
-            before: None,
+            texts: ArrayVec::new(),
         }
     }
 
-    /// Takes the one that is likely to help to tell what is found in a text, if one is.
+    /// Takes the text that is likeliest to help to find what another one has, if one is likely to: that of which most of eight lines stand
+    /// there, too.
     pub fn take_near(&mut self, snapshot: &Snapshot) -> Option<Diagnosed>
         ensures { IsTaken self.old result self.new }
     {
-        let sheet = Sheet::of(snapshot);
-        if is_near(&self.last, &sheet) {
-            return self.last.take();
+        match nearest(self.texts.as_slice(), snapshot) {
+            Some(at) => self.texts.remove(at),
+            None => None,
         }
-        if is_near(&self.before, &sheet) {
-            return self.before.take();
-        }
-        None
     }
 
-    /// Keeps one more, and of the others the last.
-    pub fn keep(&mut self, diagnosed: Diagnosed)
-        ensures { self.new ≡ record { last = Some diagnosed; before = option_or self.old.last self.old.before } }
+    /// Lends the text that [`Recent::take_near`] takes, if it takes one: as texts of their own.
+    pub fn lend(&mut self, snapshot: &Snapshot) -> Recent
+        ensures { (taken : Option Known) × IsTaken self.old taken self.new × (result ≡ lent taken) }
     {
-        if let Some(last) = self.last.take() {
-            self.before = Some(last);
+        let mut texts = Recent::new();
+        if let Some(near) = self.take_near(snapshot) {
+            texts.keep(near);
         }
-        self.last = Some(diagnosed);
+        texts
+    }
+
+    /// Keeps the last of some others, if there is one.
+    pub fn take_back(&mut self, others: Recent)
+        ensures { self.new ≡ with_last self.old others }
+    {
+        let Recent { mut texts } = others;
+        if let Some(Some(last)) = texts.pop() {
+            self.keep(last);
+        }
+    }
+
+    /// Keeps one more. Of more than four the oldest is let go.
+    pub fn keep(&mut self, diagnosed: Diagnosed)
+        ensures { self.new ≡ with_text self.old (Some diagnosed) }
+    {
+        if self.texts.is_full() {
+            self.texts.remove(0);
+        }
+        self.texts.push(Some(diagnosed));
     }
 }

@@ -5,7 +5,6 @@ ghost use Rattle.abnf_token.specs.Marks.{AreMarks};
 ghost use Rattle.abnf_digests.specs.BareItems.{BareItem, AreBareItems};
 ghost use Rattle.abnf_kept.specs.own.Walks as spec;
 
-use crate::difference::Difference;
 use crate::line_item::{LineItem, Stand, are_alike, item_at};
 use abnf_syntax::{Row, Sheet, is_item};
 
@@ -131,14 +130,21 @@ impl<'w, 's> Walk<'w, 's> {
     }
 }
 
-/// Whether the lines of a part say the same of blocks as those in their place.
-pub fn same_bare_items(ours: &Sheet, theirs: &Sheet, part: &Difference) -> bool
-    requires old { part.now.front ≤ part.now.old }
-    requires new { part.now.front ≤ part.now.new }
-    ensures { IsTrue result → spec.SayTheSame ours.now theirs.now part.now }
+/// Whether the lines of a text from one up to another say the same of blocks as some lines of another text.
+pub fn say_the_same(
+    ours: &Sheet,
+    from: usize,
+    to: usize,
+    theirs: &Sheet,
+    there: usize,
+    end: usize,
+) -> bool
+    requires ours { from ≤ to }
+    requires theirs { there ≤ end }
+    ensures { IsTrue result → spec.SayTheSame ours.now from to theirs.now there end }
 {
-    let mut walk = Walk::over(theirs, part.front, part.new);
-    for at in part.front..part.old {
+    let mut walk = Walk::over(theirs, there, end);
+    for at in from..to {
         let row = ours.row(at);
         if !walk.follows_row(&row, ours.begins(at)) {
             return false;

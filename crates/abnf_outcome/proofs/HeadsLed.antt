@@ -1,6 +1,6 @@
 -- Where the name of each head holds by marks, nothing needs to be marked as leading to something opaque.
-use Rattle.std.proofs.Common.{◌≡◌, ◌∙◌, Bool, true, false, not, Option, Some, None, Result, Ok, Err, List, sym, ap}
-use Rattle.std.specs.Prelude.{IfOk, IfSome}
+use Rattle.std.proofs.Common.{◌≡◌, ◌∙◌, Bool, true, false, not, Some, Result, Ok, Err, List, sym, ap}
+use Rattle.std.specs.Prelude.{IfOk}
 use Rattle.std.specs.List.{list_any}
 use Rattle.std.specs.Option.{option_map_or}
 use Rattle.std.proofs.lemmas.Option.{slice_get-get_or}
@@ -33,7 +33,6 @@ module _ (table : List Name) (words : List Word) (blocks : List BlockDigest) (ro
   heads_led are_led digests stored are = all_led digests _ _ (are_led digests stored are)
 
 -- what is found is so, if anything is
-pub found_more : {V E : Type 0} (P Q : V → Type 0) → ((v : V) → P v → Q v) → (found : Result (Option V) E) → IfOk found (λ o. IfSome o P) → IfOk found (λ o. IfSome o Q)
-found_more P Q more (Ok (Some v)) h = more v h
-found_more P Q more (Ok None) h = tt
+pub found_more : {V E : Type 0} (P Q : V → Type 0) → ((v : V) → P v → Q v) → (found : Result V E) → IfOk found P → IfOk found Q
+found_more P Q more (Ok v) h = more v h
 found_more P Q more (Err e) h = tt

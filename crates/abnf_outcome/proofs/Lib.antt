@@ -36,3 +36,4 @@ pub mod Passing
 pub mod FlagLaws
 pub mod Outcomes
 pub mod HeadsLed
+pub mod PendingLaws

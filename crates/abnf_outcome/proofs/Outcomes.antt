@@ -1,7 +1,7 @@
 -- What digests tell of each other, by marks and flags that are handed out.
-use Rattle.std.proofs.Common.{◌≡◌, ◌∙◌, ℕ, ◌≤◌, Bool, true, false, Option, Some, List, [], length, refl, sym, ap, subst, arith}
+use Rattle.std.proofs.Common.{◌≡◌, ◌∙◌, ℕ, ◌≤◌, Bool, true, false, Some, List, [], length, refl, sym, ap, subst, arith}
 use Rattle.std.specs.Prelude.{not, ◌&&◌}
-use Rattle.std.specs.Option.{IfSome, option_map_or}
+use Rattle.std.specs.Option.{option_map_or}
 use Rattle.std.proofs.lemmas.Option.{slice_get_within}
 use Rattle.abnf_parts.specs.Core.{is_core_name}
 use Rattle.abnf_parts.specs.Names.{Name, rule_number}
@@ -46,9 +46,6 @@ all_strange defined core passed marks upto all table blocks heads cores n name a
 
 -- ---- what is told of each block
 
-given : {V : Type 0} (P : V → Type 0) (o : Option V) (v : V) → o ≡ Some v → IfSome o P → P v
-given P o v is h = subst (λ it. IfSome it P) is h
-
 -- Digests are kept, and the roles of their heads. What is kept is lent several times.
 module _ (table : List Name) (words lent_words : List Word) (blocks lent_blocks : List BlockDigest) (same_words : lent_words ≡ words) (same_blocks : lent_blocks ≡ blocks)
     (roles : List HeadRole) (are_roles : (words : List Word) (digests : List Digest) → AreStored table words lent_blocks digests → AreRoles digests roles)
@@ -59,11 +56,11 @@ module _ (table : List Name) (words lent_words : List Word) (blocks lent_blocks 
   roles_of : (lent : List HeadRole) → lent ≡ roles → AreRoles digests lent
   roles_of lent e = subst (AreRoles digests) (sym e) (are_roles lent_words digests stored)
 
-  module _ {V : Type 0} (items : V → List Bool) (held led : V) (held_out led_out : Option V) (is_so : held_out ≡ Some held) (is_led : led_out ≡ Some led)
+  module _ {V : Type 0} (items : V → List Bool) (held led : V)
       (held_roles led_roles flag_roles : List HeadRole) (held_same : held_roles ≡ roles) (led_same : led_roles ≡ roles) (flag_same : flag_roles ≡ roles)
       (core : List Bool) (are_core : AreCoreMarks table lent_blocks core)
-      (are_held : IfSome held_out (λ v. (table : List Name) → AreCoreMarks table lent_blocks core → AreHoldingMarksFor table lent_words lent_blocks held_roles (items v)))
-      (held_lent : List Bool) (same_lent : held_lent ≡ items held) (are_led : IfSome led_out (λ v. AreHeadsLedFor table lent_words lent_blocks led_roles held_lent (items v)))
+      (are_held : (table : List Name) → AreCoreMarks table lent_blocks core → AreHoldingMarksFor table lent_words lent_blocks held_roles (items held))
+      (held_lent : List Bool) (same_lent : held_lent ≡ items held) (are_led : AreHeadsLedFor table lent_words lent_blocks led_roles held_lent (items led))
       (holding leading defined : List Bool) (same_holding : holding ≡ items held) (same_leading : leading ≡ items led)
       (are_defined : (words : List Word) (digests : List Digest) → AreStored table words lent_blocks digests → AreDefinedMarks digests table defined)
       (flags : List BlockTold)
@@ -73,9 +70,8 @@ module _ (table : List Name) (words lent_words : List Word) (blocks lent_blocks 
     each_told =
         flags_tell digests (held_at table holding) (name_mark table leading) table defined
         (subst (λ m. AreHoldingMarks digests (held_at table m)) (sym same_holding)
-        (given (λ v. (table : List Name) → AreCoreMarks table lent_blocks core → AreHoldingMarksFor table lent_words lent_blocks held_roles (items v)) held_out held is_so
-        are_held table are_core digests stored (roles_of held_roles held_same)))
+        (are_held table are_core digests stored (roles_of held_roles held_same)))
         (subst (λ (m : List Bool × List Bool). AreHeadsLed digests (held_at table m.0) (name_mark table m.1)) (λ i. ((same_lent ∙ sym same_holding) i, sym same_leading i))
-        (given (λ v. AreHeadsLedFor table lent_words lent_blocks led_roles held_lent (items v)) led_out led is_led are_led digests stored (roles_of led_roles led_same)))
+        (are_led digests stored (roles_of led_roles led_same)))
         (are_defined lent_words digests stored) flags
         (are_flagged table lent_words digests stored (roles_of flag_roles flag_same))

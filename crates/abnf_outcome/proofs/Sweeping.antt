@@ -1,6 +1,6 @@
 -- Sound marks of names stay sound as blocks mark their names, and are closed where no block marks another.
 use Rattle.std.proofs.Common.{◌≡◌, ⊎_elim, inl, ℕ, ◌+◌, ◌<◌, Bool, true, false, not, ◌&&◌, List, length, take, Option, Some, None, refl, sym, ap, subst, ◌∙◌, arith}
-use Rattle.std.specs.Prelude.{IfSome, replicate, slice_get, slice_set, unwrap_or}
+use Rattle.std.specs.Prelude.{replicate, slice_get, slice_set, unwrap_or}
 use Rattle.std.specs.List.{list_any}
 use Rattle.std.specs.Option.{option_map_or}
 use Rattle.std.specs.Str.{bytes_eq}
@@ -145,7 +145,8 @@ module _ (way : Way) (table : List Name) (words : List Word) (blocks : List Bloc
           marked_is way table marks name n.0.name there
           ∙ ⊎_elim (λ t. t)
           (λ f.
-          let none = done c.0 b.0 (kept_role (role_by (take c.0 digests) h.0)) b.1 (are.each c.0 a.digest h.0 c.1.0 h.1) n.0 n.1 duplicate f
+          let less : n.0.name < length marks = omega (arith, sound.one_each, slice_get_within table n.0.name name (stands_at table name n.0.name there)) in
+          let none = done c.0 b.0 (kept_role (role_by (take c.0 digests) h.0)) b.1 (are.each c.0 a.digest h.0 c.1.0 h.1) n.0 n.1 duplicate less f
           b.2.order b.2.within (number_in_table table) a.digest.said b.2.words in
           never (list_any (says way (marked_at way table marks)) a.digest.said)
           (any_there (says way (marked_at way table marks)) a.digest.said part a.says e) (sym (gists_same b.0 a.digest b.2) ∙ none))
@@ -255,11 +256,3 @@ module _ (words : List Word) (blocks : List BlockDigest) (roles : List HeadRole)
   pub led_are : (table : List Name) → AreSoundByWayFor Leading table words blocks roles marks → AreSwept Leading words blocks roles marks
       → AreLeadingMarksFor table words blocks roles marks
   led_are table sound done digests stored are = are_led table words blocks roles marks digests stored are sound done
-
--- marks or none
-module _ {V : Type 0} (P : V → Type 0) (found : Option V) where
-  pub some_found : (v : V) → found ≡ Some v → P v → IfSome found P
-  some_found v is p = subst (λ (o : Option V). IfSome o P) (sym is) p
-
-  pub none_found : found ≡ None → IfSome found P
-  none_found is = subst (λ (o : Option V). IfSome o P) (sym is) tt

@@ -8,7 +8,7 @@ use Rattle.abnf_parts.specs.Names.{Name}
 use Rattle.abnf_parts.specs.Core.{is_core_name}
 use Rattle.abnf_digests.specs.Digests.{Digest, defines_by, counted_by, defined_by}
 
--- a part holds, where it is said which names do
+-- A part holds, where it is said which names do: it generates something if all that is opaque does.
 abbrev mutual
   pub Holds : (Name → Type 0) → Part → Type 0
   Holds At (quoted text exact) = Unit {0}
@@ -28,21 +28,21 @@ abbrev mutual
   SomeHolds At end = ⊥
   SomeHolds At (next p ps) = Holds At p ⊎ SomeHolds At ps
 
--- the name is that of a core rule, and no block defines it (RFC 5234 appendix B.1)
+-- The name is that of a core rule, and no block defines it (RFC 5234, appendix B.1).
 abbrev pub IsOfCore : List Digest → Name → Type 0
 IsOfCore digests name = (is_core_name name ≡ true) × (list_any (bytes_eq name) (defined_by digests) ≡ false)
 
--- the part is an alternative of a block of the name that counts
+-- The part is an alternative of a block of the name that counts.
 pub record IsAlternative (digests : List Digest) (name : Name) (part : Part) : Type 0 where
   pub digest : Digest
   pub counts : Contains (counted_by (filter (defines_by name) digests)) digest
   pub says : Contains digest.said part
 
--- a name holds with fewer than k nested references, but for those of core rules
+-- The name holds with fewer than k nested references, but for those of core rules.
 abbrev pub HoldsBy : List Digest → ℕ → Name → Type 0
 HoldsBy digests zero name = ⊥
 HoldsBy digests (suc k) name = IsOfCore digests name ⊎ ((part : Part) × IsAlternative digests name part × Holds (HoldsBy digests k) part)
 
--- no block defines the name, and no core rule has it
+-- No block defines the name, and no core rule has it.
 abbrev pub IsStrange : List Digest → Name → Type 0
 IsStrange digests name = (is_core_name name ≡ false) × (list_any (bytes_eq name) (defined_by digests) ≡ false)

@@ -10,19 +10,21 @@ use Rattle.abnf_outcome.specs.declared.digest.BlockDigest.{BlockDigest}
 use Rattle.abnf_outcome.specs.declared.word.Word.{Word}
 use Rattle.abnf_outcome.specs.Stored.{IsStored, Stored}
 
--- This is kept of a block with these bounds, with this table and these words.
+-- This is kept of a block with these bounds, with this table and these words: its digest, its lines, and whether it has findings of its
+-- own.
 pub record IsKept (table : List Name) (words : List Word) (kept : BlockDigest) (bounds : ℕ × ℕ) (block : Block) : Type 0 where
   pub digest : IsStored table words kept (digest_of block)
   pub first : kept.first ≡ bounds.0
   pub behind : kept.behind ≡ bounds.1
   pub own : kept.has_own ≡ has_own_findings block
 
--- each is kept of its block
+-- Each of these is kept of its block, which has its bounds.
 abbrev pub AreEachKept : List Name → List Word → List BlockDigest → List (ℕ × ℕ) → List Block → Type 0
 AreEachKept table words [] [] [] = Unit {0}
 AreEachKept table words (k ∷ ks) (b ∷ bounds) (block ∷ blocks) = IsKept table words k b block × AreEachKept table words ks bounds blocks
 AreEachKept table words _ _ _ = ⊥
 
+-- This is kept of these blocks, which have these bounds, block for block.
 abbrev pub AreKept : Stored → List (ℕ × ℕ) → List Block → Type 0
 AreKept s bounds blocks = AreEachKept s.table s.words s.kept bounds blocks
 
@@ -38,15 +40,19 @@ pub record IsKeptOf (ls : List Text) (s : Stored) : Type 0 where
 abbrev pub AddsBlock : ℕ × ℕ → Block → Stored → Stored → Type 0
 AddsBlock bounds block old new = (bs : List (ℕ × ℕ)) (blocks : List Block) → AreKept old bs blocks → AreKept new (bs ++ bounds ∷ []) (blocks ++ block ∷ [])
 
+-- the same block where its lines are these
+abbrev pub at_lines : ℕ → ℕ → BlockDigest → BlockDigest
+at_lines first behind kept = record { head = kept.head; start = kept.start; end = kept.end; first = first; behind = behind; has_own = kept.has_own }
+
 -- ---- the last blocks in place of others
 
--- The block begins no earlier than the line `old`, and its lines have numbers where that line is the line `new`.
+-- The block begins no earlier than the line `old`, and its lines have numbers below 2^64 where that line is the line `new`.
 pub record CanMove (old new : ℕ) (kept : BlockDigest) : Type 0 where
   pub first : old ≤ kept.first
   pub behind : kept.first ≤ kept.behind
   pub small : (kept.behind - old) + new < 2 ^ 64
 
--- the same block where the line `old` is the line `new`
+-- what is kept of the same block where the line `old` is the line `new`
 abbrev pub moved_block : ℕ → ℕ → BlockDigest → BlockDigest
 moved_block old new kept = record {
   head = kept.head;
@@ -57,7 +63,7 @@ moved_block old new kept = record {
   has_own = kept.has_own;
 }
 
--- The last `count` stand in place of those from one place up to another, and those behind these are moved.
+-- The last `count` blocks stand in place of those from one place up to another, and those behind these are moved by lines.
 abbrev pub replaced_by_last : ℕ → ℕ → ℕ → ℕ → ℕ → List BlockDigest → List BlockDigest
 replaced_by_last from to count old new kept =
     let last = length kept - count in

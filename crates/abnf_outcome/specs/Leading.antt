@@ -5,7 +5,7 @@ use Rattle.abnf_parts.specs.Part.{Part, ref, opaque, subparts}
 use Rattle.abnf_digests.specs.Digests.{Digest}
 use Rattle.abnf_outcome.specs.Holding.{IsAlternative}
 
--- a chain of so many uses leads from the name to an opaque part
+-- A chain of so many uses leads from the name to an opaque part.
 abbrev pub LeadsToOpaqueBy : List Digest → ℕ → Name → Type 0
 LeadsToOpaqueBy digests zero name = (part : Part) × IsAlternative digests name part × Contains (subparts part) opaque
 LeadsToOpaqueBy digests (suc uses) name =

@@ -7,7 +7,7 @@ use Rattle.abnf_digests.specs.Digests.{Digest}
 use Rattle.abnf_outcome.specs.Holding.{IsOfCore, IsAlternative, HoldsBy}
 use Rattle.abnf_outcome.specs.Leading.{LeadsToOpaqueBy}
 
--- whether a part holds, by marks of names
+-- A part holds by marks of names.
 abbrev mutual
   pub holds : (Name → Bool) → Part → Bool
   holds at (quoted text exact) = true
@@ -27,13 +27,15 @@ abbrev mutual
   some_holds at end = false
   some_holds at (next p ps) = holds at p || some_holds at ps
 
--- each marked name holds, and each name whose alternative holds by the marks is marked
+-- The marks are sound, and closed: each marked name holds, and each name is marked that a core rule has and no block defines, or whose
+-- alternative holds by the marks.
 pub record AreHoldingMarks (digests : List Digest) (at : Name → Bool) : Type 0 where
   pub sound : (name : Name) → at name ≡ true → (k : ℕ) × HoldsBy digests k name
   pub core : (name : Name) → IsOfCore digests name → at name ≡ true
   pub closed : (name : Name) (part : Part) → IsAlternative digests name part → holds at part ≡ true → at name ≡ true
 
--- each marked name leads to something opaque, and each name is marked that has an opaque part or uses a marked name
+-- The marks are sound, and closed: each marked name leads to something opaque, and each name is marked that has an opaque part or uses a
+-- marked name.
 pub record AreLeadingMarks (digests : List Digest) (at : Name → Bool) : Type 0 where
   pub sound : (name : Name) → at name ≡ true → (uses : ℕ) × LeadsToOpaqueBy digests uses name
   pub begins : (name : Name) (part : Part) → IsAlternative digests name part → Contains (subparts part) opaque → at name ≡ true

@@ -1,4 +1,4 @@
--- What blocks tell of each other, and blocks in which that finds nothing.
+-- What is known of each block by all of them, and blocks in which that finds nothing.
 use Rattle.std.specs.Prelude.{◌≡◌, ◌++◌, ℕ, Bool, List, [], Some, slice_get}
 use Rattle.abnf_parts.specs.Names.{Name, rule_number}
 use Rattle.abnf_names.specs.declared.section.Section.{Section}
@@ -16,15 +16,15 @@ use Rattle.abnf_outcome.specs.KeptBlocks.{IsKept}
 use Rattle.abnf_outcome.specs.Stored.{AreDigests, Stored}
 use Rattle.abnf_outcome.specs.ToldOfBlock.{ToldOfBlock}
 
--- the names that no block defines and no core rule has, by the marks of an outcome
+-- No block defines the name, and no core rule has it, by the marks of an outcome.
 abbrev pub strange_in : Stored → Outcome → Name → Bool
 strange_in s outcome = strange_by s.table outcome.defined.items
 
--- what is told of the block with these flags
+-- what is known of the block with these flags
 abbrev pub told_in : Stored → Outcome → BlockTold → ToldOfBlock
 told_in s outcome told = told_of_flags told (strange_in s outcome)
 
--- This is told of each block, and the marks say which names stand for nothing.
+-- This is known of each block, and the marks say which names stand for nothing.
 pub record IsOutcome (s : Stored) (outcome : Outcome) : Type 0 where
   pub told : (digests : List Digest) → AreDigests s digests → AllAreTold digests [] digests (all_told (strange_in s outcome) outcome.tolds.items)
   pub strange : (number : ℕ) (name : Name) → rule_number s.table name ≡ Some number → mark_at outcome.strange.items number ≡ strange_in s outcome name

@@ -1,4 +1,4 @@
--- What is told of a block by the other blocks, and what is found in it by its items, its fault and no more than that.
+-- What is known of a block by the other blocks, and what is found in it by its items, its fault and no more than that.
 use Rattle.std.specs.Prelude.{◌≡◌, ◌↔◌, ℕ, Bool, true, false, not, ◌&&◌, List, [], Option, Some, None, Contains}
 use Rattle.std.specs.List.{list_any}
 use Rattle.std.specs.Option.{option_map_or}
@@ -22,30 +22,33 @@ use Rattle.abnf_digests.specs.Roles.{Role, role_by}
 use Rattle.abnf_outcome.specs.Holding.{HoldsBy, IsStrange}
 use Rattle.abnf_outcome.specs.Leading.{LeadsToOpaqueBy}
 
--- the name neither holds nor leads to something opaque
+-- The name neither holds nor leads to something opaque.
 abbrev pub IsIdleBy : List Digest → Name → Type 0
 IsIdleBy digests name = ((k : ℕ) → HoldsBy digests k name → ⊥) × ((uses : ℕ) → LeadsToOpaqueBy digests uses name → ⊥)
 
--- the role of a block's head, whether the head's name is idle, and which names are strange
+-- what is known of a block by the others: the role of its head, whether the head's name is idle, and which names are strange
 pub record ToldOfBlock : Type 0 where
   pub role : Role
   pub idle : Bool
   pub strange : Name → Bool
 
--- This is told of a block with this digest, where these are the digests of all blocks and of those before it: of its head, if it has one,
+-- This is known of a block with this digest, where these are the digests of all blocks and of those before it: of its head, if it has one,
 -- of the head's name, if it is the first of its name, and of the names that the block uses.
 pub record IsToldOf (digests before : List Digest) (digest : Digest) (told : ToldOfBlock) : Type 0 where
   pub role : (head : Name × Bool) → digest.head ≡ Some head → told.role ≡ role_by before head
   pub idle : (head : Name × Bool) → digest.head ≡ Some head → told.role.is_first ≡ true → (told.idle ≡ true) ↔ IsIdleBy digests head.0
   pub strange : (name : Name) → Contains digest.uses name → (told.strange name ≡ true) ↔ IsStrange digests name
 
--- the same by tests: marks say which names hold, and which lead to something opaque
+-- The same as `IsStrange`, by a test: no block defines the name, and no core rule has it.
 abbrev pub is_strange : List Digest → Name → Bool
 is_strange digests name = not (is_core_name name) && not (list_any (bytes_eq name) (defined_by digests))
 
+-- of a block without a head no role holds
 abbrev pub no_role : Role
 no_role = record { is_duplicate = false; has_no_base = false; is_first = false }
 
+-- what is known of a block with this digest, by those of all blocks and of those before it, and by marks of names, which say which hold,
+-- and which lead to something opaque
 abbrev pub told_by_marks : List Digest → List Digest → (Name → Bool) → (Name → Bool) → Digest → ToldOfBlock
 told_by_marks digests before held led digest = record {
   role = option_map_or (role_by before) digest.head no_role;
@@ -53,14 +56,14 @@ told_by_marks digests before held led digest = record {
   strange = is_strange digests;
 }
 
--- these items begin with a head, whose name stands at this place and is spelled so
+-- These items begin with a head, whose name stands at this place and is spelled so.
 pub record HeadStands (items : List Item) (place : Place) (name : List ℕ) : Type 0 where
   pub head : Head
   pub heads : head_of items ≡ Some head
   pub at : place ≡ place_of head.name
   pub spelled : name ≡ head.name.text.now
 
--- this holds of one of the items, which stands at this place
+-- This holds of one of the items, which stands at this place.
 pub record ItemStands (items : List Item) (place : Place) (Is : Item → Type 0) : Type 0 where
   pub item : Item
   pub among : Contains items item

@@ -7,6 +7,7 @@ use Rattle.abnf_digests.specs.Gists.{is_above}
 use Rattle.abnf_outcome.specs.declared.word.Word.{Word}
 use Rattle.abnf_outcome.specs.declared.word.Word.TheVariants as w
 
+-- how many parts there are
 abbrev pub parts_count : Parts → ℕ
 parts_count end = 0
 parts_count (next p ps) = suc (parts_count ps)
@@ -55,16 +56,17 @@ abbrev mutual
 abbrev pub number_in_table : List Name → Name → ℕ
 number_in_table table name = unwrap_or (rule_number table name) (length table)
 
--- a table in which the names of another have the numbers that they had there
+-- In the later table each name of this one has the number that it has here.
 abbrev pub IsLater : List Name → List Name → Type 0
 IsLater table later = (name : Name) (number : ℕ) → rule_number table name ≡ Some number → rule_number later name ≡ Some number
 
 -- ---- the machine, whose stack has the last value first
 
+-- a value of the stack, as a test of itself
 abbrev pub is_so : Bool → Bool
 is_so value = value
 
--- one word, where marks of names are given by their numbers
+-- the stack after one word, where marks of names are given by their numbers
 abbrev pub step_word : (ℕ → Bool) → Word → List Bool → List Bool
 step_word marks w.Something stack = true ∷ stack
 step_word marks w.Opaque stack = true ∷ stack
@@ -74,6 +76,7 @@ step_word marks (w.Any count) stack = list_any is_so (take count stack) ∷ drop
 step_word marks w.Optional stack = true ∷ drop 1 stack
 step_word marks w.Never stack = false ∷ drop 1 stack
 
+-- the stack after these words, one after the other; behind the words of a part its first value says whether the part holds
 abbrev pub run_words : (ℕ → Bool) → List Word → List Bool → List Bool
 run_words marks [] stack = stack
 run_words marks (word ∷ words) stack = run_words marks words (step_word marks word stack)

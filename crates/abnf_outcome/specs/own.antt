@@ -3,3 +3,4 @@ pub mod Adding
 pub mod HeadRoles
 pub mod Ways
 pub mod Flags
+pub mod Pending

@@ -22,6 +22,7 @@ mod heads;
 mod laws;
 mod outcome;
 mod own;
+mod pending;
 mod quiet;
 mod settling;
 mod store;

@@ -1,6 +1,6 @@
 //! What the blocks of a text tell of each other, by their digests.
 
-ghost use Rattle.std.specs.Prelude.{◌≡◌, ◌<◌, ℕ, List, IfOk, IfSome, IsTrue, OnOk, Some, length};
+ghost use Rattle.std.specs.Prelude.{◌≡◌, ◌<◌, ℕ, List, IfOk, IsTrue, OnOk, Some, length};
 ghost use Rattle.abnf_parts.specs.Names.{Name, rule_number};
 ghost use Rattle.abnf_productive.specs.Marks.{mark_at};
 ghost use Rattle.abnf_digests.specs.Digests.{Digest};
@@ -115,14 +115,13 @@ fn strange_marks(alloc: Global, defined: &[bool], core: &[bool]) -> Result<Vec<b
 }
 
 impl Digests {
-    /// What the blocks tell of each other. `None` where some sweeps over them don't tell which names hold, or which of the others lead to
-    /// something opaque.
+    /// What the blocks tell of each other.
     ///
     /// # Errors
     ///
     /// Where an allocation is refused.
-    pub fn outcome(&self, alloc: Global) -> Result<Option<Outcome>, AllocError>
-        ensures { IfOk result (λ found. IfSome found (λ outcome. IsOutcome self.now outcome)) }
+    pub fn outcome(&self, alloc: Global) -> Result<Outcome, AllocError>
+        ensures { IfOk result (IsOutcome self.now) }
     {
         let names = &self.names;
         let words = self.words.as_slice();
@@ -131,18 +130,14 @@ impl Digests {
         let defined = defined_marks(alloc, names, blocks)?;
         let core = core_marks(alloc, names, &defined)?;
         let strange = strange_marks(alloc, &defined, &core)?;
-        let Some(held) = settle(alloc, words, blocks, &roles, core)? else {
-            return Ok(None);
-        };
-        let Some(led) = lead(alloc, names, words, blocks, &roles, &held)? else {
-            return Ok(None);
-        };
+        let held = settle(alloc, words, blocks, &roles, core)?;
+        let led = lead(alloc, names, words, blocks, &roles, &held)?;
         let tolds = flags(alloc, blocks, &roles, &held, &led)?;
-        Ok(Some(Outcome {
+        Ok(Outcome {
             tolds,
             defined,
             strange,
-        }))
+        })
     }
 
     /// Whether its digest and what is told of it say that nothing is found in the block at a place, so that it needn't be read.

@@ -1,6 +1,6 @@
 //! Which names hold, and which lead to something opaque.
 
-ghost use Rattle.std.specs.Prelude.{◌≡◌, length, List, IfOk, IfSome};
+ghost use Rattle.std.specs.Prelude.{◌≡◌, length, List, IfOk};
 ghost use Rattle.std.specs.List.{list_any};
 ghost use Rattle.abnf_parts.specs.Names.{Name};
 ghost use Rattle.abnf_outcome.specs.own.Ways as spec;
@@ -40,7 +40,7 @@ pub(crate) fn core_marks(
     Ok(marks)
 }
 
-/// Marks of the names that hold, by those of core rules that no block defines; `None` where they aren't found within some rounds.
+/// Marks of the names that hold, by those of core rules that no block defines.
 ///
 /// # Errors
 ///
@@ -51,32 +51,48 @@ pub(crate) fn settle(
     blocks: &[BlockDigest],
     roles: &[HeadRole],
     core: Vec<bool>,
-) -> Result<Option<Vec<bool>>, AllocError>
+) -> Result<Vec<bool>, AllocError>
     requires { length roles.now ≡ length blocks.now }
-    ensures { IfOk result (λ found. IfSome found (λ marks. (table : List Name) → spec.AreCoreMarks table blocks.now core.items →
-        spec.AreHoldingMarksFor table words.now blocks.now roles.now marks.items)) }
+    ensures { IfOk result (λ marks. (table : List Name) → spec.AreCoreMarks table blocks.now core.items →
+        spec.AreHoldingMarksFor table words.now blocks.now roles.now marks.items) }
 {
     let mut marks = core;
     let mut stack = Vec::new(alloc);
-    let settled = sweep_all(Way::Holding, words, blocks, roles, &mut marks, &mut stack)?;
-    Ok(if settled { Some(marks) } else { None })
+    sweep_all(
+        alloc,
+        Way::Holding,
+        words,
+        blocks,
+        roles,
+        &mut marks,
+        &mut stack,
+    )?;
+    Ok(marks)
 }
 
-/// Marks of the names that lead to something opaque; `None` where they aren't found within some rounds.
+/// Marks of the names that lead to something opaque.
 fn leading_marks(
     alloc: Global,
     names: &NameTable,
     words: &[Word],
     blocks: &[BlockDigest],
     roles: &[HeadRole],
-) -> Result<Option<Vec<bool>>, AllocError>
+) -> Result<Vec<bool>, AllocError>
     requires { length roles.now ≡ length blocks.now }
-    ensures { IfOk result (λ found. IfSome found (λ marks. spec.AreLeadingMarksFor names.now words.now blocks.now roles.now marks.items)) }
+    ensures { IfOk result (λ marks. spec.AreLeadingMarksFor names.now words.now blocks.now roles.now marks.items) }
 {
     let mut marks = vec![in alloc; false; names.len()]?;
     let mut stack = Vec::new(alloc);
-    let settled = sweep_all(Way::Leading, words, blocks, roles, &mut marks, &mut stack)?;
-    Ok(if settled { Some(marks) } else { None })
+    sweep_all(
+        alloc,
+        Way::Leading,
+        words,
+        blocks,
+        roles,
+        &mut marks,
+        &mut stack,
+    )?;
+    Ok(marks)
 }
 
 /// Whether the name of a head isn't marked.
@@ -96,8 +112,7 @@ fn one_is_unmarked(blocks: &[BlockDigest], marks: &[bool]) -> bool
     blocks.iter().any(|block| is_unmarked(block.head, marks))
 }
 
-/// Marks by which it is known of each head's name that doesn't hold whether it leads to something opaque; `None` where they aren't found
-/// within some rounds. Where the names of all heads hold, as they mostly do, nothing is marked and no memory is taken.
+/// Marks by which it is known of each head's name that doesn't hold whether it leads to something opaque. Where the names of all heads hold, as they mostly do, nothing is marked and no memory is taken.
 ///
 /// # Errors
 ///
@@ -109,13 +124,13 @@ pub(crate) fn lead(
     blocks: &[BlockDigest],
     roles: &[HeadRole],
     held: &[bool],
-) -> Result<Option<Vec<bool>>, AllocError>
+) -> Result<Vec<bool>, AllocError>
     requires { length roles.now ≡ length blocks.now }
-    ensures { IfOk result (λ found. IfSome found (λ marks. spec.AreHeadsLedFor names.now words.now blocks.now roles.now held.now marks.items)) }
+    ensures { IfOk result (λ marks. spec.AreHeadsLedFor names.now words.now blocks.now roles.now held.now marks.items) }
 {
     if one_is_unmarked(blocks, held) {
         leading_marks(alloc, names, words, blocks, roles)
     } else {
-        Ok(Some(Vec::new(alloc)))
+        Ok(Vec::new(alloc))
     }
 }

@@ -1,17 +1,19 @@
 //! The digests of a text's blocks, as they are kept.
 
-ghost use Rattle.std.specs.Prelude.{◌≡◌, ◌+◌, ◌-◌, ◌≤◌, ◌++◌, [], All, Result, IfOk, OnOk, drop, length, map, option_map, slice_range, take};
+ghost use Rattle.std.specs.Prelude.{◌≡◌, ◌+◌, ◌-◌, ◌<◌, ◌≤◌, ◌∷◌, ◌++◌, [], All, Some, Result, IfOk, OnOk, drop, is_some, length, map, option_map, slice_get, slice_range, take};
 ghost use Rattle.abnf_syntax.specs.declared.fault.SyntaxFault.{SyntaxFault};
 ghost use Rattle.abnf_syntax.specs.declared.tree.Rule.{Rule};
 ghost use Rattle.abnf_syntax.specs.Bounds.{bounds};
 ghost use Rattle.abnf_syntax.specs.Heads.{head_of};
+ghost use Rattle.abnf_parts.specs.Names.{folded_text, rule_number};
 ghost use Rattle.abnf_names.specs.Said as said;
 ghost use Rattle.abnf_names.specs.Rules.{alternatives_said};
 ghost use Rattle.abnf_digests.specs.Gists.{gist};
 ghost use Rattle.abnf_digests.specs.Digests.{head_digest, no_number};
 ghost use Rattle.abnf_outcome.specs.Words.{IsLater};
 ghost use Rattle.abnf_outcome.specs.own.Adding.{AddsWords};
-ghost use Rattle.abnf_outcome.specs.KeptBlocks.{AddsBlock, CanMove, moved_block, replaced_by_last};
+ghost use Rattle.abnf_outcome.specs.declared.digest.BlockDigest.{BlockDigest};
+ghost use Rattle.abnf_outcome.specs.KeptBlocks.{AddsBlock, CanMove, at_lines, moved_block, replaced_by_last};
 ghost use Rattle.abnf_outcome.specs.Stored.{StandsFor};
 ghost use Rattle.abnf_names.specs.Sections.{IsSaidBy};
 ghost use Rattle.abnf_outcome.specs.Sections.{IsBlockOf};
@@ -109,6 +111,17 @@ impl Digests {
         self.names.len()
     }
 
+    /// Whether a name is there. Nothing is added.
+    ///
+    /// # Errors
+    ///
+    /// Where an allocation is refused. Only a name with capitals needs one.
+    pub fn has_name(&self, name: Folded<'_>) -> Result<bool, AllocError>
+        ensures { IfOk result (λ is. is ≡ is_some (rule_number self.now.table (folded_text name.entry))) }
+    {
+        Ok(self.names.find(name)?.is_some())
+    }
+
     /// How many words there are, those that no block has any more among them.
     pub fn word_count(&self) -> usize
         ensures { result ≡ length self.now.words }
@@ -140,6 +153,28 @@ impl Digests {
             first: section.block.first,
             behind: section.block.end,
             has_own: has_own_findings(section),
+        })?;
+        Ok(())
+    }
+
+    /// Keeps the digest at a place once more, behind the others: for a block of other lines that says the same.
+    ///
+    /// # Errors
+    ///
+    /// Where an allocation is refused.
+    pub fn push_again(&mut self, at: usize, first: usize, behind: usize) -> Result<(), AllocError>
+        requires { at < length self.old.kept }
+        ensures { OnOk result ((block : BlockDigest) → slice_get self.old.kept at ≡ Some block →
+            self.new ≡ record { table = self.old.table; words = self.old.words; kept = self.old.kept ++ at_lines first behind block ∷ [] }) }
+    {
+        let block = self.blocks[at];
+        self.blocks.push(BlockDigest {
+            head: block.head,
+            start: block.start,
+            end: block.end,
+            first,
+            behind,
+            has_own: block.has_own,
         })?;
         Ok(())
     }

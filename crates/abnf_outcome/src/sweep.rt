@@ -4,7 +4,7 @@
 //! to be. A sweep goes backwards, the next one forwards: most grammars define a name further down than they use it, so that the first sweep
 //! marks nearly all names; in the others the second one does.
 
-ghost use Rattle.std.specs.Prelude.{◌≡◌, ◌-◌, ◌<◌, ℕ, true, false, length, List, IfOk, IsTrue, flat_map, if◌then◌else◌};
+ghost use Rattle.std.specs.Prelude.{◌≡◌, ◌-◌, ◌<◌, ℕ, true, false, length, List, IfOk, OnOk, flat_map, if◌then◌else◌};
 ghost use Rattle.std.specs.List.{list_any};
 ghost use Rattle.abnf_parts.specs.Names.{Name};
 ghost use Rattle.abnf_parts.specs.Part.{Part};
@@ -15,11 +15,9 @@ ghost use Rattle.abnf_outcome.specs.own.Ways as spec;
 use crate::digest::BlockDigest;
 use crate::evaluate::{hold, is_marked};
 use crate::heads::{HeadRole, mark};
+use crate::pending::{users_of, visit_all};
 use crate::word::Word;
-use std::alloc::AllocError;
-
-/// How often all blocks are swept both ways before they are given up.
-const ROUNDS: usize = 8;
+use std::alloc::{AllocError, Global};
 
 /// Which names are marked: those that hold, or those that lead to something opaque.
 #[derive(Clone, Copy)]
@@ -58,7 +56,7 @@ fn says(way: Way, words: &[Word], marks: &[bool], stack: &mut Vec<bool>) -> Resu
 }
 
 /// Marks the name of a block that counts, if it isn't marked and one of the block's gists is a reason. Says whether it does.
-fn visit(
+pub(crate) fn visit(
     way: Way,
     words: &[Word],
     block: BlockDigest,
@@ -72,7 +70,7 @@ fn visit(
     let Some(head) = block.head else {
         return Ok(false);
     };
-    if role.is_duplicate || is_marked(marks, head.name) {
+    if role.is_duplicate || head.name >= marks.len() || is_marked(marks, head.name) {
         return Ok(false);
     }
     let Some(gists) = words.get(block.start..block.end) else {
@@ -112,6 +110,7 @@ fn sweep(
     ensures sound { IfOk result (λ any. (table : List Name) → spec.AreSoundByWayFor way table words.now blocks.now roles.now marks.old →
         spec.AreSoundByWayFor way table words.now blocks.now roles.now marks.new) }
     ensures done { IfOk result (λ any. any ≡ false → spec.AreSwept way words.now blocks.now roles.now marks.new) }
+    ensures few { IfOk result (λ any. any ≡ true → spec.unmarked marks.new < spec.unmarked marks.old) }
 {
     let mut any = false;
     for passed in 0..blocks.len() {
@@ -123,27 +122,35 @@ fn sweep(
     Ok(any)
 }
 
-/// Sweeps all blocks, backwards and forwards by turns, until nothing more is marked, which it says, or until some rounds are over.
+/// Sweeps all blocks, backwards and then forwards. Where names are marked even so, all blocks are visited, and each again that uses a name
+/// that was marked, until no block marks another.
+///
+/// # Errors
+///
+/// Where an allocation is refused.
 pub(crate) fn sweep_all(
+    alloc: Global,
     way: Way,
     words: &[Word],
     blocks: &[BlockDigest],
     roles: &[HeadRole],
     marks: &mut [bool],
     stack: &mut Vec<bool>,
-) -> Result<bool, AllocError>
+) -> Result<(), AllocError>
     requires { length roles.now ≡ length blocks.now }
-    ensures sound { IfOk result (λ settled. (table : List Name) → spec.AreSoundByWayFor way table words.now blocks.now roles.now marks.old →
+    ensures sound { OnOk result ((table : List Name) → spec.AreSoundByWayFor way table words.now blocks.now roles.now marks.old →
         spec.AreSoundByWayFor way table words.now blocks.now roles.now marks.new) }
-    ensures done { IfOk result (λ settled. IsTrue settled → spec.AreSwept way words.now blocks.now roles.now marks.new) }
+    ensures done { OnOk result (spec.AreSwept way words.now blocks.now roles.now marks.new) }
 {
-    for _round in 0..ROUNDS {
-        if !sweep(way, true, words, blocks, roles, marks, stack)? {
-            return Ok(true);
-        }
-        if !sweep(way, false, words, blocks, roles, marks, stack)? {
-            return Ok(true);
-        }
+    if !sweep(way, true, words, blocks, roles, marks, stack)? {
+        return Ok(());
     }
-    Ok(false)
+    if !sweep(way, false, words, blocks, roles, marks, stack)? {
+        return Ok(());
+    }
+    let users = users_of(alloc, marks.len(), words, blocks)?;
+    while sweep(way, true, words, blocks, roles, marks, stack)? {
+        visit_all(alloc, way, words, blocks, roles, &users, marks, stack)?;
+    }
+    Ok(())
 }

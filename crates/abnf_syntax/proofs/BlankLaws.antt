@@ -28,7 +28,7 @@ pub no_content : (line : Text) → AreBlanks line (length line) → is_content l
 no_content [] h = refl
 no_content (b ∷ bs) h = ap (λ x. if x then is_content bs else not (nat_eq b 0x3B)) (h 0 (omega arith)) ∙ no_content bs (λ k less. h (suc k) (omega arith))
 
--- ---- what a line's indent is told to be
+-- ---- what a line's indent is said to be
 abbrev told : Text → Option ℕ
 told line = if is_content line then Some (indent line) else None
 

@@ -49,14 +49,15 @@ pub from_next : (ls : List Text) (from to next : ℕ) → from ≤ next → None
 from_next ls from to next reached none [] are = none_both ls from next to none are
 from_next ls from to next reached none (b ∷ bs) are = (omega (arith, reached, are.0), none_both ls from next b.0 none are.1, are.2, are.3, are.4)
 
--- where the next block begins, or there is a seam
-next_begins : (ls : List Text) (from to next : ℕ) → 0 < next → IsSeam ls to → IsNextBlock ls from to next → next < length ls → begins_at ls next ≡ true
-next_begins ls from to next some seam is within =
+-- where the next block begins, or there is a seam behind a line that begins one
+next_begins : (ls : List Text) (first from to next : ℕ) → begins_at ls first ≡ true → first < next → IsSeam ls to → IsNextBlock ls from to next → next < length ls
+    → begins_at ls next ≡ true
+next_begins ls first from to next begins some seam is within =
     elim (cases_lt next to) [
       | inl less ↦ is.begins less
       | inr more ↦
           let same : to ≡ next = omega (arith, more, is.within) in
-          subst (λ n. begins_at ls n ≡ true) same (seam.begins (omega arith) (omega arith))
+          subst (λ n. begins_at ls n ≡ true) same (seam.begins first (omega (arith, some, same)) begins (omega (arith, within, same)))
     ]
 
 -- from a line that begins a block up to the next one
@@ -66,7 +67,7 @@ block_at ls first to end seam begins next = record {
   within = omega (arith, next.within, seam.within);
   begins = begins;
   rest = λ at reached before. next.none at (omega arith) before;
-  ends = next_begins ls (first + 1) to end (omega (arith, next.reached)) seam next;
+  ends = next_begins ls first (first + 1) to end begins (omega (arith, next.reached)) seam next;
 }
 
 -- a block, and those behind it
@@ -84,7 +85,7 @@ text_blocks ls texts count same all bs are = subst (λ (xs : List Text). AreBloc
 
 -- No block goes over the end.
 pub end_seam : (ls : List Text) → IsSeam ls (length ls)
-end_seam ls = record { within = omega arith; begins = λ some less. absurd (omega arith) }
+end_seam ls = record { within = omega arith; begins = λ before some begins less. absurd (omega (arith, less)) }
 
 -- the blocks where none is found yet
 pub none_found : (ls : List Text) (from to first : ℕ) (found : List Block) → found ≡ [] → IsNextBlock ls from to first →

@@ -1,4 +1,4 @@
--- The first items and the last one of lines are told by their marks.
+-- The first items and the last one of lines are known by their marks.
 use Rattle.std.proofs.Common.{◌≡◌, ℕ, zero, suc, ◌+◌, ◌-◌, ◌<◌, ◌≤◌, Bool, true, false, List, [], ◌∷◌, ◌++◌, length, map, take, drop, get_or, Option, Some, None, option_map, refl, sym, ap, subst, ◌∙◌, arith, length-append, if◌then◌else◌}
 use Rattle.std.specs.Prelude.{◌&&◌, is_some, slice_index_or, slice_range}
 use Rattle.std.specs.List.{flat_map, last_or}

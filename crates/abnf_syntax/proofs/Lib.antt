@@ -20,3 +20,4 @@ pub mod Goes
 pub mod BlankLaws
 pub mod SameLines
 pub mod EndLaws
+pub mod TopLaws

@@ -2,6 +2,6 @@
 use Rattle.std.specs.Prelude.{ℕ}
 use Rattle.abnf_syntax.specs.declared.block.Block.{Block}
 
--- its first line and the line after its last line
+-- of a block its first line and the line behind its last
 abbrev pub bounds : Block → ℕ × ℕ
 bounds b = (b.first, b.end)

@@ -11,12 +11,15 @@ use Rattle.abnf_syntax.specs.declared.tree.Repetition.{Repetition, roll-Repetiti
 use Rattle.abnf_syntax.specs.declared.tree.Rule.{Rule}
 use Rattle.abnf_syntax.specs.Numbers.{numbers_fit}
 
+-- repetitions that follow one another (concatenation; RFC 5234 section 4)
 abbrev pub Concatenation : Type 0
 Concatenation = List Repetition
 
+-- concatenations to choose from (alternation; RFC 5234 section 4)
 abbrev pub Alternation : Type 0
 Alternation = List Concatenation
 
+-- the kind of an item's token
 abbrev pub kind_of : Item → Kind
 kind_of item = item.token.kind
 
@@ -24,6 +27,7 @@ kind_of item = item.token.kind
 abbrev pub fits : Item → Bool
 fits item = numbers_fit item.token.kind item.token.text.now
 
+-- an element, with a repeat before it or none (repetition; RFC 5234 section 4)
 abbrev pub repetition : Option Token → Element → Repetition
 repetition repeat element = roll-Repetition (record { repeat = repeat; element = element })
 
@@ -58,6 +62,7 @@ mutual
     choice : {room : ℕ} {inner to : List Item} {left right : Item} {a : Alternation} → kind_of left ≡ k.BracketL →
         IsAlternation room inner (right ∷ to) a → kind_of right ≡ k.BracketR → IsElement (suc room) (left ∷ inner) to (e.Choice a)
 
+-- how deep brackets may nest: a limit of this project, as the standard has none
 abbrev pub max_nesting : ℕ
 max_nesting = 64
 
@@ -66,7 +71,8 @@ abbrev pub defined_as : Bool → Kind
 defined_as false = k.Defines
 defined_as true = k.Adds
 
--- a name, `=` or `=/`, an alternation, and the end
+-- The items derive the rule: a name, `=` or `=/`, an alternation, and the end (rule; RFC 5234 section 4). Repetitions stand
+-- apart, a repeat and its element don't; brackets nest at most 64 deep, and numbers are at most 4,294,967,295.
 pub record Derives (items : List Item) (rule : Rule) : Type 0 where
   pub head : Item
   pub defined : Item

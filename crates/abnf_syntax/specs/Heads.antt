@@ -10,17 +10,17 @@ use Rattle.abnf_syntax.specs.Faults.{last_of}
 use Rattle.abnf_syntax.specs.Grammar.{kind_of}
 use Rattle.abnf_syntax.specs.Kinds.{is_name, is_defined_as, is_adds}
 
--- the first item, where that is a name and `=` or `=/` follows; the block may be faulty behind it
+-- the first item, where that is a name and `=` or `=/` follows, and which of the two; the block may be faulty behind it
 abbrev pub head_of : List Item → Option Head
 head_of (first ∷ second ∷ items) =
     if is_name (kind_of first) && is_defined_as (kind_of second) then Some (record { name = first.token; adds = is_adds (kind_of second) }) else None
 head_of _ = None
 
--- the head and the last item, where there is a head
+-- the head of a block's items and the last item, where they have a head
 abbrev pub headed_items : List Item → Option Headed
 headed_items [] = None
 headed_items (first ∷ items) = option_map (λ head. record { head = head; last = (last_of first items).token }) (head_of (first ∷ items))
 
--- what these say, but for the addresses of their texts
+-- what a head and a last item say, but for the addresses of their texts
 abbrev pub headed_view : Headed → (Kind × Text × ℕ × ℕ) × (Kind × Text × ℕ × ℕ) × Bool
 headed_view headed = (view headed.head.name, view headed.last, headed.head.adds)

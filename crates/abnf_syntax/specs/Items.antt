@@ -18,22 +18,24 @@ items_behind apart [] = []
 items_behind apart (None ∷ ts) = items_behind true ts
 items_behind apart (Some t ∷ ts) = if is_item t.kind then (t, apart) ∷ items_behind false ts else items_behind true ts
 
--- the items, the first of which isn't apart
+-- the items of tokens and line ends: each with whether a blank, a comment or a line end stands before it; the first isn't
+-- apart
 abbrev pub items_of : List (Option Token) → List (Token × Bool)
 items_of [] = []
 items_of (None ∷ ts) = items_of ts
 items_of (Some t ∷ ts) = if is_item t.kind then (t, false) ∷ items_behind false ts else items_of ts
 
--- the tokens of one line after another, from this one on
+-- the tokens of one line after another, from the line at this place on
 abbrev pub AreTokens : List Text → ℕ → List (List Token) → Type 0
 AreTokens ls at [] = Unit {0}
 AreTokens ls at (ts ∷ tss) = TokensOf at 0 (slice_index_or ls at []) ts × AreTokens ls (suc at) tss
 
--- what an item says
+-- what an item says: its token, and whether it is apart
 abbrev pub view : Item → Token × Bool
 view item = (item.token, item.apart)
 
--- These are the items of the lines from the first up to the end: their tokens but for blanks and comments.
+-- These are the items of the lines from the first up to the end: their tokens but for blanks and comments, each with whether
+-- a blank, a comment or a line end stands before it.
 pub record AreItems (ls : List Text) (first end : ℕ) (items : List Item) : Type 0 where
   pub tokens : List (List Token)
   pub all : first + length tokens ≡ end

@@ -15,6 +15,7 @@ abbrev pub parts_from : Text → Text → List Text
 parts_from since [] = since ∷ []
 parts_from since (b ∷ bs) = if is_sign b then since ∷ parts_from [] bs else parts_from (since ++ b ∷ []) bs
 
+-- the texts between the signs of a repeat or a number
 abbrev pub number_pieces : Text → List Text
 number_pieces text = parts_from [] text
 
@@ -22,6 +23,7 @@ number_pieces text = parts_from [] text
 abbrev pub is_small : ℕ → Text → Bool
 is_small base digits = nat_eq (length digits) 0 || is_some (number_of digits base)
 
+-- each number of the text is at most 4,294,967,295, read in this base
 abbrev pub are_small : ℕ → Text → Bool
 are_small base text = list_all (is_small base) (number_pieces text)
 

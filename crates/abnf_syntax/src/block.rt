@@ -29,6 +29,7 @@ pub struct Block<'t> {
 /// The head of a block: the name that it defines, or that it adds to.
 #[derive(Clone, Copy, Debug)]
 pub struct Head<'t> {
+    /// The name as it is written there, which is the block's first item.
     pub name: Token<'t>,
     /// Whether `=/` follows the name; else `=` does.
     pub adds: bool,
@@ -56,7 +57,8 @@ impl<'t> Block<'t> {
     ghost use Rattle.abnf_syntax.specs.Blocks.{IsBlock};
     ghost use Rattle.abnf_syntax.specs.Heads.{head_of};
 
-    /// The block of these lines. Its items come into the room of a list, whose own items are let go.
+    /// The block of these lines, in time by their tokens. Its items come into the room of a list, whose own items are let
+    /// go.
     ///
     /// # Errors
     ///
@@ -76,7 +78,8 @@ impl<'t> Block<'t> {
         Ok(Block { first, end, items })
     }
 
-    /// The head: its first item, where that is a name and `=` or `=/` follows. A faulty block may have one too.
+    /// The head: its first item, where that is a name and `=` or `=/` follows; else `None`. A faulty block may have one
+    /// too.
     pub fn head(&self) -> Option<Head<'t>>
         ensures { result ≡ head_of self.now.items }
     {
@@ -172,11 +175,12 @@ fn items_of<'t>(
     Ok(List::from_vec(gathered.items))
 }
 
-/// The blocks of the lines from one place of a text up to another, where no block goes over either place.
+/// The blocks of the lines from one place of a text up to another, where no block goes over either place, in time by the
+/// bytes of these lines.
 ///
 /// # Errors
 ///
-/// Where an allocation is refused.
+/// Where an allocation is refused. A text without blocks needs no memory.
 pub fn blocks_between<'t>(
     alloc: Global,
     sheet: &Sheet<'t>,
@@ -189,7 +193,7 @@ pub fn blocks_between<'t>(
     ensures items { IfOk result (λ found. All (λ b. AreItems sheet.now b.first b.end b.items) found.items) }
     ensures some { IfOk result (λ found. All (λ b. 0 < length b.items) found.items) }
 
-    // Lines without blocks need no memory.
+    // A text without blocks needs no memory.
     ensures memory { OnErr result (HasBlock sheet.now) }
 {
     let mut found = Vec::new(alloc);
@@ -205,13 +209,14 @@ pub fn blocks_between<'t>(
 
 /// The blocks of a text.
 ///
-/// A line that isn't blank and has no comment alone begins a block, if it is indented no deeper than the first such line. All
-/// lines up to the next one belong to it. Lines before the first block belong to none. A block has at least one item. This is
-/// the left alignment of rules of RFC 5234 section 2.2. An indent counts SP and HTAB alike.
+/// A line that isn't blank and has no comment alone begins a block, if it is indented no deeper than the first such line.
+/// All lines up to the next one belong to it. Lines before the first block belong to none. A block has at least one item.
+/// This is the left alignment of rules of RFC 5234 section 2.2. An indent counts SP and HTAB alike. Time goes by the
+/// bytes of the text.
 ///
 /// # Errors
 ///
-/// Where an allocation is refused.
+/// Where an allocation is refused. A text without blocks needs no memory.
 pub fn blocks<'t>(alloc: Global, snapshot: &'t Snapshot) -> Result<Vec<Block<'t>>, AllocError>
     ensures all { IfOk result (λ found.
         AreBlocks (line_texts snapshot.entry.now) 0 (map bounds found.items)) }

@@ -1,4 +1,7 @@
 //! The check of a block: its fault, with no tree of its rule.
+//!
+//! It needs the open brackets and the last item alone. Where a block shows no fault its rule is read later, where its nodes are made
+//! ([`read_block`](crate::read_block)), with no second look for faults.
 
 ghost use Rattle.std.specs.Prelude.{◌≡◌, ◌⊎◌, ◌<◌, ◌∷◌, [], false, reverse, length, All, IfOk, IfErr, OnOk, Some, Ok, Err};
 ghost use Rattle.std.specs.Result.{result_err};
@@ -134,13 +137,14 @@ fn checked<'t>(alloc: Global, items: &[Item<'t>]) -> Result<(), SyntaxFault>
     check_body(alloc, heading.defined, heading.body)
 }
 
-/// Whether a block says a rule: what [`parse_block`](crate::parse_block) answers, without the rule's tree.
+/// Whether a block says a rule: what [`parse_block`](crate::parse_block) answers, without the rule's tree, in time by the
+/// bytes of its items.
 ///
 /// # Errors
 ///
-/// The fault that the first faulty item shows, or the end of the block; of several that it shows, the one that stands first
-/// in [`SyntaxFault`]. `Memory` where an allocation is refused, which none needs for a fault of the first three items, nor
-/// in a block in which no bracket opens.
+/// The fault that the first faulty item shows, or the end of the block; of several that it shows, the one that stands
+/// first in [`SyntaxFault`]. `Memory` where an allocation is refused, which none needs for a fault of the first three
+/// items, nor in a block in which no bracket opens.
 pub fn check_block<'t>(alloc: Global, block: &Block<'t>) -> Result<(), SyntaxFault>
     requires { 0 < length block.now.items }
 

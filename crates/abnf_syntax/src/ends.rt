@@ -125,9 +125,10 @@ fn last_of<'t>(sheet: &Sheet<'t>, first: usize, end: usize) -> Option<Token<'t>>
 }
 
 impl<'t> Headed<'t> {
-    /// The block of these lines, by the marks of its lines; `None` where it has no head.
+    /// The head of the block of these lines and its last item, by the marks of its lines; `None` where it has no head.
     ///
-    /// No list of items is made, so it takes no memory.
+    /// No list of items is made, so it takes no memory. Only the marks up to the second item, and from the last one on,
+    /// are looked at.
     pub fn of(sheet: &Sheet<'t>, first: usize, end: usize) -> Option<Headed<'t>>
         requires { IsBlock sheet.now first end }
         ensures { (items : List Item) → AreItems sheet.now first end items

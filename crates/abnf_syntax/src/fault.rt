@@ -46,6 +46,7 @@ impl From<AllocError> for SyntaxFault {
 
     ghost from_gives = { λ _ r. r ≡ Memory };
 
+    /// A refused allocation is `Memory`.
     fn from(_: AllocError) -> SyntaxFault {
         SyntaxFault::Memory
     }

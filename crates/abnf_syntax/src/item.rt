@@ -8,6 +8,7 @@ use abnf_token::Token;
 /// A token of a block that is no blank and no comment.
 #[derive(Clone, Copy, Debug)]
 pub struct Item<'t> {
+    /// The token.
     pub token: Token<'t>,
     /// Whether a blank, a comment or a line end stands between it and the item before. It is false for the first item.
     pub apart: bool,

@@ -5,6 +5,7 @@ ghost use Rattle.abnf_syntax.specs.Kinds as kinds;
 
 use abnf_token::Kind;
 
+/// Whether a token of this kind is an item of a block: no blank and no comment.
 pub fn is_item(kind: Kind) -> bool
     ensures { result ≡ kinds.is_item kind }
 {
@@ -14,6 +15,7 @@ pub fn is_item(kind: Kind) -> bool
     }
 }
 
+/// Whether a token of this kind is a character that begins none.
 pub(crate) fn is_bad(kind: Kind) -> bool
     ensures { result ≡ kinds.is_bad kind }
 {
@@ -23,6 +25,7 @@ pub(crate) fn is_bad(kind: Kind) -> bool
     }
 }
 
+/// Whether it is a repeat.
 pub(crate) fn is_repeat(kind: Kind) -> bool
     ensures { result ≡ kinds.is_repeat kind }
 {
@@ -32,6 +35,7 @@ pub(crate) fn is_repeat(kind: Kind) -> bool
     }
 }
 
+/// Whether it is `=` or `=/`.
 pub(crate) fn is_defined_as(kind: Kind) -> bool
     ensures { result ≡ kinds.is_defined_as kind }
 {
@@ -41,6 +45,7 @@ pub(crate) fn is_defined_as(kind: Kind) -> bool
     }
 }
 
+/// Whether it is `(` or `[`.
 pub(crate) fn opens(kind: Kind) -> bool
     ensures { result ≡ kinds.opens kind }
 {
@@ -50,6 +55,7 @@ pub(crate) fn opens(kind: Kind) -> bool
     }
 }
 
+/// Whether it is `)` or `]`.
 pub(crate) fn closes(kind: Kind) -> bool
     ensures { result ≡ kinds.closes kind }
 {
@@ -59,6 +65,7 @@ pub(crate) fn closes(kind: Kind) -> bool
     }
 }
 
+/// Whether the second bracket closes the first.
 pub(crate) fn closes_it(left: Kind, right: Kind) -> bool
     ensures { result ≡ kinds.closes_it left right }
 {
@@ -75,6 +82,7 @@ pub(crate) fn closes_it(left: Kind, right: Kind) -> bool
     }
 }
 
+/// Whether an element can begin with it.
 pub(crate) fn begins_element(kind: Kind) -> bool
     ensures { result ≡ kinds.begins_element kind }
 {
@@ -85,6 +93,7 @@ pub(crate) fn begins_element(kind: Kind) -> bool
     }
 }
 
+/// Whether an element must come behind it.
 pub(crate) fn needs_element(kind: Kind) -> bool
     ensures { result ≡ kinds.needs_element kind }
 {
@@ -94,6 +103,7 @@ pub(crate) fn needs_element(kind: Kind) -> bool
     }
 }
 
+/// Whether an element ends at it.
 pub(crate) fn ends_element(kind: Kind) -> bool
     ensures { result ≡ kinds.ends_element kind }
 {
@@ -104,6 +114,7 @@ pub(crate) fn ends_element(kind: Kind) -> bool
     }
 }
 
+/// Whether it is a name.
 pub(crate) fn is_name(kind: Kind) -> bool
     ensures { result ≡ kinds.is_name kind }
 {
@@ -113,6 +124,7 @@ pub(crate) fn is_name(kind: Kind) -> bool
     }
 }
 
+/// Whether it is `=/`.
 pub(crate) fn is_adds(kind: Kind) -> bool
     ensures { result ≡ kinds.is_adds kind }
 {

@@ -17,14 +17,16 @@ use crate::spare::Spare;
 use crate::tree::Rule;
 use std::alloc::{AllocError, Global};
 
-/// The rule that a block says (`rule`; RFC 5234 section 4, with the strings of RFC 7405 section 2.2).
+/// The rule that a block says (`rule`; RFC 5234 section 4, with the strings of RFC 7405 section 2.2), in time by the
+/// bytes of its items. There is at most one.
 ///
 /// Groups and options may nest 64 deep, and numbers may be up to 4,294,967,295. The rule holds tokens of the block.
 ///
 /// # Errors
 ///
-/// The fault that the first faulty item shows, or the end of the block; of several that it shows, the one that stands first
-/// in [`SyntaxFault`]. `Memory` where an allocation is refused, which none needs for a fault of the first three items.
+/// The fault that the first faulty item shows, or the end of the block; of several that it shows, the one that stands
+/// first in [`SyntaxFault`]. `Memory` where an allocation is refused, which none needs for a fault of the first three
+/// items.
 pub fn parse_block<'t>(alloc: Global, block: &Block<'t>) -> Result<Rule<'t>, SyntaxFault>
     requires { 0 < length block.now.items }
 
@@ -70,8 +72,8 @@ fn sound_parsed<'t>(
     })
 }
 
-/// The rule that a block says which shows no fault: what [`parse_block`] answers. Nothing is looked for twice, and the rule takes
-/// spare room where there is some.
+/// The rule that a block says which shows no fault: what [`parse_block`] answers. Nothing is looked for twice, and the
+/// rule takes spare room where there is some, which changes no answer.
 ///
 /// # Errors
 ///

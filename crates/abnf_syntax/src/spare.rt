@@ -25,7 +25,8 @@ impl<'t> Spare<'t> {
         }
     }
 
-    /// Keeps the room of a rule's body, and of what stands in brackets there. What is nested deeper is let go.
+    /// Keeps the room of a rule's body, and of what stands in brackets there, if there is memory for that. What is nested
+    /// deeper is let go.
     pub fn keep(&mut self, rule: Rule<'t>) {
         let Rule {
             name: _,

@@ -25,7 +25,9 @@ pub enum Element<'t> {
 #[cycle(syntax)]
 #[derive(Drop)]
 pub struct Repetition<'t> {
+    /// How often the element stands; once where it is `None` (`repeat`).
     pub repeat: Option<Token<'t>>,
+    /// What is repeated.
     pub element: Element<'t>,
 }
 
@@ -38,8 +40,10 @@ pub type Alternation<'t> = List<Concatenation<'t>>;
 /// A rule (`rule`; RFC 5234 section 4).
 #[derive(Drop)]
 pub struct Rule<'t> {
+    /// The name that the rule defines, or adds to.
     pub name: Token<'t>,
     /// Whether it adds alternatives to a rule: `=/` and not `=` (RFC 5234 section 3.3).
     pub adds: bool,
+    /// Its alternatives.
     pub body: Alternation<'t>,
 }

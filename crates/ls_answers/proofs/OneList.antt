@@ -19,7 +19,7 @@ abbrev View : Type 0
 View = Kind × Text × ℕ × ℕ
 
 module _ (encoding : Encoding) where
-  -- what is told of a token, by what it says
+  -- what is reported of a token, by what it says
   abbrev told_view : Grammar → View → Option SemanticToken
   told_view g v = told_of encoding g v.2 (record { kind = v.0; start = v.3; end = v.3 + length v.1 }) (find (stands_at v.2 v.3) g.places)
 

@@ -83,7 +83,7 @@ any_spot : (name : Name) (spots : List Spot) → list_any (λ spot. bytes_eq nam
 any_spot name [] = refl
 any_spot name (spot ∷ spots) = ap (λ b. bytes_eq name (folded_text spot.name) || b) (any_spot name spots)
 
--- the spots tell whether a name stands somewhere
+-- the spots say whether a name stands somewhere
 pub has_place : (name : Name) (spots : List Spot) (places : List Named) (has : Bool) → map named_at spots ≡ places → has ≡ list_any (λ spot. bytes_eq name (folded_text spot.name)) spots
     → has ≡ list_any (λ n. bytes_eq name (lowercase n.text)) places
 has_place name spots places has of_spots is = is ∙ (any_spot name spots ∙ ap (list_any (λ n. bytes_eq name (lowercase n.text))) of_spots)

@@ -15,7 +15,9 @@ use Rattle.ls_answers.specs.declared.answer.Answer.TheVariants as answer
 use Rattle.ls_answers.specs.declared.answer.HoverText.{HoverText}
 use Rattle.ls_answers.specs.declared.answer.Insertion.{Insertion}
 
--- the answer to the question about the text with these characters
+-- The answer to the question about the text with these characters. Positions in both count the units of the encoding. Each question about a
+-- text of fewer than 2^62 characters has one (`answers_exist`), and only one but for the certificate beside an example
+-- (`answers_are_unique`).
 abbrev pub IsAnswer : Encoding → List ℕ → Ask → Answer → Type 0
 IsAnswer encoding text (ask.Hover at) (answer.Hover hover) = IsHover encoding text at hover
 IsAnswer encoding text (ask.Definition at) (answer.Places ranges) = AreDefinitions encoding text at ranges
@@ -27,14 +29,15 @@ IsAnswer encoding text ask.Tokens (answer.Numbers numbers) = AreSemanticTokens e
 IsAnswer encoding text ask.Diagnose (answer.Findings diagnostics) = AreDiagnostics encoding text diagnostics
 IsAnswer encoding text _ _ = ⊥
 
--- the same with an empty certificate beside the example
+-- what is shown of a name, with an empty certificate beside the example, if there is one
 abbrev pub hover_without_cert : HoverText → HoverText
 hover_without_cert hover = record hover { example = option_map (λ example. (example.0, [])) hover.example }
 
+-- what could be inserted, with an empty certificate beside it
 abbrev pub insertion_without_cert : Insertion → Insertion
 insertion_without_cert insertion = record insertion { cert = [] }
 
--- an answer but for its certificate
+-- an answer with an empty certificate in the place of the one that it holds, if it holds one
 abbrev pub without_cert : Answer → Answer
 without_cert (answer.Hover hover) = answer.Hover (option_map hover_without_cert hover)
 without_cert (answer.Places ranges) = answer.Places ranges

@@ -4,7 +4,7 @@ use Rattle.abnf_token.specs.Classes.{is_name}
 use Rattle.ls_answers.specs.declared.ask.Ask.{Ask}
 use Rattle.ls_answers.specs.declared.ask.Ask.TheVariants.{Rename}
 
--- the question carries a text of its own
+-- The question carries a text of its own, the new name, as only a rename does.
 abbrev pub is_rename : Ask → Bool
 is_rename (Rename at name) = true
 is_rename _ = false

@@ -1,4 +1,4 @@
--- What is wrong or doubtful in a text, as a client is told (LSP 3.17, "PublishDiagnostics Notification").
+-- What is wrong or doubtful in a text, as it is reported to a client (LSP 3.17, "PublishDiagnostics Notification").
 use Rattle.std.specs.Prelude.{◌≡◌, ℕ, List, map}
 use Rattle.ls_text.specs.Lines.{units}
 use Rattle.ls_text.specs.Positions.{place_range}
@@ -12,7 +12,7 @@ use Rattle.ls_answers.specs.declared.answer.Diagnostic.{Diagnostic}
 abbrev pub diagnostic_of : Encoding → List ℕ → Finding → Diagnostic
 diagnostic_of encoding text finding = record { range = place_range (units encoding) text finding.place; code = finding.code; message = message_of finding.code finding.name }
 
--- These are the findings of the text, in its order.
+-- These are the findings of the text, in its order, each with its range, its code and its message.
 pub record AreDiagnostics (encoding : Encoding) (text : List ℕ) (diagnostics : List Diagnostic) : Type 0 where
   pub findings : List Finding
   pub of_text : AreRows text findings

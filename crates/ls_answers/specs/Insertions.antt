@@ -21,11 +21,11 @@ use Rattle.ls_answers.specs.declared.answer.Insertion.{Insertion}
 abbrev pub name_at_start : Encoding → Grammar → Range → Option Named
 name_at_start encoding g range = at_offset g.text g.places (min (position_offset (units encoding) g.text range.start) (position_offset (units encoding) g.text range.end))
 
--- an example as a comment on a line of its own
+-- an example as a comment on a line of its own: `; example E` (RFC 5234, section 3.9) and a line end
 abbrev pub comment_of : List ℕ → List ℕ
 comment_of example = codes "; example " ++ rendered_text example ++ 10 ∷ []
 
--- the comment comes at the start of this line, beside a certificate that tells the example
+-- The comment comes at the start of this line, beside an accepted certificate, from which the example follows.
 pub record IsComment (roots : List Part) (line : ℕ) (example : List ℕ) (insertion : Insertion) : Type 0 where
   pub position_is : insertion.position ≡ record { line = line; character = 0 }
   pub text_is : insertion.text ≡ comment_of example
@@ -59,7 +59,8 @@ abbrev pub IsInsertionThere : Encoding → Grammar → Option Named → Option I
 IsInsertionThere encoding g None insertion = insertion ≡ None
 IsInsertionThere encoding g (Some named) insertion = IsInsertionBy encoding g (first_head g (lowercase named.text)) (rule_number g.names (lowercase named.text)) insertion
 
--- This can be inserted at the range.
+-- This can be inserted at the range. It is something where a name stands at the end of the range that comes first, the text defines it, and
+-- its rule has an example that is shown: then the comment with it, at the start of the line where the text first defines the name.
 pub record IsInsertion (encoding : Encoding) (text : List ℕ) (range : Range) (insertion : Option Insertion) : Type 0 where
   pub grammar : Grammar
   pub of_text : grammar.text ≡ text

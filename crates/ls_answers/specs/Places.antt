@@ -26,25 +26,27 @@ places_alike g (Some named) = places_of_name (lowercase named.text) g.places
 abbrev pub name_range : Encoding → List ℕ → Named → Range
 name_range encoding text named = place_range (units encoding) text named.place
 
--- These are the ranges of the wanted places of the name at the position, in the order of the text.
+-- These are the ranges of the wanted places of the name at the position, in the order of the text. There are none where no name stands
+-- there.
 pub record ArePlaces (encoding : Encoding) (wanted : Wanted) (text : List ℕ) (at : Position) (ranges : List Range) : Type 0 where
   pub grammar : Grammar
   pub of_text : grammar.text ≡ text
   pub right : IsGrammar grammar
   pub ranges_are : ranges ≡ map (name_range encoding text) (filter (λ named. is_wanted wanted named.defines) (places_alike grammar (name_at encoding grammar at)))
 
--- those that define it
+-- those that define it (LSP 3.17, "Goto Definition Request")
 abbrev pub AreDefinitions : Encoding → List ℕ → Position → List Range → Type 0
 AreDefinitions encoding text at ranges = ArePlaces encoding Definitions text at ranges
 
--- all of them, or those that don't define it
+-- which places are asked for: all, where those that define the name are to be among them, or those that don't define it
 abbrev pub wanted_with : Bool → Wanted
 wanted_with true = Both
 wanted_with false = Uses
 
+-- all of its places, or, where the declarations aren't asked for, those that don't define it (LSP 3.17, "Find References Request")
 abbrev pub AreReferences : Encoding → List ℕ → Position → Bool → List Range → Type 0
 AreReferences encoding text at declarations ranges = ArePlaces encoding (wanted_with declarations) text at ranges
 
--- the ranges of the wanted places of a name
+-- the ranges of those places of a name, among these, that are wanted
 abbrev pub ranges_of : Encoding → Wanted → List ℕ → Name → List Named → List Range
 ranges_of encoding wanted text name places = map (name_range encoding text) (filter (λ named. is_wanted wanted named.defines) (places_of_name name places))

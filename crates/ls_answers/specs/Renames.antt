@@ -22,12 +22,13 @@ fault_of_name g old new =
     if not (is_defined g.places old) then Some NothingToRename
     else (if not (bytes_eq (lowercase new) old) && is_in_use g (lowercase new) then Some NameInUse else None)
 
--- the same of what is found at a position
+-- The same of what is found at a position: where no name stands there is nothing to rename.
 abbrev pub fault_there : Grammar → Option Named → List ℕ → Option RenameFault
 fault_there g None new = Some NothingToRename
 fault_there g (Some named) new = fault_of_name g (lowercase named.text) new
 
--- the first cause that holds
+-- The first cause that holds: the new text isn't a name (RFC 5234, section 2.1), there is nothing to rename, or the new name is in use,
+-- that of a place in the text or of a core rule.
 abbrev pub rename_fault : Encoding → Grammar → Position → List ℕ → Option RenameFault
 rename_fault encoding g at new = if not (is_name new) then Some NotAName else fault_there g (name_at encoding g at) new
 
@@ -36,7 +37,8 @@ abbrev pub rename_answer : Encoding → Grammar → Position → List ℕ → Op
 rename_answer encoding g at new (Some fault) = answer.Refused fault
 rename_answer encoding g at new None = answer.Edits (map (name_range encoding g.text) (places_alike g (name_at encoding g at))) new
 
--- This is answered to a rename of the name at the position.
+-- This is answered to a rename of the name at the position: the refusal by the first cause that holds, and else the range of each place of
+-- the name, in the order of the text, and the new text as it was given.
 pub record IsRename (encoding : Encoding) (text : List ℕ) (at : Position) (new : List ℕ) (answer : Answer) : Type 0 where
   pub grammar : Grammar
   pub of_text : grammar.text ≡ text

@@ -20,8 +20,8 @@ use Rattle.abnf_names.specs.Places.{Named, is_defined}
 use Rattle.abnf_names.specs.Rules.{Grammar, IsGrammar}
 use Rattle.ls_answers.specs.declared.semantic_tokens.SemanticToken.{SemanticToken}
 
--- the number of a token's type in the legend `type`, `string`, `number`, `operator`, `comment`, `macro`; nothing is told of a blank or a
--- bad token
+-- the number of a token's type in the legend `type`, `string`, `number`, `operator`, `comment`, `macro`; a blank or a bad token has none,
+-- and isn't reported
 abbrev pub type_of : Kind → Option ℕ
 type_of Name = Some 0
 type_of Defines = Some 3
@@ -43,20 +43,21 @@ type_of Bad = None
 abbrev pub stands_for_core : Grammar → names.Name → Bool
 stands_for_core g name = not (is_defined g.places name) && is_some (rule_number g.names name)
 
--- the sum of the modifiers of a name's place, in the legend `definition` (1) and `defaultLibrary` (2): it defines its name, or is a use that
--- stands for a core rule
+-- the sum of the modifiers of a name's place, in the legend `definition` (1) and `defaultLibrary` (2): it defines its name, or is a use
+-- that stands for a core rule; else 0
 abbrev pub place_modifiers : Grammar → Named → ℕ
 place_modifiers g n = if n.defines then 1 else (if stands_for_core g (lowercase n.text) then 2 else 0)
 
+-- The place of a name begins at this byte of this line.
 abbrev pub stands_at : ℕ → ℕ → Named → Bool
 stands_at line start n = nat_eq n.place.line line && nat_eq n.place.start start
 
--- the modifiers of a token by the place of a name that it is, if it is one
+-- the modifiers of a token by the place of a name that it is, if it is one; 0 of all other tokens
 abbrev pub modifiers_of : Grammar → Kind → Option Named → ℕ
 modifiers_of g Name found = option_map_or (place_modifiers g) found 0
 modifiers_of g _ found = 0
 
--- what is told of a token in this line with this mark
+-- what is reported of a token in this line with this mark: its range, type and modifiers; nothing where it has no type
 abbrev pub told_of : Encoding → Grammar → ℕ → TokenMark → Option Named → Option SemanticToken
 told_of encoding g line mark found = option_map (λ kind. record {
   range = place_range (units encoding) g.text (record { line = line; start = mark.start; end = mark.end });
@@ -64,12 +65,12 @@ told_of encoding g line mark found = option_map (λ kind. record {
   modifiers = modifiers_of g mark.kind found;
 }) (type_of mark.kind)
 
--- what is told of a token
+-- what is reported of a token
 abbrev pub told : Encoding → Grammar → Token → Option SemanticToken
 told encoding g token = told_of encoding g token.line (mark_of token) (find (stands_at token.line token.start) g.places)
 
 -- the five numbers of a token behind the start of the token before: how many lines below it, how far behind it in the same line or else
--- behind the line's start, its length, type and modifiers
+-- behind the line's start, its length, type and modifiers. Starts and lengths count the units of the encoding.
 abbrev pub numbers_of : Position → SemanticToken → List ℕ
 numbers_of before token =
     let start = token.range.start in
@@ -84,10 +85,11 @@ abbrev pub relative : Position → List SemanticToken → List ℕ
 relative before [] = []
 relative before (token ∷ tokens) = numbers_of before token ++ relative token.range.start tokens
 
+-- the start of a text, from which the first token counts
 abbrev pub origin : Position
 origin = record { line = 0; character = 0 }
 
--- These are the numbers of the tokens of the text, in its order.
+-- These are the numbers of the tokens of each line of the text, in its order, but of blanks and bad tokens.
 pub record AreSemanticTokens (encoding : Encoding) (text : List ℕ) (numbers : List ℕ) : Type 0 where
   pub grammar : Grammar
   pub of_text : grammar.text ≡ text

@@ -10,6 +10,7 @@ use thiserror::Error;
 /// A rule of a grammar, as the outline of a document shows it (LSP 3.17, "Document Symbols Request").
 #[derive(Drop)]
 pub struct Symbol {
+    /// The name as it is written at the head of the block.
     pub name: Text,
     /// From the block's first item to the end of its last.
     pub range: Range,
@@ -24,7 +25,7 @@ pub struct HoverText {
     pub range: Range,
     /// What is known of the shortest strings of its rule, in one or two lines.
     pub text: Text,
-    /// The same as a value, beside the certificate that tells it. None where the name stands for no rule.
+    /// The same as a value, beside the certificate from which it follows. None where the name stands for no rule.
     pub example: Option<(Shortest, Cert)>,
 }
 
@@ -33,7 +34,9 @@ pub struct HoverText {
 pub struct Diagnostic {
     /// Where it stands.
     pub range: Range,
+    /// Its code, from which its severity follows.
     pub code: Code,
+    /// What is said of it.
     pub message: Text,
 }
 
@@ -42,8 +45,9 @@ pub struct Diagnostic {
 pub struct Insertion {
     /// Where it would come: at the start of a line.
     pub position: Position,
+    /// A comment on a line of its own, with its line end.
     pub text: Text,
-    /// The certificate that tells the example in the text.
+    /// The certificate from which the example in the text follows.
     pub cert: Cert,
 }
 
@@ -66,17 +70,19 @@ pub enum RenameFault {
 pub enum Answer {
     /// What is shown at a position. None where no name stands there.
     Hover(Option<HoverText>),
-    /// Ranges of places in the text, in its order.
+    /// Ranges of places in the text, in its order. There are none where no name stands at the position.
     Places(List<Range>),
+    /// One for each block with a head, in the order of the text.
     Symbols(List<Symbol>),
     /// The ranges that a rename writes anew, in the order of the text, and what each gets.
     Edits(List<Range>, Text),
-    /// A rename isn't granted.
+    /// Why a rename isn't granted: the first of the causes that holds, in their order.
     Refused(RenameFault),
-    /// What could be inserted, if there is something.
+    /// What could be inserted. None where no name that the text defines stands at the start of the range, or its rule has no example that
+    /// is shown.
     Insert(Option<Insertion>),
-    /// Five numbers for each token, in the order of the text.
+    /// Five numbers for each token but blanks and bad ones, in the order of the text.
     Numbers(List<u32>),
-    /// In the order of the text.
+    /// What is found in the text, in its order.
     Findings(List<Diagnostic>),
 }

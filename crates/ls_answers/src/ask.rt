@@ -14,12 +14,12 @@ pub enum Ask {
     Hover(Position),
     /// Where the name at a position is defined (LSP 3.17, "Goto Definition Request").
     Definition(Position),
-    /// Where the name at a position stands; the second field says whether the places that define it are among them (LSP 3.17,
-    /// "Find References Request").
+    /// Where the name at a position stands. The second field says whether the places that define it are among them (LSP 3.17, "Find
+    /// References Request").
     References(Position, bool),
     /// Its symbols (LSP 3.17, "Document Symbols Request").
     Symbols,
-    /// What to write anew so that the name at a position is this one (LSP 3.17, "Rename Request").
+    /// What to write anew so that the name at a position is this one, in the case that it has here (LSP 3.17, "Rename Request").
     Rename(Position, Text),
     /// What could be inserted at a range (LSP 3.17, "Code Action Request").
     Action(Range),
@@ -30,9 +30,11 @@ pub enum Ask {
 }
 
 impl Ask {
-    /// A question of its own that is the same.
+    /// The same question once more.
     ///
-    /// `Memory` says that an allocation was refused; a rename alone needs one.
+    /// # Errors
+    ///
+    /// Where an allocation is refused. A rename alone asks for one, for its new name.
     pub fn copy(&self) -> Result<Ask, Memory>
         ensures copy { IfOk result (λ ask. ask ≡ self.now) }
         ensures memory { OnErr result (is_rename self.now ≡ true) }

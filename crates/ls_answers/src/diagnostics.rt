@@ -1,14 +1,11 @@
 //! What is wrong or doubtful in a text, as a client is told.
-ghost use Rattle.std.specs.Prelude.{◌≡◌, IfOk, IfSome, map};
+ghost use Rattle.std.specs.Prelude.{◌≡◌, IfOk, map};
 ghost use Rattle.std.specs.Arc.{arc_value};
-ghost use Rattle.abnf_lint.specs.Rows.{AreRows};
 ghost use Rattle.ls_answers.specs.Diagnostics.{AreDiagnostics, diagnostic_of};
 
 use crate::answer::Diagnostic;
 use abnf_kept::{Diagnosed, Recent};
 use abnf_lint::Finding;
-use abnf_names::Grammar;
-use abnf_productive::findings_in;
 use ls_lists::List;
 use ls_text::{Encoding, Ruler, Snapshot};
 use std::alloc::{AllocError as Memory, Global};
@@ -16,8 +13,8 @@ use std::sync::Arc;
 
 /// What is found in a text, in its order, by positions that count these units.
 ///
-/// Where one of the texts that were diagnosed last helps to tell it, only a part of this text is read. The text is one of these then,
-/// unless memory is refused.
+/// Where one of the texts that were diagnosed last is near to this one, only a part of this one is read. It is one of these then, unless
+/// memory is refused.
 ///
 /// `Memory` says that an allocation was refused.
 pub fn diagnostics(
@@ -34,7 +31,7 @@ pub fn diagnostics(
     diagnostics
 }
 
-/// A text with what is found in it: as a text near to it helps to tell, or else as its own blocks do, or else by its grammar.
+/// A text with what is found in it: by what is kept of a text near to it, or else by all of its blocks.
 fn diagnosed(
     alloc: Global,
     near: Option<Diagnosed>,
@@ -42,26 +39,10 @@ fn diagnosed(
 ) -> Result<Diagnosed, Memory>
     ensures { IfOk result (λ diagnosed. diagnosed.text ≡ arc_value snapshot.now) }
 {
-    if let Some(near) = near {
-        if let Some(diagnosed) = near.followed(alloc, snapshot.clone()?)? {
-            return Ok(diagnosed);
-        }
+    match near {
+        Some(near) => near.followed(alloc, snapshot.clone()?),
+        None => Diagnosed::of(alloc, snapshot.clone()?),
     }
-    if let Some(diagnosed) = Diagnosed::of(alloc, snapshot.clone()?)? {
-        return Ok(diagnosed);
-    }
-    let found = found_in(alloc, snapshot)?;
-    Ok(Diagnosed::new(snapshot.clone()?, found))
-}
-
-/// What is found in a text, by its grammar, which is let go here.
-fn found_in(alloc: Global, snapshot: &Snapshot) -> Result<List<Finding>, Memory>
-    ensures { IfOk result (AreRows snapshot.now) }
-{
-    let grammar = Grammar::of(alloc, snapshot)?;
-    let found = findings_in(alloc, &grammar);
-    drop(grammar);
-    found
 }
 
 /// Findings with their ranges and messages.

@@ -68,13 +68,15 @@ pub(crate) fn shown_of(
 /// The text that is shown of a rule, by an accepted certificate; `undefined` where a name stands for no rule. The rule must be one
 /// of the grammar.
 ///
-/// - `shortest length L` and, in a second line, `example E`, with the rule's shortest sentence, where L is at most 4,096;
+/// - `shortest length L` and, in a second line, `example E`, with a shortest string of the rule, where L is at most 4,096 characters;
 /// - `shortest length L` and `example not shown`, where L is below 18446744073709551615;
 /// - `shortest length 18446744073709551615 or more` where no string is shorter than that, and there is one;
 /// - `generates nothing` where there is none;
 /// - `not known` where the rule leads to prose or to a faulty block.
 ///
-/// `Memory` says that an allocation was refused.
+/// # Errors
+///
+/// Where an allocation is refused.
 pub fn hover_text(
     alloc: Global,
     grammar: &Grammar,

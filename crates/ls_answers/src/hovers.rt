@@ -15,7 +15,9 @@ use std::alloc::{AllocError as Memory, Global};
 
 /// What is shown of the name at a position. None where no name stands there.
 ///
-/// `Memory` says that an allocation was refused.
+/// # Errors
+///
+/// Where an allocation is refused.
 pub fn hover(
     alloc: Global,
     grammar: &Grammar,

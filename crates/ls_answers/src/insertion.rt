@@ -18,7 +18,9 @@ use std::alloc::{AllocError as Memory, Global};
 /// What could be inserted at a range: where a name stands at its start that the text defines, and whose rule has an example that is
 /// shown, this example, as a comment on a line of its own before the rule.
 ///
-/// `Memory` says that an allocation was refused.
+/// # Errors
+///
+/// Where an allocation is refused.
 pub fn insertion(
     alloc: Global,
     grammar: &Grammar,

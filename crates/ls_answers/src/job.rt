@@ -29,13 +29,16 @@ use std::sync::Arc;
 pub struct Job {
     /// The number of the request, from 1 over the session.
     pub ticket: u64,
+    /// The text that is asked about.
     pub snapshot: Arc<Snapshot>,
     /// What the positions of the question and of its answer count.
     pub encoding: Encoding,
+    /// The question.
     pub ask: Ask,
 }
 
-/// A job that has run. Its answer is the definition's for its own text, encoding and ask, or memory was refused.
+/// A job that has run. The type keeps that its answer is the definition's (`IsAnswer`) for just its own text, encoding and question, or
+/// that memory was refused.
 pub struct Done {
     ticket: u64,
     snapshot: Arc<Snapshot>,
@@ -72,7 +75,7 @@ impl Model for Done {
 }
 
 impl Done {
-    /// The number of the request.
+    /// The number of the request, from 1 over the session.
     pub fn ticket(&self) -> u64
         ensures { result ≡ self.now.ticket }
     {
@@ -88,7 +91,9 @@ impl Done {
 
     /// One more owner of the text, which isn't copied.
     ///
-    /// `Memory` says that an allocation was refused.
+    /// # Errors
+    ///
+    /// Where an allocation is refused.
     pub fn share(&self) -> Result<Arc<Snapshot>, Memory>
         ensures { IfOk result (λ arc. arc_value arc ≡ self.now.text) }
     {
@@ -109,7 +114,12 @@ impl Done {
         &self.ask
     }
 
-    /// The answer for the job's own text, encoding and ask, or that memory was refused. The edits of a rename keep the grammar of the text.
+    /// The answer for just the job's own text, encoding and question. Where ranges answer a rename, the text after these edits has the same
+    /// grammar but for the name that they give anew.
+    ///
+    /// # Errors
+    ///
+    /// Where memory was refused when the job ran. It asks for none itself.
     pub fn answer(&self) -> Result<&Answer, Memory>
         ensures value { MatchResult result (λ a. self.now.answer ≡ Some a.now) (λ _. self.now.answer ≡ None) }
         ensures right { IfOk result (λ a. IsAnswer self.now.encoding self.now.text self.now.ask a.now) }
@@ -123,7 +133,8 @@ impl Done {
     }
 }
 
-/// A question that is asked of a text's grammar. All others need no rules, but for the findings, which may be told by those of another text.
+/// A question that is asked of a text's grammar. All others need no rules, but for the findings, which may be known by those of another
+/// text.
 #[derive(Clone, Copy)]
 enum GrammarAsk<'a> {
     Hover(Position),
@@ -215,11 +226,15 @@ fn answer_in(
 
 /// Answers the question of a job. A refusal of memory is kept in what it gives.
 ///
-/// The edits of a rename that is granted keep the grammar of the text: line by line its tokens but at the places of the name, and its
-/// rules with what they generate. A rename to what is no name is refused as that, whatever memory there is.
+/// The edits of a rename that is granted keep the grammar of the text: line by line its tokens but at the places of the name, and its rules
+/// with what they generate. A rename to what is no name is refused as that, whatever memory there is.
 ///
 /// The texts that were diagnosed last are the caller's to keep from one run to the next, none at first: they may spare the findings of the
 /// next text much work, and no answer depends on them.
+///
+/// All else grows with the size of the text. An outline reads the text's tokens, the places of a name those and the blocks that have the
+/// name. A rename, a hover, an insertion and the classes of tokens make the text's grammar; a hover and an insertion search a certificate
+/// of it besides.
 pub fn run_keeping(alloc: Global, recent: &mut Recent, job: Job) -> Done
     ensures ticket { result.ticket ≡ job.ticket }
     ensures text { result.text ≡ arc_value job.snapshot }
@@ -245,7 +260,8 @@ pub fn run_keeping(alloc: Global, recent: &mut Recent, job: Job) -> Done
     }
 }
 
-/// Answers the question of a job as [`run_keeping`] does, and keeps nothing for the next one.
+/// Answers the question of a job as [`run_keeping`] does, and keeps nothing for the next one: so the findings of a text are searched in all
+/// of it each time.
 pub fn run(alloc: Global, job: Job) -> Done
     ensures ticket { result.ticket ≡ job.ticket }
     ensures text { result.text ≡ arc_value job.snapshot }

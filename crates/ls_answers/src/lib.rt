@@ -1,8 +1,8 @@
 //! Answers to questions about a text, each with its text and its question.
 //!
-//! A [`Job`] is a question about a snapshot, with the encoding in which its positions count; [`run`] gives a [`Done`], whose type keeps that its answer is the definition's for
-//! its own text and question, or that memory was refused. A question about a text has an answer ([`answers_exist`]), and at most
-//! one, but for the certificate beside an example ([`answers_are_unique`]).
+//! A [`Job`] is a question about a snapshot, with the encoding in which its positions count; [`run`] gives a [`Done`], whose type keeps
+//! that its answer is the definition's for its own text, encoding and question, or that memory was refused. A question about a text has an
+//! answer ([`answers_exist`]), and at most one, but for the certificate beside an example ([`answers_are_unique`]).
 //!
 //! A rename that is granted keeps the grammar of its text: what [`run`] says of it, of the text after its edits, follows from the answer by
 //! a law ([`renames_keep_the_grammar`]).

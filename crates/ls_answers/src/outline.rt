@@ -11,7 +11,9 @@ use std::alloc::{AllocError as Memory, Global};
 
 /// The symbols of a text: one for each block with a head, in their order.
 ///
-/// `Memory` says that an allocation was refused.
+/// # Errors
+///
+/// Where an allocation is refused.
 pub fn symbols(
     alloc: Global,
     snapshot: &Snapshot,

@@ -25,7 +25,9 @@ fn wanted_with(declarations: bool) -> Wanted
 
 /// The places that define the name at a position, in the order of the text. None where no name stands there.
 ///
-/// `Memory` says that an allocation was refused.
+/// # Errors
+///
+/// Where an allocation is refused.
 pub fn definitions(
     alloc: Global,
     snapshot: &Snapshot,
@@ -40,7 +42,9 @@ pub fn definitions(
 /// The places of the name at a position, with those that define it or without them, in the order of the text. None where no name
 /// stands there.
 ///
-/// `Memory` says that an allocation was refused.
+/// # Errors
+///
+/// Where an allocation is refused.
 pub fn references(
     alloc: Global,
     snapshot: &Snapshot,
@@ -102,7 +106,11 @@ fn ranges_of_spots(
     Ok(ranges)
 }
 
-/// The ranges of the wanted places of a name among these.
+/// The ranges of the wanted places of a name among these, in their order.
+///
+/// # Errors
+///
+/// Where an allocation is refused.
 pub fn ranges_of(
     alloc: Global,
     snapshot: &Snapshot,

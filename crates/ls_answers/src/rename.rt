@@ -24,7 +24,9 @@ use std::alloc::{AllocError as Memory, Global};
 /// What gives the name at a position another text, which must be a name: the ranges of all its places, in the order of the text, or why
 /// it isn't granted, which is the first of [`RenameFault`] that holds. The same text, or the same name in another case, is granted.
 ///
-/// `Memory` says that an allocation was refused.
+/// # Errors
+///
+/// Where an allocation is refused.
 pub fn rename(
     alloc: Global,
     grammar: &Grammar,

@@ -1,4 +1,7 @@
 //! The classes of the tokens of a text.
+//!
+//! The marks of all lines and the places of names are walked side by side, so that no token looks for its place: places ascend
+//! (`places_ascend` in `abnf_names`).
 ghost use Rattle.std.specs.Prelude.{◌≡◌, ◌≤◌, ◌++◌, [], IfOk, OnOk, drop, length, map, option_map, slice_index_or};
 ghost use Rattle.abnf_names.specs.Places.{begins_before, named_at};
 ghost use Rattle.abnf_names.specs.Rules.{IsGrammar};
@@ -20,7 +23,7 @@ const DEFINITION: u32 = 1;
 /// The modifier of a use that stands for a core rule.
 const DEFAULT_LIBRARY: u32 = 2;
 
-/// What is told of a token.
+/// What is reported of a token.
 #[derive(Clone, Copy, Debug, PartialEq, Eq)]
 pub struct SemanticToken {
     /// Where it stands.
@@ -35,7 +38,9 @@ pub struct SemanticToken {
 /// the same line or else behind the line's start, its length, its type and its modifiers. Starts and lengths count the units of the
 /// encoding.
 ///
-/// `Memory` says that an allocation was refused.
+/// # Errors
+///
+/// Where an allocation is refused.
 pub fn semantic_tokens(
     alloc: Global,
     grammar: &Grammar,
@@ -86,7 +91,7 @@ fn push_numbers(
     Ok(())
 }
 
-/// What is told of the tokens of a text.
+/// What is reported of the tokens of a text.
 fn told(alloc: Global, grammar: &Grammar, encoding: Encoding) -> Result<List<SemanticToken>, Memory>
     ensures told { IfOk result (λ tokens. walk.AreToldTokens encoding grammar.now tokens) }
     ensures grammar { IsGrammar grammar.now }
@@ -113,7 +118,7 @@ fn marks_at(snapshot: &Snapshot, line: usize) -> &[TokenMark]
     }
 }
 
-/// Adds what is told of the tokens of a line, where so many of the places have been passed, and gives how many have been behind it.
+/// Adds what is reported of the tokens of a line, where so many of the places have been passed, and gives how many have been behind it.
 fn push_line(
     tokens: &mut List<SemanticToken>,
     grammar: &Grammar,
@@ -160,7 +165,7 @@ fn begins_before(spot: &Spot<'_>, line: usize, start: usize) -> bool
     spot.place.line < line || (spot.place.line == line && spot.place.start < start)
 }
 
-/// What is told of the token with this mark, where these places are left.
+/// What is reported of the token with this mark, where these places are left.
 fn told_of(
     grammar: &Grammar,
     ruler: &mut Ruler<'_>,
@@ -186,7 +191,7 @@ fn told_of(
     })
 }
 
-/// The number of a token's type in the legend. Nothing is told of a blank or a bad token.
+/// The number of a token's type in the legend. None of a blank or a bad token, which isn't reported.
 fn type_of(kind: Kind) -> Option<u32>
     ensures { result ≡ spec.type_of kind }
 {

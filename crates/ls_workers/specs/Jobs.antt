@@ -1,4 +1,5 @@
--- What a call about a job has done by the history that its seat has seen, and the limits of a desk.
+-- What a call about a job has done by the history that its seat has seen, and the limits of a desk. Old and new are what the seat has seen
+-- of the history before the call and behind it.
 use Rattle.std.specs.Prelude.{◌≡◌, ◌⊎◌, ◌++◌, ◌∷◌, [], ℕ, List, Option, Some, None, find, is_none}
 use mathlib.Core.List.{IsPrefix}
 use Rattle.ls_answers.specs.Told.{Told}
@@ -18,56 +19,57 @@ use Rattle.ls_history.specs.Ends.{stop_of}
 use Rattle.ls_history.specs.History.{replay}
 use Rattle.ls_history.specs.Places.{Place, beginning, desk_at}
 
--- where a history has led
+-- where a history has led, from the beginning on
 abbrev pub led_by : List Happened → Place
 led_by log = replay beginning log
 
--- The history had come on from what a seat had seen of it when this entry was added, and this held of where it had led by then. The seat has seen
--- the entry too, and nothing behind it.
+-- The history had come on from what a seat had seen of it when this entry was added, and this held of where it had led by then. The seat
+-- has seen the entry too, and nothing behind it.
 pub record HasEntered (entry : Happened) (Holds : Place → Type 0) (old new : List Happened) : Type 0 where
   pub before : List Happened
   pub begins : IsPrefix old before
   pub ends : new ≡ before ++ entry ∷ []
   pub holds : Holds (led_by before)
 
--- the job is that of the first queued entry
+-- The job is that of the first queued entry there, with its ticket, text, encoding and question.
 abbrev pub IsFirstJob : Job → Place → Type 0
 IsFirstJob job p = (w : Waiting) × (find is_queued p.state.waiting ≡ Some w) × IsJobOf w job
 
--- the first queued job was handed out to this worker
+-- The take of this worker was entered, and the job is that of the first queued entry where the history had led by then.
 abbrev pub IsTakenAt : ℕ → List Happened → List Happened → Job → Type 0
 IsTakenAt worker old new job = HasEntered (Worked (Took worker)) (IsFirstJob job) old new
 
--- a job was given back, and is queued again
+-- The return of the job with this ticket was entered, against which nothing stood. It is queued again.
 abbrev pub IsReturnedAt : ℕ → List Happened → List Happened → Type 0
 IsReturnedAt ticket old new = HasEntered (Worked (Returned ticket)) (λ p. give_back_fault (desk_at p) ticket ≡ None) old new
 
--- this very run was taken back, and left what the desk keeps of it
+-- The end of this very run was entered, with whether memory was refused in it, against which nothing stood; and this is what the desk keeps
+-- of it.
 abbrev pub IsFinishedAt : Told → Kept → List Happened → List Happened → Type 0
 IsFinishedAt done kept old new =
     HasEntered (Worked (Finished done.ticket (is_none done.answer))) (λ p. (finish_fault (desk_at p) done ≡ None) × (kept ≡ kept_of (desk_at p) done)) old new
 
--- where the history has led, a refusal has its cause
+-- Where the history has led, the refusal has its cause.
 abbrev pub IsRefusedAt : (Seen → Option DeskFault) → DeskFault → List Happened → Type 0
 IsRefusedAt first fault log = IsFirstCause (first (desk_at (led_by log))) fault
 
--- where the history has led, no worker holds a job with this ticket
+-- Where the history has led, no worker holds a job with this ticket.
 abbrev pub IsNotHeld : ℕ → List Happened → Type 0
 IsNotHeld ticket log = find (is_held ticket) (led_by log).state.waiting ≡ None
 
--- the board has ended by then: at once, or by `Drain`, where this is so
+-- The board has ended by then: at once, or by `Drain`, where this is so.
 abbrev pub HasEnded : Option Stop → Type 0 → Type 0
 HasEnded stop IsDrained = (stop ≡ Some Now) ⊎ ((stop ≡ Some Drain) × IsDrained)
 
--- a worker has nothing more to do: by `Drain` no job is queued
+-- A worker has nothing more to do: the board has ended, and by `Drain` no job is queued.
 abbrev pub HasNoJob : List Happened → Type 0
 HasNoJob log = HasEnded (stop_of log) (find is_queued (led_by log).state.waiting ≡ None)
 
--- the writer has nothing more to do: by `Drain` no reply is unsent, and no job waits
+-- The writer has nothing more to do: the board has ended, and by `Drain` no reply is unsent, and no job waits.
 abbrev pub HasNothingMore : List Happened → Type 0
 HasNothingMore log = HasEnded (stop_of log) (((led_by log).state.unsent ≡ []) × ((led_by log).state.waiting ≡ []))
 
--- a desk has these limits
+-- The desk has these limits: of its journal where a client's event comes to it, and of events and unsent replies together.
 pub record HasLimits (journal events : ℕ) (desk : Seen) : Type 0 where
   pub journal_is : desk.max_journal ≡ journal
   pub events_is : desk.max_events ≡ events

@@ -26,23 +26,25 @@ pub record AreAll {X : Type 0} (mark_of : X → ℕ) (number_of : X → ℕ) (ma
   pub count_is : length seats ≡ workers
   pub numbers : (number : ℕ) → number < workers → count_by (λ seat. number_of seat == number) seats ≡ 1
 
--- the client's events of a journal and the tickets that were sent are those that the seats were told
+-- The client's events of a journal are this list, and the tickets that it sent, 0 for a body, are these.
 abbrev pub Agrees : List Event → List Event → List ℕ → Type 0
 Agrees journal list tickets = (client_events journal ≡ list) × (sent_tickets journal ≡ tickets)
 
--- what the writer's seat has of the replies since the last checkpoint: nothing where it was given none since
+-- what the writer's seat has of the tickets since the last checkpoint: nothing where it has been given no reply since, as the number of
+-- checkpoints says that it had seen then
 abbrev pub since : {X : Type 0} → ℕ → ℕ → List X → List X
 since checkpoints seen list = if seen == checkpoints then list else []
 
--- the last entry of the journal is the event with its answer
+-- The last entry of the journal is the event with its answer.
 abbrev pub IsLast : ClientEvent → ClientAnswer → List Event → Type 0
 IsLast e answer journal = slice_get journal (length journal - 1) ≡ entry_of e answer
 
--- a list that ended with a journal is the client's events of it, as far as both are there
+-- A list that a checkpoint ended is the client's events of the journal that ended with it, as far as both are there: what was compared has
+-- gone, from the end.
 abbrev pub AreSame : Ended → Type 0
 AreSame ended = client_events ended.journal.items ≡ ended.list.items
 
--- what a client's seat was told: the events since the last checkpoint with their answers, the number of checkpoints, whether a difference was
+-- what a client's seat knows: the events since the last checkpoint with their answers, the number of checkpoints, whether a difference was
 -- found, and what of earlier lists and of their journals isn't compared yet
 pub record ToldClient : Type 0 where
   pub list : List Event
@@ -50,32 +52,33 @@ pub record ToldClient : Type 0 where
   pub strayed : Bool
   pub ended : List Ended
 
--- it was told nothing
+-- nothing yet
 abbrev pub told_nothing : ToldClient
 told_nothing = record { list = []; checkpoints = 0; strayed = false; ended = [] }
 
--- what a seat holds that was told
+-- the same, of what a seat holds
 abbrev pub told_by : held.ToldClient → ToldClient
 told_by told = record { list = told.list.items; checkpoints = told.checkpoints; strayed = told.strayed; ended = told.ended.items }
 
--- no difference was found, and there is none in what isn't compared yet
+-- No difference was found, and there is none in what isn't compared yet.
 abbrev pub HasAgreed : ToldClient → Type 0
 HasAgreed told = (told.strayed ≡ false) × All AreSame told.ended
 
--- nothing has come to a seat, though some of what had ended may have been compared
+-- Nothing has come to a seat, though some of what had ended may have been compared: there is a difference exactly where there was.
 pub record KnowsTheSame (old new : ToldClient) : Type 0 where
   pub list : new.list ≡ old.list
   pub checkpoints : new.checkpoints ≡ old.checkpoints
   pub agreed : HasAgreed new ↔ HasAgreed old
 
--- an entry needs no memory any more, whether its event makes a checkpoint or not
+-- An entry needs no memory any more, whether its event makes a checkpoint or not.
 pub record HasRoom (told : held.ToldClient) : Type 0 where
   pub list : vec_len told.list < vec_capacity told.list
   pub spare : vec_len told.spare < vec_capacity told.spare
   pub ended : vec_len told.ended < vec_capacity told.ended
 
--- An event with its answer comes to the journal and to the seat's list. Where the event makes a checkpoint, list and journal begin anew with
--- it. It is a difference where the journal's last entry is another, or where the list that ends isn't the client's events of the journal that ends.
+-- An event with its answer comes to the journal and to the seat's list. Where the event makes a checkpoint, list and journal begin anew
+-- with it. It is a difference where the journal's last entry is another, or where the list that ends isn't the client's events of the
+-- journal that ends.
 pub record Heard (e : ClientEvent) (answer : ClientAnswer) (before after : Seen) (old new : ToldClient) : Type 0 where
   pub journal : Notes e answer (journal_after (fresh before) before.journal) after.journal
   pub base : after.base ≡ base_after (fresh before) (counts_of before) before.base
@@ -83,8 +86,8 @@ pub record Heard (e : ClientEvent) (answer : ClientAnswer) (before after : Seen)
   pub checkpoints : new.checkpoints ≡ (if is_long before then after.base.checkpoints else old.checkpoints)
   pub agreed : HasAgreed new ↔ (HasAgreed old × IsLast e answer after.journal × (is_long before ≡ true → client_events before.journal ≡ old.list))
 
--- The same, by the history that the seat has seen then. It has led to the desk after the event, and up to its last entry, which is the event's, it
--- had led to the desk before, which has these limits.
+-- The same, by the history that the seat has seen then. It has led to the desk after the event, and up to its last entry, which is the
+-- event's, it had led to the desk before, which has these limits.
 pub record IsHeard (e : ClientEvent) (answer : ClientAnswer) (journal events : ℕ) (old new : ToldClient) (log : List Happened) : Type 0 where
   pub before : Seen
   pub after : Seen
@@ -95,21 +98,24 @@ pub record IsHeard (e : ClientEvent) (answer : ClientAnswer) (journal events : �
   pub limits : HasLimits journal events before
   pub heard : Heard e answer before after old new
 
--- what the seats were told is what the desk's journal has, and how many checkpoints there were
+-- What the seats know is what the desk's journal has: the client's events and the tickets since the last checkpoint; and there have been as
+-- many checkpoints as the client's seat has seen.
 abbrev pub AgreesAll : Seen → ToldClient → ℕ → List ℕ → Type 0
 AgreesAll desk client seen tickets =
     Agrees desk.journal client.list (since desk.base.checkpoints seen tickets) × (desk.base.checkpoints ≡ client.checkpoints)
 
--- One history led to the desk. It has these events of the client with what was told of each, and these replies, and no others.
+-- One legal history led to the desk. It has these events of the client, each with its answer or its refusal, and these replies, and no
+-- others.
 abbrev pub HasHistory : List (ClientEvent × Result ClientAnswer DeskFault) → List Out → Seen → Type 0
 HasHistory heard outs desk = (log : List Happened) × IsHistoryOf desk log × (heard_of log ≡ heard) × (outs_of log ≡ outs)
 
--- One legal history has these events of the client with what was told of each, and these replies, and no others.
+-- One legal history has these events of the client, each with its answer or its refusal, and these replies, and no others, wherever it has
+-- led.
 abbrev pub HaveHistory : List (ClientEvent × Result ClientAnswer DeskFault) → List Out → Type 0
 HaveHistory heard outs = (log : List Happened) × IsLegal log × (heard_of log ≡ heard) × (outs_of log ≡ outs)
 
--- Why a board isn't closed: the seats aren't all its own; or they are, with these counts, and a difference was found or is there in what had ended,
--- or what the seats were told isn't what the journal has now.
+-- Why a board isn't closed. `SeatMissing`: the seats aren't all its own. `Strayed`: they are, the desk that it carries has their counts,
+-- and a difference was found or is there in what had ended, or what the seats know isn't what its journal has now.
 abbrev pub HasCause : Type 0 → (Seen → Type 0) → ToldClient → ℕ → List ℕ → SeatFault → Type 0
 HasCause AreOwn HasCounts client seen tickets SeatMissing = AreOwn → ⊥
 HasCause AreOwn HasCounts client seen tickets (Strayed desk) = AreOwn × HasCounts desk × (HasAgreed client × AgreesAll desk client seen tickets → ⊥)

@@ -1,4 +1,4 @@
-//! Whether what the seats were told is what a journal has.
+//! Whether what the seats know is what a journal has.
 ghost use Rattle.std.specs.Prelude.{◌≡◌, ◌↔◌, ◌-◌, All, IsTrue, Some, length, slice_get, true, false};
 ghost use Rattle.std.specs.Option.{option_map};
 ghost use Rattle.ls_machine.specs.Client.{client_event, client_events, sent_ticket, sent_tickets};
@@ -101,7 +101,7 @@ fn since<'t>(desk: &Desk, seen: u64, tickets: &'t [u64]) -> &'t [u64]
     }
 }
 
-/// Whether what the seats were told is what the journal of a desk has, and how many checkpoints there were.
+/// Whether what the seats know is what the journal of a desk has, and how many checkpoints there were.
 fn agrees_all(desk: &Desk, told: &ToldClient, seen: u64, tickets: &[u64]) -> bool
     ensures { IsTrue result ↔ AgreesAll desk.now (told_by told.now) seen tickets.now }
 {
@@ -121,14 +121,14 @@ fn ended_agree(ended: &[Ended]) -> bool
     true
 }
 
-/// Whether no difference was found in what a client's seat was told, and there is none in what isn't compared yet.
+/// Whether no difference was found in what a client's seat knows, and there is none in what isn't compared yet.
 fn has_agreed(told: &ToldClient) -> bool
     ensures { IsTrue result ↔ HasAgreed (told_by told.now) }
 {
     !told.strayed && ended_agree(&told.ended)
 }
 
-/// Whether what the seats were told isn't what the journal of a desk has, or a difference was found or is there in what had ended.
+/// Whether what the seats know isn't what the journal of a desk has, or a difference was found or is there in what had ended.
 pub fn strays(desk: &Desk, told: &ToldClient, seen: u64, tickets: &[u64]) -> bool
     ensures some { result ≡ true → HasAgreed (told_by told.now) × AgreesAll desk.now (told_by told.now) seen tickets.now → ⊥ }
     ensures none { result ≡ false → HasAgreed (told_by told.now) × AgreesAll desk.now (told_by told.now) seen tickets.now }

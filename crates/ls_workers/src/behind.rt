@@ -34,12 +34,13 @@ use std::sync::ledger::{Book, Share};
 pub enum SeatFault {
     /// A seat's mark isn't the board's, or the workers' numbers aren't all there, each once. The desk is gone.
     SeatMissing,
-    /// What the seats were told isn't what the journal of this desk, the board's, has, or had until a checkpoint, or had where an event was entered.
+    /// What the seats know isn't what the journal of this desk, the board's, has, or had until a checkpoint, or had where an event was
+    /// entered. The seats are all the board's own, and the desk has their counts and the board's limits.
     Strayed(Desk),
 }
 
-/// The desk, which has the limits of the board's, the history that led to it, a book for each kind of event, which has the number of that kind
-/// over the session, and one of what the client was told, and how the board ends, as the history says.
+/// The desk, which has the limits of the board's, the history that led to it, a book for each kind of event, which has the number of that
+/// kind over the session, and one of the replies to the client's events, and how the board ends, as the history says.
 #[derive(Drop)]
 pub struct Behind<C: Crew> {
     pub desk: Desk,
@@ -62,7 +63,7 @@ pub struct Behind<C: Crew> {
     pub ghost ended: { stop ≡ stop_of front },
 }
 
-/// How a board has ended that is told to end once more. The end at once is final.
+/// How a board has ended that is asked to end once more. The end at once is final.
 fn ended_by(before: Option<Stop>, stop: Stop) -> Option<Stop>
     ensures { result ≡ ended_by before stop }
 {
@@ -205,9 +206,9 @@ impl<C: Crew> Behind<C> {
         self.desk.wanted(ticket)
     }
 
-    /// Enters a client's event. The seat has room for one entry more, which is compared with the journal's, and the note is the event's. Where the
-    /// event makes a checkpoint, the seat's list begins anew, and the seat has what it had beside the journal that ended. The history has the event
-    /// with its answer, or its refusal.
+    /// Enters a client's event. The seat has room for one entry more, which is compared with the journal's, and the note is the event's.
+    /// Where the event makes a checkpoint, the seat's list begins anew, and the seat has what it had beside the journal that ended. The
+    /// history has the event with its answer, or its refusal.
     pub fn client(
         &mut self,
         rt: &impl Wait,
@@ -287,8 +288,8 @@ impl<C: Crew> Behind<C> {
         refusal
     }
 
-    /// Takes the first queued job. `None` where the board has ended at once, or where none is queued, which takes no memory. The seat has seen all
-    /// of the history then.
+    /// Takes the first queued job. `None` where the board has ended at once, or where none is queued, which takes no memory. The seat has
+    /// seen all of the history then.
     pub fn take(
         &mut self,
         rt: &impl Wait,
@@ -404,8 +405,8 @@ impl<C: Crew> Behind<C> {
         self.is_over() || self.desk.unsent() == 0
     }
 
-    /// The oldest reply, which leaves. `None` where the board has ended at once, or where none is unsent. The seat has room for one ticket more, and has
-    /// seen all of the history then.
+    /// The oldest reply, which leaves. `None` where the board has ended at once, or where none is unsent. The seat has room for one ticket
+    /// more, and has seen all of the history then.
     pub fn next_out(
         &mut self,
         rt: &impl Wait,
@@ -448,7 +449,7 @@ impl<C: Crew> Behind<C> {
         Some(out)
     }
 
-    /// One history has just what a client's seat and a writer's seat were told. By their types these are the board's own, whatever their marks
+    /// One history has just what a client's seat and a writer's seat know. By their types these are the board's own, whatever their marks
     /// say. Nothing is done at run time.
     pub fn audit_seats(&mut self, client: &mut ClientSeat<C>, writer: &mut WriterSeat<C>)
         ensures history { HaveHistory (heard_of client.old.front) (outs_of writer.old.front) }
@@ -469,8 +470,8 @@ impl<C: Crew> Behind<C> {
         front.beside(&writer.front);
     }
 
-    /// The desk, where there were as many events of each kind as the gathered shares, and the history that led to it, which has as many replies
-    /// of both kinds as their shares.
+    /// The desk, where there were as many events of each kind as the gathered shares, and the history that led to it, which has as many
+    /// replies of both kinds as their shares.
     pub fn audited(
         mut self,
         heard: &mut Share<OfHeard<C>>,
@@ -498,8 +499,8 @@ impl<C: Crew> Behind<C> {
         (desk, front)
     }
 
-    /// The desk, where the seats are all of the board's own: what `Board::close` says of it. `Err` has a desk whose journal isn't what the seats
-    /// were told, or wasn't until a checkpoint, or had another entry where an event was entered.
+    /// The desk, where the seats are all of the board's own: what `Board::close` says of it. `Err` has a desk whose journal isn't what the
+    /// seats know, or wasn't until a checkpoint, or had another entry where an event was entered.
     pub fn closed(
         self,
         client: ClientSeat<C>,

@@ -15,7 +15,7 @@ use crate::behind::{Behind, SeatFault};
 use crate::crew::{are_all, seats_of};
 use crate::ledgers::{Blanks, Crew, OfClient, OfFinished, OfHeard, OfReturned, OfSent, OfTook};
 use crate::seats::{ClientSeat, WorkerSeat, WriterSeat};
-use ls_answers::{Done, Job};
+use ls_answers::{Done, Job, Recent};
 use ls_desk::{Desk, DeskFault, Kept, Out};
 use ls_history::{Front, HistoryBook, Stop};
 use ls_machine::{ClientAnswer, ClientEvent};
@@ -24,8 +24,9 @@ use std::sync::{Condvar, Mutex, Wait};
 
 /// A desk that several threads use, each through its seat, under one lock.
 ///
-/// Whenever the lock is free, the desk is what its legal journal leads to, as each desk is, and the book of each kind of event has the number
-/// of that kind over the session.
+/// Whenever the lock is free, the history has led to where the desk stands, and says how the board has ended. The desk is what its legal
+/// journal leads to, as each desk is, and has the limits of the board's [`Crew`]. The book of each kind of event has the number of that
+/// kind over the session.
 #[derive(Drop)]
 pub struct Board<C: Crew> {
     /// Which board it is. Whoever makes boards gives each a mark of its own.
@@ -36,14 +37,19 @@ pub struct Board<C: Crew> {
     behind: Mutex<Behind<C>>,
     /// Something behind the lock has changed.
     changed: Condvar,
+    /// The texts that were diagnosed last, behind a lock of their own. No other one is taken while it is held.
+    pub(crate) recent: Mutex<Recent>,
     ghost all: { workers ≡ C.workers },
 }
 
 impl<C: Crew> Board<C> {
     /// A board over a desk on which nothing has happened, with its seats: the client's, the writer's, and those of 1 to 8 workers in the
-    /// order of their numbers.
+    /// order of their numbers. The seats have the board's mark, and nothing is counted or listed in them, nor is anything of the client or
+    /// of replies in what they have seen of the history. The limits of the desk are those of `C`.
     ///
-    /// The limits of the desk are those of `C`. `Memory` says that an allocation was refused.
+    /// # Errors
+    ///
+    /// Where an allocation is refused.
     pub fn new(
         rt: &impl Wait,
         alloc: Global,
@@ -104,17 +110,25 @@ impl<C: Crew> Board<C> {
             book,
             behind: Mutex::new(behind),
             changed: Condvar::new(),
+            recent: Mutex::new(Recent::new()),
         };
         Ok((board, client, writer, seats))
     }
 
-    /// Enters a client's event, and notes it with its answer in the seat, which remembers whether the journal has another entry. Where the event
-    /// makes a checkpoint, the seat's list begins anew with it. What it had and the journal that ended are compared a few events at a time with the
-    /// calls that follow, and go; what is left is compared where the board is closed. The seat remembers a difference. What a call needs memory for
-    /// in the seat it makes before it takes the lock, and the text of a document that is opened: the desk shares that text with the note.
+    /// Enters a client's event, and notes it with its answer in the seat, which remembers whether the journal has another entry. Where the
+    /// event makes a checkpoint, the seat's list begins anew with it. What it had and the journal that ended are compared a few events at a
+    /// time with the calls that follow, and go; what is left is compared where the board is closed. The seat remembers a difference; when
+    /// that is found no clause says. What a call needs memory for in the seat it makes before it takes the lock, and the text of a document
+    /// that is opened: the desk shares that text with the note.
     ///
-    /// It waits for the lock alone. The faults are those of the event's own call at the desk, `SessionFull` and `Memory`; after one the seat
-    /// is as it was, but that some more of what had ended may have been compared.
+    /// Whatever it answers, the event and its answer or its refusal are the next, and the only new ones, of the client in the history that
+    /// the seat has seen then. It waits for the lock alone.
+    ///
+    /// # Errors
+    ///
+    /// Those of the event's own call at the desk (`Desk::enter`). `Memory` also where an allocation for the note is refused, whatever else
+    /// stands against the event. The seat has counted nothing then, and its list is as it was, but that some more of what had ended may
+    /// have been compared.
     pub fn client(
         &self,
         rt: &impl Wait,
@@ -139,10 +153,14 @@ impl<C: Crew> Board<C> {
         result
     }
 
-    /// Waits for a job, and takes the queued one with the least ticket. `None` once the board has ended by `Now`, or has ended by `Drain` and
-    /// none is queued.
+    /// Waits for a job, and takes the queued one with the least ticket. `None` once the board has ended by `Now`, or has ended by `Drain`
+    /// and none is queued. Of the workers that wait the one with the least number is let go first. The seat has seen all of the history
+    /// each time.
     ///
-    /// The faults are `SessionFull` and `Memory`; after one the seat has counted nothing. It has seen all of the history each time.
+    /// # Errors
+    ///
+    /// `SessionFull` where there is no room for the event, and `Memory` where an allocation is refused, each only where a job is queued.
+    /// The seat has counted nothing then.
     pub fn take(&self, rt: &impl Wait, seat: &mut WorkerSeat<C>) -> Result<Option<Job>, DeskFault>
         ensures some { IfOk result (λ job. OnSome job (seat.new.took.share.amount ≡ seat.old.took.share.amount + 1)) }
         ensures taken { IfOk result (λ job. IfSome job (λ taken. IsTakenAt seat.old.number seat.old.front seat.new.front taken)) }
@@ -171,10 +189,12 @@ impl<C: Crew> Board<C> {
         job
     }
 
-    /// Gives a job back that wasn't run. It is queued again.
+    /// Gives a job back that wasn't run. It is queued again. It waits for the lock alone. The seat has seen all of the history each time.
     ///
-    /// It waits for the lock alone. The faults are `UnknownTicket`, `SessionFull` and `Memory`; after one the seat has counted nothing. It has seen
-    /// all of the history each time.
+    /// # Errors
+    ///
+    /// The first of these that holds; the seat has counted nothing then. `UnknownTicket` where no job with this ticket is taken now;
+    /// `SessionFull` where there is no room for the event; `Memory` where an allocation is refused.
     pub fn give_back(
         &self,
         rt: &impl Wait,
@@ -195,10 +215,15 @@ impl<C: Crew> Board<C> {
         result
     }
 
-    /// Brings a job back that has run. A refusal hands the run back.
+    /// Brings a job back that has run, and gives what the desk keeps of it. It waits for the lock alone. The seat has seen all of the
+    /// history each time.
     ///
-    /// It waits for the lock alone. The faults are `UnknownTicket`, `OtherText`, `SessionFull` and `Memory`; after one the seat has counted nothing.
-    /// It has seen all of the history each time.
+    /// # Errors
+    ///
+    /// The first of these that holds, with the run, which is handed back; the seat has counted nothing then. `UnknownTicket` where no job
+    /// with its ticket is taken now, since it has ended meanwhile, or was given back; `OtherText` where the run is of another text,
+    /// encoding or question than that job; `SessionFull` where there is no room for the event and what the job leaves; `Memory` where an
+    /// allocation is refused.
     pub fn finish(
         &self,
         rt: &impl Wait,
@@ -220,9 +245,12 @@ impl<C: Crew> Board<C> {
     }
 
     /// Waits for a reply, the oldest, which leaves, and notes its ticket in the seat, whose list begins anew with it where there was a
-    /// checkpoint since. `None` once the board has ended by `Now`, or has ended by `Drain`, nothing is unsent and no job waits.
+    /// checkpoint since. `None` once the board has ended by `Now`, or has ended by `Drain`, nothing is unsent and no job waits. The seat
+    /// has seen all of the history then.
     ///
-    /// `Memory` says that an allocation was refused; after it the seat is as it was, and no reply has left. Else it has seen all of the history.
+    /// # Errors
+    ///
+    /// Where an allocation is refused, for the ticket: the seat is as it was then, and no reply has left.
     pub fn next_out(&self, rt: &impl Wait, seat: &mut WriterSeat<C>) -> Result<Option<Out>, Memory>
         ensures history { IfOk result (λ next. IfSome next (λ out. outs_of seat.new.front ≡ outs_of seat.old.front ++ out ∷ [])) }
         ensures unseen { IfOk result (λ next. IfNone next (outs_of seat.new.front ≡ outs_of seat.old.front)) }
@@ -245,7 +273,7 @@ impl<C: Crew> Board<C> {
         Ok(behind.next_out(rt, &self.book, seat))
     }
 
-    /// Whether a ticket waits now, queued or taken: where the history has led by now, all of which the front has seen then.
+    /// Whether a job with this ticket waits now, queued or taken: where the history has led by now, all of which the front has seen then.
     ///
     /// It waits for the lock alone, and takes no memory.
     pub fn wanted(&self, rt: &impl Wait, seen: &mut Front<C>, ticket: u64) -> bool
@@ -256,6 +284,7 @@ impl<C: Crew> Board<C> {
     }
 
     /// Ends the board: by `Drain` its seats are served until there is nothing left, by `Now` they are given nothing more. `Now` is final.
+    /// No clause says this here: it stands where a seat is given nothing more.
     ///
     /// It waits for the lock alone, and takes no memory.
     pub fn stop(&self, rt: &impl Wait, stop: Stop) {
@@ -263,15 +292,19 @@ impl<C: Crew> Board<C> {
         self.changed.notify_all();
     }
 
-    /// Takes all seats back, and gives the desk, which has the limits of the one that the board was made over. There were as many events of each
-    /// kind as the seats counted, and its journal has the client's events since the last checkpoint with the answers that its seat was given, and
-    /// the tickets that the writer's seat was given since. There were as many checkpoints as the client's seat has seen. The lists that these ended
-    /// were the client's events of the journals that they ended.
+    /// Takes all seats back, and gives the desk, which has the limits of the one that the board was made over. There were as many events of
+    /// each kind as the seats counted, and its journal has the client's events since the last checkpoint with the answers that its seat was
+    /// given, and the tickets that the writer's seat was given since. There were as many checkpoints as the client's seat has seen. The
+    /// lists that these ended were the client's events of the journals that they ended.
     ///
-    /// `SeatMissing`: a seat isn't of this board, or not all workers' are here. `Strayed`: the seats are all here, and the journal isn't what
-    /// they were told, or wasn't until a checkpoint, or had another entry where an event was entered. It waits for nothing, and takes no memory.
+    /// Whatever it answers, one legal history has just the client's events, with what these two seats know of them, and just the replies
+    /// that they know of; by their types the seats are the board's own, whatever their marks say. It waits for nothing, and takes no
+    /// memory. It goes through the desk's journal, and what isn't compared yet of earlier ones.
     ///
-    /// Whatever it answers, one legal history has just what these two seats were told of the client's events and of the replies.
+    /// # Errors
+    ///
+    /// `SeatMissing` where a seat isn't of this board, or not all workers' are here. `Strayed` where the seats are all here, and the
+    /// journal isn't what they know, or wasn't until a checkpoint, or had another entry where an event was entered.
     pub fn close(
         self,
         client: ClientSeat<C>,

@@ -31,8 +31,8 @@ pub fn is_long(desk: &Desk) -> bool
 }
 
 #[tactic(auto, using(crate::proofs::Entering::notes_entry, crate::proofs::Entering::base_is, crate::proofs::Entering::ended_is, crate::proofs::Entering::adds_one, crate::proofs::Entering::same_limits))]
-/// Enters a client's event, whose note it is: the desk shares the text of an opening with the note. A text that is too large has no note. The
-/// history has the event with its answer, or its refusal.
+/// Enters a client's event, whose note it is: the desk shares the text of an opening with the note. A text that is too large has no note.
+/// The history has the event with its answer, or its refusal.
 pub fn enter<C: BookName>(
     rt: &impl Wait,
     book: &HistoryBook<C>,

@@ -11,6 +11,10 @@ use std::sync::ledger::Share;
 
 /// The seats of so many workers of the board with this mark, in the order of their numbers, each with a part of the shares. Nothing is
 /// counted in them. They have seen of the history what the front has.
+///
+/// # Errors
+///
+/// Where an allocation is refused.
 pub fn seats_of<C: Ledgers>(
     alloc: Global,
     mark: u64,

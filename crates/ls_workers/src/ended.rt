@@ -1,5 +1,5 @@
-//! What a checkpoint ended: a journal, and beside it the client's events until then, as its seat listed them. Both are compared, a few events at a
-//! time.
+//! What a checkpoint ended: a journal, and beside it the client's events until then, as its seat listed them. Both are compared, a few
+//! events at a time.
 ghost use Rattle.std.specs.Prelude.{◌≡◌, ◌↔◌, [], IsTrue, true};
 ghost use Rattle.ls_workers.specs.Seats.{AreSame};
 
@@ -13,8 +13,8 @@ const AT_ONCE: usize = 16;
 /// For how many events room is given back at once.
 const PART: usize = 65_536;
 
-/// A journal that a checkpoint ended, and the client's events until then, as its seat listed them. What was compared of both has gone, from the
-/// end.
+/// A journal that a checkpoint ended, and the client's events until then, as its seat listed them. What was compared of both has gone, from
+/// the end.
 #[derive(Drop)]
 pub struct Ended {
     pub list: Vec<Event>,

@@ -5,15 +5,15 @@ use ls_history::{BlankHistory, BookName};
 use std::marker::{Brand, PhantomData};
 use std::sync::ledger::{Blank, Ledger};
 
-/// The ledgers of a board, one for each kind of event and one for the replies to its client: their names, and into how many shares those of the
-/// workers are cut. The book of its history has a name too.
+/// The ledgers of a board, one for each kind of event and one for the replies to its client: their names, and into how many shares those of
+/// the workers are cut. The book of its history has a name too.
 ///
 /// A function that is generic in this is called with [`Brand`], and picks its members there.
 pub trait Ledgers: BookName {
     /// The ledger of the client's events.
     ghost client: { ℕ };
 
-    /// The ledger of what the client was told of its events: answers and refusals.
+    /// The ledger of the replies to the client's events: answers and refusals.
     ghost heard: { ℕ };
 
     /// The ledger of jobs that were taken.
@@ -79,7 +79,7 @@ impl<C: Ledgers> Ledger for OfClient<C> {
     ghost parts = { 1 };
 }
 
-/// The ledger of what the client was told of its events. It is whole: one seat has all of it.
+/// The ledger of the replies to the client's events: answers and refusals. It is whole: one seat has all of it.
 pub struct OfHeard<C: Ledgers>(PhantomData<C>);
 
 impl<C: Ledgers> Ledger for OfHeard<C> {
@@ -137,7 +137,7 @@ pub struct Blanks {
 }
 
 impl Blanks {
-    /// New ledgers, those of the workers for so many of them. Takes no memory.
+    /// New ledgers and a new book, the ledgers of the workers cut for so many of them. Takes no memory.
     pub fn new(workers: u32) -> Blanks
         ensures client { result.client.parts ≡ 1 }
         ensures heard { result.heard.parts ≡ 1 }

@@ -1,4 +1,7 @@
 //! The entry of a client's event, made before its answer is known.
+//!
+//! It is made before the lock is taken, and filled without memory once the desk has answered. So nothing of the client's text is copied
+//! under the lock for the seat's list, and the text of an open is shared with it.
 ghost use Rattle.std.specs.Prelude.{◌≡◌, IfOk, IfNone, IfSome, true, false};
 ghost use Rattle.ls_machine.specs.Client.{HasSmallText, filled, note_of, opens_too_large};
 
@@ -8,6 +11,10 @@ use ls_text::MAX_BYTES;
 use std::alloc::{AllocError, Global};
 
 /// The entry that an event will be, its answer aside. `None` where its text is too large for any desk.
+///
+/// # Errors
+///
+/// Where an allocation is refused.
 pub fn note_of(alloc: Global, event: &ClientEvent) -> Result<Option<Event>, AllocError>
     ensures some { IfOk result (λ noted. IfSome noted (λ note. note ≡ note_of event.now)) }
     ensures none { IfOk result (λ noted. IfNone noted (opens_too_large event.now ≡ true)) }

@@ -26,7 +26,7 @@ pub struct Count<L: Ledger> {
 }
 
 impl<L: Ledger> Count<L> {
-    /// Nothing has been counted.
+    /// Nothing has been counted: the share must be of nothing.
     pub fn new(share: Share<L>) -> Count<L>
         requires { share.amount ≡ 0 }
         ensures { result.share ≡ share }
@@ -34,14 +34,15 @@ impl<L: Ledger> Count<L> {
         Count { number: 0, share }
     }
 
-    /// How many events the seat has written.
+    /// How many events the seat has written: the amount of its share.
     pub fn get(&self) -> u64
         ensures { result ≡ self.now.share.amount }
     {
         self.number
     }
 
-    /// Changes nothing, and tells how what the seat has written stands to the book.
+    /// Changes nothing. Where the share is all of its ledger, it shows that the seat has written as many events as the book has: it is
+    /// called for what its contract says.
     pub fn audit(&mut self, book: &mut Book<L>)
         ensures whole { self.old.share.parts ≡ L.parts → self.old.share.amount ≡ book.old.total }
         ensures total { book.new.total ≡ book.old.total }
@@ -52,7 +53,7 @@ impl<L: Ledger> Count<L> {
         book.audit(share);
     }
 
-    /// The seat has written one event more, which the book has too.
+    /// The seat has written one event more: share and book are raised by one together. The book must be below 2^64 - 1.
     pub fn one_more(&mut self, book: &mut Book<L>)
         requires parts { 0 < self.old.share.parts }
         requires room { book.old.total + 1 < 2 ^ 64 }
@@ -68,7 +69,7 @@ impl<L: Ledger> Count<L> {
     }
 }
 
-/// What a client's seat was told.
+/// What a client's seat knows of its events.
 #[derive(Drop)]
 pub struct ToldClient {
     /// The events that it has entered since the last checkpoint, each with the answer that it got, as they stand in the journal.
@@ -79,12 +80,13 @@ pub struct ToldClient {
     pub ended: Vec<Ended>,
     /// How many checkpoints its events have made.
     pub checkpoints: u64,
-    /// Whether a difference was found: the journal had another entry where one of them was entered, or a list that ended isn't its journal's.
+    /// Whether a difference was found: the journal had another entry where one of them was entered, or a list that ended isn't its
+    /// journal's.
     pub strayed: bool,
 }
 
 impl ToldClient {
-    /// Nothing yet.
+    /// Nothing yet. Takes no memory.
     pub fn nothing(alloc: Global) -> ToldClient
         ensures { told_by result ≡ told_nothing }
     {
@@ -113,6 +115,10 @@ impl ToldClient {
 
     /// The note of an event, its answer aside, for which there is room then. `None` where the event's text is too large for any desk.
     /// A few events of what had ended are compared.
+    ///
+    /// # Errors
+    ///
+    /// Where an allocation is refused.
     pub(crate) fn prepare_note(&mut self, event: &ClientEvent) -> Result<Option<Event>, AllocError>
         ensures some { IfOk result (λ noted. IfSome noted (λ note. note ≡ note_of event.now)) }
         ensures none { IfOk result (λ noted. IfNone noted (opens_too_large event.now ≡ true)) }
@@ -127,8 +133,8 @@ impl ToldClient {
         note_of(*self.list.allocator(), event)
     }
 
-    /// Where an event made a checkpoint at a desk, the list begins anew, and what it had comes beside the journal that ended, to be compared. Takes no
-    /// memory, and lets none go.
+    /// Where an event made a checkpoint at a desk, the list begins anew, and what it had comes beside the journal that ended, to be
+    /// compared. Takes no memory, and lets none go.
     fn begin_anew(&mut self, anew: bool, desk: &mut Desk)
         requires { HasRoom self.old }
         ensures list { self.new.list.items ≡ (if anew then [] else self.old.list.items) }
@@ -150,9 +156,9 @@ impl ToldClient {
         self.checkpoints = desk.checkpoints();
     }
 
-    /// An event was entered at a desk with its answer, and comes with its note. It is a difference where the desk's journal has another entry. Where
-    /// the event made a checkpoint the list begins anew with it, and what it had is compared later with the journal that ended, which the desk lets
-    /// go. Takes no memory, and lets none go.
+    /// An event was entered at a desk with its answer, and comes with its note. It is a difference where the desk's journal has another
+    /// entry. Where the event made a checkpoint the list begins anew with it, and what it had is compared later with the journal that
+    /// ended, which the desk lets go. Takes no memory, and lets none go.
     pub(crate) fn hear(&mut self, anew: bool, desk: &mut Desk, note: Event, answer: ClientAnswer)
         requires { HasRoom self.old }
         ensures list { self.new.list.items ≡ (if anew then [] else self.old.list.items) ++ filled note answer ∷ [] }
@@ -176,8 +182,9 @@ pub struct ClientSeat<C: Ledgers> {
     pub mark: u64,
     /// How many events it has entered.
     pub asked: Count<OfClient<C>>,
+    /// What it knows of these events.
     pub told: ToldClient,
-    /// What it has seen of the history, which has all that its client was told of its events.
+    /// What it has seen of the history, which has each of its client's events, with the answer or the refusal.
     pub front: Front<C>,
     /// The share that says that it is all.
     pub heard: Share<OfHeard<C>>,
@@ -187,7 +194,7 @@ pub struct ClientSeat<C: Ledgers> {
 }
 
 impl<C: Ledgers> ClientSeat<C> {
-    /// A seat that has entered nothing.
+    /// A seat that has entered nothing, of the board with this mark. Takes no memory.
     pub fn new(
         alloc: Global,
         mark: u64,
@@ -228,7 +235,7 @@ pub struct WriterSeat<C: Ledgers> {
 }
 
 impl<C: Ledgers> WriterSeat<C> {
-    /// A seat that was given nothing.
+    /// A seat that was given nothing, of the board with this mark. Takes no memory.
     pub fn new(alloc: Global, mark: u64, share: Share<OfSent<C>>, front: Front<C>) -> WriterSeat<C>
         requires none { (share.parts ≡ 1) × (share.amount ≡ 0) }
         requires unsent { front ≡ [] }

@@ -6,7 +6,7 @@ ghost use Rattle.ls_workers.specs.Refusals.{ends_work, may_refuse_run};
 use crate::board::Board;
 use crate::ledgers::Crew;
 use crate::seats::WorkerSeat;
-use ls_answers::{Job, Recent, run_keeping};
+use ls_answers::{Ask, Done, Job, run, run_keeping};
 use ls_desk::DeskFault;
 use std::alloc::Global;
 use std::sync::Wait;
@@ -26,16 +26,29 @@ fn ended_by(fault: DeskFault) -> Option<DeskFault>
     (fault != DeskFault::UnknownTicket).then_some(fault)
 }
 
-/// Passes the gate with a job, runs it if it is still wanted and brings it back. What ended the work, if something did: the session is full,
-/// the desk doesn't know what ran, or memory was refused. Where the job ended meanwhile its run is dropped. Unless something ended the work, no
-/// worker holds the job by what the seat has seen then.
+/// Runs a job. What is found in a text is found with the help of a text near to it, if all workers together have diagnosed one lately: that
+/// is taken out meanwhile, and the job's own is kept then. No lock is held while the job runs.
+fn run_with_others<C: Crew, R: Wait>(rt: &R, alloc: Global, board: &Board<C>, job: Job) -> Done
+    ensures { result.ticket ≡ job.ticket }
+{
+    let Ask::Diagnose = &job.ask else {
+        return run(alloc, job);
+    };
+    let mut recent = board.recent.lock(rt).lend(&job.snapshot);
+    let done = run_keeping(alloc, &mut recent, job);
+    board.recent.lock(rt).take_back(recent);
+    done
+}
+
+/// Passes the gate with a job, runs it if it is still wanted and brings it back. What ended the work, if something did: the session is
+/// full, the desk doesn't know what ran, or memory was refused. Where the job ended meanwhile its run is dropped. Unless something ended
+/// the work, no worker holds the job by what the seat has seen then.
 fn run_one<C: Crew, R: Wait, G: Gate>(
     rt: &R,
     alloc: Global,
     board: &Board<C>,
     seat: &mut WorkerSeat<C>,
     gate: &G,
-    recent: &mut Recent,
     job: Job,
 ) -> Option<DeskFault>
     ensures seat { (seat.new.mark ≡ seat.old.mark) × (seat.new.number ≡ seat.old.number) }
@@ -46,7 +59,8 @@ fn run_one<C: Crew, R: Wait, G: Gate>(
     if !board.wanted(rt, &mut seat.front, job.ticket) {
         return None;
     }
-    let Err((fault, _)) = board.finish(rt, seat, run_keeping(alloc, recent, job)) else {
+    let done = run_with_others(rt, alloc, board, job);
+    let Err((fault, _)) = board.finish(rt, seat, done) else {
         seat.front.legal();
         return None;
     };
@@ -54,8 +68,9 @@ fn run_one<C: Crew, R: Wait, G: Gate>(
 }
 
 /// Works at a board through a seat: takes a job, passes the gate, runs the job if it is still wanted and brings it back, until there is
-/// none. A seat with the same mark and number comes back, and what ended the work early: the session is full, the desk doesn't know what ran
-/// (`OtherText`), or memory was refused. Where a job ended meanwhile its run is dropped.
+/// none. A seat with the same mark and number comes back, and what ended the work early: the session is full, the desk doesn't know what
+/// ran (`OtherText`), or memory was refused. Where a job ended meanwhile its run is dropped. `None` beside the seat: the board has ended by
+/// then, and by `Drain` no job was queued.
 ///
 /// It waits for jobs, and for the lock.
 pub fn work<C: Crew, R: Wait, G: Gate>(
@@ -70,14 +85,13 @@ pub fn work<C: Crew, R: Wait, G: Gate>(
     ensures rests { IfNone result.1 (HasNoJob result.0.front) }
 {
     let mut seat = seat;
-    let mut recent = Recent::new();
     for _ in rt.forever() {
         let job = match board.take(rt, &mut seat) {
             Ok(Some(job)) => job,
             Ok(None) => return (seat, None),
             Err(fault) => return (seat, Some(fault)),
         };
-        if let Some(fault) = run_one(rt, alloc, board, &mut seat, gate, &mut recent, job) {
+        if let Some(fault) = run_one(rt, alloc, board, &mut seat, gate, job) {
             return (seat, Some(fault));
         }
     }

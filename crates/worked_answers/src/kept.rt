@@ -1,95 +1,40 @@
-//! Texts that help to tell what is found in the next one, and such that don't. What is then found is written out by hand.
-
-ghost use Rattle.std.specs.Prelude.{IfOk};
-ghost use Rattle.abnf_lint.specs.Rows.{AreRows};
+//! Texts by which it is found what the next one has: what is found is written out here, and where there are many rules it is compared
+//! with what the next text's own blocks and its grammar say.
 
 use super::found::{finds, snapshot, told};
 use abnf_kept::{Diagnosed, Recent};
-use abnf_lint::Finding;
-use abnf_names::Grammar;
-use abnf_productive::findings_in;
-use ls_lists::List;
 use ls_text::Snapshot;
 use std::alloc::{AllocError, Global};
 use std::sync::Arc;
 use std::test::Fail;
-
-fn found_in(alloc: Global, text: &Snapshot) -> Result<List<Finding>, AllocError>
-    ensures { IfOk result (λ found. AreRows text.now found) }
-{
-    let grammar = Grammar::of(alloc, text)?;
-    let found = findings_in(alloc, &grammar);
-    drop(grammar);
-    found
-}
 
 fn shared(alloc: Global, text: &str) -> Result<Arc<Snapshot>, Fail> {
     Ok(Arc::new(alloc, snapshot(alloc, text)?)?)
 }
 
 /// What was found in a text, which is let go here.
-fn told_of(alloc: Global, diagnosed: Option<Diagnosed>) -> Result<Option<String>, AllocError> {
-    let Some(diagnosed) = diagnosed else {
-        return Ok(None);
-    };
+fn told_of(alloc: Global, diagnosed: Diagnosed) -> Result<String, AllocError> {
     let found = told(alloc, diagnosed.findings());
     drop(diagnosed);
-    Ok(Some(found?))
+    found
 }
 
-/// Whether something is told, and it is this.
-fn is_told(told: Option<String>, want: &str) -> bool {
-    match told {
-        Some(told) => told.as_str() == want,
-        None => false,
-    }
-}
-
-/// A text as the blocks of another one help to tell it.
-fn followed(
-    alloc: Global,
-    before: Arc<Snapshot>,
-    text: Arc<Snapshot>,
-) -> Result<Option<Diagnosed>, AllocError> {
-    match Diagnosed::of(alloc, before)? {
-        Some(diagnosed) => diagnosed.followed(alloc, text),
-        None => Ok(None),
-    }
-}
-
-/// Whether the blocks of a text tell just this to be found in it, as its grammar does.
+/// Whether the blocks of a text say just this to be found in it, as its grammar does.
 fn tells(alloc: Global, text: &str, want: &str) -> Result<bool, Fail> {
     let diagnosed = Diagnosed::of(alloc, shared(alloc, text)?)?;
-    Ok(is_told(told_of(alloc, diagnosed)?, want) && finds(alloc, text, want)?)
+    Ok(told_of(alloc, diagnosed)?.as_str() == want && finds(alloc, text, want)?)
 }
 
-/// What is found in a text as the blocks of another one help to tell it.
-fn told_by(alloc: Global, before: &str, text: &str) -> Result<Option<String>, Fail> {
+/// What is found in a text by what is kept of another one.
+fn told_by(alloc: Global, before: &str, text: &str) -> Result<String, Fail> {
     let (before, text) = (shared(alloc, before)?, shared(alloc, text)?);
-    Ok(told_of(alloc, followed(alloc, before, text)?)?)
+    let diagnosed = Diagnosed::of(alloc, before)?.followed(alloc, text)?;
+    Ok(told_of(alloc, diagnosed)?)
 }
 
-/// Whether the blocks of a text help to tell what is found in another one, and just this is found there.
+/// Whether just this is found in a text by what is kept of another one, and by the text's grammar.
 fn goes_over(alloc: Global, before: &str, text: &str, want: &str) -> Result<bool, Fail> {
-    Ok(is_told(told_by(alloc, before, text)?, want) && finds(alloc, text, want)?)
-}
-
-/// The same of a text of which only what is found is known: it moves, or nothing is told.
-fn moves(alloc: Global, before: &str, text: &str, want: &str) -> Result<bool, Fail> {
-    let (before, text) = (shared(alloc, before)?, shared(alloc, text)?);
-    let found = found_in(alloc, &before)?;
-    let followed = Diagnosed::new(before, found).followed(alloc, text)?;
-    Ok(is_told(told_of(alloc, followed)?, want))
-}
-
-/// Both.
-fn go_over(alloc: Global, before: &str, text: &str, want: &str) -> Result<bool, Fail> {
-    Ok(goes_over(alloc, before, text, want)? && moves(alloc, before, text, want)?)
-}
-
-/// Whether only the blocks of a text help.
-fn are_read(alloc: Global, before: &str, text: &str, want: &str) -> Result<bool, Fail> {
-    Ok(goes_over(alloc, before, text, want)? && !moves(alloc, before, text, want)?)
+    Ok(told_by(alloc, before, text)?.as_str() == want && finds(alloc, text, want)?)
 }
 
 #[test]
@@ -116,11 +61,11 @@ fn of_comments_and_quotes(rt: HostRuntime) -> Result<(), Fail> {
         rt.alloc(),
         "1:0-1:1 2 unproductive rule b generates nothing\n",
     );
-    assert!(rt; go_over(alloc, "a = \"x\"\nb = b", "a = \"x\" ; y\nb = b", found)?);
-    assert!(rt; go_over(alloc, "a = \"x\" ; y\nb = b", "a = \"y\"\nb = b", found)?);
-    assert!(rt; go_over(alloc, "a = <x>\nb = b", "a = <no x>\nb = b", found)?);
+    assert!(rt; goes_over(alloc, "a = \"x\"\nb = b", "a = \"x\" ; y\nb = b", found)?);
+    assert!(rt; goes_over(alloc, "a = \"x\" ; y\nb = b", "a = \"y\"\nb = b", found)?);
+    assert!(rt; goes_over(alloc, "a = <x>\nb = b", "a = <no x>\nb = b", found)?);
     assert!(rt;
-        go_over(
+        goes_over(
             alloc,
             "a = c c\nb = b\nc = %x20",
             "a = c  C\nb = b\nc = %x20",
@@ -138,13 +83,13 @@ fn of_lines(rt: HostRuntime) -> Result<(), Fail> {
         "1:6-1:7 1 syntax bad character\n",
     );
     let below = "2:6-2:7 1 syntax bad character\n";
-    assert!(rt; go_over(alloc, text, text, found)?);
-    assert!(rt; go_over(alloc, text, "\na = \"x\" \"y\"\nb = c ?\n", below)?);
-    assert!(rt; go_over(alloc, text, "a = \"x\"\n \"y\"\nb = c ?\n", below)?);
-    assert!(rt; go_over(alloc, text, "a = \"x\" \"y\"\n; c\nb = c ?\n", below)?);
-    assert!(rt; go_over(alloc, text, "a = \"x\" \"y\"\r\nb = c ?\r\n", found)?);
+    assert!(rt; goes_over(alloc, text, text, found)?);
+    assert!(rt; goes_over(alloc, text, "\na = \"x\" \"y\"\nb = c ?\n", below)?);
+    assert!(rt; goes_over(alloc, text, "a = \"x\"\n \"y\"\nb = c ?\n", below)?);
+    assert!(rt; goes_over(alloc, text, "a = \"x\" \"y\"\n; c\nb = c ?\n", below)?);
+    assert!(rt; goes_over(alloc, text, "a = \"x\" \"y\"\r\nb = c ?\r\n", found)?);
     assert!(rt;
-        go_over(
+        goes_over(
             alloc,
             "; c\n\na = b\n",
             "a = b\n",
@@ -158,7 +103,7 @@ fn of_lines(rt: HostRuntime) -> Result<(), Fail> {
 fn of_other_items(rt: HostRuntime) -> Result<(), Fail> {
     let alloc = rt.alloc();
     assert!(rt;
-        are_read(
+        goes_over(
             alloc,
             "a = b\nb = \"x\"",
             "a = c\nb = \"x\"",
@@ -166,7 +111,7 @@ fn of_other_items(rt: HostRuntime) -> Result<(), Fail> {
         )?
     );
     assert!(rt;
-        are_read(
+        goes_over(
             alloc,
             "a = \"x\"\nb = c a\nc = b",
             "a = \"x\"\nc = b / a",
@@ -174,7 +119,7 @@ fn of_other_items(rt: HostRuntime) -> Result<(), Fail> {
         )?
     );
     assert!(rt;
-        are_read(
+        goes_over(
             alloc,
             "a = \"x\" \"y\"",
             "a = \"x\"\"y\"",
@@ -182,7 +127,7 @@ fn of_other_items(rt: HostRuntime) -> Result<(), Fail> {
         )?
     );
     assert!(rt;
-        are_read(
+        goes_over(
             alloc,
             "a = \"x\"\nb = \"y\"",
             "a = \"x\"\nb =/ \"y\"",
@@ -191,7 +136,7 @@ fn of_other_items(rt: HostRuntime) -> Result<(), Fail> {
     );
     // A line that continued a rule begins a block.
     assert!(rt;
-        are_read(
+        goes_over(
             alloc,
             "a = \"x\"\n \"y\"",
             "a = \"x\"\n\"y\"",
@@ -200,7 +145,7 @@ fn of_other_items(rt: HostRuntime) -> Result<(), Fail> {
     );
     // Rules come and go in the middle, and what stands behind them is told by its new lines.
     assert!(rt;
-        are_read(
+        goes_over(
             alloc,
             "a = \"x\"\nb = \"y\"\nc = d",
             "a = \"x\"\ne = a\nf = a\nc = d",
@@ -208,7 +153,7 @@ fn of_other_items(rt: HostRuntime) -> Result<(), Fail> {
         )?
     );
     assert!(rt;
-        are_read(
+        goes_over(
             alloc,
             "a = \"x\"\nb = \"y\"\nc = d",
             "c = d",
@@ -222,7 +167,7 @@ fn of_other_items(rt: HostRuntime) -> Result<(), Fail> {
 fn of_blocks_with_findings(rt: HostRuntime) -> Result<(), Fail> {
     let alloc = rt.alloc();
     assert!(rt;
-        are_read(
+        goes_over(
             alloc,
             "a = b",
             "a = b ; c",
@@ -230,7 +175,7 @@ fn of_blocks_with_findings(rt: HostRuntime) -> Result<(), Fail> {
         )?
     );
     assert!(rt;
-        are_read(
+        goes_over(
             alloc,
             "a = ?\nb = \"x\"",
             "a = ?\n\nb = \"x\"",
@@ -240,15 +185,11 @@ fn of_blocks_with_findings(rt: HostRuntime) -> Result<(), Fail> {
     Ok(())
 }
 
-/// Whether a text doesn't help to tell what is found in another one.
-fn stays(alloc: Global, before: &str, text: &str) -> Result<bool, Fail> {
-    Ok(told_by(alloc, before, text)?.is_none())
-}
-
 #[test]
 fn of_another_indent(rt: HostRuntime) -> Result<(), Fail> {
     let alloc = rt.alloc();
-    assert!(rt; stays(alloc, " a = \"x\"\n b = \"y\"", "a = \"x\"\n b = \"y\"")?);
+    assert!(rt; goes_over(alloc, " a = \"x\"\n b = \"y\"", "a = \"x\"\n \"y\"", "")?);
+    assert!(rt; goes_over(alloc, "a = b\nb = \"x\"", "  a = b\n  b = \"x\"", "")?);
     assert!(rt; goes_over(alloc, "a = \"x\"", "", "")?);
     Ok(())
 }
@@ -262,8 +203,144 @@ r8 = r7\nr6 = r5\nr4 = r3\nr2 = r1\nr0 = \"x\"";
 #[test]
 fn of_rules_to_and_fro(rt: HostRuntime) -> Result<(), Fail> {
     let alloc = rt.alloc();
-    assert!(rt; !tells(alloc, TO_AND_FRO, "")?);
+    assert!(rt; tells(alloc, TO_AND_FRO, "")?);
     assert!(rt; finds(alloc, TO_AND_FRO, "")?);
+    Ok(())
+}
+
+/// So many rules with names of their own, behind the same first one.
+fn rules_named(alloc: Global, letter: char, count: u32) -> Result<String, AllocError> {
+    let mut text = String::from_str(alloc, "start = %x20\n")?;
+    for n in 0..count {
+        text.push_str(format!(in alloc; "{letter}{n} = {letter}{}\n", n / 2)?.as_str())?;
+    }
+    Ok(text)
+}
+
+/// The first line of one text behind that of another.
+fn with_first_line(alloc: Global, line: &str, text: &str) -> Result<String, AllocError> {
+    let mut all = String::from_str(alloc, line)?;
+    all.push_str(text)?;
+    Ok(all)
+}
+
+/// Whether the same is found in a text by what is kept of another one and by the text's own blocks.
+fn follows(alloc: Global, before: &str, text: &str) -> Result<bool, Fail> {
+    let all = told_of(alloc, Diagnosed::of(alloc, shared(alloc, text)?)?)?;
+    goes_over(alloc, before, text, all.as_str())
+}
+
+#[test]
+fn of_many_new_names(rt: HostRuntime) -> Result<(), Fail> {
+    let alloc = rt.alloc();
+    let (few, many) = (
+        rules_named(alloc, 'a', 20)?,
+        rules_named(alloc, 'b', 1_500)?,
+    );
+    assert!(rt; follows(alloc, few.as_str(), many.as_str())?);
+    assert!(rt; follows(alloc, many.as_str(), few.as_str())?);
+    assert!(rt;
+        follows(
+            alloc,
+            many.as_str(),
+            rules_named(alloc, 'c', 1_500)?.as_str()
+        )?
+    );
+    Ok(())
+}
+
+/// A block of so many names that no rule has.
+fn alternatives(alloc: Global, count: u32) -> Result<String, AllocError> {
+    let mut text = String::from_str(alloc, "start = %x20\n")?;
+    for n in 0..count {
+        text.push_str(format!(in alloc; "  / n{n}\n")?.as_str())?;
+    }
+    Ok(text)
+}
+
+#[test]
+fn of_a_long_block(rt: HostRuntime) -> Result<(), Fail> {
+    let alloc = rt.alloc();
+    let (long, longer) = (alternatives(alloc, 1_500)?, alternatives(alloc, 1_501)?);
+    assert!(rt; follows(alloc, "start = %x20\n", long.as_str())?);
+    assert!(rt; follows(alloc, long.as_str(), longer.as_str())?);
+    let commented = with_first_line(alloc, "; c\n", long.as_str())?;
+    assert!(rt; follows(alloc, long.as_str(), commented.as_str())?);
+    Ok(())
+}
+
+#[test]
+fn of_both_ends_at_once(rt: HostRuntime) -> Result<(), Fail> {
+    let alloc = rt.alloc();
+    assert!(rt;
+        goes_over(
+            alloc,
+            "a = b\nb = c ; d\nc = d\nd = %x20\n",
+            "a = b b\nb = c ; d\nc = d\nd = e\n",
+            "0:0-0:1 2 unproductive rule a generates nothing\n\
+             1:0-1:1 2 unproductive rule b generates nothing\n\
+             2:0-2:1 2 unproductive rule c generates nothing\n\
+             3:0-3:1 2 unproductive rule d generates nothing\n\
+             3:4-3:5 1 undefined undefined rule e\n"
+        )?
+    );
+    // Blocks come and go between them, and stand in another order.
+    assert!(rt;
+        goes_over(
+            alloc,
+            "a = b\nb = %x20\nc = %x21\nd = %x22\ne = a",
+            "a = c\nd = %x22\nx = a\nb = %x20 ; y\n c\nc = %x21\ne = x",
+            ""
+        )?
+    );
+    // A block with a fault stands between them.
+    assert!(rt;
+        goes_over(
+            alloc,
+            "a = %x20\nb = ?\nc = a",
+            "a = %x21\nb = ?\nc = b",
+            "1:4-1:5 1 syntax bad character\n"
+        )?
+    );
+    Ok(())
+}
+
+#[test]
+fn of_lines_above_all_rules(rt: HostRuntime) -> Result<(), Fail> {
+    let alloc = rt.alloc();
+    let (blank, found) = (
+        "\n\n; c\n\na = b\n",
+        "4:0-4:1 2 unproductive rule a generates nothing\n4:4-4:5 1 undefined undefined rule b\n",
+    );
+    assert!(rt; goes_over(alloc, blank, "\n ; d\n; c\n\na = b\n", found)?);
+    assert!(rt; goes_over(alloc, blank, "\n\n; c\nb = %x20\na = b\n", "")?);
+    assert!(rt; goes_over(alloc, blank, "\n\n; c\n\n", "")?);
+    assert!(rt; goes_over(alloc, "\n\n\n", "\n; c\n\n", "")?);
+    assert!(rt; goes_over(alloc, "\n\n\n", blank, found)?);
+    // The first line with content is deep behind others, and one comes before it.
+    let mut deep = String::new(alloc);
+    for _ in 0..200 {
+        deep.push_str("; c\n")?;
+    }
+    let rules = with_first_line(alloc, deep.as_str(), "  a = %x20\n  b = a\n")?;
+    let other = with_first_line(alloc, deep.as_str(), "  a = %x20 ; c\n  b = a a\n")?;
+    assert!(rt; follows(alloc, rules.as_str(), other.as_str())?);
+    assert!(rt;
+        follows(
+            alloc,
+            rules.as_str(),
+            with_first_line(alloc, "\n", rules.as_str())?.as_str()
+        )?
+    );
+    assert!(rt;
+        follows(
+            alloc,
+            rules.as_str(),
+            with_first_line(alloc, " c = a\n", rules.as_str())?.as_str()
+        )?
+    );
+    assert!(rt; follows(alloc, rules.as_str(), deep.as_str())?);
+    assert!(rt; follows(alloc, deep.as_str(), rules.as_str())?);
     Ok(())
 }
 
@@ -275,16 +352,9 @@ const DRAFT_FOUND: &str = "0:0-0:1 2 unproductive rule a generates nothing\n\
     2:0-2:1 2 unproductive rule b generates nothing\n\
     4:0-4:1 2 unproductive rule c generates nothing\n";
 
-/// Keeps a text if it is diagnosed.
-fn keep(recent: &mut Recent, diagnosed: Option<Diagnosed>) {
-    if let Some(diagnosed) = diagnosed {
-        recent.keep(diagnosed);
-    }
-}
-
 /// Keeps a text, diagnosed.
 fn keep_text(alloc: Global, recent: &mut Recent, text: &str) -> Result<(), Fail> {
-    keep(recent, Diagnosed::of(alloc, shared(alloc, text)?)?);
+    recent.keep(Diagnosed::of(alloc, shared(alloc, text)?)?);
     Ok(())
 }
 
@@ -300,7 +370,7 @@ fn is_near(alloc: Global, recent: &mut Recent, text: &str, want: &str) -> Result
 }
 
 #[test]
-fn of_two_texts_in_turn(rt: HostRuntime) -> Result<(), Fail> {
+fn of_texts_in_turn(rt: HostRuntime) -> Result<(), Fail> {
     let alloc = rt.alloc();
     let mut recent = Recent::new();
     assert!(rt; !is_near(alloc, &mut recent, DRAFT, DRAFT_FOUND)?);
@@ -324,9 +394,51 @@ fn of_two_texts_in_turn(rt: HostRuntime) -> Result<(), Fail> {
             DRAFT_FOUND
         )?
     );
-    // A third one takes the place of that which was used longest ago.
     keep_text(alloc, &mut recent, "p = %x20\nq = %x21\nr = p q\n")?;
-    assert!(rt; !is_near(alloc, &mut recent, CORE, "")?);
+    keep_text(alloc, &mut recent, "k = %x22\nl = %x23\nm = k l\n")?;
+    assert!(rt; is_near(alloc, &mut recent, CORE, "")?);
+    // A fifth one takes the place of that which was used longest ago.
+    keep_text(alloc, &mut recent, "s = %x24\nt = %x25\nu = s t\n")?;
+    assert!(rt; !is_near(alloc, &mut recent, DRAFT, DRAFT_FOUND)?);
+    assert!(rt; is_near(alloc, &mut recent, CORE, "")?);
+    Ok(())
+}
+
+#[test]
+fn of_the_nearest_text(rt: HostRuntime) -> Result<(), Fail> {
+    let alloc = rt.alloc();
+    let mut recent = Recent::new();
+    keep_text(alloc, &mut recent, "a = b\nb = c\nc = d\nd = a\n")?;
+    keep_text(alloc, &mut recent, "a = b\nb = c\nc = d\nd = %x20\n")?;
+    assert!(rt;
+        is_near(
+            alloc,
+            &mut recent,
+            "a = b\nb = c\nc = d ; e\nd = a\n",
+            "0:0-0:1 2 unproductive rule a generates nothing\n\
+             1:0-1:1 2 unproductive rule b generates nothing\n\
+             2:0-2:1 2 unproductive rule c generates nothing\n\
+             3:0-3:1 2 unproductive rule d generates nothing\n"
+        )?
+    );
+    Ok(())
+}
+
+/// What others lend is given back.
+#[test]
+fn of_a_text_that_is_lent(rt: HostRuntime) -> Result<(), Fail> {
+    let alloc = rt.alloc();
+    let mut recent = Recent::new();
+    keep_text(alloc, &mut recent, DRAFT)?;
+    keep_text(alloc, &mut recent, CORE)?;
+    let mut lent = recent.lend(&snapshot(alloc, DRAFT)?);
+    assert!(rt; !is_near(alloc, &mut recent, DRAFT, DRAFT_FOUND)?);
+    assert!(rt; is_near(alloc, &mut recent, CORE, "")?);
+    assert!(rt; !is_near(alloc, &mut lent, CORE, "")?);
+    assert!(rt; is_near(alloc, &mut lent, DRAFT, DRAFT_FOUND)?);
+    recent.take_back(lent);
     assert!(rt; is_near(alloc, &mut recent, DRAFT, DRAFT_FOUND)?);
+    recent.take_back(Recent::new());
+    assert!(rt; is_near(alloc, &mut recent, CORE, "")?);
     Ok(())
 }

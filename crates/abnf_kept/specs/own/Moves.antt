@@ -11,6 +11,7 @@ use Rattle.abnf_kept.specs.declared.difference.Difference.{Difference}
 abbrev pub IsOutside : Difference → ℕ → Type 0
 IsOutside part line = (line < part.front) ⊎ ((part.old ≤ line) × ((line - part.old) + part.new < 2 ^ 64))
 
+-- the same of the place of a fault
 abbrev pub IsFaultOutside : Difference → SyntaxFault → Type 0
 IsFaultOutside part (f.NoName p) = IsOutside part p.line
 IsFaultOutside part (f.NoDefinedAs p) = IsOutside part p.line
@@ -22,12 +23,15 @@ IsFaultOutside part (f.NumberTooLarge p) = IsOutside part p.line
 IsFaultOutside part (f.TooDeep p) = IsOutside part p.line
 IsFaultOutside part f.Memory = Unit {0}
 
+-- the same of a code's fault
 abbrev pub IsCodeOutside : Difference → Code → Type 0
 IsCodeOutside part (c.Syntax fault) = IsFaultOutside part fault
 IsCodeOutside part code = Unit {0}
 
+-- the same of the place of a finding, and of its code
 abbrev pub IsFoundOutside : Difference → Finding → Type 0
 IsFoundOutside part found = IsOutside part found.place.line × IsCodeOutside part found.code
 
+-- the same of each finding
 abbrev pub AreFoundOutside : Difference → List Finding → Type 0
 AreFoundOutside part rows = All (IsFoundOutside part) rows

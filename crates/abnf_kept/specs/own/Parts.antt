@@ -3,6 +3,7 @@ use Rattle.std.specs.Prelude.{◌≡◌, ℕ, ◌+◌, ◌<◌, ◌≤◌, List,
 use Rattle.abnf_token.specs.Classes.{Text}
 use Rattle.abnf_kept.specs.declared.difference.Difference.{Difference}
 
+-- a line, or the place behind the last one
 abbrev pub IsWithin : List Text → ℕ → Type 0
 IsWithin ls at = at ≤ length ls
 

@@ -1,16 +1,18 @@
 -- Blocks of some lines that are read, and what is found in one of them.
-use Rattle.std.specs.Prelude.{◌≡◌, ◌++◌, ℕ, List, Some, slice_get}
+use Rattle.std.specs.Prelude.{◌≡◌, ◌<◌, ◌++◌, ℕ, List, Some, false, length, slice_get}
 use Rattle.abnf_token.specs.Classes.{Text}
 use Rattle.abnf_syntax.specs.Blocks.{AreBlocksUpTo, AreBlocks}
 use Rattle.abnf_names.specs.Said.{Block, AreWithin}
 use Rattle.abnf_names.specs.Shown.{fault_shown}
 use Rattle.abnf_lint.specs.declared.finding.Finding.{Finding}
 use Rattle.abnf_outcome.specs.declared.outcome.Outcome.{Outcome}
+use Rattle.abnf_outcome.specs.declared.digest.BlockDigest.{BlockDigest}
 use Rattle.abnf_outcome.specs.declared.found_in.BlockTold.{BlockTold}
 use Rattle.abnf_outcome.specs.Found.{found_by}
 use Rattle.abnf_outcome.specs.KeptBlocks.{AreKept}
 use Rattle.abnf_outcome.specs.Outcomes.{told_in}
 use Rattle.abnf_outcome.specs.Stored.{Stored}
+use Rattle.abnf_kept.specs.own.Walks.{SayTheSame}
 
 -- The blocks of the lines from one place up to another are kept, behind the others.
 pub record AddsBetween (ls : List Text) (from to : ℕ) (old new : Stored) : Type 0 where
@@ -19,6 +21,14 @@ pub record AddsBetween (ls : List Text) (from to : ℕ) (old new : Stored) : Typ
   pub all : AreBlocksUpTo ls from to bounds
   pub each : AreWithin ls bounds blocks
   pub kept : (bs : List (ℕ × ℕ)) (others : List Block) → AreKept old bs others → AreKept new (bs ++ bounds) (others ++ blocks)
+
+-- The block of which this is kept at a place says what some lines of another text say, and has no findings of its own.
+pub record IsLike (ls : List Text) (to : ℕ) (kept : List BlockDigest) (others : List Text) (first end at : ℕ) : Type 0 where
+  pub block : BlockDigest
+  pub within : (at < to) × (at < length kept)
+  pub is : slice_get kept at ≡ Some block
+  pub quiet : block.has_own ≡ false
+  pub same : SayTheSame ls block.first block.behind others first end
 
 -- What is found in the block at a place, whichever blocks these lines have, stands behind what was found.
 abbrev pub FindsIn : List Text → Stored → Outcome → ℕ → List Finding → List Finding → Type 0

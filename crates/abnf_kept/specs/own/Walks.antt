@@ -7,12 +7,13 @@ use Rattle.abnf_syntax.specs.Kinds.{is_item}
 use Rattle.abnf_digests.specs.BareItems.{BareItem, bare_text, AreBareItems}
 use Rattle.abnf_kept.specs.declared.line_item.Stand.{Stand}
 use Rattle.abnf_kept.specs.declared.line_item.LineItem.{LineItem}
-use Rattle.abnf_kept.specs.declared.difference.Difference.{Difference}
 use Rattle.abnf_kept.specs.declared.walk.Walk.{Walk}
 
+-- what the next item says besides its token: that it begins a block, and that it stands apart from the one before
 abbrev pub stand : Bool → Bool → Stand
 stand begins apart = record { begins = begins; apart = apart }
 
+-- the bare item of an item of a line
 abbrev pub bare_item_of : LineItem → BareItem
 bare_item_of t = record { begins = t.stand.begins; kind = t.kind; text = bare_text t.kind t.text.now; apart = t.stand.apart }
 
@@ -32,6 +33,7 @@ pub record AreLeft (ls : List Text) (at end : ℕ) (line : Text) (s : Stand) (le
   pub behind_are : AreBareItems ls at end behind
   pub bare_items_are : bare_items ≡ bare_items_marked line s left ++ behind
 
+-- these are still to come where a walk is
 abbrev pub Leaves : Walk → List BareItem → Type 0
 Leaves w bare_items = AreLeft w.sheet.now w.at w.end w.row.text.now w.stand (drop w.next w.row.marks.now) bare_items
 
@@ -48,6 +50,7 @@ GivesAll old bare_items new = (rest : List BareItem) → Leaves new rest → Lea
 abbrev pub GivesBareItem : Walk → BareItem → Walk → Type 0
 GivesBareItem old e new = (rest : List BareItem) → Leaves new rest → Leaves old (e ∷ rest)
 
+-- The walk goes on over this item.
 abbrev pub Gives : Walk → LineItem → Walk → Type 0
 Gives old t new = GivesBareItem old (bare_item_of t) new
 
@@ -66,8 +69,8 @@ pub record Turns (old new : Walk) : Type 0 where
   pub at : new.at ≡ suc old.at
   pub end : new.end ≡ old.end
 
--- The lines of a part say the same of blocks as those in their place.
-pub record SayTheSame (ls others : List Text) (part : Difference) : Type 0 where
+-- The lines of a text from one up to another say the same of blocks as some lines of another text.
+pub record SayTheSame (ls : List Text) (from to : ℕ) (others : List Text) (there end : ℕ) : Type 0 where
   pub bare_items : List BareItem
-  pub ours : AreBareItems ls part.front part.old bare_items
-  pub theirs : AreBareItems others part.front part.new bare_items
+  pub ours : AreBareItems ls from to bare_items
+  pub theirs : AreBareItems others there end bare_items

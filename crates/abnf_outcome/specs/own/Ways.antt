@@ -1,5 +1,5 @@
 -- Two ways of marking names by their numbers: those that hold, and those that lead to something opaque.
-use Rattle.std.specs.Prelude.{◌≡◌, ◌↔◌, ℕ, ◌<◌, ◌≤◌, Bool, true, false, not, ◌&&◌, nat_eq, Contains, List, Option, Some, None, flat_map, length, slice_get, slice_set, slice_range}
+use Rattle.std.specs.Prelude.{◌≡◌, ◌↔◌, ℕ, suc, ◌<◌, ◌≤◌, Bool, true, false, not, ◌&&◌, nat_eq, Contains, List, [], ◌∷◌, Option, Some, None, flat_map, length, slice_get, slice_set, slice_range}
 use Rattle.std.specs.List.{list_any}
 use Rattle.std.specs.Option.{option_map_or}
 use Rattle.abnf_parts.specs.Core.{is_core_name}
@@ -36,6 +36,7 @@ is_lead at (ref name rule) = at name
 is_lead at opaque = true
 is_lead at _ = false
 
+-- a part below it, or it itself, is
 abbrev pub leads : (Name → Bool) → Part → Bool
 leads at part = list_any (is_lead at) (subparts part)
 
@@ -47,6 +48,7 @@ is_leading_word marks _ = false
 
 -- ---- either way
 
+-- whether a name is marked: of names that hold those of core rules count, too
 abbrev pub marked_at : Way → List Name → List Bool → Name → Bool
 marked_at Holding = held_at
 marked_at Leading = name_mark
@@ -85,15 +87,18 @@ pub record IsMarkedSo (way : Way) (words : List Word) (marks : List Bool) (block
   pub head : HeadNumber
   pub is : block.head ≡ Some head
   pub counts : role.is_duplicate ≡ false
+  pub within : head.name < length marks
+  pub fresh : mark_at marks head.name ≡ false
   pub reason : SaysSo way words marks block true
   pub marked : after ≡ slice_set marks head.name true
 
 -- if a block counts whose name isn't marked, none of its gists is a reason
 abbrev pub IsSwept : Way → List Word → List Bool → BlockDigest → HeadRole → Type 0
 IsSwept way words marks block role =
-    (head : HeadNumber) → block.head ≡ Some head → role.is_duplicate ≡ false → mark_at marks head.name ≡ false → block.start ≤ block.end →
+    (head : HeadNumber) → block.head ≡ Some head → role.is_duplicate ≡ false → head.name < length marks → mark_at marks head.name ≡ false → block.start ≤ block.end →
     block.end ≤ length words → SaysSo way words marks block false
 
+-- it is so of each block
 abbrev pub AreSwept : Way → List Word → List BlockDigest → List HeadRole → List Bool → Type 0
 AreSwept way words blocks roles marks =
     (k : ℕ) (block : BlockDigest) (role : HeadRole) → slice_get blocks k ≡ Some block → slice_get roles k ≡ Some role → IsSwept way words marks block role
@@ -103,11 +108,12 @@ abbrev pub AreSoundByWayFor : Way → List Name → List Word → List BlockDige
 AreSoundByWayFor way table words blocks roles marks =
     (digests : List Digest) → AreStored table words blocks digests → AreRoles digests roles → AreSoundByWay way table digests marks
 
--- they say which names hold, or which lead to something opaque, whichever digests are kept so
+-- they say which names hold, whichever digests are kept so
 abbrev pub AreHoldingMarksFor : List Name → List Word → List BlockDigest → List HeadRole → List Bool → Type 0
 AreHoldingMarksFor table words blocks roles marks =
     (digests : List Digest) → AreStored table words blocks digests → AreRoles digests roles → AreHoldingMarks digests (held_at table marks)
 
+-- they say which names lead to something opaque, whichever digests are kept so
 abbrev pub AreLeadingMarksFor : List Name → List Word → List BlockDigest → List HeadRole → List Bool → Type 0
 AreLeadingMarksFor table words blocks roles marks =
     (digests : List Digest) → AreStored table words blocks digests → AreRoles digests roles → AreLeadingMarks digests (name_mark table marks)
@@ -134,6 +140,7 @@ is_unmarked marks (Some head) = not (mark_at marks head.name)
 
 -- ---- the names that blocks define, and those of core rules that none defines
 
+-- the head of a block has the name with this number
 abbrev pub heads_number : ℕ → BlockDigest → Bool
 heads_number number block = option_map_or (λ head. nat_eq head.name number) block.head false
 
@@ -146,7 +153,16 @@ pub record AreHeadMarks (table : List Name) (blocks : List BlockDigest) (marks :
 abbrev pub is_of_core : List Name → List Bool → ℕ → Bool
 is_of_core table defined number = not (mark_at defined number) && option_map_or is_core_name (slice_get table number) false
 
+-- one mark a name, which says whether a core rule has it and no block's head
 pub record AreCoreMarks (table : List Name) (blocks : List BlockDigest) (marks : List Bool) : Type 0 where
   pub one_each : length marks ≡ length table
   pub each : (number : ℕ) (name : Name) → slice_get table number ≡ Some name →
       mark_at marks number ≡ (is_core_name name && not (list_any (heads_number number) blocks))
+
+-- ---- how many names aren't marked
+
+-- how many of the marks are false
+abbrev pub unmarked : List Bool → ℕ
+unmarked [] = 0
+unmarked (true ∷ marks) = unmarked marks
+unmarked (false ∷ marks) = suc (unmarked marks)

@@ -10,7 +10,7 @@ use Rattle.abnf_syntax.specs.declared.fault.SyntaxFault.TheVariants.{Memory}
 use Rattle.abnf_syntax.specs.Kinds.{needs_element, ends_element}
 use Rattle.abnf_syntax.specs.Faults.{rows_of, least, open_after}
 
--- what the table says behind a last item and open brackets
+-- the fault that the table shows at the next item, or at the end, behind a last item and open brackets
 unfoldable pub fault_behind : Item → List Token → List Item → Option SyntaxFault
 fault_behind last brackets rest = least (rows_of last brackets rest)
 
@@ -22,7 +22,7 @@ shows_none last Prose = needs_element last
 shows_none last Slash = ends_element last
 shows_none last _ = false
 
--- the first fault that is shown from there on
+-- the first fault that the items behind a last item and open brackets show, or the end
 abbrev pub first_fault : Item → List Token → List Item → Option SyntaxFault
 first_fault last brackets [] = fault_behind last brackets []
 first_fault last brackets (item ∷ items) = option_or (fault_behind last brackets (item ∷ items)) (first_fault item (open_after brackets item) items)

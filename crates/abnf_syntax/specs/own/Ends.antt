@@ -20,7 +20,7 @@ View = Kind × Text × ℕ × ℕ
 abbrev pub view_at : ℕ → Text → TokenMark → View
 view_at at line mark = (mark.kind, slice_range line mark.start mark.end, at, mark.start)
 
--- the same of those that are items
+-- what those of a line's tokens with these marks say that are items
 abbrev pub items_at : ℕ → Text → List TokenMark → List View
 items_at at line [] = []
 items_at at line (mark ∷ marks) = if is_item mark.kind then view_at at line mark ∷ items_at at line marks else items_at at line marks
@@ -37,11 +37,13 @@ pub record AreSeen (ls : List Text) (first end : ℕ) (seen : List View) : Type 
   pub tokens_are : AreTokens ls first tokens
   pub seen_are : seen ≡ flat_map items_among tokens
 
+-- what the first items say, of which there are none, one or two
 abbrev pub front_views : Front → List View
 front_views Nothing = []
 front_views (One first) = view first ∷ []
 front_views (Two first second) = view first ∷ view second ∷ []
 
+-- two items are there, so more change nothing
 abbrev pub is_full : Front → Bool
 is_full (Two first second) = true
 is_full _ = false

@@ -13,13 +13,16 @@ pub record Gathering : Type 0 where
   pub items : List (Token × Bool)
   pub apart : Bool
 
+-- what the code has gathered, but for the addresses of texts
 abbrev pub gathering_of : Gathered → Gathering
 gathering_of g = record { items = map view g.items.items; apart = g.apart }
 
+-- there are items
 abbrev pub is_some : List (Token × Bool) → Bool
 is_some [] = false
 is_some (item ∷ items) = true
 
+-- a blank, a comment or a line end comes: the next item is apart, unless it is the first
 abbrev pub with_gap : Gathering → Gathering
 with_gap s = record { items = s.items; apart = is_some s.items }
 
@@ -28,10 +31,12 @@ abbrev pub gathered_on : Gathering → Option Token → Gathering
 gathered_on s None = with_gap s
 gathered_on s (Some t) = if is_item t.kind then record { items = s.items ++ (t, s.apart) ∷ []; apart = false } else with_gap s
 
+-- the state after some tokens and line ends
 abbrev pub after_all : Gathering → List (Option Token) → Gathering
 after_all s [] = s
 after_all s (t ∷ ts) = after_all (gathered_on s t) ts
 
+-- no items yet, and the first isn't apart
 abbrev pub nothing_gathered : Gathering
 nothing_gathered = record { items = []; apart = false }
 

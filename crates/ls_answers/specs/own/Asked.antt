@@ -6,7 +6,7 @@ use Rattle.ls_answers.specs.declared.ask.Ask.TheVariants as ask
 use Rattle.ls_answers.specs.declared.job.GrammarAsk.{GrammarAsk}
 use Rattle.ls_answers.specs.declared.job.GrammarAsk.TheVariants as grammar
 
--- the same among all questions
+-- the same question among all questions
 abbrev pub asked : GrammarAsk → Ask
 asked (grammar.Hover at) = ask.Hover at
 asked (grammar.Rename at new) = ask.Rename at new.now

@@ -5,6 +5,7 @@ use Rattle.abnf_syntax.specs.declared.ends.Headed.{Headed}
 use Rattle.ls_answers.specs.Outline.{token_range}
 use Rattle.ls_answers.specs.declared.answer.Symbol.{Symbol}
 
+-- the symbol of a block, from the start of its head's name, which is its first item, to the end of its last item
 abbrev pub headed_symbol : Encoding → List ℕ → Headed → Symbol
 headed_symbol encoding text block =
     let name = token_range encoding text block.head.name in

@@ -21,7 +21,7 @@ abbrev pub first_at : ℕ → ℕ → List Named → Option Named
 first_at line start [] = None
 first_at line start (n ∷ ns) = if stands_at line start n then Some n else None
 
--- what is told of the tokens of a line with these marks, where these places are left
+-- what is reported of the tokens of a line with these marks, where these places are left
 abbrev pub told_in_line : Encoding → Grammar → ℕ → List TokenMark → List Named → List SemanticToken
 told_in_line encoding g line [] places = []
 told_in_line encoding g line (mark ∷ marks) places =
@@ -32,7 +32,7 @@ abbrev pub left_behind : ℕ → List TokenMark → List Named → List Named
 left_behind line [] places = places
 left_behind line (mark ∷ marks) places = left_behind line marks (from_point line mark.start places)
 
--- what is told of the tokens of lines from this one on
+-- what is reported of the tokens of lines from this one on, beside the places of names that are left there
 abbrev pub told_in_lines : Encoding → Grammar → ℕ → List (List TokenMark) → List Named → List SemanticToken
 told_in_lines encoding g line [] places = []
 told_in_lines encoding g line (marks ∷ lines) places = told_in_line encoding g line marks places ++ told_in_lines encoding g (suc line) lines (left_behind line marks places)
@@ -47,7 +47,7 @@ abbrev pub AreLineMarks : List Text → ℕ → List (List TokenMark) → Type 0
 AreLineMarks ls at [] = Unit {0}
 AreLineMarks ls at (marks ∷ lines) = AreMarks (slice_index_or ls at []) marks × AreLineMarks ls (suc at) lines
 
--- So many lines have been walked: what is told of their tokens, and the places that are left.
+-- So many lines have been walked: what is reported of their tokens, and the places that are left.
 pub record HasWalked (encoding : Encoding) (g : Grammar) (count : ℕ) (tokens : List SemanticToken) (left : List Named) : Type 0 where
   pub lines : List (List TokenMark)
   pub count_is : length lines ≡ count
@@ -55,6 +55,6 @@ pub record HasWalked (encoding : Encoding) (g : Grammar) (count : ℕ) (tokens :
   pub told : tokens ≡ told_in_lines encoding g 0 lines g.places
   pub left_is : left ≡ left_behind_all 0 lines g.places
 
--- This is told of the tokens of all lines.
+-- This is reported of the tokens of all lines.
 abbrev pub AreToldTokens : Encoding → Grammar → List SemanticToken → Type 0
 AreToldTokens encoding g tokens = (left : List Named) × HasWalked encoding g (length (line_texts g.text)) tokens left

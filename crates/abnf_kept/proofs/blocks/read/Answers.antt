@@ -1,7 +1,12 @@
-use Rattle.std.proofs.Common.{◌≡◌, ◌+◌, ℕ, arith, subst, sym}
+use Rattle.std.proofs.Common.{◌≡◌, ◌+◌, ◌≤◌, ℕ, List, arith, length, subst, sym}
 use Rattle.abnf_syntax.specs.Blocks.{IsNextBlock}
 use Rattle.abnf_syntax.specs.Items.{AreItems}
 use Rattle.abnf_syntax.proofs.BlockLaws.{block_at}
+use Rattle.abnf_outcome.specs.declared.digest.BlockDigest.{BlockDigest}
+use Rattle.abnf_outcome.specs.KeptBlocks.{IsKeptOf}
+use Rattle.abnf_kept.specs.declared.blocks.Before.{Before}
+use Rattle.abnf_kept.specs.own.Reads.{IsLike}
+use Rattle.abnf_kept.proofs.CopiedBlocks.{copied_more, some_both}
 use Rattle.abnf_kept.proofs.ReadLaws.{HasRead, none_read, read_more, all_read}
 use Rattle.abnf_kept.proofs.blocks.read.Goals as goal
 
@@ -11,6 +16,23 @@ blocks-2-init c = none_read c.args.sheet.now c.args.from c.args.to c.args.digest
 pub of-requires : goal.of-requires
 of-requires c =
     block_at c.args.sheet.now c.blocks-2.first c.args.to c.next_block-end.result c.requires.seams.1 (c.blocks-2.invariant.begins c.blocks-2-test.true) c.next_block-end.ensures
+
+pub blocks-2-preserved-in_ok-push_again : goal.blocks-2-preserved-in_ok-push_again
+blocks-2-preserved-in_ok-push_again c =
+    let others = c.args.sheet.now in
+    let first = c.blocks-2.first in
+    let end = c.next_block-end.result in
+    let at = c.in-Some-like.at in
+    let both =
+    some_both (λ (b : Before). IsKeptOf b.sheet.now c.args.digests.now × (b.to ≤ length c.args.digests.now.kept))
+    (λ (b : Before). IsLike b.sheet.now b.to c.blocks-in-blocks-2.result.now others first end at) c.args.before c.requires.before c.in-Some-like.ensures
+    in
+    let before = both.0 in
+    let like : IsLike before.sheet.now before.to c.blocks-2.digests.kept others first end at =
+    subst (λ (ks : List BlockDigest). IsLike before.sheet.now before.to ks others first end at) c.blocks-in-blocks-2.ensures both.2
+    in
+    copied_more before.sheet.now others c.args.from c.args.to c.args.digests.now c.blocks-2.digests first end at before.to both.1.0 both.1.1 c.blocks-2.invariant like
+    c.blocks-2-test.true c.requires.seams.1 c.next_block-end.ensures c.push_again.new.self c.in_ok-push_again.ensures
 
 pub blocks-2-preserved : goal.blocks-2-preserved
 blocks-2-preserved c =
@@ -23,6 +45,6 @@ blocks-2-preserved c =
     (subst (λ (end : ℕ). AreItems c.args.sheet.now c.blocks-2.first end block.items) (sym ends) c.in_ok-block.ensures.items) c.in_ok-block.ensures.some c.in_ok-section.ensures
     c.in_ok-push.ensures)
 
-pub returns : goal.returns
-returns c =
+pub returns-clause-added : goal.returns-clause-added
+returns-clause-added c = λ t.
     all_read c.args.sheet.now c.args.from c.args.to c.args.digests.now c.blocks-2.first c.blocks-2.digests c.blocks-2.invariant (omega (arith, c.blocks-2-test.false))

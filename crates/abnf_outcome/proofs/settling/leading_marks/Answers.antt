@@ -1,11 +1,9 @@
-use Rattle.std.proofs.Common.{◌≡◌, ◌∙◌, Bool, Vec, Global, length, sym, ap, subst, arith}
+use Rattle.std.proofs.Common.{◌≡◌, ◌∙◌, length, sym, ap, subst, arith}
 use Rattle.std.specs.Prelude.{replicate, false}
-use Rattle.std.specs.Vec.{with_items}
 use Rattle.std.proofs.lemmas.List.{with_items_is}
 use Rattle.abnf_outcome.specs.own.Ways.{AreLeadingMarksFor}
-use Rattle.abnf_outcome.proofs.Sweeping.{led_are, none_at_first, none_found, some_found}
+use Rattle.abnf_outcome.proofs.Sweeping.{led_are, none_at_first}
 use Rattle.abnf_outcome.proofs.settling.leading_marks.Goals as goal
-use Rattle.abnf_outcome.proofs.settling.leading_marks.Goals.{then-settled, else-settled}
 
 pub returns : goal.returns
 returns c =
@@ -15,15 +13,9 @@ returns c =
     let roles = c.args.roles.now in
     let marks = c.sweep_all.new.marks in
     let long : length marks ≡ c.in_ok-marks.marks.len = omega arith in
-    let Are : Vec Bool Global → Type 0 = λ v. AreLeadingMarksFor table words blocks roles v.items in
-    elim c.if-settled.branch [
-      | then-settled w ↦
-          some_found Are c.if-settled.result (with_items c.in_ok-marks.marks marks) w.result-is
-          (subst (AreLeadingMarksFor table words blocks roles) (sym (with_items_is c.in_ok-marks.marks marks long))
-          (led_are words blocks roles marks table
-          (c.in_ok-settled.ensures.sound table
-          (none_at_first table words blocks roles c.deref_mut.result.now
-          (c.deref_mut.ensures.value ∙ (c.in_ok-marks.ensures.items_if_clones_equal (λ y e. e) ∙ ap (λ n. replicate n false) c.len.ensures))))
-          (c.in_ok-settled.ensures.done w.if-settled.true)))
-      | else-settled w ↦ none_found Are c.if-settled.result w.result-is
-    ]
+    subst (AreLeadingMarksFor table words blocks roles) (sym (with_items_is c.in_ok-marks.marks marks long))
+    (led_are words blocks roles marks table
+    (c.in_ok-sweep_all.ensures.sound table
+    (none_at_first table words blocks roles c.deref_mut.result.now
+    (c.deref_mut.ensures.value ∙ (c.in_ok-marks.ensures.items_if_clones_equal (λ y e. e) ∙ ap (λ n. replicate n false) c.len.ensures))))
+    c.in_ok-sweep_all.ensures.done)

@@ -1,6 +1,7 @@
-use Rattle.std.proofs.Common.{◌≡◌, ◌+◌, ◌∙◌, List, Bool, true, false, sym, subst, arith}
-use Rattle.abnf_outcome.specs.own.Ways.{AreSoundByWayFor}
+use Rattle.std.proofs.Common.{◌≡◌, ◌<◌, ◌≤◌, ◌+◌, ◌∙◌, List, Bool, true, false, sym, subst, arith}
+use Rattle.abnf_outcome.specs.own.Ways.{AreSoundByWayFor, unmarked}
 use Rattle.abnf_outcome.proofs.Passing.{AreDoneUpTo, all_done, one_done_more, step_sound}
+use Rattle.abnf_outcome.proofs.PendingLaws.{marked_less}
 use Rattle.abnf_outcome.proofs.sweep.sweep.Goals as goal
 use Rattle.abnf_outcome.proofs.sweep.sweep.Goals.{then-branch, else-branch}
 
@@ -21,11 +22,15 @@ loop-passed-preserved c =
             step_sound way words blocks roles marks place _ _ c.place_of-place.ensures.within c.requires after table (c.loop-passed.invariant.sound table s)
             (c.in_ok-visit.ensures.marked w.if-branch.true);
         done = λ e. absurd (let f : true ≡ false = sym w.any-is ∙ e in cc (f));
+        few = (let l : unmarked after < unmarked marks = marked_less way words marks after _ _ (c.in_ok-visit.ensures.marked w.if-branch.true) in omega (arith, l, c.loop-passed.invariant.few));
+        less = λ e. (let l : unmarked after < unmarked marks = marked_less way words marks after _ _ (c.in_ok-visit.ensures.marked w.if-branch.true) in omega (arith, l, c.loop-passed.invariant.few));
       }
       | else-branch w ↦
           let rest = c.in_ok-visit.ensures.rest w.if-branch.false in
           record {
             sound = λ table s. subst (λ (m : List Bool). AreSoundByWayFor way table words blocks roles m) (sym rest.0) (c.loop-passed.invariant.sound table s);
+            few = subst (λ (m : List Bool). unmarked m ≤ unmarked c.args.marks.now) (sym rest.0) c.loop-passed.invariant.few;
+            less = λ e. subst (λ (m : List Bool). unmarked m < unmarked c.args.marks.now) (sym rest.0) (c.loop-passed.invariant.less (sym w.any-is ∙ e));
             done = λ e.
                 subst (λ (m : List Bool). AreDoneUpTo way backwards words blocks roles m (passed + 1)) (sym rest.0)
                 (one_done_more way backwards words blocks roles marks passed place _ _ (c.loop-passed.invariant.done (sym w.any-is ∙ e)) c.place_of-place.ensures.is rest.1);

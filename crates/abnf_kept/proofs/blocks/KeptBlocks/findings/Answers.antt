@@ -7,14 +7,14 @@ use Rattle.abnf_kept.proofs.blocks.KeptBlocks.findings.Goals as goal
 use Rattle.abnf_kept.proofs.blocks.KeptBlocks.findings.Goals.{else-not-is_quiet, then-not-is_quiet+in_ok-push_found}
 
 pub is_quiet-requires : goal.is_quiet-requires
-is_quiet-requires c = rw c.in-Some.is at c.in_ok-outcome.ensures
+is_quiet-requires c = c.in_ok-outcome.ensures
 
 pub push_found-requires : goal.push_found-requires
 push_found-requires c =
     let are : c.blocks-at-end.result.now ≡ c.args.self.now.kept = c.blocks-at-end.ensures ∙ ap (λ (s : Stored). s.kept) c.self.view_is in
     record {
       kept = c.requires;
-      outcome = subst (λ (s : Stored). IsOutcome s c.in-Some.outcome) c.self.view_is (rw c.in-Some.is at c.in_ok-outcome.ensures);
+      outcome = subst (λ (s : Stored). IsOutcome s c.in_ok-outcome.outcome) c.self.view_is c.in_ok-outcome.ensures;
       within = omega (arith, c.loop-at-test.true, ap length are);
     }
 
@@ -22,8 +22,8 @@ pub loop-at-preserved : goal.loop-at-preserved
 loop-at-preserved c =
     let ls = c.args.sheet.now in
     let s = c.args.self.now in
-    let outcome = c.in-Some.outcome in
-    let is : IsOutcome s outcome = subst (λ (s : Stored). IsOutcome s outcome) c.self.view_is (rw c.in-Some.is at c.in_ok-outcome.ensures) in
+    let outcome = c.in_ok-outcome.outcome in
+    let is : IsOutcome s outcome = subst (λ (s : Stored). IsOutcome s outcome) c.self.view_is c.in_ok-outcome.ensures in
     let are : c.blocks-at-end.result.now ≡ s.kept = c.blocks-at-end.ensures ∙ ap (λ (s : Stored). s.kept) c.self.view_is in
     let less : c.loop-at.at < length s.kept = omega (arith, c.loop-at-test.true, ap length are) in
     elim c.if-not-is_quiet.branch [
@@ -38,6 +38,6 @@ loop-at-preserved c =
 
 pub returns : goal.returns
 returns c =
-    let is : IsOutcome c.args.self.now c.in-Some.outcome = subst (λ (s : Stored). IsOutcome s c.in-Some.outcome) c.self.view_is (rw c.in-Some.is at c.in_ok-outcome.ensures) in
+    let is : IsOutcome c.args.self.now c.in_ok-outcome.outcome = subst (λ (s : Stored). IsOutcome s c.in_ok-outcome.outcome) c.self.view_is c.in_ok-outcome.ensures in
     let are : c.blocks-at-end.result.now ≡ c.args.self.now.kept = c.blocks-at-end.ensures ∙ ap (λ (s : Stored). s.kept) c.self.view_is in
-    rows_found c.args.sheet.now c.args.self.now c.in-Some.outcome c.loop-at.at c.loop-at.found c.requires is (omega (arith, c.loop-at-test.false, ap length are)) c.loop-at.invariant
+    rows_found c.args.sheet.now c.args.self.now c.in_ok-outcome.outcome c.loop-at.at c.loop-at.found c.requires is (omega (arith, c.loop-at-test.false, ap length are)) c.loop-at.invariant

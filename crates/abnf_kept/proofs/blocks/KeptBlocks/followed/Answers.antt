@@ -5,11 +5,16 @@ use Rattle.abnf_kept.proofs.FollowedBlocks.{begins_early, can_follow, kept_more}
 use Rattle.abnf_kept.proofs.blocks.KeptBlocks.followed.Goals as goal
 
 pub read-requires : goal.read-requires
-read-requires c = record { order = c.requires.replaced.order.1; seams = (c.requires.replaced.fronts.1, c.requires.replaced.backs.1) }
+read-requires c = record {
+  order = c.requires.replaced.order.1;
+  seams = (c.requires.replaced.fronts.1, c.requires.replaced.backs.1);
+  before =
+      (subst (IsKeptOf c.args.ours.now) (sym c.self.view_is) c.requires.kept, omega (arith, c.partition_point-to.ensures.bound, ap length c.blocks-blocks.ensures));
+}
 
 pub overflow_sub-come : goal.overflow_sub-come
 overflow_sub-come c =
-    let more = kept_more c.args.ours.now c.args.theirs.now c.args.part.now.front c.args.part.now.new c.self.inside.digests c.args.self c.read.new.digests c.self.view_is c.requires.kept c.in_ok-read.ensures in
+    let more = kept_more c.args.ours.now c.args.theirs.now c.args.part.now.front c.args.part.now.new c.self.inside.digests c.args.self c.read.new.digests c.self.view_is c.requires.kept (c.in_ok-read.ensures.added c.if-not-branch.false) in
     omega (arith, more, ap length c.blocks-2.ensures, ap length c.blocks-blocks.ensures)
 
 pub replace-requires : goal.replace-requires
@@ -17,7 +22,7 @@ replace-requires c =
     let part = c.args.part.now in
     let h =
     can_follow c.args.ours.now c.args.theirs.now part.front part.old part.new c.self.inside.digests c.args.self c.read.new.digests c.blocks-blocks.result.now c.blocks-2.result.now
-    c.partition_point-from.result c.partition_point-to.result c.requires.replaced c.requires.small c.self.view_is c.requires.kept c.in_ok-read.ensures c.blocks-blocks.ensures
+    c.partition_point-from.result c.partition_point-to.result c.requires.replaced c.requires.small c.self.view_is c.requires.kept (c.in_ok-read.ensures.added c.if-not-branch.false) c.blocks-blocks.ensures
     c.blocks-2.ensures c.partition_point-from.ensures.bound c.partition_point-to.ensures.bound
     (λ parted. IsPartitionPoint-from_clause (begins_early part.front) _ _ c.partition_point-from.ensures.partitioned parted (λ a r q k. search rules))
     (λ parted. IsPartitionPoint-from_clause (begins_early part.old) _ _ c.partition_point-to.ensures.partitioned parted (λ a r q k. search rules))
@@ -29,7 +34,7 @@ returns c =
     let part = c.args.part.now in
     let h =
     can_follow c.args.ours.now c.args.theirs.now part.front part.old part.new c.self.inside.digests c.args.self c.read.new.digests c.blocks-blocks.result.now c.blocks-2.result.now
-    c.partition_point-from.result c.partition_point-to.result c.requires.replaced c.requires.small c.self.view_is c.requires.kept c.in_ok-read.ensures c.blocks-blocks.ensures
+    c.partition_point-from.result c.partition_point-to.result c.requires.replaced c.requires.small c.self.view_is c.requires.kept (c.in_ok-read.ensures.added c.if-not-branch.false) c.blocks-blocks.ensures
     c.blocks-2.ensures c.partition_point-from.ensures.bound c.partition_point-to.ensures.bound
     (λ parted. IsPartitionPoint-from_clause (begins_early part.front) _ _ c.partition_point-from.ensures.partitioned parted (λ a r q k. search rules))
     (λ parted. IsPartitionPoint-from_clause (begins_early part.old) _ _ c.partition_point-to.ensures.partitioned parted (λ a r q k. search rules))

@@ -1,0 +1,32 @@
+use Rattle.std.proofs.Common.{◌<◌, arith}
+use Rattle.abnf_outcome.specs.own.Pending.{IsNext}
+use Rattle.abnf_outcome.specs.own.Ways.{unmarked}
+use Rattle.abnf_outcome.proofs.PendingLaws.{next_less, next_sound, some_of}
+use Rattle.abnf_outcome.proofs.pending.visit_all.Goals as goal
+
+pub loop-pending-smaller : goal.loop-pending-smaller
+loop-pending-smaller c =
+    let way = c.args.way in
+    let words = c.args.words.now in
+    let blocks = c.args.blocks.now in
+    let roles = c.args.roles.now in
+    let before = c.loop-pending.marks in
+    let after = c.mark_next.new.marks in
+    next_less way words blocks roles before after c.in-Some.name
+    (some_of (λ name. IsNext way words blocks roles before name after) c.in_ok-name.field-0 c.in-Some.name c.in-Some.is c.in_ok-name.ensures.some)
+
+pub loop-pending-preserved : goal.loop-pending-preserved
+loop-pending-preserved c =
+    let way = c.args.way in
+    let words = c.args.words.now in
+    let blocks = c.args.blocks.now in
+    let roles = c.args.roles.now in
+    let before = c.loop-pending.marks in
+    let after = c.mark_next.new.marks in
+    let name = c.in-Some.name in
+    let next = some_of (λ n. IsNext way words blocks roles before n after) c.in_ok-name.field-0 name c.in-Some.is c.in_ok-name.ensures.some in
+    let less : unmarked after < unmarked before = next_less way words blocks roles before after name next in
+    record {
+      sound = λ table s. next_sound way words blocks roles table before after name next (c.loop-pending.invariant.sound table s);
+      few = omega (arith, less, c.loop-pending.invariant.few);
+    }
