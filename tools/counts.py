@@ -37,6 +37,7 @@ LISTS = (
     *("session_rows.FRAMES", "command_rows.EXAMPLES", "command_rows.CHECKS"),
     *("findings_rows.ROWS", "findings_rows.RULE_ROWS", "findings_rows.DRAFT_ROWS", "findings_rows.XML_ROWS", "install_rows.ROWS"),
     *("findings_rows.WITH_ROWS", "findings_rows.GRAMMAR_ROWS"),
+    "typed_edits.KINDS",
 )
 NUMBERS = (
     *("broken_input.COUNT", "refused_sessions.FIRST", "refused_sessions.SAMPLE", "refused_threads.THREADS", "shaken_threads.COUNT"),
@@ -51,7 +52,7 @@ LOOPS = {
     "worked_grammars.seams": ("crates/worked_grammars/src/lines/seams.rt", r"(?m)^    for round in 0\.\.([0-9_]+)u32 \{"),
 }
 # The tools of rows that try the gate's own tools
-OWN_ROWS = ("source_rows", "reference_rows", "verdict_rows", "counts_rows", "documents_rows", "stage_rows")
+OWN_ROWS = ("source_rows", "reference_rows", "comments_rows", "verdict_rows", "counts_rows", "documents_rows", "stage_rows")
 TEST = re.compile(r"(?m)^ *#\[test\]")
 # A function as tests are, with the attributes above it
 LIKE_A_TEST = re.compile(r"(?m)^((?: *#\[.*\]\n)*) *(?:pub(?:\(\w+\))? )?fn (\w+)\(\w+: HostRuntime\)")

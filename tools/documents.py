@@ -7,8 +7,8 @@ It fails where
 
 - a link leads to no file, or to no heading of its page;
 - a path in backticks is none of the tree;
-- a word in backticks on a page of WORDED is none of the code, of specs or of proofs; a contract that PROOFS lists isn't one of the crate of
-  its section; or a word of DEFINITIONS isn't defined in the file that its list names;
+- a word in backticks on a page of WORDED is none of the code, of specs or of proofs;
+- a table of PROOFS names a law that its crates don't have, or one of DEFINITIONS other codes, severities or texts than the code has;
 - what TRUST or CONTRACTS quotes as code stands so in no crate;
 - the code of a crate names what ARCHITECTURE says that it must never know, or ARCHITECTURE has a crate neither with such a sentence nor
   among those of tests;
@@ -30,25 +30,32 @@ from rows import TOP
 
 ARCHITECTURE, DEFINITIONS, PROOFS, README = "docs/ARCHITECTURE.md", "docs/DEFINITIONS.md", "docs/PROOFS.md", "README.md"
 QUOTING = ("docs/TRUST.md", "docs/CONTRACTS.md")
-# The pages whose words in backticks are words of the repository
-WORDED = (*QUOTING, DEFINITIONS, PROOFS)
+# The pages whose words in backticks are words of the repository: all but those that name words of editors and of a shell, and crates of a gate
+# that ran before
+WORDED = (*QUOTING, DEFINITIONS, PROOFS, ARCHITECTURE, *(f"docs/{it}.md" for it in ("DECISIONS", "TESTING", "COSTS")), "CONTRIBUTING.md")
 MOST_WORDS, MOST_COLUMNS, MOST_LINES = 80, 100, 180
 # What the checks must have looked at, and at least how many of each: where fewer are found, a page says them in a form that none reads.
-LINKS, PATHS, WORDS, CONTRACTS, DEFINED = "links", "paths in backticks", "words in backticks", "contracts in lists", "definitions in lists"
+LINKS, PATHS, WORDS, LAWS, ROWS = "links", "paths in backticks", "words in backticks", "laws in tables", "rows of codes"
 QUOTES, KNOWLEDGE, PARAGRAPHS = "pieces of code that are quoted", "sentences on what a crate must never know", "paragraphs"
-LEAST = {LINKS: 450, PATHS: 450, WORDS: 1800, CONTRACTS: 490, DEFINED: 570, QUOTES: 16, KNOWLEDGE: 41, PARAGRAPHS: 2000}
+LEAST = {LINKS: 170, PATHS: 430, WORDS: 900, LAWS: 41, ROWS: 23, QUOTES: 15, KNOWLEDGE: 41, PARAGRAPHS: 700}
+# What DEFINITIONS has tables of: the file, the definition of the text of each, and that of what stands beside it.
+TABLES = (
+    ("crates/abnf_lint/specs/Messages.antt", "code_text", "severity_of"),
+    ("crates/ls_bodies/specs/Refusal.antt", "refusal_text", "code_of"),
+)
 NOT_READ = ("out", "__pycache__", ".git", "node_modules")
 ENDINGS = ("rt", "antt", "py", "md", "sh", "toml", "json", "lua", "el", "vim", "xml", "txt", "abnf", "rs", "edit", "yml")
 
-# Words in backticks that are none of the repository: those of Rattle, its libraries and tools, of Rust and of the protocol
+# Words in backticks that are none of the repository: those of Rattle, its libraries and tools, of Rust, of the system and of the protocol
 OTHER_WORDS = frozenset(
     """
-    abbrev AllocError antt Appends Arc arrayvec artwork axiom axioms bugs cargo clang clap Clone Condvar Content-Length core custom Debug
-    Drop ensures Err extern false fast_float foreign forever functions ghost git Global grind HANDLES hides hole HostRuntime IfErr
-    IfNone IfOk IfSome impl indexmap invariant itoa json key levenshtein_row logbook logic may_wait memchr model Model Mutex new None now
-    Ok old omega OnErr OnOk OnSome Option proof pub rand_core rand_pcg rattle Read record refl requires result Result rt ryu
-    search Send serde serde_json Serialize Serializer simdutf8 simp SipHash slice_get_read smallvec Some sourcecode spec std String strsim
-    subst Sync tests_may thiserror Threads to_vec true unfoldable unfolding unsafe Vec view Wait Write
+    abbrev AllocError antt Appends apt Arc arrayvec artwork axiom axioms bugs cargo clang clap Clone clone Condvar Content-Length core
+    custom Debug didChange dpkg-deb Drop ensures Err errno extern false fast_float foreign forever functions ghost git Global grind HANDLES hides
+    hole HostRuntime IfErr IfNone IfOk IfSome impl indexmap invariant itoa json key levenshtein_row logbook logic match may_wait memchr
+    Model model Mutex new None now npm Ok old omega OnErr OnOk OnSome Option proof pub rand_core rand_pcg rattle rattle-kit-13b Read record
+    refl requires Result result rt ryu search Send serde serde_json Serialize Serializer simdutf8 simp SipHash slice_get_read smallvec
+    Some sourcecode spec src start_io std String strsim subst Sync tests_may thiserror Threads tmux to_vec true u32 u64 unfoldable
+    unfolding unsafe usize Vec view Wait worked_ Write
     """.split()
 )
 # What paths begin with that aren't in the repository: those of the system, of a user, of the kit, and what is built
@@ -176,38 +183,54 @@ def word_faults(page):
             yield f"{place}: `{name}` is no word of the code, of specs or of proofs"
 
 
-def sections(text):
-    """The parts of a page below headings of the second level, each with its heading, which may stand in backticks."""
-    parts = re.split(r"(?m)^## (.*)$", text)
-    return zip((it.replace("`", "").strip() for it in parts[1::2]), parts[2::2])
+def rows_of(page):
+    """The rows of the tables of a page, each as its cells."""
+    for line in re.findall(r"(?m)^\|(.*)\|$", page.prose()):
+        yield [it.strip() for it in line.split("|")]
 
 
-def contract_faults(page):
-    """The contracts that a list below the name of a crate begins with, and that aren't of that crate."""
-    for crate, part in sections(page.prose()):
-        for line in re.findall(r"(?m)^[-*] (.*)$", part) if crate in page.tree.names else ():
-            for words in re.findall(r"`([^`]+)`", line.partition(":" if "::" not in line.partition(": ")[0] else ": ")[0]):
-                name = name_in(words)
-                page.tree.looked[CONTRACTS] += bool(name)
-                if name and name not in OTHER_WORDS and not page.tree.has_name(name, crate):
-                    yield f"{page.path}: `{name}` stands below {crate}, which has no such name"
+def law_faults(page):
+    """The laws that a table names behind its crates, and that aren't laws of these. A cell may also name something else of a crate."""
+    for _, crates, *cells in (it for it in rows_of(page) if len(it) > 2):
+        crates = [it for it in re.findall(r"`(\w+)`", crates) if it in page.tree.names]
+        for cell in cells if crates else ():
+            law = re.fullmatch(r"`(\w+)`", cell)
+            page.tree.looked[LAWS] += bool(law)
+            names = re.findall(r"`(\w+)`", cell)
+            if law and not any(page.tree.has_law(law[1], it) for it in crates):
+                yield f"{page.path}: `{law[1]}` is no law of {', '.join(crates)}"
+            elif not law and not any(all(page.tree.has_name(name, it) for name in names) for it in crates):
+                yield f"{page.path}: '{cell}' names something that {', '.join(crates)} doesn't have"
 
 
-def definition_faults(page):
-    """The words of a list that aren't defined in the file that stands above the list."""
-    file = None
-    for line in page.prose().splitlines():
-        named = re.match(r"\[[\w.]+\]\(\.\./(crates/[\w/]+\.(?:antt|rt))\):", line)
-        file = named[1] if named else None if line.startswith("#") else file
-        word = re.match(r"[-*] `([^`]+)`", line)
-        page.tree.looked[DEFINED] += bool(word)
-        if word and file:
-            name = name_in(word[1])
-            text = page.tree.text_of(file)
-            if name and text and name not in (defined_in(text) if file.endswith(".antt") else names_of(file, text)):
-                yield f"{page.path}: `{name}` isn't defined in {file}"
-        elif word:
-            yield f"{page.path}: `{word[1]}` stands below no file"
+def equations(text, name):
+    """What a definition by cases gives for each of them, with texts without their quotation marks and numbers as they are read."""
+    found = re.findall(rf"(?m)^{name} \(?\w+\.(\w+)[^=\n]*= (.*)$", text)
+    return {case: re.sub(r'^codes "(.*)"$', r"\1", re.sub(r"^neg_ℤ \(pos (\d+)\)$", r"-\1", value)) for case, value in found}
+
+
+def wanted_rows(tree):
+    """The texts and what stands beside each, as the code has them."""
+    for path, texts, values in TABLES:
+        text = tree.text_of(path)
+        beside = equations(text, values)
+        for case, it in equations(text, texts).items():
+            value = beside.get(case, "")
+            # (a word that stands for a number is defined elsewhere)
+            number = re.search(rf"(?m)^{value} = neg_ℤ \(pos (\d+)\)$", "\n".join(tree.code[".antt"])) if value.islower() else None
+            yield it, f"-{number[1]}" if number else value.lower()
+
+
+def row_faults(page):
+    """The rows of codes that the code doesn't have, and those that no row has."""
+    found = set()
+    for texts, *cells in rows_of(page):
+        for it in re.findall(r"`([^`]+)`", texts) if cells and re.fullmatch(r"(?:`[^`]+`(?:, )?)+", texts) else ():
+            page.tree.looked[ROWS] += 1
+            found.add((it, cells[0]))
+    wanted = {*wanted_rows(page.tree)}
+    yield from (f"{page.path}: the code has no '{it}' with {value}" for it, value in sorted(found - wanted))
+    yield from (f"{page.path}: no row has '{it}' with {value}" for it, value in sorted(wanted - found))
 
 
 def knowledge_faults(page):
@@ -343,6 +366,10 @@ class Tree:
         parts = [it for it in name.split("::") if it not in OTHER_WORDS and it not in self.names]
         return not crate and name in self.words or any(all(it in names for it in parts) for names in crates)
 
+    def has_law(self, name, crate):
+        """Whether a crate has a law of this name: a public function of nothing."""
+        return any(path.startswith(f"crates/{crate}/src/") and f"\npub fn {name}()" in f"\n{text}" for path, text in self.texts.items())
+
     def has_code(self, piece, end):
         if end not in self.squeezed:
             self.squeezed[end] = [squeezed(it) for it in self.code[end]]
@@ -371,9 +398,9 @@ def page_faults(page):
     if page.path in WORDED:
         yield from word_faults(page)
     if page.path == PROOFS:
-        yield from contract_faults(page)
+        yield from law_faults(page)
     if page.path == DEFINITIONS:
-        yield from definition_faults(page)
+        yield from row_faults(page)
     if page.path in QUOTING:
         yield from quote_faults(page)
     if page.path == ARCHITECTURE:

@@ -30,18 +30,41 @@ is_so number = nat_le 1 number
 pub record IsSettled (desk : Seen) : Type 0 where
   pub sent : desk.outbox ≡ []
 """
-OTHER = "use std::io;\nuse low::Seat;\n// Grammar stands in this comment alone.\npub fn comes() {}\n"
+OTHER = "use std::io;\nuse low::Seat;\n// Grammar stands in this comment alone.\npub fn comes() {}\npub fn of(it: u8) {}\n"
+CODES = """abbrev pub severity_of : Code → Severity
+severity_of (c.Syntax fault) = Error
+severity_of c.Empty = Warning
+
+abbrev pub code_text : Code → List ℕ
+code_text (c.Syntax fault) = codes "syntax"
+code_text c.Empty = codes "empty"
+"""
+REFUSALS = """abbrev pub code_of : Refusal → ℤ
+code_of refusal.NoJson = no_json
+code_of refusal.Unknown = neg_ℤ (pos 7)
+
+abbrev pub refusal_text : Refusal → List ℕ
+refusal_text refusal.NoJson = codes "no JSON"
+refusal_text refusal.Unknown = codes "not known"
+
+abbrev pub no_json : ℤ
+no_json = neg_ℤ (pos 8)
+"""
+# The rows of codes that a page must have by these.
+CODE_ROWS = "| code | severity |\n|---|---|\n| `syntax` | error |\n| `empty` | warning |\n\n| `no JSON` | -8 | a |\n| `not known` | -7 | b |\n"
 TREE = documents.Tree({
     "README.md": "# A\n\n## How it ends\n\n## How it ends\n",
     "docs/B.md": "# B\n",
     "crates/low/src/lib.rt": CODE,
     "crates/low/specs/Words.antt": SPECS,
     "crates/high/src/main.rt": OTHER,
+    documents.TABLES[0][0]: CODES,
+    documents.TABLES[1][0]: REFUSALS,
     "tools/counts.py": "LISTS = ()\n\n\ndef written(counts):\n    pass\n",
     "examples/a.abnf": "a = b\n",
 })
 # The crate of which a page says that it is of tests
-LOW = "| `low` | texts |\n\n"
+LOW = "| `low` | texts |\n\n| `abnf_lint` | findings |\n\n| `ls_bodies` | bodies |\n\n"
 # A paragraph of 81 words
 LONG = "\n".join(["word"] * 81)
 
@@ -65,24 +88,38 @@ PAGES = (
     (documents.word_faults, "docs/B.md", "`goes`, `Seat::goes`, `is_so number`, `shutdown`, `low`, `written`, `LISTS`, `Ok`, `x`", []),
     (documents.word_faults, "docs/B.md", "`went`", [f"docs/B.md:1: `went` is {NO_WORD}"]),
     (documents.word_faults, "docs/B.md", "`Seat::comes`", [f"docs/B.md:1: `Seat::comes` is {NO_WORD}"]),
-    (documents.contract_faults, "docs/PROOFS.md", "## low\n\n- `Seat::goes` (`value`): so.\n\n## Of both\n\n- `comes`: so.\n", []),
+    (documents.law_faults, "docs/PROOFS.md", "| of | crate | law |\n|---|---|---|\n| a | `high` | `comes` |\n| b | `low`, `high` | `comes` | – |\n", []),
+    (documents.law_faults, "docs/PROOFS.md", "| a | `low` | clause `value` of `goes` |\n| b | lines | `none` |\n| `none` | c |\n", []),
+    (documents.law_faults, "docs/PROOFS.md", "| a | `low` | `comes` | – |\n", ["docs/PROOFS.md: `comes` is no law of low"]),
+    (documents.law_faults, "docs/PROOFS.md", "| a | `high` | `comes` | `of` |\n", ["docs/PROOFS.md: `of` is no law of high"]),
     (
-        documents.contract_faults,
+        documents.law_faults,
         "docs/PROOFS.md",
-        "## low\n\n- `comes`, `goes`: so.\n",
-        ["docs/PROOFS.md: `comes` stands below low, which has no such name"],
+        "| a | `low` | clause `value` of `went` |\n",
+        ["docs/PROOFS.md: 'clause `value` of `went`' names something that low doesn't have"],
+    ),
+    (documents.row_faults, "docs/DEFINITIONS.md", CODE_ROWS, []),
+    (
+        documents.row_faults,
+        "docs/DEFINITIONS.md",
+        CODE_ROWS.replace("| `empty` | warning |\n", ""),
+        ["docs/DEFINITIONS.md: no row has 'empty' with warning"],
     ),
     (
-        documents.definition_faults,
+        documents.row_faults,
         "docs/DEFINITIONS.md",
-        "## A\n\n[Words](../crates/low/specs/Words.antt):\n\n- `is_so number`: so\n- `IsSettled`: so\n",
-        [],
+        CODE_ROWS.replace("warning", "error").replace("no JSON` | -8", "no JSON`, `new` | -8"),
+        [
+            "docs/DEFINITIONS.md: the code has no 'empty' with error",
+            "docs/DEFINITIONS.md: the code has no 'new' with -8",
+            "docs/DEFINITIONS.md: no row has 'empty' with warning",
+        ],
     ),
     (
-        documents.definition_faults,
+        documents.row_faults,
         "docs/DEFINITIONS.md",
-        "## A\n\n[Words](../crates/low/specs/Words.antt):\n\n- `is_not`: so\n\n## B\n\n- `is_so`: so\n",
-        ["docs/DEFINITIONS.md: `is_not` isn't defined in crates/low/specs/Words.antt", "docs/DEFINITIONS.md: `is_so` stands below no file"],
+        CODE_ROWS.replace("-8", "-7"),
+        ["docs/DEFINITIONS.md: the code has no 'no JSON' with -7", "docs/DEFINITIONS.md: no row has 'no JSON' with -8"],
     ),
     (documents.quote_faults, "docs/TRUST.md", "```antt\nabbrev pub is_so : ℕ → Bool\n```\n", []),
     (documents.quote_faults, "docs/TRUST.md", "```rust\npub fn goes(&self, at: u32)\n    -> bool ensures value\n```\n", []),
@@ -118,18 +155,6 @@ PAGES = (
         ["docs/ARCHITECTURE.md: nothing says what high must never know, or that it is of tests"],
     ),
     (
-        documents.contract_faults,
-        "docs/PROOFS.md",
-        "## `low`\n\n* `comes`, `goes`: so.\n",
-        ["docs/PROOFS.md: `comes` stands below low, which has no such name"],
-    ),
-    (
-        documents.definition_faults,
-        "docs/DEFINITIONS.md",
-        "## A\n\n[Words](../crates/low/specs/Words.antt):\n\n* `is_not`: so\n",
-        ["docs/DEFINITIONS.md: `is_not` isn't defined in crates/low/specs/Words.antt"],
-    ),
-    (
         documents.quote_faults,
         "docs/TRUST.md",
         "a\n```\nis_so number = false\n```\n",
@@ -147,8 +172,8 @@ LOOKED = (
     (documents.link_faults, documents.LINKS, "[a](#b), [c](../README.md)\n", 2),
     (documents.path_faults, documents.PATHS, "`docs/B.md`, `python3 tools/counts.py`, `goes`\n", 2),
     (documents.word_faults, documents.WORDS, "`goes`, `docs/B.md`\n", 1),
-    (documents.contract_faults, documents.CONTRACTS, "## low\n\n- `goes`: so.\n\nIt `goes`.\n", 1),
-    (documents.definition_faults, documents.DEFINED, "[Words](../crates/low/specs/Words.antt):\n\n- `is_so`: so\n", 1),
+    (documents.law_faults, documents.LAWS, "| a | `high` | `comes` |\n| b | `low` | clause `value` of `goes` |\n", 1),
+    (documents.row_faults, documents.ROWS, "| `syntax`, `empty` | error |\n| a | error |\n", 2),
     (documents.quote_faults, documents.QUOTES, "```antt\nis_so number = nat_le 1 number\n```\n```sh\nls\n```\n", 1),
     (documents.knowledge_faults, documents.KNOWLEDGE, "- **`high`**, open x: y. Must never know grammars.\n", 1),
     (documents.layout_faults, documents.PARAGRAPHS, "a\n\nb\nc\n", 2),

@@ -24,9 +24,12 @@ KINDS = ("struct", "enum", "trait", "type")
 # What a crate's root hands on of its modules, and which of these are public.
 HANDED_ON = re.compile(r"(?ms)^pub use \w[\w:]*::(?:\{(.*?)\}|(\w+));")
 OPEN_MODULE = re.compile(r"(?m)^pub mod (\w+);")
-# In a file of definitions: the first line of one, that of several which name each other, and of each of these.
-DEFINES = re.compile(r"(?:(?:unfoldable|abbrev) )*pub (?:(?:record|data) )?(?!mod\b)(\S+)")
-CYCLE, IN_A_CYCLE = re.compile(r"(?:\w+ )*mutual\n"), re.compile(r"(?m)^  pub (\S+)")
+# In a file of definitions: the first line of one, that of several which name each other, of each of these, and of several with the same
+# parameters. A line may stand before the first one that says how an operator binds.
+FORM = r"(?:(?:unfoldable|abbrev) )*pub (?:(?:record|data) )?(?!mod\b)(\S+)"
+DEFINES = re.compile(rf"(?:infix\w* .*\n)?{FORM}")
+CYCLE, IN_A_CYCLE = re.compile(r"(?:infix\w* .*\n)?(?:\w+ )*mutual\n"), re.compile(rf"(?m)^  {FORM}")
+WITH_PARAMETERS = re.compile(r"module _ .*where\n")
 # A field that isn't public, with the comments and attributes above it.
 PRIVATE_FIELD = re.compile(r"(?m)^(?: {4}(?:///|#\[).*\n)* {4}(?:pub\(\w+\) )?\w+: .*\n")
 WORD = re.compile(r"[^\W\d][\w.-]*")
@@ -116,13 +119,27 @@ def types_of(source, door):
 
 
 def chunks(text):
-    """The pieces of a file of definitions: each to the next empty line behind which something isn't indented."""
-    return [it for it in re.split(r"\n\n(?=\S)", text) if it.strip()]
+    """The pieces of a file of definitions: each to the next empty line behind which something isn't indented. What several have in common,
+    which are indented below their parameters, stands in front of each, and the comment above it in front of the first."""
+    for piece in (it for it in re.split(r"\n\n(?=\S)", text) if it.strip()):
+        above, code = parted(piece, "--")
+        head = WITH_PARAMETERS.match(code)
+        for it in re.split(r"\n\n(?=  \S)", code[head.end() :]) if head else ():
+            comment, inner = parted(it, "--")
+            yield "".join(f"-- {line}\n" for line in (above, comment) if line for line in line.split("\n")) + head[0] + indented(inner)
+            above = ""
+        if not head:
+            yield piece
+
+
+def indented(text):
+    return "\n".join(f"  {it}" if it else it for it in text.split("\n"))
 
 
 def names_in(chunk):
     """The public names that a piece of a file of definitions defines."""
-    code = parted(chunk, "--")[1]
+    code = WITH_PARAMETERS.sub("", parted(chunk, "--")[1], 1)
+    code = parted(code, "--")[1]
     found = DEFINES.match(code)
     return IN_A_CYCLE.findall(code) if CYCLE.match(code) else [found[1]] if found else []
 
@@ -152,12 +169,21 @@ def edits_of(source):
     return made
 
 
+def root_of(source):
+    return source.texts.get("src/lib.rt") or source.texts["src/main.rt"]
+
+
+def entries_of(source, edits):
+    """The entries of a crate, where these are its edits."""
+    door = Door(root_of(source))
+    entries = [*types_of(source, door), *functions_of(source, door, edits), *definitions_of(source.folder, edits)]
+    return sorted(entries, key=lambda it: (SECTIONS.index(it.section), it.path, it.name))
+
+
 def crate_of(name, folder, below):
     source = Source(name, folder)
-    root = source.texts.get("src/lib.rt") or source.texts["src/main.rt"]
-    about, edits, door = parted(re.match(r"(?://!.*\n)*", root)[0], "//!")[0], edits_of(source), Door(root)
-    entries = [*types_of(source, door), *functions_of(source, door, edits), *definitions_of(folder, edits)]
-    return Crate(name, about, below, sorted(entries, key=lambda it: (SECTIONS.index(it.section), it.path, it.name)))
+    about = parted(re.match(r"(?://!.*\n)*", root_of(source))[0], "//!")[0]
+    return Crate(name, about, below, entries_of(source, edits_of(source)))
 
 
 # ---- pages

@@ -97,6 +97,28 @@ Sum p = p.left
 abbrev half : ℕ
 half = 1
 
+infixl 10 ◌>>◌
+-- one behind another
+abbrev pub ◌>>◌ : Pair → Pair → Pair
+p >> q = q
+
+mutual
+  pub data Tree : Type 0 where
+    fork : (trees : Trees) → Tree
+
+  pub data Trees : Type 0 where
+    none : Trees
+
+-- where n is added
+module _ (n : ℕ) where
+  -- to a number
+  abbrev pub plus : ℕ → ℕ
+  plus m = n + m
+
+  -- and to that once more
+  abbrev pub plus_twice : ℕ → ℕ
+  plus_twice m = plus (plus m)
+
 abbrev mutual
   pub Even : ℕ → Type 0
   Even zero = Unit {0}
@@ -115,6 +137,7 @@ FILES = {
     "specs/Lib.antt": "pub mod Sums\n",
     "specs/Sums.antt": SUMS,
     "edits/another_sum.edit": "file: specs/Sums.antt\nold: Sum p = p.left\nnew: Sum p = 0\n",
+    "edits/once_is_enough.edit": "file: specs/Sums.antt\nold: plus (plus m)\nnew: plus m\n",
     "edits/one_is_two.edit": "file: src/lib.rt\nold:     1\nnew:     2\n",
 }
 # Of each entry its section, its name and its edits.
@@ -130,6 +153,10 @@ ENTRIES = [
     ("Definitions", "Even, Odd", ()),
     ("Definitions", "IsSum", ()),
     ("Definitions", "Sum", ("another_sum",)),
+    ("Definitions", "Tree, Trees", ()),
+    ("Definitions", "plus", ()),
+    ("Definitions", "plus_twice", ("once_is_enough",)),
+    ("Definitions", "◌>>◌", ()),
 ]
 # The comment and the text of some.
 TEXTS = {
@@ -138,6 +165,9 @@ TEXTS = {
     "inner::Pair::sum": ("The sum.\n\n# Errors\nNone.", "pub fn sum(&self) -> u8\n    ensures { result ≡ Sum self.now }"),
     "inner::law": ("Each pair has a sum.", "pub fn law()\n    ensures { (p : Pair) → Sum p ≡ Sum p }"),
     "Sum": ("the sum\nof a pair", "abbrev pub Sum : Pair → ℕ\nSum p = p.left"),
+    "plus": ("where n is added\nto a number", "module _ (n : ℕ) where\n  abbrev pub plus : ℕ → ℕ\n  plus m = n + m"),
+    "plus_twice": ("and to that once more", "module _ (n : ℕ) where\n  abbrev pub plus_twice : ℕ → ℕ\n  plus_twice m = plus (plus m)"),
+    "◌>>◌": ("one behind another", "infixl 10 ◌>>◌\nabbrev pub ◌>>◌ : Pair → Pair → Pair\np >> q = q"),
 }
 
 

@@ -16,6 +16,7 @@ import sys
 import tempfile
 from unittest import mock
 
+import comments
 import counts
 import documents
 import must_not_compile
@@ -259,6 +260,9 @@ def line_stages():
     for found, ends in (((), ("as the repository is", 0)), (("a",), ("FAILED", 1))):
         with replaced(documents, faults=lambda tree, found=found: iter(found), whole_tree=lambda: None):
             yield f"documents: {len(found)} faults", ends_with(documents.main), (f"documents: {ends[0]}", ends[1])
+    for least, ends in ((0, ("all that must be there", 0)), (1, ("FAILED", 1))):
+        with replaced(comments, all_sources=list, LEAST=dict.fromkeys(comments.KINDS, least)):
+            yield f"comments: at least {least} of each", ends_with(comments.main), (f"comments: {ends[0]}", ends[1])
 
 
 # How the gate ends, the last line that it has seen, and what it says then.

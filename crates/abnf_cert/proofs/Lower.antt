@@ -84,7 +84,7 @@ module _ (k : ℕ) where
       (λ full. subst (λ x. NotBelow k s (Least x h c)) (sym full.at_top) (saturated_lower h c es s full.all g))
       ch.1
 
-  -- copies are at least as long as told
+  -- copies are at least as long as said
   copies : (P : List ℕ → Type 0) (l : ℕ) (strings : List (List ℕ)) → ((t : List ℕ) → P t → l ≤ length t) → AllByRecursion P strings → length strings * l ≤ length (concat strings)
   copies P l [] le all = omega arith
   copies P l (t ∷ ts) le all =

@@ -5,7 +5,7 @@ use Rattle.abnf_cert.specs.declared.entry.Entry.TheVariants.{Nothing, Least}
 use Rattle.abnf_parts.specs.Part.{Part}
 use Rattle.abnf_cert.specs.Accepted.{top, entry_at, IsAccepted}
 
--- the length is the greatest of 64 bits
+-- the entry's length is the greatest of 64 bits
 abbrev pub IsGreatest : Entry → Type 0
 IsGreatest Nothing = ⊥
 IsGreatest (Least l h c) = l ≡ top

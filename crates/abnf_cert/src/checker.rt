@@ -199,7 +199,7 @@ fn all_fit(grammar: &Grammar, entries: &[Entry]) -> bool
 /// - `Alt`: the least pair of a length and a height among the parts, and the first part with it. Where no part is below
 ///   18446744073709551615, any part of that length. `Nothing` where all parts are.
 ///
-/// Then each entry is right.
+/// Then each entry is right of the strings of its node. Time goes by the number of nodes.
 pub fn check(grammar: &Grammar, cert: &Cert) -> bool
     ensures exact { IsTrue result ↔ IsAccepted grammar.now.rules cert.now }
     ensures right { IsTrue result → EachSays grammar.now.rules cert.now }

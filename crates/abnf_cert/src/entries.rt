@@ -7,7 +7,7 @@ ghost use Rattle.abnf_cert.specs.Accepted.{HasPair, all_in_a_row, entry_at, in_a
 use crate::entry::Entry;
 use abnf_parts::NodeNo;
 
-/// The entry of a node: `Nothing` where there is none.
+/// The entry of a node, by its number from 0: `Nothing` where there is none.
 pub fn entry_of(entries: &[Entry], number: usize) -> Entry
     ensures { result ≡ entry_at entries.now number }
 {
@@ -17,7 +17,7 @@ pub fn entry_of(entries: &[Entry], number: usize) -> Entry
     }
 }
 
-/// The entry of a text of so many characters.
+/// The entry of a text of so many characters: that length, and height 0.
 pub fn characters(length: usize) -> Entry
     ensures { result ≡ Least length 0 0 }
 {
@@ -28,7 +28,8 @@ pub fn characters(length: usize) -> Entry
     }
 }
 
-/// The entry of two parts, one after the other.
+/// The entry of two parts, one after the other: the sum of the lengths, cut off at 18446744073709551615, and the greater
+/// height; `Nothing` where one is.
 pub fn combine(left: Entry, right: Entry) -> Entry
     ensures { result ≡ in_a_row left right }
 {
@@ -49,7 +50,8 @@ pub fn combine(left: Entry, right: Entry) -> Entry
     }
 }
 
-/// The entry of the parts with these numbers, one after another.
+/// The entry of the parts with these numbers, one after another: the sum of the lengths, cut off at 18446744073709551615,
+/// and the greatest height; `Nothing` where one is. Time goes by their number.
 pub fn row(entries: &[Entry], numbers: &[NodeNo]) -> Entry
     ensures { result ≡ all_in_a_row (map (entry_at entries.now) numbers.now) }
 {
@@ -62,7 +64,8 @@ pub fn row(entries: &[Entry], numbers: &[NodeNo]) -> Entry
     whole
 }
 
-/// The entry of a part that stands so many times.
+/// The entry of a part that stands so many times: `least` times its length, cut off at 18446744073709551615, and its
+/// height; the length 0 where that is no time, even of `Nothing`.
 pub fn repeated(least: u32, entry: Entry) -> Entry
     ensures { result ≡ times least entry }
 {
@@ -79,7 +82,7 @@ pub fn repeated(least: u32, entry: Entry) -> Entry
     }
 }
 
-/// Whether an entry has this length and this height.
+/// Whether an entry has this length and this height. `Nothing` has none.
 pub fn has_pair(entry: Entry, length: u64, height: u64) -> bool
     ensures { IsTrue result ↔ HasPair length height entry }
 {

@@ -36,7 +36,8 @@ impl Model for Cert {
 }
 
 impl Cert {
-    /// The certificate with these entries.
+    /// The certificate with these entries, in the order of the nodes. It need not be right: that is what
+    /// [`check`](crate::check) says.
     pub fn new(entries: Vec<Entry>) -> Cert
         ensures { result ≡ entries.items }
     {

@@ -4,12 +4,16 @@ ghost use Rattle.abnf_cert.specs.Agreed.{AcceptedAgree};
 ghost use Rattle.abnf_cert.specs.Says.{AcceptedIsRight};
 ghost use Rattle.abnf_cert.specs.Read.{TextsAreRead, TextsAreUnique};
 
-/// Each entry of an accepted certificate is right, for any grammar and whoever made the certificate.
+/// Each entry of an accepted certificate is right, for any grammar and whoever made the certificate. "Nothing" stands
+/// only where the part generates no string. A length below 18446744073709551615 is the least length, with the least
+/// number of nested references for it. That number itself stands only where the part generates a string, and none
+/// shorter.
 pub fn accepted_is_right()
     ensures { AcceptedIsRight }
 {}
 
-/// Two accepted certificates of a grammar agree, but for heights and choices where a length is the greatest.
+/// Two accepted certificates of a grammar have as many entries, and agree but for heights and choices where a length is
+/// the greatest, 18446744073709551615.
 pub fn accepted_agree()
     ensures { AcceptedAgree }
 {}

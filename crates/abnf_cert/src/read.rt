@@ -78,7 +78,7 @@ fn number_in(bytes: &[u8]) -> Option<(u128, &[u8])>
     }
 }
 
-/// What a line tells of its node: nothing, or a length, a height and a choice.
+/// What a line says of its node: nothing, or a length, a height and a choice.
 type Told = Option<(u128, u128, u128)>;
 
 /// Three numbers with a blank between, and the line's end.
@@ -95,7 +95,7 @@ fn numbers_in(bytes: &[u8]) -> Option<(Told, &[u8])>
     Some((Some((length, height, choice)), rest))
 }
 
-/// What a line tells behind its number.
+/// What a line says behind its number.
 fn rest_in(bytes: &[u8]) -> Option<(Told, &[u8])>
     ensures { option_map (λ x. (x.0, x.1.now)) result ≡ rest_at bytes.now }
 {
@@ -123,7 +123,7 @@ fn line_in(bytes: &[u8]) -> Option<(u128, Told, &[u8])>
     Some((number, told, rest))
 }
 
-/// The entry that a line tells, if its numbers are of 64 bits.
+/// The entry that a line says, if its numbers are of 64 bits.
 fn told_entry(told: Told) -> Option<Entry>
     ensures { result ≡ entry_told told }
 {
@@ -167,14 +167,14 @@ fn read_lines(alloc: Global, bytes: &[u8]) -> Result<Cert, CertFault>
     Ok(Cert::new(entries))
 }
 
-/// The certificate that the bytes are the text of: one line per node, in their order, each ended by LF. A line is `I -` for
-/// [`Entry::Nothing`] or `I L H C` for a length, a height and a choice, where I counts the lines from 0. Numbers are decimal without
-/// leading zeros, and one blank stands between them.
+/// The certificate that the bytes are the text of: one line per node, in their order, each ended by LF. A line is `I -`
+/// for [`Entry::Nothing`] or `I L H C` for a length, a height and a choice, where I counts the lines from 0. Numbers are
+/// decimal without leading zeros, and one blank stands between them. Time goes by the bytes.
 ///
 /// # Errors
 ///
-/// The fault of the first faulty line, and of two that it shows the one that stands first in [`CertFault`]; `Memory` where an
-/// allocation is refused, which is asked for at the line of an entry alone.
+/// The fault of the first faulty line, and of two that it shows the one that stands first in [`CertFault`]; `Memory`
+/// where an allocation is refused, which is asked for at the line of an entry alone.
 pub fn read_cert(alloc: Global, bytes: &[u8]) -> Result<Cert, CertFault>
     ensures found { IfOk result (λ c. IsOf64Bits c × (bytes.now ≡ cert_text c)) }
 

@@ -54,7 +54,8 @@ fn push_least(
     Ok(())
 }
 
-/// The text of a certificate, which [`read_cert`](crate::read_cert) reads: a line for each entry.
+/// The text of a certificate, which [`read_cert`](crate::read_cert) reads: a line for each entry. Time goes by their
+/// number.
 ///
 /// # Errors
 ///

@@ -1,4 +1,7 @@
 //! `abnf_findings`, which prints what is found in the grammars of files, for makefiles, hooks and continuous integration.
+//!
+//! It opens files and standard input, prints, and ends with a status. What the arguments ask for is said by
+//! `findings_arguments`, and what is printed of a file, and how the program ends, by `findings_files`.
 #![tactic(auto)]
 
 use findings_arguments::{Arguments, Asked, Request, help, request_of};
@@ -29,7 +32,7 @@ fn words_of(rt: &HostRuntime) -> Result<Vec<Text>, Ending> {
     Ok(words)
 }
 
-/// The format of a file: that which is told for all, else that of its name.
+/// The format of a file: that which is named for all, else that of its name.
 fn format_of(arguments: &Arguments, file: &str) -> Format {
     match arguments.format {
         Some(format) => format,
@@ -48,13 +51,13 @@ fn text_at(rt: &HostRuntime, file: &str) -> Result<Snapshot, FileFault> {
     }
 }
 
-/// Tells why a file can't be used.
+/// Reports why a file can't be used.
 fn tell_fault(rt: &HostRuntime, fault: FileFault, file: &str) -> Result<Outcome, Ending> {
     if fault == FileFault::Memory {
         return Err(Ending::OutOfMemory);
     }
     let (kind, name) = fault_line(fault, file);
-    // A line that can't be printed leaves the status to tell it.
+    // A line that can't be printed leaves the status to say it.
     let _ = eprintln!(rt; "{kind}{name}");
     Ok(Outcome::NotRead)
 }
@@ -70,7 +73,7 @@ fn add_known(
     known.add(rt.alloc(), format_of(arguments, file), &text)
 }
 
-/// The files whose names are known. Each that can't be used is told, and then it ends.
+/// The files whose names are known. Each that can't be used is reported, and then it ends.
 fn known_files(rt: &HostRuntime, arguments: &Arguments) -> Result<Known, Ending> {
     let mut known = Known::new(rt.alloc());
     let mut all_read = true;
@@ -176,7 +179,7 @@ fn main(rt: HostRuntime) -> ExitCode {
         Err(ending) => ending,
     };
     if !ending.line().is_empty() {
-        // A line that can't be printed leaves the status to tell the ending.
+        // A line that can't be printed leaves the status to say the ending.
         let _ = eprintln!(rt; "{}", ending.line());
     }
     ExitCode::from(ending.status())

@@ -6,8 +6,10 @@ use Rattle.abnf_cert.specs.Accepted.{IsAccepted}
 use Rattle.abnf_least.specs.declared.shortest.Shortest.{Shortest}
 use Rattle.abnf_least.specs.Shown.{IsShown}
 
+-- the grammar of each text has an accepted certificate
 abbrev pub CertificatesExist : Type 0
 CertificatesExist = (g : Grammar) → IsGrammar g → (cert : List Entry) × IsAccepted g.rules cert
 
+-- of each rule of a text's grammar something is shown
 abbrev pub ExamplesExist : Type 0
 ExamplesExist = (g : Grammar) → IsGrammar g → (r : ℕ) → r < length g.rules → (shown : Shortest) × IsShown g.rules r shown

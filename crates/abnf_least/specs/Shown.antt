@@ -8,8 +8,9 @@ use Rattle.abnf_least.specs.declared.shortest.Shortest.{Shortest}
 use Rattle.abnf_least.specs.declared.shortest.Shortest.TheVariants.{Shown, Long, Huge, Nothing, NotKnown}
 use Rattle.abnf_least.specs.Sentence.{IsSentence}
 
--- What is known of a rule with this root, if it leads to no opaque part: an example is the rule's sentence, which the rule generates
--- and which has the length that is told. Of lengths from the top on no exact one is told.
+-- What is known of a rule with this root, if it leads to no opaque part: an example is the rule's sentence, which the rule
+-- generates and which has the least length, at most 4,096 characters. From there on it is the least length alone, and from
+-- the top on that there is a string and none shorter.
 abbrev pub IsKnownOf : List Part → ℕ → Part → Shortest → Type 0
 IsKnownOf roots r root (Shown n text) =
     IsLeastLength roots root n × (n ≤ 4096) × IsSentence roots r text × Generates roots root text × (length text ≡ n)
@@ -18,6 +19,7 @@ IsKnownOf roots r root Huge = ((s : List ℕ) × Generates roots root s) × ((s 
 IsKnownOf roots r root Nothing = (s : List ℕ) → Generates roots root s → ⊥
 IsKnownOf roots r root NotKnown = ⊥
 
+-- this is known of rule r, by what it generates
 abbrev pub IsKnown : List Part → ℕ → Shortest → Type 0
 IsKnown roots r shown = (root : Part) × (slice_get roots r ≡ Some root) × IsKnownOf roots r root shown
 

@@ -4,7 +4,7 @@ use Rattle.abnf_cert.specs.declared.entry.Entry.{Entry}
 use Rattle.abnf_cert.specs.declared.entry.Entry.TheVariants.{Nothing, Least}
 use Rattle.abnf_cert.specs.Accepted.{entry_at, top}
 
--- the height is at most b
+-- the entry's height is at most b
 abbrev pub IsUpTo : ℕ → Entry → Type 0
 IsUpTo b Nothing = Unit {0}
 IsUpTo b (Least l h c) = h ≤ b
@@ -19,7 +19,7 @@ unsettled (Least l h c ∷ table) = unsettled table
 abbrev pub HasRoomAbove : List Entry → Type 0
 HasRoomAbove table = (n : ℕ) → IsUpTo 18446744073709551614 (entry_at table n)
 
--- no part is named as the choice
+-- the entry names no part as the choice
 abbrev pub IsUnchosen : Entry → Type 0
 IsUnchosen Nothing = Unit {0}
 IsUnchosen (Least l h c) = c ≡ 0
@@ -28,7 +28,7 @@ IsUnchosen (Least l h c) = c ≡ 0
 abbrev pub NoneSettled : List Entry → Type 0
 NoneSettled table = (n : ℕ) → entry_at table n ≡ Nothing
 
--- lengths never go past the top
+-- the entry's length isn't past the top
 abbrev pub InRange : Entry → Type 0
 InRange Nothing = Unit {0}
 InRange (Least l h c) = l ≤ top

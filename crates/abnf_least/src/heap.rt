@@ -30,6 +30,7 @@ impl Model for Heap {
 }
 
 impl Heap {
+    /// No candidates. It takes no memory.
     pub fn new(alloc: Global) -> Heap
         ensures { result ≡ [] }
     {
@@ -38,6 +39,7 @@ impl Heap {
         }
     }
 
+    /// Adds a candidate, in time by the logarithm of their number.
     pub fn push(&mut self, candidate: Candidate) -> Result<(), AllocError>
         ensures { OnOk result (JoinsQueue self.old candidate self.new) }
     {
@@ -45,7 +47,7 @@ impl Heap {
         Ok(())
     }
 
-    /// The least candidate.
+    /// The least candidate; `None` where there are none.
     pub fn first(&self) -> Option<Candidate>
         ensures some { IfSome result (λ x. IsFirstCandidate self.now x) }
         ensures none { IfNone result (self.now ≡ []) }
@@ -56,7 +58,7 @@ impl Heap {
         }
     }
 
-    /// Takes the least candidate away.
+    /// Takes the least candidate away, in time by the logarithm of their number; `None` where there are none.
     pub fn pop(&mut self) -> Option<Candidate>
         ensures some { IfSome result (λ x. LeavesQueue self.old x self.new) }
         ensures none { IfNone result (self.old ≡ []) }

@@ -29,6 +29,7 @@ impl Model for Queue {
 }
 
 impl Queue {
+    /// No candidates. It takes no memory.
     pub fn new(alloc: Global) -> Queue
         ensures { result ≡ [] }
     {
@@ -38,6 +39,7 @@ impl Queue {
         }
     }
 
+    /// Adds a candidate: to the row where it comes before none that stands there, else to the heap.
     pub fn push(&mut self, candidate: Candidate) -> Result<(), AllocError>
         ensures { OnOk result (JoinsQueue self.old candidate self.new) }
     {
@@ -48,7 +50,7 @@ impl Queue {
         }
     }
 
-    /// Takes a candidate with the least pair away.
+    /// Takes a candidate with the least pair away; `None` where there are none.
     pub fn pop(&mut self) -> Option<Candidate>
         ensures some { IfSome result (λ x. LeavesQueue self.old x self.new) }
         ensures none { IfNone result (self.old ≡ []) }

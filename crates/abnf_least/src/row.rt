@@ -27,6 +27,7 @@ impl Model for Row {
 }
 
 impl Row {
+    /// No candidates. It takes no memory.
     pub fn new(alloc: Global) -> Row
         ensures { result ≡ [] }
     {

@@ -1,6 +1,6 @@
 //! The search for least lengths.
 //!
-//! Sweeps find most of them, and the check of certificates tells whether they did. Where they didn't, a queue finds them.
+//! Sweeps find most of them, and the check of certificates says whether they did. Where they didn't, a queue finds them.
 //!
 //! Parts are settled in the order of their pairs, each once: a queue gives the least, since no part has a pair before those of the
 //! parts from which it follows. A settled part is offered to its users, which then wait in the queue. What waits is checked again
@@ -129,12 +129,14 @@ fn choose(grammar: &Grammar, table: &mut [Entry])
     }
 }
 
-/// The least lengths of what the parts of a grammar generate: a certificate that [`check`](abnf_cert::check) accepts. For n nodes it
-/// takes time in proportion to n times the logarithm of n, and memory in proportion to n.
+/// The least lengths of what the parts of a grammar generate: a certificate that [`check`](abnf_cert::check) accepts, for
+/// every grammar, also with cycles, with names that stand for nothing, with ranges turned round, and with lengths past 64
+/// bits. For n nodes it takes time in proportion to n times the logarithm of n, and memory in proportion to n.
 ///
 /// # Errors
 ///
-/// Where an allocation is refused. So it is where the numbers of parts don't fit in 31 bits, as those of each text do that is read.
+/// Where an allocation is refused. So it is where the numbers of parts don't fit in 31 bits, as those of each text do
+/// that is read.
 pub fn least(alloc: Global, grammar: &Grammar) -> Result<Cert, AllocError>
     ensures { IfOk result (λ cert. IsAccepted grammar.now.rules cert) }
 {

@@ -60,7 +60,10 @@ fn known(
     }
 }
 
-/// What is known of the shortest strings that a rule generates, by an accepted certificate. The rule must be one of the grammar.
+/// What is known of the shortest strings that a rule generates, by an accepted certificate: not known exactly where it
+/// leads to prose or to a faulty block; else nothing exactly where it generates no string; else the rule's sentence, the
+/// least length, or that there is a string and none shorter. The rule must be one of the grammar. Where a sentence is
+/// shown time goes by the number of nodes.
 ///
 /// # Errors
 ///

@@ -1,9 +1,10 @@
-//! Entries by sweeps over the rules.
+//! Entries by sweeps over the rules, at most 16: the grammars of standards in `examples/` and `bench/` take two to seven. Names can be put so
+//! that each sweep settles one rule alone, and then the queue is asked.
 //!
 //! A sweep gives each part the entry that the table gives it, in each rule the parts below before those above. A sweep goes backwards, the
 //! next one forwards: most grammars define a name further down than they use it, so that the first sweep gives nearly all parts their
 //! entry. Later ones pass over each rule that uses none which has changed since. Once a sweep changes no root, the table is a certificate.
-//! Nothing of that is claimed: what sweeps come to is a guess, and the check of certificates tells whether it is right.
+//! Nothing of that is claimed: what sweeps come to is a guess, and the check of certificates says whether it is right.
 
 ghost use Rattle.std.specs.Prelude.{IfOk, ◌<◌, ◌≤◌, length};
 ghost use Rattle.abnf_parts.specs.Part.{parts_of};

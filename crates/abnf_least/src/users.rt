@@ -100,7 +100,7 @@ impl Users {
         })
     }
 
-    /// AddsUser a user of a part, if there is that part.
+    /// Adds a user of a part, if there is that part.
     fn add(&mut self, part: usize, user: usize) -> Result<(), AllocError>
         ensures { OnOk result (AddsUser self.old part user self.new) }
     {
@@ -128,7 +128,7 @@ impl Users {
         Ok(())
     }
 
-    /// AddsUser a node as the user of the parts from which its entry follows.
+    /// Adds a node as the user of the parts from which its entry follows.
     fn add_node(&mut self, grammar: &Grammar, node: &Node, user: usize) -> Result<(), AllocError>
         requires { NodeRefersWithin (length grammar.now.rules) node.now }
         ensures { OnOk result (AddsEach self.old (needs (node_form (root_number grammar.now.rules) node.now)) user self.new) }

@@ -35,6 +35,7 @@ impl Model for Work {
 }
 
 impl Work {
+    /// No tasks. It takes no memory.
     pub fn new(alloc: Global) -> Work
         ensures { result ≡ [] }
     {

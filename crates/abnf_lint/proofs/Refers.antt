@@ -1,4 +1,4 @@
--- Each name, number and repeat among the items of a rule's body is told by a part of its alternatives.
+-- Each name, number and repeat among the items of a rule's body is said by a part of its alternatives.
 use Rattle.std.proofs.Common.{◌≡◌, ◌∙◌, ◌≤◌, ℕ, zero, suc, Bool, true, false, List, [], ◌∷◌, ◌⊎◌, inl, inr, map, refl, sym, ap, subst, arith}
 use Rattle.std.specs.Prelude.{Contains, Option, Some, None}
 use Rattle.std.proofs.lemmas.List.Elements.{Contains-append_left, Contains-append_right}

@@ -1,4 +1,4 @@
--- What is told of a finding: how grave it is, its code, and its message.
+-- What is said of a finding: how grave it is, its code, and its message.
 use Rattle.std.specs.Prelude.{ℕ, ◌++◌, List, codes}
 use Rattle.abnf_syntax.specs.declared.fault.SyntaxFault.{SyntaxFault}
 use Rattle.abnf_syntax.specs.declared.fault.SyntaxFault.TheVariants as f
@@ -7,7 +7,8 @@ use Rattle.abnf_lint.specs.declared.finding.Code.TheVariants as c
 use Rattle.abnf_lint.specs.declared.message.Severity.{Severity}
 use Rattle.abnf_lint.specs.declared.message.Severity.TheVariants.{Error, Warning}
 
--- a text that is no rule, a name without a rule and a second definition are errors
+-- whether a finding is an error or a warning: rows 1 to 5 are errors, a text that is no rule, a name without a rule and a
+-- second definition; rows 6 to 9 are warnings
 abbrev pub severity_of : Code → Severity
 severity_of (c.Syntax fault) = Error
 severity_of c.NumberTooLarge = Error
@@ -19,6 +20,7 @@ severity_of c.EmptyRepeat = Warning
 severity_of c.EmptyRange = Warning
 severity_of c.Unproductive = Warning
 
+-- the text of a finding's code
 abbrev pub code_text : Code → List ℕ
 code_text (c.Syntax fault) = codes "syntax"
 code_text c.NumberTooLarge = codes "number-too-large"
@@ -30,6 +32,7 @@ code_text c.EmptyRepeat = codes "empty-repeat"
 code_text c.EmptyRange = codes "empty-range"
 code_text c.Unproductive = codes "unproductive"
 
+-- the text of a fault of the syntax
 abbrev pub fault_text : SyntaxFault → List ℕ
 fault_text (f.NoName p) = codes "rule name expected"
 fault_text (f.NoDefinedAs p) = codes "\"=\" or \"=/\" expected"
@@ -41,7 +44,7 @@ fault_text (f.NumberTooLarge p) = codes "number too large"
 fault_text (f.TooDeep p) = codes "brackets nested too deep"
 fault_text f.Memory = codes "out of memory"
 
--- the message of a code, with a name in those that tell one
+-- the message of a code, with a name in those that have one
 abbrev pub message_of : Code → List ℕ → List ℕ
 message_of (c.Syntax fault) name = fault_text fault
 message_of c.NumberTooLarge name = codes "number too large"

@@ -7,6 +7,7 @@ use Rattle.abnf_lint.specs.declared.finding.Code.{Code}
 use Rattle.abnf_lint.specs.declared.finding.Code.TheVariants as c
 use Rattle.abnf_lint.specs.declared.finding.Finding.{Finding}
 
+-- the row of a code in the table, from 1
 abbrev pub code_row : Code → ℕ
 code_row (c.Syntax fault) = 1
 code_row c.NumberTooLarge = 2
@@ -18,13 +19,15 @@ code_row c.EmptyRepeat = 7
 code_row c.EmptyRange = 8
 code_row c.Unproductive = 9
 
--- line, start and row
+-- a line, a start and a row
 abbrev pub Key : Type 0
 Key = ℕ × ℕ × ℕ
 
+-- the line of a finding, where it begins there in bytes, and the row of its code
 abbrev pub key : Finding → Key
 key f = (f.place.line, f.place.start, code_row f.code)
 
+-- keys are ordered by line, then by start, then by row
 abbrev pub key_cmp : Key → Key → Ordering
 key_cmp a b = ordering_then (ordering_then (nat_cmp a.0 b.0) (nat_cmp a.1 b.1)) (nat_cmp a.2 b.2)
 
@@ -32,7 +35,7 @@ key_cmp a b = ordering_then (ordering_then (nat_cmp a.0 b.0) (nat_cmp a.1 b.1)) 
 abbrev pub finding_before : Finding → Finding → Bool
 finding_before f g = is_lt (key_cmp (key f) (key g))
 
--- each finding comes before all that follow it
+-- each finding comes before all that follow it, by line, start and row: no two share all three
 abbrev pub FindingsAscend : List Finding → Type 0
 FindingsAscend [] = Unit {0}
 FindingsAscend (f ∷ fs) = AllByRecursion (λ g. finding_before f g ≡ true) fs × FindingsAscend fs

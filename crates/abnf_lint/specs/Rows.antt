@@ -28,7 +28,7 @@ syntax_place (f.NumberTooLarge p) = None
 syntax_place (f.TooDeep p) = None
 syntax_place fault = fault_place fault
 
--- the block shows no fault
+-- the block is sound: it shows no fault
 abbrev pub HasNoFault : Block → Type 0
 HasNoFault block = (rule : Rule) × (block.said ≡ Ok rule)
 
@@ -63,16 +63,26 @@ pub record HasHead (block : Block) (place : Place) (name : List ℕ) (head : Hea
 abbrev pub AnyDefines : List Block → Name → Type 0
 AnyDefines blocks name = (block : Block) × Contains blocks block × (head_name block ≡ Some name)
 
--- one of them defines it by `=`
+-- one of the blocks defines the name by `=`
 abbrev pub AnyBases : List Block → Name → Type 0
 AnyBases blocks name = (block : Block) × Contains blocks block × (head_name block ≡ Some name) × (adds block ≡ false)
 
--- the rule of the name generates nothing, and everything is known of it
+-- the rule of the name is unproductive: it generates nothing, and leads to no prose and no faulty block
 abbrev pub IsIdle : List Block → Name → Type 0
 IsIdle blocks name = (r : ℕ) × (rule_number (names_of blocks) name ≡ Some r) × IsUnproductive (rules_of blocks) r
 
 -- The row of a code holds of a block at this place, with this name in its message, where these are all blocks of the text and those
--- before it.
+-- before it:
+-- 1. `syntax`: the place of the block's fault, but for those of the next two rows.
+-- 2. `number-too-large`: a number above 4,294,967,295, where it makes its block faulty.
+-- 3. `too-deep`: a bracket that nests 65 deep.
+-- 4. `undefined`: in a sound block, a name that stands for no rule and no core rule.
+-- 5. `duplicate`: the head of a second or later `=` block of its name.
+-- 6. `no-base`: the head of a `=/` block with no `=` block of its name before it.
+-- 7. `empty-repeat`: in a sound block, a repeat with its minimum above its maximum.
+-- 8. `empty-range`: in a sound block, a range with its low end above its high end.
+-- 9. `unproductive`: the first head of an unproductive rule.
+-- A block is sound where it shows no fault.
 module _ (blocks before : List Block) (block : Block) where
   abbrev pub RowHolds : Place → List ℕ → Code → Type 0
   RowHolds place name (c.Syntax fault) = (block.said ≡ Err fault) × (syntax_place fault ≡ Some place) × (name ≡ [])
@@ -86,7 +96,8 @@ module _ (blocks before : List Block) (block : Block) where
   RowHolds place name c.EmptyRange = HasNoFault block × HasItem block place IsEmptyRange × (name ≡ [])
   RowHolds place name c.Unproductive = (head : Head) × HasHead block place name head × (AnyDefines before (name_of head) → ⊥) × IsIdle blocks (name_of head)
 
--- A row of the table holds of one of the text's blocks.
+-- A row of the table holds of one of the text's blocks, at this place and with this name. The table stands above `RowHolds`
+-- and at the code's `Code`.
 pub record RowStands (text : List ℕ) (found : Finding) : Type 0 where
   pub blocks : List Block
   pub of_text : AreSaid text blocks
@@ -96,7 +107,9 @@ pub record RowStands (text : List ℕ) (found : Finding) : Type 0 where
   pub split : blocks ≡ before ++ block ∷ after
   pub holds : RowHolds blocks before block found.place found.name found.code
 
--- These are the rows of the table that hold of the text, each once, by line, start and row.
+-- These are the rows of the table that hold of the text, each once, by line, start and row: what is found in it. No two share
+-- all three. Each text of fewer than 2^62 characters has one such list (`findings_exist` in `abnf_productive`), and no second
+-- (`findings_are_unique`).
 pub record AreRows (text : List ℕ) (rows : List Finding) : Type 0 where
   pub each : (f : Finding) → Contains rows f ↔ RowStands text f
   pub ordered : FindingsAscend rows

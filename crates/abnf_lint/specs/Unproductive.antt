@@ -4,7 +4,7 @@ use Rattle.abnf_parts.specs.Part.{Part}
 use Rattle.abnf_parts.specs.Generates.{Generates}
 use Rattle.abnf_parts.specs.Reach.{ReachesOpaque}
 
--- rule r generates no string, and no chain of uses leads from it to an opaque part
+-- rule r generates no string, and no chain of uses leads from it to an opaque part, prose or a faulty block
 pub record IsUnproductive (rules : List Part) (r : ℕ) : Type 0 where
   pub known : ReachesOpaque rules r → ⊥
   pub nothing : (root : Part) → slice_get rules r ≡ Some root → (s : List ℕ) → Generates rules root s → ⊥

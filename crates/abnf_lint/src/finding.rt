@@ -7,31 +7,33 @@ use abnf_syntax::SyntaxFault;
 use ls_lists::Text;
 use ls_text::Place;
 
-/// What is wrong or doubtful, in the order of the rows of the table.
+/// What is wrong or doubtful, in the order of the rows of the table. A block is sound where it shows no fault. Rows 1 to
+/// 5 are errors, the others warnings ([`severity`](Code::severity)).
 #[derive(Clone, Copy, Debug, Drop, PartialEq, Eq)]
 pub enum Code {
-    /// The block is no rule; the fault says why.
+    /// Row 1, `syntax`: the block is no rule; the fault says why. At the fault's place, but for those of the next two
+    /// rows.
     Syntax(SyntaxFault),
-    /// A number is above 4,294,967,295.
+    /// Row 2, `number-too-large`: a number is above 4,294,967,295, and makes its block faulty. At the number.
     NumberTooLarge,
-    /// A bracket nests more than 64 deep.
+    /// Row 3, `too-deep`: a bracket nests 65 deep. At the bracket.
     TooDeep,
-    /// A name stands for nothing.
+    /// Row 4, `undefined`: in a sound block a name stands for no rule and no core rule. At the name.
     Undefined,
-    /// An earlier block defines the name too.
+    /// Row 5, `duplicate`: an earlier block defines the name with `=` too. At the head of the second or later one.
     Duplicate,
-    /// No earlier block defines the name to which this one adds.
+    /// Row 6, `no-base`: no earlier block defines with `=` the name to which this one adds with `=/`. At its head.
     NoBase,
-    /// A repeat has its minimum above its maximum.
+    /// Row 7, `empty-repeat`: in a sound block a repeat has its minimum above its maximum. At the repeat.
     EmptyRepeat,
-    /// A range has its low end above its high end.
+    /// Row 8, `empty-range`: in a sound block a range has its low end above its high end. At the range.
     EmptyRange,
-    /// The rule generates no string, and everything is known of it.
+    /// Row 9, `unproductive`: the rule generates no string, and leads to no prose and no faulty block. At its first head.
     Unproductive,
 }
 
 impl Code {
-    /// The row of the table, from 1.
+    /// The row of the table, from 1 to 9.
     pub fn row(self) -> u8
         ensures { result ≡ order.code_row self }
     {
@@ -52,7 +54,10 @@ impl Code {
 /// What is found at a place. The name is that which the message names, as it is spelled there; else it is empty.
 #[derive(Drop)]
 pub struct Finding {
+    /// Where it stands: a line, and bytes of it.
     pub place: Place,
+    /// What is found.
     pub code: Code,
+    /// The name in the message, or none.
     pub name: Text,
 }

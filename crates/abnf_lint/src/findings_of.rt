@@ -124,8 +124,9 @@ fn in_order(found: List<Finding>) -> Result<List<Finding>, AllocError>
     Ok(List::from_vec(found))
 }
 
-/// What is found in a grammar's text: the rows of the table that hold of it, by line, start and row, where it is marked of each rule
-/// whether it is unproductive: whether it generates no string and leads to no prose and no faulty block.
+/// What is found in a grammar's text: the rows of the table that hold of it, by line, start and row, where it is marked
+/// of each rule whether it is unproductive: whether it generates no string and leads to no prose and no faulty block.
+/// Time goes by the length of the text, and by n times the logarithm of n for n findings.
 ///
 /// # Errors
 ///
@@ -143,8 +144,9 @@ pub fn findings_marked(
     Ok(found)
 }
 
-/// What is found in a grammar's text: the rows of the table that hold of it, by line, start and row. The certificate must be accepted
-/// for the grammar: a rule is unproductive exactly where it generates no string and leads to no prose and no faulty block.
+/// What is found in a grammar's text: the rows of the table that hold of it, by line, start and row. The certificate must
+/// be accepted for the grammar: a rule is unproductive exactly where it generates no string and leads to no prose and no
+/// faulty block. Time goes by the length of the text, and by n times the logarithm of n for n findings.
 ///
 /// # Errors
 ///

@@ -2,7 +2,7 @@
 //!
 //! [`findings`] gives all that is found in a text, in its order. What counts as a finding is a relation on texts: a row of the table in
 //! specs/Rows holds.
-//! A [`Finding`] has a place, a [`Code`] and perhaps a name, and tells its message.
+//! A [`Finding`] has a place, a [`Code`] and perhaps a name, and gives its message.
 #![tactic(auto)]
 
 mod block;

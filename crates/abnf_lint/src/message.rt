@@ -1,4 +1,4 @@
-//! What is told of a finding.
+//! What is said of a finding.
 
 ghost use Rattle.std.specs.Prelude.{◌≡◌, ◌++◌, IfOk, string_bytes};
 ghost use Rattle.abnf_lint.specs.Messages as messages;
@@ -18,7 +18,7 @@ pub enum Severity {
 }
 
 impl Code {
-    /// How grave it is.
+    /// Whether it is an error, as rows 1 to 5 are, or a warning, as rows 6 to 9.
     pub fn severity(self) -> Severity
         ensures { result ≡ messages.severity_of self }
     {
@@ -33,7 +33,7 @@ impl Code {
         }
     }
 
-    /// The code as a text, as `empty-range`.
+    /// The code as a text, as `empty-range`; of each fault of the syntax in row 1 it is `syntax`.
     pub fn text(self) -> &'static str
         ensures { result.now ≡ messages.code_text self }
     {
@@ -79,7 +79,7 @@ fn around(alloc: Global, before: &str, name: &str, behind: &str) -> Result<Text,
 }
 
 impl Finding {
-    /// The message of the finding, in one line.
+    /// The message of the finding, in one line. It names the finding's name where its code has one.
     ///
     /// # Errors
     ///

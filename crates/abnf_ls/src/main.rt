@@ -1,5 +1,5 @@
-//! `abnf_ls`, a language server for ABNF grammars over standard input and output, and its two commands: a shortest sentence of a
-//! rule, and the check of a certificate.
+//! `abnf_ls`, a language server for ABNF grammars over standard input and output, and its two commands: a shortest sentence of a rule, and
+//! the check of a certificate. No function here has a contract beyond safety.
 #![tactic(auto)]
 
 use ls_server::{
@@ -21,6 +21,7 @@ const WORKERS: u32 = 4;
 struct Open;
 
 impl Gate for Open {
+    /// Lets each worker pass at once.
     fn pass<R: Wait>(&self, _rt: &R, _ticket: u64) {}
 }
 
@@ -119,7 +120,7 @@ fn main(rt: HostRuntime) -> ExitCode {
     };
     let (kind, detail) = ending.line();
     if !kind.is_empty() {
-        // A line that can't be printed leaves the status to tell the ending.
+        // A line that can't be printed leaves the status to say how it ended.
         let _ = eprintln!(rt; "{kind}{detail}");
     }
     ExitCode::from(ending.status())

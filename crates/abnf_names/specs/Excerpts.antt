@@ -12,14 +12,15 @@ pub record Excerpt : Type 0 where
   pub items : List Item
   pub fault : Option SyntaxFault
 
+-- the excerpt of a block
 abbrev pub excerpt_of : Block → Excerpt
 excerpt_of block = record { items = block.items; fault = fault_shown block.said }
 
--- what a section says
+-- the excerpt of a section of the code
 abbrev pub excerpt : Section → Excerpt
 excerpt section = record { items = section.block.items; fault = section.fault }
 
--- These are the blocks of the grammar's text, all of them and in order.
+-- These sections are the blocks of the grammar's text, all of them and in order.
 pub record HasSections (g : Grammar) (sections : List Section) : Type 0 where
   pub blocks : List Block
   pub of_text : AreSaid g.text blocks

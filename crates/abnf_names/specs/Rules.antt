@@ -16,9 +16,11 @@ use Rattle.abnf_parts.specs.Core.{CoreRule, core_rules, core_name, is_needed}
 use Rattle.abnf_names.specs.Said.{Block, AreSaid, name_of}
 use Rattle.abnf_names.specs.Places.{Named, places_of}
 
+-- the block defines this name, or adds to it
 abbrev pub defines : Name → Block → Bool
 defines name block = option_map_or (λ head. bytes_eq (name_of head) name) (head_of block.items) false
 
+-- the block adds to its name, with `=/` (RFC 5234 section 3.3)
 abbrev pub adds : Block → Bool
 adds block = option_map_or (λ head. head.adds) (head_of block.items) false
 
@@ -27,10 +29,11 @@ abbrev pub counted : List Block → List Block
 counted [] = []
 counted (block ∷ blocks) = block ∷ (if adds block then counted blocks else filter adds blocks)
 
+-- the name that a block defines or adds to, if it has a head
 abbrev pub head_name : Block → Option Name
 head_name block = option_map name_of (head_of block.items)
 
--- the names that the blocks define, each where it is defined first
+-- the names that the blocks define, each where it is defined first: the text's own rules have their numbers among these
 abbrev pub defined : List Block → List Name
 defined blocks = fold with_name [] (filter_map head_name blocks)
 
@@ -55,6 +58,7 @@ abbrev pub alternatives_said : (Name → Option ℕ) → Result Rule SyntaxFault
 alternatives_said number (Ok rule) = alternatives number rule.body
 alternatives_said number (Err fault) = opaque ∷ []
 
+-- the alternatives that a block says; of a faulty one a single opaque one
 abbrev pub said_alternatives : (Name → Option ℕ) → Block → List Part
 said_alternatives number block = alternatives_said number block.said
 
@@ -62,12 +66,15 @@ said_alternatives number block = alternatives_said number block.said
 abbrev pub rule_tree : List Block → Name → Part
 rule_tree blocks name = alt (parts (flat_map (said_alternatives (rule_number (names_of blocks))) (counted (filter (defines name) blocks))))
 
+-- the tree of a core rule, inside which names stand for core rules alone
 abbrev pub core_tree : List Block → CoreRule → Part
 core_tree blocks core = core.tree (core_number blocks)
 
+-- the trees of the rules: those of the text, then those of the needed core rules
 abbrev pub rules_of : List Block → List Part
 rules_of blocks = map (rule_tree blocks) (defined blocks) ++ map (core_tree blocks) (needed blocks)
 
+-- the place of a fault; there is none for memory
 abbrev pub fault_place : SyntaxFault → Option Place
 fault_place (f.NoName p) = Some p
 fault_place (f.NoDefinedAs p) = Some p
@@ -79,10 +86,12 @@ fault_place (f.NumberTooLarge p) = Some p
 fault_place (f.TooDeep p) = Some p
 fault_place f.Memory = None
 
+-- the fault that is said in a rule's place, and where in the text it is
 abbrev pub fault_of : Result Rule SyntaxFault → Option (Place × SyntaxFault)
 fault_of (Ok rule) = None
 fault_of (Err fault) = option_map (λ place. (place, fault)) (fault_place fault)
 
+-- the fault of a block, if it shows one, with its place
 abbrev pub block_fault : Block → Option (Place × SyntaxFault)
 block_fault block = fault_of block.said
 
@@ -90,7 +99,7 @@ block_fault block = fault_of block.said
 abbrev pub faults_of : List Block → List (Place × SyntaxFault)
 faults_of blocks = filter_map block_fault blocks
 
--- What is known of a text's grammar.
+-- what is known of a text's grammar: its rules by name, with their trees, the places of names, and the faults of its blocks
 pub record Grammar : Type 0 where
   pub text : List ℕ
   pub names : List Name
@@ -98,6 +107,10 @@ pub record Grammar : Type 0 where
   pub places : List Named
   pub faults : List (Place × SyntaxFault)
 
+-- The grammar that the blocks of a text make (RFC 5234 sections 2 and 3 and appendix B.1). The first `=` block of a name and
+-- all its `=/` blocks count, names are compared without ASCII case, and rules stand in the order in which their names come
+-- first at heads. Then come the core rules that are needed, in the order of the standard. A faulty block with a head counts
+-- as one opaque alternative. Inside a core rule names stand for core rules alone.
 abbrev pub grammar_of : List ℕ → List Block → Grammar
 grammar_of text blocks = record {
   text = text;
@@ -107,13 +120,13 @@ grammar_of text blocks = record {
   faults = faults_of blocks;
 }
 
--- It is the grammar of its text.
+-- This is the grammar of its text. A text has one (`grammars_exist`), and only one (`grammars_are_unique`).
 pub record IsGrammar (g : Grammar) : Type 0 where
   pub blocks : List Block
   pub of_text : AreSaid g.text blocks
   pub is : g ≡ grammar_of g.text blocks
 
--- These are the places of names in the text, those of its grammar.
+-- These are the places of names in the text, those of its grammar, of which it has one.
 pub record HasPlaces (text : List ℕ) (places : List Named) : Type 0 where
   pub grammar : Grammar
   pub of_text : grammar.text ≡ text

@@ -17,6 +17,7 @@ pub record Block : Type 0 where
   pub items : List Item
   pub said : Result Rule SyntaxFault
 
+-- the items derive this rule, or show this fault
 abbrev pub BlockSays : List Item → Result Rule SyntaxFault → Type 0
 BlockSays items (Ok rule) = Derives items rule
 BlockSays items (Err fault) = Faults items fault
@@ -32,7 +33,8 @@ AreWithin ls [] [] = Unit {0}
 AreWithin ls (b ∷ bounds) (block ∷ blocks) = IsWithin ls b block × AreWithin ls bounds blocks
 AreWithin ls _ _ = ⊥
 
--- These are the blocks of a text, all of them and in order.
+-- These are the blocks of a text, all of them and in order, each with its items and with the rule that they derive or the
+-- fault that they show.
 pub record AreSaid (text : List ℕ) (blocks : List Block) : Type 0 where
   pub bounds : List (ℕ × ℕ)
   pub all : AreBlocks (line_texts text) 0 bounds

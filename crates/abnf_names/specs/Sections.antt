@@ -11,7 +11,7 @@ use Rattle.abnf_names.specs.Rules.{alternatives_said}
 use Rattle.abnf_names.specs.Excerpts.{excerpt, excerpt_of}
 use Rattle.abnf_names.specs.Shown.{fault_shown}
 
--- these have the blocks of a text, all of them and in order
+-- These sections are the blocks of a text, all of them and in order.
 pub record AreSections (text : List ℕ) (sections : List Section) : Type 0 where
   pub blocks : List Block
   pub of_text : AreSaid text blocks
@@ -27,6 +27,6 @@ abbrev pub alternatives_known : (Name → Option ℕ) → Option Rule → List P
 alternatives_known number None = opaque ∷ []
 alternatives_known number (Some rule) = alternatives number rule.body
 
--- both have the same alternatives
+-- what a block says and a rule of the code, or none, have the same alternatives
 abbrev pub AreAlike : Result Rule SyntaxFault → Option Rule → Type 0
 AreAlike said rule = (number : Name → Option ℕ) → alternatives_known number rule ≡ alternatives_said number said

@@ -1,4 +1,7 @@
 //! The grammar of a text.
+//!
+//! It is made anew for each question that needs one, since the numbers of rules and nodes depend on the whole text: a definition anywhere
+//! changes the numbers of all rules behind it. It has one list of the places of all names, and none for each name.
 
 ghost use Rattle.std.specs.Prelude.{◌≡◌, ◌<◌, ◌≤◌, ◌↔◌, suc, IfOk, IfSome, IsTrue, List, is_some, length, map, option_map};
 ghost use Rattle.abnf_parts.specs.Part.{parts_of, root_number};
@@ -77,7 +80,12 @@ impl<'t> Model for Grammar<'t> {
 }
 
 impl<'t> Grammar<'t> {
-    /// The grammar of a text.
+    /// The grammar of a text: its blocks are read, each as a rule or with its fault, and of these the rules by name are
+    /// made, the core rules that they need, a tree for each rule as numbered nodes, and the places of names. Which rules
+    /// lead to prose or to a faulty block is found too, so the calls below only look it up.
+    ///
+    /// Time and memory go by the length of the text, where the hashes of its names spread. The seed of their table is
+    /// made of all names that the text defines.
     ///
     /// # Errors
     ///
@@ -102,7 +110,7 @@ impl<'t> Grammar<'t> {
         })
     }
 
-    /// The parts of the rules, by number.
+    /// The parts of the rules, by number: the subtrees of all rules, each before its own parts.
     pub fn nodes(&self) -> &[Node<'t>]
         ensures { AreNodes self.now.rules result.now }
     {
@@ -117,7 +125,8 @@ impl<'t> Grammar<'t> {
         self.roots[rule.get()]
     }
 
-    /// The numbers of a rule's parts: that of its root, and that behind its last part. The rule must be one of this grammar.
+    /// The numbers of a rule's parts: that of its root, and that behind its last part. The rule must be one of this
+    /// grammar.
     pub fn range_of(&self, rule: RuleNo) -> (usize, usize)
         requires { rule < length self.now.rules }
         ensures start { result.0 ≡ root_number self.now.rules rule }
@@ -135,7 +144,8 @@ impl<'t> Grammar<'t> {
         self.roots.len()
     }
 
-    /// The rule that a name stands for in the text: the text's rule, else the core rule if one is needed.
+    /// The rule that a name stands for in the text: the text's rule, else the core rule if one is needed; `None` where it
+    /// stands for nothing. Names are found by their hashes.
     pub fn rule_of(&self, name: Folded<'t>) -> Option<RuleNo>
         ensures rule { result ≡ rule_number self.now.names (folded_text name.entry) }
         ensures within { IfSome result (λ r. r < length self.now.rules) }
@@ -143,7 +153,8 @@ impl<'t> Grammar<'t> {
         self.names.rule_of(name)
     }
 
-    /// The same, at once where the guess is right that the text's rule with this number has the name.
+    /// The rule of [`rule_of`](Grammar::rule_of), or `None`, without a look for it where the guess is right that the
+    /// text's rule with this number has the name.
     pub fn rule_guessed(&self, name: Folded<'t>, guess: usize) -> Option<RuleNo>
         ensures rule { result ≡ rule_number self.now.names (folded_text name.entry) }
         ensures within { IfSome result (λ r. r < length self.now.rules) }
@@ -151,8 +162,8 @@ impl<'t> Grammar<'t> {
         self.names.rule_guessed(name, guess)
     }
 
-    /// The text's own rule of a name. There is none where the text doesn't define the name, which then stands for a core rule or for
-    /// nothing.
+    /// The text's own rule of a name. `None` exactly where no place of the text defines the name, which then stands for a
+    /// core rule or for nothing.
     pub fn own_rule_of(&self, name: Folded<'t>) -> Option<RuleNo>
         ensures rule { (blocks : List Block) → AreSaid self.now.text blocks → result ≡ rule_number (defined blocks) (folded_text name.entry) }
         ensures within { IfSome result (λ r. r < length self.now.rules) }
@@ -164,9 +175,10 @@ impl<'t> Grammar<'t> {
         }
     }
 
-    /// The name at an offset, which counts characters of the text, and its place. That is the place which holds the character
-    /// behind the offset, else the one that ends there. There is none in a comment, a quoted string or prose, and a name that
-    /// follows a bad token or a number at once has none. An offset past the text's end is taken for the end.
+    /// The name at an offset, which counts characters of the text, and its place. That is the place which holds the
+    /// character behind the offset, else the one that ends there. There is none in a comment, a quoted string or prose,
+    /// and a name that follows a bad token or a number at once has none. An offset past the text's end is taken for the
+    /// end. All places may be looked at.
     pub fn name_at(&self, offset: usize) -> Option<(Place, Folded<'t>)>
         ensures { option_map place_and_name result ≡ option_map place_and_text (at_offset self.now.text self.now.places offset) }
     {

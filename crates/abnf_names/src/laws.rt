@@ -10,7 +10,8 @@ pub fn grammars_are_unique()
     ensures { (g h : Grammar) → IsGrammar g → IsGrammar h → g.text ≡ h.text → g ≡ h }
 {}
 
-/// Each text of fewer than 2^62 characters has a grammar, and so each text of a document, which has at most 4,194,304 bytes.
+/// Each text of fewer than 2^62 characters has a grammar, and so each text of a document, which has at most 4,194,304
+/// bytes.
 pub fn grammars_exist()
     ensures { (text : List ℕ) → length text < 2 ^ 62 → (g : Grammar) × (g.text ≡ text) × IsGrammar g }
 {}

@@ -1,8 +1,9 @@
 //! The rules of an ABNF grammar: what its names stand for, the parts of each rule, and the places of names in its text.
 //!
-//! [`Grammar::of`] reads a text. Contracts see a grammar as its text, the names and trees of its rules, the places of names and the
-//! faults of blocks, all of which are functions of the text's blocks; the code has numbered nodes and hashed names, so that no call
-//! looks through all names. [`push_places`] reads the places of one block alone. A text has at most one grammar ([`grammars_are_unique`]).
+//! [`Grammar::of`] reads a text. Contracts see a grammar as its text, the names and trees of its rules, the places of
+//! names and the faults of blocks, all of which are functions of the text's blocks; the code has numbered nodes, and
+//! finds the rule of a name by a hash. Only [`Grammar::places`] and [`Grammar::name_at`] look through all places.
+//! [`push_places`] reads the places of one block alone. A text has at most one grammar ([`grammars_are_unique`]).
 #![tactic(auto)]
 
 mod grammar;

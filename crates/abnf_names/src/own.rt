@@ -48,7 +48,7 @@ fn feed_name(name: &str, hasher: &mut DefaultHasher) {
 }
 
 /// A number that depends on each name that the blocks define, so that a name which is changed to meet others in the table changes where
-/// all of them stand. DECISIONS tells what is assumed of it.
+/// all of them stand. DECISIONS says what is assumed of it.
 fn seed_of(sections: &[Section<'_>]) -> u64 {
     let mut hasher = DefaultHasher::new();
     for section in sections {

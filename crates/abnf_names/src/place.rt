@@ -14,7 +14,9 @@ use std::alloc::{AllocError, Global};
 /// A place of a name, and whether the name is the head of a block there: it defines the name, or adds to it.
 #[derive(Clone, Copy, Debug, PartialEq, Eq)]
 pub struct NamePlace {
+    /// The place, in bytes of its line.
     pub place: Place,
+    /// Whether the name is the head of a block there.
     pub defines: bool,
 }
 
@@ -68,11 +70,11 @@ fn push_use<'t>(spots: &mut List<Spot<'t>>, before: Kind, item: Item<'t>) -> Res
     }
 }
 
-/// Adds the places of names in a block, which may be faulty, in its order.
+/// Adds the places of names in a block, which may be faulty, in its order, behind those that are there.
 ///
 /// # Errors
 ///
-/// Where an allocation is refused.
+/// Where an allocation is refused. Some of the places may have been added then.
 pub fn push_places<'t>(spots: &mut List<Spot<'t>>, block: &Block<'t>) -> Result<(), AllocError>
     ensures { OnOk result (map places.named_at spots.new ≡ map places.named_at spots.old ++ places.places_in block.now.items) }
 {
@@ -156,6 +158,7 @@ impl Iterator for PlacesOfName<'_, '_> {
 
     ghost remaining = { item_count places_left };
 
+    /// The next place of the name; `None` where no more follows. The places between are looked at one by one.
     fn next(&mut self) -> Option<NamePlace> {
         let (place, passed) = first_called(self.spots, self.passed, self.name)?;
         self.passed = passed;
@@ -209,7 +212,8 @@ fn first_ending<'s, 't>(spots: &'s [Spot<'t>], at: Place) -> Option<&'s Spot<'t>
     spots.iter().find(|spot| ends_at(spot, at))
 }
 
-/// The first spot that holds what stands behind a point, which is an empty place, else the first that ends there.
+/// The first spot that holds what stands behind a point, which is an empty place, else the first that ends there; `None`
+/// where none does. All spots may be looked at.
 pub fn found_at<'s, 't>(spots: &'s [Spot<'t>], at: Place) -> Option<&'s Spot<'t>>
     ensures { option_map (λ spot. spot.now) result ≡ places.spot_at at spots.now }
 {

@@ -26,7 +26,7 @@ fn fault_shown(alloc: Global, block: &Block<'_>) -> Result<Option<SyntaxFault>, 
     }
 }
 
-/// A block with its fault, if it says no rule.
+/// A block with its fault, if it says no rule. It is checked, and no tree is made.
 ///
 /// # Errors
 ///
@@ -39,7 +39,7 @@ pub fn section_of<'t>(alloc: Global, block: Block<'t>) -> Result<Section<'t>, Al
     Ok(Section { block, fault })
 }
 
-/// The blocks of a text, each with its fault if it says no rule.
+/// The blocks of a text, all and in order, each with its fault if it says no rule. Time goes by the length of the text.
 ///
 /// # Errors
 ///
@@ -58,7 +58,7 @@ pub fn sections_of<'t>(
     Ok(List::from_vec(sections))
 }
 
-/// The rule that the block of a section says, if it says one; a block without items says none.
+/// The rule that the block of a section says; `None` if it says none, as one without items.
 ///
 /// # Errors
 ///

@@ -26,6 +26,7 @@ impl<T, const N: usize> Model for ShortList<T, N> {
 }
 
 impl<T, const N: usize> ShortList<T, N> {
+    /// The items as a slice.
     pub fn as_slice(&self) -> &[T]
         ensures { result.now ≡ self.now }
     {
@@ -34,6 +35,7 @@ impl<T, const N: usize> ShortList<T, N> {
 }
 
 impl<T: MadeWith<Global> + Drop, const N: usize> ShortList<T, N> {
+    /// No items.
     pub fn new(alloc: Global) -> ShortList<T, N>
         ensures { result ≡ [] }
     {

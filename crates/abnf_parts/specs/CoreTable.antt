@@ -15,6 +15,7 @@ use Rattle.std.specs.Str.{bytes_eq}
 use Rattle.abnf_parts.specs.Names.{Name}
 use Rattle.abnf_parts.specs.Core.{CoreRule, alpha, bit, char, cr, crlf, ctl, digit, dquote, hexdig, htab, lf, lwsp, octet, sp, vchar, wsp}
 
+-- the core rule of each variant of the code's `Core`
 abbrev pub core_of : Core → CoreRule
 core_of Alpha = alpha
 core_of Bit = bit
@@ -33,18 +34,18 @@ core_of Sp = sp
 core_of Vchar = vchar
 core_of Wsp = wsp
 
--- what stands in a core rule
+-- the part of what stands in a core rule: a range, a character, a text or the name of a core rule
 abbrev pub leaf_part : (Name → Option ℕ) → Leaf → Part
 leaf_part number (Range low high) = span low high
 leaf_part number (One character) = series (character ∷ [])
 leaf_part number (Text text) = quoted text.now false
 leaf_part number (Rule name) = ref name.now (number (lowercase name.now))
 
--- a row of them
+-- the part of a row of these, one behind the other
 abbrev pub row_part : (Name → Option ℕ) → Bor (List Leaf) → Part
 row_part number row = join seq (map (leaf_part number) row.now)
 
--- one of these rows
+-- a choice among rows
 abbrev pub choice : (Name → Option ℕ) → List (Bor (List Leaf)) → Part
 choice number rows = alt (parts (map (row_part number) rows))
 

@@ -13,10 +13,11 @@ use Rattle.abnf_parts.specs.Part.{Part, quoted, series, span, rep, opaque}
 abbrev pub before : ℕ → List ℕ → List ℕ
 before byte text = before_first (λ b. b == byte) text
 
--- what stands behind it, or nothing
+-- what stands behind the first such byte, or nothing
 abbrev pub behind : ℕ → List ℕ → List ℕ
 behind byte text = after_first (λ b. b == byte) text
 
+-- the byte stands in the text
 abbrev pub has : ℕ → List ℕ → Bool
 has byte text = list_any (λ b. b == byte) text
 
@@ -32,6 +33,7 @@ max_number = 4294967295
 abbrev pub with_digit : ℕ → ℕ → ℕ → ℕ
 with_digit base number byte = min (number * base + digit_value byte) max_number
 
+-- `.` or `-`, which stand between the numbers of a series and of a range
 abbrev pub is_separator : ℕ → Bool
 is_separator b = b == 0x2E || b == 0x2D
 
@@ -49,11 +51,12 @@ span_of _ = opaque
 abbrev pub number_tree : ℕ → List ℕ → Part
 number_tree base digits = if has 0x2D digits then span_of (numbers_from base 0 digits) else series (numbers_from base 0 digits)
 
+-- the part that the token of a number stands for: behind `%` and the letter of its base its digits (RFC 5234 section 2.3)
 abbrev pub number_part : List ℕ → Part
 number_part (percent ∷ letter ∷ digits) = number_tree (base_of letter) digits
 number_part _ = opaque
 
--- the two ends of a range
+-- the two ends of a part that is a range
 abbrev pub ends_of : Part → Option (ℕ × ℕ)
 ends_of (span low high) = Some (low, high)
 ends_of _ = None
@@ -64,18 +67,19 @@ with_end (None, high) number = (Some number, high)
 with_end (Some low, None) number = (Some low, Some number)
 with_end (Some low, Some high) number = (Some low, Some high)
 
+-- the low end and the high end, where both were read
 abbrev pub both_ends : Option ℕ × Option ℕ → Option (ℕ × ℕ)
 both_ends (Some low, Some high) = Some (low, high)
 both_ends _ = None
 
--- `a*b` is at least a and at most b, where a is 0 and b has no bound if they don't stand there (RFC 5234 section 3.6); n is
--- exactly n (RFC 5234 section 3.7).
+-- The least and the most of a repeat: of `a*b` a and b, where a is 0 and b has no bound if they don't stand there (RFC 5234
+-- section 3.6), of n both n (RFC 5234 section 3.7).
 abbrev pub repeat_limits : List ℕ → ℕ × Option ℕ
 repeat_limits text =
     if has 0x2A text then (unwrap_or (number_of (before 0x2A text) 10) 0, number_of (behind 0x2A text) 10)
     else (unwrap_or (number_of text 10) 0, Some (unwrap_or (number_of text 10) 0))
 
--- a part, repeated as told
+-- a part, with a repeat before it or none
 abbrev pub repeated : Option Token → Part → Part
 repeated None p = p
 repeated (Some t) p = let b = repeat_limits t.text.now in rep b.0 b.1 p

@@ -9,6 +9,7 @@ use Rattle.std.specs.Str.{bytes_eq}
 abbrev pub Name : Type 0
 Name = List ℕ
 
+-- a name of the code, with its letters made small
 abbrev pub folded_text : Folded → List ℕ
 folded_text name = lowercase name.0.now
 
@@ -16,7 +17,7 @@ folded_text name = lowercase name.0.now
 abbrev pub all_names : List (List ℕ) × List (List ℕ) → List (List ℕ)
 all_names names = names.0 ++ names.1
 
--- a name, unless it is there
+-- a list of names with one more at its end, unless it is there
 abbrev pub with_name : List Name → Name → List Name
 with_name names name = if list_any (bytes_eq name) names then names else names ++ name ∷ []
 

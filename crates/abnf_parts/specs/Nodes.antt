@@ -22,7 +22,7 @@ abbrev pub RefersWithin : ℕ → Part → Type 0
 RefersWithin count (ref name (Some r)) = r < count
 RefersWithin count _ = Unit {0}
 
--- the nodes are the parts of the trees, in the order of their numbers
+-- The nodes are the parts of the trees in pre-order, tree after tree, and each reference is to one of these rules or to none.
 pub record AreNodes (trees : List Part) (nodes : List Node) : Type 0 where
   pub one_each : length nodes ≡ length (parts_of trees)
   pub each : (n : ℕ) (p : Part) → slice_get (parts_of trees) n ≡ Some p → (node : Node) × (slice_get nodes n ≡ Some node) × IsNode n p node × RefersWithin (length trees) p
@@ -32,6 +32,7 @@ pub record AreRoots (trees : List Part) (roots : List ℕ) : Type 0 where
   pub one_each : length roots ≡ length trees
   pub each : (r n : ℕ) → slice_get roots r ≡ Some n → n ≡ root_number trees r
 
+-- the trees of the nodes with these numbers, side by side
 abbrev pub all_below : (ℕ → Part) → List ℕ → Parts
 all_below below [] = end
 all_below below (n ∷ ns) = next (below n) (all_below below ns)
@@ -53,6 +54,7 @@ abbrev pub tree_at : List Node → ℕ → ℕ → Part
 tree_at nodes zero n = opaque
 tree_at nodes (suc deep) n = node_tree (tree_at nodes deep) (slice_get nodes n)
 
+-- the trees of these roots, read from the nodes
 abbrev pub trees_at : List Node → List ℕ → List Part
 trees_at nodes roots = map (tree_at nodes (length nodes)) roots
 

@@ -11,13 +11,13 @@ AreNodesFrom n [] [] = Unit {0}
 AreNodesFrom n (p ∷ ps) (node ∷ nodes) = IsNode n p node × AreNodesFrom (suc n) ps nodes
 AreNodesFrom n _ _ = ⊥
 
--- the new nodes are the old ones, and then those of these parts
+-- Nodes were pushed behind the old ones: those of these parts, one for each, in their order.
 pub record AddsNodes (ps : List Part) (old new : List Node) : Type 0 where
   pub more : List Node
   pub joined : new ≡ old ++ more
   pub are : AreNodesFrom (length old) ps more
 
--- the same for trees that stand side by side, whose numbers are added to other numbers
+-- The nodes of trees that stand side by side were pushed behind the old ones, and the numbers of their roots were added.
 pub record AddsTrees (ps : List Part) (old new : List Node) (before after : List ℕ) : Type 0 where
   pub nodes : AddsNodes (all_subparts (parts ps)) old new
   pub numbers_are : after ≡ before ++ numbers (length old) (parts ps)

@@ -8,10 +8,11 @@ ReachesBy rules zero r = (root : Part) × (slice_get rules r ≡ Some root) × C
 ReachesBy rules (suc uses) r =
     (root : Part) × (slice_get rules r ≡ Some root) × (name : List ℕ) × (q : ℕ) × Contains (subparts root) (ref name (Some q)) × ReachesBy rules uses q
 
+-- a chain of uses leads from rule r to an opaque part: prose, or a faulty block
 abbrev pub ReachesOpaque : List Part → ℕ → Type 0
 ReachesOpaque rules r = (uses : ℕ) × ReachesBy rules uses r
 
--- the marks say of each rule whether such a chain leads from it
+-- the marks say of each rule whether a chain of uses leads from it to an opaque part
 pub record AreReaching (rules : List Part) (marks : List Bool) : Type 0 where
   pub one_each : length marks ≡ length rules
   pub each : (r : ℕ) → r < length rules → IsTrue (slice_index_or marks r false) ↔ ReachesOpaque rules r

@@ -18,8 +18,8 @@ uncut_bounds text =
     if has 0x2A text then (value_in 10 0 (before 0x2A text), bound_of (behind 0x2A text))
     else (value_in 10 0 text, Some (value_in 10 0 text))
 
--- A token is read as the values of its digits: a repeat in base 10, a number in the base of the letter behind `%`. No other token
--- has digits that count.
+-- A token is read as the values of its digits: a repeat in base 10, a number in the base of the letter behind `%`. No other
+-- token has digits that count. So is each item of lines that derive a rule (`numbers_are_uncut`).
 abbrev pub IsUncut : Kind → Text → Type 0
 IsUncut Repeat text = repeat_limits text ≡ uncut_bounds text
 IsUncut Number text = let base = base_of (slice_index text 1) in numbers_from base 0 (drop 2 text) ≡ map (value_in base 0) (number_pieces (drop 2 text))

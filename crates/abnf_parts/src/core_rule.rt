@@ -13,7 +13,7 @@ use abnf_token::Folded;
 use ls_lists::List;
 use std::alloc::{AllocError, Global};
 
-/// A core rule of RFC 5234, appendix B.1.
+/// A core rule of RFC 5234, appendix B.1, by its name.
 #[derive(Clone, Copy, Debug)]
 pub enum Core {
     Alpha,
@@ -209,7 +209,7 @@ pub fn needed_rules(
     needed_among(alloc, defined, stated, &CORE_RULES)
 }
 
-/// The names of core rules.
+/// The names of these core rules, in their order, each once.
 ///
 /// # Errors
 ///
@@ -239,7 +239,7 @@ fn has_name(rules: &[Core], name: Folded<'_>) -> bool
 /// The most bytes that the name of a core rule has.
 const LONGEST_NAME: usize = 6;
 
-/// Whether a core rule has this name.
+/// Whether a core rule of RFC 5234, appendix B.1, has this name, in any case of letters.
 pub fn is_core_name(name: Folded<'_>) -> bool
     ensures { result ≡ is_core_name (folded_text name.entry) }
 {

@@ -35,8 +35,8 @@ pub fn no_strings()
     ensures turned { (s : List ℕ) → Generates (row.turned_bounds ∷ []) row.turned_bounds s → ⊥ }
 {}
 
-/// A name that stands for no rule generates nothing, and so does what is opaque. Repeated zero times or more, such a name generates
-/// the empty string alone.
+/// A name that stands for no rule generates nothing, and so does what is opaque: prose, and a faulty block. Repeated zero
+/// times or more, such a name generates the empty string alone.
 pub fn unknown_parts()
     ensures undefined { (roots : List Part) (name s : List ℕ) → Generates roots (ref name None) s → ⊥ }
     ensures opaque { (roots : List Part) (s : List ℕ) → Generates roots opaque s → ⊥ }

@@ -142,7 +142,7 @@ fn range_in(base: u32, digits: &[u8]) -> Option<(u32, u32)>
     }
 }
 
-/// The two ends of a range of characters, as `%x30-39`. Any other token is none.
+/// The two ends of a range of characters, as `%x30-39`; `None` for any other token. Time goes by its digits.
 pub fn range_of<'t>(token: Token<'t>) -> Option<(u32, u32)>
     ensures { result ≡ leaf.ends_of (leaf.number_part token.entry.text.now) }
 {
@@ -152,7 +152,8 @@ pub fn range_of<'t>(token: Token<'t>) -> Option<(u32, u32)>
     range_in(base_of(*letter), digits)
 }
 
-/// The least and the most of a repeat: as many as it says, where it has no `*`.
+/// The least and the most of a repeat, which has no most where that is `None` (RFC 5234 sections 3.6 and 3.7). Without
+/// `*` both are the number that it is. Time goes by its digits.
 pub fn repeat_bounds<'t>(token: Token<'t>) -> (u32, Option<u32>)
     ensures { result ≡ leaf.repeat_limits token.entry.text.now }
 {

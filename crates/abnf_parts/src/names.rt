@@ -28,7 +28,7 @@ impl<'t> Model for Names<'t> {
 }
 
 impl<'t> Names<'t> {
-    /// No names. Where anybody may choose those that come, the seed should depend on all of them.
+    /// No names. Where anybody may choose those that come, the seed should depend on all of them. It takes no memory.
     pub fn new(alloc: Global, seed: u64) -> Names<'t>
         ensures { result ≡ [] }
     {
@@ -37,7 +37,7 @@ impl<'t> Names<'t> {
         }
     }
 
-    /// The place of a name among them, from 0; `None` if it isn't there.
+    /// The place of a name among them, from 0, in any case of letters; `None` if it isn't there. It is found by its hash.
     pub fn index_of(&self, name: Folded<'t>) -> Option<usize>
         ensures index { result ≡ rule_number self.now (folded_text name.entry) }
         ensures small { IfSome result (λ i. i < 2 ^ 63) }
@@ -84,11 +84,12 @@ impl<'t> Names<'t> {
         self.names.len()
     }
 
-    /// Adds a name unless it is there, and gives the place that it had before; `None` if it is new, and so the last one.
+    /// Adds a name at the end unless it is there, in any case of letters, and gives the place that it had before, from 0;
+    /// `None` if it is new, and so the last one. It is looked for by its hash.
     ///
     /// # Errors
     ///
-    /// Where an allocation is refused.
+    /// Where an allocation is refused. The names are then as before.
     pub fn add(&mut self, name: Folded<'t>) -> Result<Option<usize>, AllocFailed<Folded<'t>>>
         ensures names { OnOk result (self.new ≡ with_name self.old (folded_text name.entry)) }
         ensures place { IfOk result (λ place. place ≡ rule_number self.old (folded_text name.entry)) }
@@ -116,7 +117,7 @@ impl<'t> Model for RuleNames<'t> {
 }
 
 impl<'t> RuleNames<'t> {
-    /// These names of the text's rules and of core rules.
+    /// These names of the text's rules, and these of core rules.
     pub fn new(own: Names<'t>, core: Names<'t>) -> RuleNames<'t>
         ensures { result ≡ (own.entry, core.entry) }
     {
@@ -137,7 +138,8 @@ impl<'t> RuleNames<'t> {
         &self.core
     }
 
-    /// The first rule of this name: that of the text, else the core rule. Core rules are numbered behind those of the text.
+    /// The rule that a name stands for: that of the text which has it, else the core rule; `None` where neither has. Core
+    /// rules are numbered behind those of the text. Names are found by their hashes.
     pub fn rule_of(&self, name: Folded<'t>) -> Option<RuleNo>
         ensures { result ≡ rule_number (all_names self.now) (folded_text name.entry) }
     {
@@ -150,7 +152,8 @@ impl<'t> RuleNames<'t> {
         }
     }
 
-    /// The same, at once where the guess is right that the text's rule with this number has the name.
+    /// The rule of [`rule_of`](RuleNames::rule_of), or `None`, without a look for it where the guess is right that the
+    /// text's rule with this number has the name.
     pub fn rule_guessed(&self, name: Folded<'t>, guess: usize) -> Option<RuleNo>
         ensures { result ≡ rule_number (all_names self.now) (folded_text name.entry) }
     {

@@ -28,7 +28,7 @@ impl RuleNo {
         RuleNo(number)
     }
 
-    /// The number.
+    /// The number, from 0.
     pub fn get(self) -> usize
         ensures { result ≡ self }
     {
@@ -58,7 +58,7 @@ impl NodeNo {
         NodeNo(number)
     }
 
-    /// The number.
+    /// The number, from 0.
     pub fn get(self) -> usize
         ensures { result ≡ self }
     {

@@ -14,7 +14,7 @@ use abnf_token::Folded;
 use ls_lists::List;
 use std::alloc::{AllocError, Global};
 
-/// Writes the node with number `at`, for which one was pushed before those of its parts.
+/// Writes the node with number `at`, for which one was pushed before those of its parts. Nothing else changes.
 pub fn fill<'t>(nodes: &mut Vec<Node<'t>>, at: usize, node: Node<'t>)
     requires { at < length nodes.old.items }
     ensures { nodes.new.items ≡ slice_set nodes.old.items at node.entry }
@@ -48,8 +48,8 @@ fn push_inside<'t>(
     Ok(())
 }
 
-/// Pushes the nodes of concatenations that stand side by side, each before those of its parts, and adds their own numbers to
-/// `numbers`. Brackets nest at most `room` deep; what lies deeper is `Opaque`.
+/// Pushes the nodes of concatenations that stand side by side, each before those of its parts, and adds their own numbers
+/// to `numbers`. Brackets nest at most `room` deep; what lies deeper is `Opaque`. Time goes by the bytes of the tokens.
 ///
 /// # Errors
 ///

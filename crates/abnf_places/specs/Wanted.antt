@@ -5,7 +5,7 @@ use Rattle.abnf_names.specs.Places.{Named, places_of_name}
 use Rattle.abnf_places.specs.declared.wanted.Wanted.{Wanted}
 use Rattle.abnf_places.specs.declared.wanted.Wanted.TheVariants.{Definitions, Uses, Both}
 
--- whether a place that defines its name, or one that doesn't, is wanted
+-- whether a place that defines its name, or one that doesn't, is wanted: the definitions alone, the others alone, or both
 abbrev pub is_wanted : Wanted → Bool → Bool
 is_wanted Definitions defines = defines
 is_wanted Uses defines = not defines

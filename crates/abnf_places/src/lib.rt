@@ -1,7 +1,8 @@
 //! Where one name stands in a text.
 //!
-//! [`name_at`] tells which name stands at an offset, and [`places_of`] where a name stands: the places that the text's grammar has. Neither
-//! makes a list of all names. The one reads the block at the offset, and the other the blocks in which the name is written at all.
+//! [`name_at`] gives the name that stands at an offset, and [`places_of`] where a name stands: the places that the text's
+//! grammar has. Neither makes that grammar, nor a list of all names. The one reads the block at the offset, and the other
+//! the blocks in which the name is written at all.
 #![tactic(auto)]
 
 mod block;

@@ -51,9 +51,10 @@ fn spots_around<'t>(
 }
 
 /// The name at an offset, which counts characters of the text, and its place. That is the place which holds the character
-/// behind the offset, else the one that ends there. An offset past the text's end is taken for the end.
+/// behind the offset, else the one that ends there; `None` where neither is. An offset past the text's end is taken for
+/// the end.
 ///
-/// Only the block that holds the offset's line is read.
+/// Only the block that holds the offset's line is read. Its ends are looked for line by line.
 ///
 /// # Errors
 ///

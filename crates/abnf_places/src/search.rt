@@ -61,9 +61,10 @@ fn stated_places<'t>(
     Ok(spots)
 }
 
-/// The wanted places of a name in a text, in its order.
+/// The wanted places of a name in a text, all and in its order.
 ///
-/// A block is read only where the name is written in it, and for definitions only where it begins with the name.
+/// The marks of all lines are looked at. A block is read only where the name is written in it, and for definitions only
+/// where it begins with the name.
 ///
 /// # Errors
 ///

@@ -10,6 +10,7 @@ pub enum Wanted {
     Definitions,
     /// Those that don't.
     Uses,
+    /// All of them.
     Both,
 }
 

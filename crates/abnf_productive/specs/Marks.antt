@@ -8,7 +8,7 @@ use Rattle.abnf_parts.specs.Part.{Part, quoted, series, span, seq, alt, rep, ref
 use Rattle.abnf_parts.specs.Generates.{Generates}
 use Rattle.abnf_productive.specs.Yields.{Yields, RuleYields}
 
--- the mark of a part, none past the end
+-- the mark of a part by its number, none behind the last
 abbrev pub mark_at : List Bool → ℕ → Bool
 mark_at marks n = slice_index_or marks n false
 
@@ -28,7 +28,7 @@ part_yields at root n (ref name None) = false
 part_yields at root n (ref name (Some r)) = at (root r)
 part_yields at root n opaque = false
 
--- the same of a node, which has the numbers of the parts right below it
+-- A node yields something, as the parts right below it are marked, and the root of the rule to which it refers.
 abbrev pub node_yields : (ℕ → Bool) → (ℕ → ℕ) → Node → Bool
 node_yields at root (Quoted text exact) = true
 node_yields at root (Series characters) = true
@@ -40,12 +40,12 @@ node_yields at root (Ref name None) = false
 node_yields at root (Ref name (Some r)) = at (root r)
 node_yields at root Opaque = false
 
--- one mark for each part, and none beside a part that yields nothing
+-- There is one mark for each part, and what is marked yields something.
 pub record AreSound (rules : List Part) (marks : List Bool) : Type 0 where
   pub one_each : length marks ≡ length (parts_of rules)
   pub each : (n : ℕ) (p : Part) → slice_get (parts_of rules) n ≡ Some p → mark_at marks n ≡ true → (k : ℕ) × Yields (RuleYields rules k) p
 
--- of the parts with these numbers each is marked that yields something by the marks
+-- Of the parts from one number up to another each that yields something by the marks is marked.
 abbrev pub AreClosed : List Part → List Bool → ℕ → ℕ → Type 0
 AreClosed rules marks start end =
     (n : ℕ) (p : Part) → slice_get (parts_of rules) n ≡ Some p → start ≤ n → n < end → part_yields (mark_at marks) (root_number rules) n p ≡ true → mark_at marks n ≡ true
@@ -54,7 +54,7 @@ AreClosed rules marks start end =
 abbrev pub IsProductive : List Part → ℕ → Type 0
 IsProductive rules r = (root : Part) × (slice_get rules r ≡ Some root) × ((s : List ℕ) × Generates rules root s)
 
--- The marks say of each rule whether it generates anything.
+-- The marks say of each rule whether it generates a string.
 pub record AreProductive (rules : List Part) (marks : List Bool) : Type 0 where
   pub one_each : length marks ≡ length rules
   pub each : (r : ℕ) → r < length rules → IsTrue (mark_at marks r) ↔ IsProductive rules r

@@ -3,7 +3,9 @@ use Rattle.std.specs.Prelude.{◌≡◌, ◌↔◌, ℕ, zero, suc, ◌≤◌, �
 use Rattle.abnf_parts.specs.Part.{Part, Parts, quoted, series, span, seq, alt, rep, ref, opaque, end, next}
 use Rattle.abnf_parts.specs.Generates.{UpTo, RuleGen}
 
--- a part yields something, where it is known which rules do
+-- A part yields something, where it is known which rules do. A row of parts does where each of them does, a choice where one
+-- does, a repetition where its minimum is none or its body does. Never do a repetition with its minimum above its maximum, a
+-- range turned round, a name that stands for nothing, and what is opaque.
 abbrev mutual
   pub Yields : (ℕ → Type 0) → Part → Type 0
   Yields Rule (quoted text exact) = Unit {0}
@@ -31,6 +33,6 @@ abbrev pub RuleYields : List Part → ℕ → ℕ → Type 0
 RuleYields rules zero r = ⊥
 RuleYields rules (suc k) r = (root : Part) × (slice_get rules r ≡ Some root) × Yields (RuleYields rules k) root
 
--- a rule yields something with so few references exactly where it generates a string with so few
+-- a rule yields something with fewer than k nested references exactly where it generates a string with so few
 abbrev pub YieldingIsGenerating : Type 0
 YieldingIsGenerating = (rules : List Part) (k r : ℕ) → RuleYields rules k r ↔ ((s : List ℕ) × RuleGen rules k r s)

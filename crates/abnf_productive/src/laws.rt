@@ -5,7 +5,8 @@ ghost use Rattle.abnf_lint.specs.declared.finding.Finding.{Finding};
 ghost use Rattle.abnf_lint.specs.Rows.{AreRows};
 ghost use Rattle.abnf_productive.specs.Yields.{YieldingIsGenerating};
 
-/// A rule yields something with so many nested references exactly where it generates a string with so many.
+/// A rule yields something with so many nested references exactly where it generates a string with so many. Yielding is
+/// asked of no string.
 pub fn yielding_is_generating()
     ensures { YieldingIsGenerating }
 {}

@@ -3,6 +3,9 @@
 //! A sweep marks each part that yields something as the others are marked. Where it marks none, all that yield anything are marked. It
 //! comes to a part's own parts before the part, so one is enough but for references: those lead mostly to rules that are defined
 //! further down, and where each leads to one further up, a sweep that takes the rules in their order is enough.
+//!
+//! The grammars of standards in `examples/` and `bench/` take three to seven sweeps. References may lead to and fro so that each sweep
+//! finds one rule more, so after 8 rounds of two sweeps that is given up, and the search for least lengths answers.
 
 ghost use Rattle.std.specs.Prelude.{◌≡◌, ◌<◌, false, length, IsTrue, slice_index_or};
 ghost use Rattle.std.specs.List.{list_all, list_any};

@@ -33,8 +33,9 @@ fn unproductive_rules(alloc: Global, grammar: &Grammar) -> Result<Vec<bool>, All
     Ok(marks)
 }
 
-/// What is found in a grammar's text: the rows of the table that hold of it, by line, start and row. A rule is unproductive exactly
-/// where it generates no string and leads to no prose and no faulty block.
+/// What is found in a grammar's text: the rows of the table that hold of it, by line, start and row. A rule is
+/// unproductive exactly where it generates no string and leads to no prose and no faulty block. No certificate is needed.
+/// Time goes by [`productive_rules`](crate::productive_rules) and [`findings_marked`].
 ///
 /// # Errors
 ///

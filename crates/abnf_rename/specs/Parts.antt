@@ -10,7 +10,8 @@ abbrev pub renamed_name : ℕ → List ℕ → List ℕ → Option ℕ → List 
 renamed_name r new name None = name
 renamed_name r new name (Some q) = if nat_eq q r then new else name
 
--- a tree, and trees, with these references to the rule
+-- A tree, and trees side by side, in which each reference to the rule with this number has the new name, and nothing else is
+-- changed.
 abbrev mutual
   pub renamed_part : ℕ → List ℕ → Part → Part
   renamed_part r new (quoted text exact) = quoted text exact
@@ -26,12 +27,12 @@ abbrev mutual
   renamed_parts r new end = end
   renamed_parts r new (next p ps) = next (renamed_part r new p) (renamed_parts r new ps)
 
--- the trees of all rules
+-- the trees of all rules, in which each reference to the rule with this number has the new name
 abbrev pub renamed_rules : ℕ → List ℕ → List Part → List Part
 renamed_rules r new rules = map (renamed_part r new) rules
 
--- Trees that are the same but for a name generate the same strings, with the same nested references, and reach opaque parts from
--- the same rules.
+-- Trees that are the same but for a name: each part generates the same strings in both, with as many nested references, and
+-- has the same least pair of a length and a number of nested references, and the same rules lead to an opaque part.
 pub record KeepsMeaning (rules others : List Part) (of_part : Part → Part) : Type 0 where
   pub generates : (k : ℕ) (p : Part) (s : List ℕ) → Gen rules k p s ↔ Gen others k (of_part p) s
   pub rule_generates : (k r : ℕ) (s : List ℕ) → RuleGen rules k r s ↔ RuleGen others k r s

@@ -13,19 +13,19 @@ use Rattle.abnf_names.specs.Places.{Named, is_defined}
 use Rattle.abnf_names.specs.Rules.{Grammar}
 use Rattle.abnf_rename.specs.Parts.{renamed_rules}
 
--- the text of a place after the rename
+-- the text of a place after the rename: the new one at a place of the old name, in any case of letters
 abbrev pub text_after : Name → Text → Text → Text
 text_after old new text = if is_called old text then new else text
 
--- the same of a name, as it is kept
+-- a name after the rename, with its letters made small
 abbrev pub name_after : Name → Text → Name → Name
 name_after old new name = if bytes_eq old name then lowercase new else name
 
--- a place's text, and whether it defines
+-- what is said of a place without where it is: its text, and whether it defines
 abbrev pub text_and_role : Named → Text × Bool
 text_and_role n = (n.text, n.defines)
 
--- the same after the rename
+-- what is said of a place after the rename, without where it is: its text, and whether it defines
 abbrev pub told_after : Name → Text → Named → Text × Bool
 told_after old new n = (text_after old new n.text, n.defines)
 
@@ -33,8 +33,9 @@ told_after old new n = (text_after old new n.text, n.defines)
 abbrev pub is_in_use : Grammar → Name → Bool
 is_in_use g name = list_any (λ n. bytes_eq name (lowercase n.text)) g.places || is_core_name name
 
--- A rename of this name to this text is granted: the text is a name, the text defines the old one, and the new one is not in use,
--- unless it is the old one in another case (RFC 5234, section 2.1).
+-- A rename of this name to this text is granted: the text is a name, the text defines the old one, and the new one is not in
+-- use, unless it is the old one in another case (RFC 5234, section 2.1). It is what `rename_fault` of `ls_answers` finds no
+-- fault with.
 pub record IsGranted (old : Name) (new : Text) (g : Grammar) : Type 0 where
   pub named : is_name new ≡ true
   pub defined : is_defined g.places old ≡ true
@@ -44,9 +45,11 @@ pub record IsGranted (old : Name) (new : Text) (g : Grammar) : Type 0 where
 abbrev pub IsApart : Name → Text → Name → Type 0
 IsApart old new name = name ≡ lowercase new → old ≡ lowercase new
 
--- The rules are the same but for one name: that of the rule that the old name stood for. Names but the new one stand for the rules for
--- which they stood, the old one as the new one. By its number each rule generates the same strings, with as many nested references, and
--- leads to an opaque part where it did.
+-- The rules are the same but for one name: that of the rule that the old name stood for, which is the new one in small
+-- letters. In the trees each reference to that rule has the new name. The places have the texts of those before, with the new
+-- text for the old name, and the same of them define. Names but the new one stand for the rules for which they stood, the old
+-- one as the new one. By its number each rule generates the same strings, with as many nested references, and leads to an
+-- opaque part where it did.
 pub record AreSameRules (old : Name) (new : Text) (g h : Grammar) : Type 0 where
   pub rule : ℕ
   pub is_rule : rule_number g.names old ≡ Some rule
@@ -70,7 +73,8 @@ pub record NameReaches (g : Grammar) (name : Name) : Type 0 where
   pub is_rule : rule_number g.names name ≡ Some rule
   pub reaches : ReachesOpaque g.rules rule
 
--- Each name generates the same strings and leads to an opaque part where it did, the renamed one under its new name.
+-- Each name but the new one generates the same strings before and after, and leads to an opaque part where it did, the old
+-- one as the new one.
 pub record KeepsNames (old : Name) (new : Text) (g h : Grammar) : Type 0 where
   pub generates : (name : Name) (s : List ℕ) → IsApart old new name → NameGenerates g name s ↔ NameGenerates h (name_after old new name) s
   pub reaches : (name : Name) → IsApart old new name → NameReaches g name ↔ NameReaches h (name_after old new name)

@@ -22,7 +22,8 @@ with_ranges width text new [] = text
 with_ranges width text new (r ∷ rs) =
     replaced (with_ranges width text new rs) (position_offset width text r.start) (position_offset width text r.end) new
 
--- the text with the new one in each of these ranges, whose positions count the units of this encoding
+-- the text with the new one in each of these ranges, whose positions count the units of this encoding, written from the last
+-- to the first
 abbrev pub text_renamed : Encoding → List ℕ → Text → List Range → List ℕ
 text_renamed encoding text new ranges = with_ranges (units encoding) text (chars new) ranges
 
@@ -30,13 +31,13 @@ text_renamed encoding text new ranges = with_ranges (units encoding) text (chars
 abbrev pub renaming_edit : Text → Range → Edit
 renaming_edit new range = record { range = Some range; text = new }
 
--- the edits of a rename, from the last range to the first
+-- the edits that put the new text into these ranges, from the last to the first
 abbrev pub renaming_edits : Text → List Range → List Edit
 renaming_edits new [] = []
 renaming_edits new (r ∷ rs) = renaming_edits new rs ++ (renaming_edit new r ∷ [])
 
--- The edits of a rename, made one after another, each on the text that the ones before it left, give
--- the text with the new one in these ranges, wherever no text on the way is too large.
+-- The edits of a rename, made one after another, each on the text that the ones before it left, give the text with the new
+-- one in these ranges, wherever no text on the way is too large.
 abbrev pub EditsGive : Encoding → List ℕ → Text → List Range → Type 0
 EditsGive encoding text new ranges =
     IfSome (edited_all (units encoding) text (renaming_edits new ranges)) (λ edited. edited ≡ text_renamed encoding text new ranges)
@@ -49,9 +50,9 @@ name_ranges encoding g name = map (λ named. place_range (units encoding) g.text
 --
 -- The edits give this text, made one after another from the last to the first.
 --
--- The lines are the renamed lines. Line by line, the tokens have the same kinds and texts, but that each place of the name has the new
--- text; no line comes or goes. And each grammar of the text after the edits has the same rules but for that name, generates the same strings from each name, and leads to
--- opaque parts from the same names, the old one as the new one.
+-- The lines are the renamed lines. Line by line, the tokens have the same kinds and texts, but that each place of the name
+-- has the new text; no line comes or goes. And each grammar of the text after the edits has the same rules but for that name,
+-- generates the same strings from each name, and leads to opaque parts from the same names, the old one as the new one.
 pub record KeepsTheGrammar (encoding : Encoding) (old : Name) (new : Text) (before : Grammar) (ranges : List Range) : Type 0 where
   pub edits : EditsGive encoding before.text new ranges
   pub lines : AreRenamedLines old new (line_texts before.text) (line_texts (text_renamed encoding before.text new ranges))

@@ -10,7 +10,7 @@
 //!   name.
 //! - The places of names are the same, in the same order and with the same definitions among them, the new text at those of the old name.
 //!
-//! A rule is told by its number and not by its name. For where a text defines a core rule for itself (say `DIGIT`), and needs another
+//! A rule is known by its number and not by its name. For where a text defines a core rule for itself (say `DIGIT`), and needs another
 //! one that uses it (`HEXDIG`), its grammar has two rules of that name: the text's own, and the core rule, of which `HEXDIG` speaks. A
 //! rename of the text's own leaves the core rule its name. So nothing is claimed of what the old name stands for afterwards: there it is
 //! the core rule, and in most other texts nothing.
@@ -18,8 +18,7 @@
 //! Each line of the renamed text has the tokens of the line as it was, but for the name. Of a single line this is a law of `abnf_token`
 //! (`renames_keep_tokens`). [`renames_keep_grammars`] says all of this of the text after the edits, which is found by writing the new text
 //! into each range, from the last to the first: so the ranges that a client is sent are enough, and no line comes or goes by them.
-//! Whoever makes the edits one after another in that order, as `ls_text` applies those that it is
-//! told, has just this text.
+//! Whoever makes the edits one after another in that order, as `ls_text` applies those that it is given, has just this text.
 //!
 //! It is said of each grammar of the renamed text. A text has no more than one, and has one if its lines have fewer than 2^64 bytes, as
 //! `abnf_names` shows. There is no code here.
@@ -55,13 +54,13 @@ pub fn grammars_are_kept()
         AreSameRules old new before after × KeepsNames old new before after }
 {}
 
-/// The whole of it, for the text after the edits of a granted rename, which write the new text in the range of each place of the old
-/// name. The edits give it, made one after another from the last range to the first, wherever no text
-/// on the way is too large. Its lines are those of the text with the new text at the places of the
-/// old name, and each grammar of it has the same rules but for that name, as [`grammars_are_kept`]
-/// says.
+/// The whole of it, for the text after the edits of a granted rename, which write the new text in the range of each place
+/// of the old name. The edits give it, made one after another from the last range to the first, wherever no text on the
+/// way is too large. Its lines are those of the text with the new text at the places of the old name, its tokens those of
+/// these lines, and each grammar of it has the same rules but for that name, as [`grammars_are_kept`] says.
 ///
-/// What a position counts within its line may be any of the encodings on which client and server agree. A text is made of Unicode scalar values, as every document is.
+/// What a position counts within its line may be any of the encodings on which client and server agree. A text is made of
+/// Unicode scalar values, as every document is.
 pub fn renames_keep_grammars()
     ensures { (encoding : Encoding) (old : Name) (new : Text) (before : Grammar) → IsGrammar before → All IsScalar before.text → IsGranted old new before →
         KeepsTheGrammar encoding old new before (name_ranges encoding before old) }

@@ -10,7 +10,8 @@ use Rattle.abnf_token.specs.Tokens.{TokensOf}
 abbrev pub mark_of : Token → TokenMark
 mark_of t = record { kind = t.kind; start = t.start; end = t.start + length t.text.now }
 
--- These are the marks of the tokens of a line, whatever the line's number.
+-- These are the marks of the tokens of a line, whatever the line's number: their classes, and where their texts stand in it,
+-- in bytes.
 abbrev pub AreMarks : Text → List TokenMark → Type 0
 AreMarks text marks = (line : ℕ) → (tokens : List Token) × TokensOf line 0 text tokens × (map mark_of tokens ≡ marks)
 

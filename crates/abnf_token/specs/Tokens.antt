@@ -35,7 +35,7 @@ abbrev pub rest_after : ℕ → Rest → Rest
 rest_after n rest = record { text = drop n rest.text; line = rest.line; start = rest.start + n }
 
 -- The tokens of what is left of a line from the byte start on: each is the next one where those before it end, and none is
--- missing.
+-- missing. So their texts join to what is left, each the longest in a class, or one bad character.
 abbrev pub TokensOf : ℕ → ℕ → Text → List Token → Type 0
 TokensOf line start left [] = left ≡ []
 TokensOf line start left (t ∷ ts) = IsToken t line start left × TokensOf line (start + length t.text.now) (drop (length t.text.now) left) ts
@@ -61,7 +61,8 @@ AreApart = (j kind : Kind) (text : Text) → is_in j text ≡ true → is_in kin
 abbrev pub view : Token → Kind × Text × ℕ × ℕ
 view t = (t.kind, t.text.now, t.line, t.start)
 
--- There is one list of tokens of what is left, whatever the line's number and wherever it stands.
+-- There is one list of tokens of what is left, but for the addresses of their texts, whatever the line's number and wherever
+-- it stands.
 abbrev pub HasOneAnswer : Text → Type 0
 HasOneAnswer left = (line start : ℕ) (ts us : List Token) → TokensOf line start left ts → TokensOf line start left us → map view ts ≡ map view us
 
@@ -70,13 +71,15 @@ abbrev pub AreSlices : Text → List Token → Type 0
 AreSlices whole [] = Unit {0}
 AreSlices whole (t ∷ ts) = (t.text.now ≡ take (length t.text.now) (drop t.start whole)) × AreSlices whole ts
 
+-- Whatever tokens the line has, the text of each is the slice of the line from the token's start.
 abbrev pub HasSlices : Text → Type 0
 HasSlices whole = (line : ℕ) (ts : List Token) → TokensOf line 0 whole ts → AreSlices whole ts
 
--- The texts of the tokens join to the line.
+-- the texts of the tokens, one after the other
 abbrev pub joined_tokens : List Token → Text
 joined_tokens [] = []
 joined_tokens (t ∷ ts) = t.text.now ++ joined_tokens ts
 
+-- Whatever tokens the line has, their texts join to the line.
 abbrev pub HasJoin : Text → Type 0
 HasJoin whole = (line : ℕ) (ts : List Token) → TokensOf line 0 whole ts → joined_tokens ts ≡ whole

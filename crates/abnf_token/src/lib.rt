@@ -4,7 +4,7 @@
 //! terminals of RFC 5234 section 4 and RFC 7405 section 2.2; a character that begins none of them is a token of its own,
 //! so that each line has tokens, and just one list of them. [`marks_of`] and [`push_marks`] keep where they stand, and [`token_at`]
 //! gives one of them again. [`number_of`] reads the digits of numbers, and [`Folded`] compares names as ABNF does, without case.
-//! Nothing but the first two allocates.
+//! Nothing but [`marks_of`] and [`push_marks`] allocates.
 #![tactic(auto)]
 
 mod existence;

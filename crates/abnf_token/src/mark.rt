@@ -12,6 +12,7 @@ use std::alloc::{AllocError, Global};
 /// A line's marks can be kept with the line, which tokens, that borrow from it, can't be. [`token_at`] gives the token again.
 #[derive(Clone, Copy, Debug, PartialEq, Eq)]
 pub struct TokenMark {
+    /// The class of the token.
     pub kind: Kind,
     /// How many bytes of the line stand before the text.
     pub start: u32,
@@ -31,7 +32,12 @@ fn mark_of(token: &Token) -> TokenMark
     }
 }
 
-/// Adds the marks of the tokens of a line, from left to right. The line has less than 4 GiB.
+/// Adds the marks of the tokens of a line, from left to right, behind those that are there. The line has less than 4 GiB.
+/// Time goes by the bytes of the line.
+///
+/// # Errors
+///
+/// Where an allocation is refused. Some of the marks may have been added then.
 pub fn push_marks(marks: &mut Vec<TokenMark>, text: &str) -> Result<(), AllocError>
     requires { length text.now < 2 ^ 32 }
     ensures { OnOk result (AreMarksOnto text.now marks.old.items marks.new.items) }
@@ -42,9 +48,12 @@ pub fn push_marks(marks: &mut Vec<TokenMark>, text: &str) -> Result<(), AllocErr
     Ok(())
 }
 
-/// The marks of the tokens of a line, from left to right. The line has less than 4 GiB.
+/// The marks of the tokens of a line, from left to right. The line has less than 4 GiB. Time goes by the bytes of the
+/// line.
 ///
-/// `AllocError` says that an allocation was refused.
+/// # Errors
+///
+/// Where an allocation is refused.
 pub fn marks_of(alloc: Global, text: &str) -> Result<Vec<TokenMark>, AllocError>
     requires { length text.now < 2 ^ 32 }
     ensures { IfOk result (λ marks. AreMarks text.now marks.items) }

@@ -1,4 +1,7 @@
 //! The tokens of a line, in one pass over it.
+//!
+//! Most tokens are known by their first byte, and read by a loop of their own or by none. Numbers, repeats, prose and bytes that begin no
+//! token go through the machine that defines all classes.
 
 ghost use Rattle.std.specs.Prelude.{◌≡◌, ◌∷◌, ◌<◌, ◌≤◌, ◌+◌, ◌^◌, [], length, take, drop, slice_index, Option, None, true, false};
 ghost use Rattle.std.specs.Str.{IsCharBoundary, continuation_len};
@@ -197,6 +200,8 @@ impl<'t> Iterator for TokenIter<'t> {
 
     ghost remaining = { item_count bytes_left };
 
+    /// The next token from left to right, the longest in a class or one bad character; `None` at the line's end, and from
+    /// then on.
     fn next(&mut self) -> Option<Token<'t>> {
         if self.rest.is_empty() {
             return None;

@@ -49,6 +49,7 @@ pub enum Kind {
 /// Its text is a slice of the line, and so lives as long as the line.
 #[derive(Clone, Copy, Debug)]
 pub struct Token<'t> {
+    /// The class of the text.
     pub kind: Kind,
     /// The text as it stands in the line.
     pub text: &'t str,

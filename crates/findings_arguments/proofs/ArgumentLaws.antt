@@ -16,7 +16,7 @@ help_first words = ap result_of (fold_stays further (Ends r.Help) (λ word. refl
 abbrev IsFile : List ℕ → Type 0
 IsFile file = word_of file ≡ w.File
 
--- files behind files are told too
+-- files behind files are named too
 files_on : (told : Arguments) (files : List (List ℕ)) → All IsFile files
     → fold further (Goes stage.Files told) files ≡ Goes stage.Files (record told { files = told.files ++ files })
 files_on told [] all = (λ i. Goes stage.Files (record told { files = sym (append-nil told.files) i }))

@@ -30,21 +30,22 @@ option_named word =
     else (if bytes_eq word (codes "--version") then Some w.Version
     else (if bytes_eq word (codes "--") then Some w.End else None)))))))
 
--- what an argument is that has no option's name
+-- what an argument is that has no option's name: an unknown option where it begins with a hyphen and has more, else a file
 abbrev pub else_file : Bool → Option Word → Word
 else_file hyphen (Some option) = option
 else_file true None = w.Unknown
 else_file false None = w.File
 
--- what an argument is by itself
+-- which option an argument is by itself; another one that begins with a hyphen, but for the hyphen alone, is an unknown
+-- option, and the rest are files
 abbrev pub word_of : List ℕ → Word
 word_of word = else_file (is_option word) (option_named word)
 
--- what is told where nothing is
+-- what is asked for where no argument says anything: the findings of no files
 abbrev pub nothing_told : Arguments
 nothing_told = record { asked = a.Findings; format = None; with = []; files = [] }
 
--- with one more file
+-- what was said so far, with one more file
 abbrev pub file : Stage → Arguments → List ℕ → Step
 file next told word = Goes next (record told { files = told.files ++ word ∷ [] })
 
@@ -86,7 +87,8 @@ abbrev pub file_step : Word → Arguments → List ℕ → Step
 file_step w.File told word = file stage.Files told word
 file_step _ told word = Wrong
 
--- what an argument adds to what was told before it
+-- what an argument adds to what was said before it, by what may stand there: an option or a file, what stands behind
+-- `--format` or `--with`, a file behind files, or anything behind `--`
 abbrev pub next_step : Stage → Arguments → List ℕ → Step
 next_step stage.Options told word = first_step (word_of word) told word
 next_step stage.Format told word = format_step (format_named word) told
@@ -99,11 +101,13 @@ abbrev pub fits : Asked → List (List ℕ) → Bool
 fits a.Grammar (other ∷ others) = false
 fits _ others = true
 
+-- one file at least is named
 abbrev pub names_file : List (List ℕ) → Bool
 names_file [] = false
 names_file (file ∷ files) = true
 
--- what is asked for where no argument is left: there must be a file
+-- What is asked for where no argument is left: there must be a file, and what stands behind `--format` or `--with`; and a
+-- grammar is printed with no others.
 abbrev pub ended : Stage → Arguments → Result Request Ending
 ended stage.Format told = Err Usage
 ended stage.With told = Err Usage
@@ -115,6 +119,7 @@ further (Goes stage told) word = next_step stage told word
 further (Ends request) word = Ends request
 further Wrong word = Wrong
 
+-- what is asked for where the reading is so far: what is wrong is Usage
 abbrev pub result_of : Step → Result Request Ending
 result_of (Goes stage told) = ended stage told
 result_of (Ends request) = Ok request
@@ -124,6 +129,7 @@ result_of Wrong = Err Usage
 abbrev pub read : List (List ℕ) → Step
 read words = fold further (Goes stage.Options nothing_told) words
 
--- what the arguments ask for
+-- What the arguments ask for: help, the version, what is asked of files, or Usage. That comes where an argument is wrong,
+-- nothing stands behind `--format` or `--with`, no file is named, or a grammar is to be printed with others.
 abbrev pub request_of : List (List ℕ) → Result Request Ending
 request_of words = result_of (read words)

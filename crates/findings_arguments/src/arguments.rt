@@ -11,21 +11,26 @@ use std::alloc::{AllocError, Global};
 /// What is asked of each file.
 #[derive(Clone, Copy, Debug, Drop, PartialEq, Eq)]
 pub enum Asked {
+    /// The findings, of which warnings pass.
     Findings,
     /// The findings, and no warning is to pass.
     StrictFindings,
+    /// The rules, with what is known of their shortest strings.
     Rules,
+    /// The grammar itself.
     Grammar,
 }
 
-/// What the options and the files tell.
+/// What the options and the files say.
 #[derive(Drop)]
 pub struct Arguments {
+    /// What is asked of each file.
     pub asked: Asked,
-    /// What all files are written in, where their names don't tell it.
+    /// What all files are written in; where it is `None` their names say it.
     pub format: Option<Format>,
     /// The files whose names are known.
     pub with: List<Text>,
+    /// The files of which something is asked, in their order.
     pub files: List<Text>,
 }
 
@@ -40,7 +45,7 @@ pub enum Request {
     Print(Arguments),
 }
 
-/// What is told where nothing is.
+/// What is asked for where no argument says anything.
 fn nothing_told(alloc: Global) -> Arguments
     ensures { result ≡ spec.nothing_told }
 {
@@ -98,11 +103,13 @@ fn read(alloc: Global, words: &[Text]) -> Result<Step, AllocError>
     Ok(step)
 }
 
-/// What the arguments ask for, without the name of the program.
+/// What the arguments ask for, without the name of the program. They are read from left to right, and what stands behind
+/// `--help`, `--version` or what is wrong doesn't count. Time goes by their length.
 ///
 /// # Errors
 ///
-/// `Usage` where they are no arguments of the program, and `OutOfMemory`.
+/// `Usage` where they are no arguments of the program: where one is wrong, nothing stands behind `--format` or `--with`,
+/// no file is named, or a grammar is to be printed with others. `OutOfMemory` where an allocation is refused.
 pub fn request_of(alloc: Global, words: &[Text]) -> Result<Request, Ending>
     ensures ok { IfOk result (λ request. spec.request_of words.now ≡ Ok request) }
     ensures err { IfErr result (λ ending. (ending ≡ Ending.OutOfMemory) ⊎ (spec.request_of words.now ≡ Err ending)) }

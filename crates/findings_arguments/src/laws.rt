@@ -10,7 +10,7 @@ pub fn help_comes_first()
     ensures { (words : List (List ℕ)) → request_of (codes "--help" ∷ words) ≡ Ok r.Help }
 {}
 
-/// Files with no option ahead of them are asked for their findings.
+/// Files with no option ahead of them are asked for their findings, one file or more.
 pub fn files_alone_ask_for_findings()
     ensures { (files : List (List ℕ)) → files ≢ [] → All (λ file. word_of file ≡ w.File) files
         → request_of files ≡ Ok (r.Print (record nothing_told { files = files })) }

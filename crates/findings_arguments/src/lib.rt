@@ -1,6 +1,8 @@
 //! What the arguments of `abnf_findings` ask for.
 //!
 //! [`request_of`] reads them, as specs/Arguments has it. [`help`] is what `--help` prints.
+//!
+//! The kit's `clap` isn't taken: it takes options behind files too, which are refused here.
 #![tactic(auto)]
 
 mod arguments;

@@ -1,4 +1,4 @@
-//! What one argument more tells.
+//! What one argument more says.
 
 ghost use Rattle.std.specs.Prelude.{◌≡◌, ◌++◌, ◌∷◌, [], IfOk};
 ghost use Rattle.findings_files.specs.Formats.{format_named};
@@ -28,7 +28,7 @@ pub(crate) enum Stage {
 /// Where the reading is.
 #[derive(Drop)]
 pub(crate) enum Step {
-    /// It goes on, and this was told.
+    /// It goes on, and this was said.
     Goes(Stage, Arguments),
     /// What follows doesn't count.
     Ends(Request),
@@ -64,7 +64,7 @@ fn awaits_format(told: Arguments) -> Step
     }
 }
 
-/// A file that is told.
+/// A file that is named.
 fn file(alloc: Global, stage: Stage, told: Arguments, word: &str) -> Result<Step, AllocError>
     ensures { IfOk result (λ step. step ≡ spec.file stage told word.now) }
 {
@@ -127,7 +127,7 @@ fn file_step(alloc: Global, told: Arguments, word: &str) -> Result<Step, AllocEr
     file(alloc, Stage::Files, told, word)
 }
 
-/// What an argument adds to what was told before it.
+/// What an argument adds to what was said before it.
 fn next_step(alloc: Global, stage: Stage, told: Arguments, word: &str) -> Result<Step, AllocError>
     ensures { IfOk result (λ step. step ≡ spec.next_step stage told word.now) }
 {

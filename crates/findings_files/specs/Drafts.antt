@@ -12,11 +12,11 @@ use Rattle.findings_text.specs.Print.{IsPrintedFrom}
 use Rattle.findings_text.specs.Rules.{ArePrintedRulesFrom}
 use Rattle.findings_text.specs.Sources.{position_in_draft}
 
--- where in a draft stands what has this position in its grammar
+-- where in a draft stands what has this position in its grammar; positions count characters
 abbrev pub draft_position : List ℕ → List Sourced → Position → Position
 draft_position draft grammar at = position_in_draft draft grammar (characters grammar) at
 
--- the line of a draft with no block of grammar
+-- the line of a draft with no block of grammar: a warning at its front
 abbrev pub no_grammar_line : List ℕ → List ℕ
 no_grammar_line file = file ++ (codes ":1:1: warning: no grammar in this draft [no-grammar]" ++ 10 ∷ [])
 
@@ -26,11 +26,11 @@ abbrev pub IsPrintedDraft : List ℕ → List ℕ → List Sourced → Printed �
 IsPrintedDraft file draft [] printed = (printed.lines ≡ no_grammar_line file) × (printed.outcome ≡ Warnings)
 IsPrintedDraft file draft (c ∷ cs) printed = IsPrintedFrom (draft_position draft (c ∷ cs)) file (characters (c ∷ cs)) printed
 
--- This is printed of the rules of a draft with this grammar.
+-- This is printed of the rules of a draft with this grammar, each where it is defined in the draft.
 abbrev pub ArePrintedDraftRules : List ℕ → List ℕ → List Sourced → List ℕ → Type 0
 ArePrintedDraftRules file draft grammar lines = ArePrintedRulesFrom (draft_position draft grammar) file (characters grammar) lines
 
--- this text has more bytes than a text may have
+-- this text has more bytes than a text may have, 4,194,304
 pub record IsTooLarge (text : List ℕ) : Type 0 where
   pub bytes : List ℕ
   pub utf8 : IsUtf8 bytes

@@ -24,21 +24,22 @@ use Rattle.findings_files.specs.Drafts.{ArePrintedDraftRules, IsPrintedDraft, Is
 abbrev pub has_ending : List ℕ → List ℕ → Bool
 has_ending ending name = ends_with nat_eq name ending
 
--- the endings of the names of drafts in Markdown
+-- the file has the name of a draft in Markdown: it ends in `.md`, `.mkd` or `.markdown`
 abbrev pub is_markdown : List ℕ → Bool
 is_markdown name = has_ending (codes ".md") name || (has_ending (codes ".mkd") name || has_ending (codes ".markdown") name)
 
--- the format of a file by its name
+-- what a file is written in, by the ending of its name: a draft in Markdown (`is_markdown`), one in RFCXML (`.xml`), or else
+-- a grammar
 abbrev pub format_of : List ℕ → Format
 format_of name = if is_markdown name then Markdown else (if has_ending (codes ".xml") name then Xml else Abnf)
 
--- the format that is named so
+-- the format that is named `abnf`, `markdown` or `xml`
 abbrev pub format_named : List ℕ → Option Format
 format_named name =
     if bytes_eq name (codes "abnf") then Some Abnf
     else (if bytes_eq name (codes "markdown") then Some Markdown else (if bytes_eq name (codes "xml") then Some Xml else None))
 
--- where a fault of a draft in XML stands
+-- where a fault of a draft in XML stands, in characters
 abbrev pub fault_offset : XmlFault → ℕ
 fault_offset (x.BlockWithoutEnd at) = at
 fault_offset (x.CommentWithoutEnd at) = at
@@ -47,6 +48,7 @@ fault_offset (x.TagWithoutEnd at) = at
 fault_offset (x.BadReference at) = at
 fault_offset x.Memory = 0
 
+-- a fault of a draft in XML, in a few words
 abbrev pub fault_words : XmlFault → List ℕ
 fault_words (x.BlockWithoutEnd at) = codes "block without an end tag"
 fault_words (x.CommentWithoutEnd at) = codes "comment without an end"
@@ -60,6 +62,7 @@ abbrev pub xml_fault_line : List ℕ → List ℕ → XmlFault → List ℕ
 xml_fault_line file text fault =
     file ++ place_text (position_of (units Utf32) text (fault_offset fault)) ++ codes "error: " ++ fault_words fault ++ (codes " [xml]" ++ 10 ∷ [])
 
+-- This is printed of a draft in XML that is at fault: the line of the fault, which is an error.
 abbrev pub IsPrintedFault : List ℕ → List ℕ → XmlFault → Printed → Type 0
 IsPrintedFault file text fault printed = (printed.lines ≡ xml_fault_line file text fault) × (printed.outcome ≡ Errors)
 
@@ -68,7 +71,7 @@ abbrev pub IsPrintedXml : List ℕ → List ℕ → Result (List Sourced) XmlFau
 IsPrintedXml file text (Ok grammar) printed = IsPrintedDraft file text grammar printed
 IsPrintedXml file text (Err fault) printed = IsPrintedFault file text fault printed
 
--- This is printed of a file of this format.
+-- This is printed of a file of this format, where no other file is known.
 abbrev pub IsPrintedAs : Format → List ℕ → List ℕ → Printed → Type 0
 IsPrintedAs Abnf file text printed = IsPrinted file text printed
 IsPrintedAs Markdown file text printed = IsPrintedDraft file text (grammar_of (markdown_blocks text)) printed
@@ -79,7 +82,8 @@ abbrev pub ArePrintedXmlRules : List ℕ → List ℕ → Result (List Sourced) 
 ArePrintedXmlRules file text (Ok grammar) printed = ArePrintedDraftRules file text grammar printed.lines × (printed.outcome ≡ Clean)
 ArePrintedXmlRules file text (Err fault) printed = IsPrintedFault file text fault printed
 
--- This is printed of the rules in a file of this format.
+-- This is printed of the rules in a file of this format, where no other file is known. The file goes clean, unless it is a
+-- draft in XML that is at fault.
 abbrev pub ArePrintedRulesAs : Format → List ℕ → List ℕ → Printed → Type 0
 ArePrintedRulesAs Abnf file text printed = ArePrintedRules file text printed.lines × (printed.outcome ≡ Clean)
 ArePrintedRulesAs Markdown file text printed =

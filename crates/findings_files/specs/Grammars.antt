@@ -12,7 +12,7 @@ use Rattle.findings_files.specs.declared.format.Format.TheVariants.{Abnf, Markdo
 use Rattle.findings_files.specs.Drafts.{no_grammar_line}
 use Rattle.findings_files.specs.Formats.{IsPrintedFault}
 
--- This text is printed.
+-- This text is printed, and the file goes clean.
 abbrev pub IsPrintedText : List ℕ → Printed → Type 0
 IsPrintedText text printed = (printed.lines ≡ encode_utf8_all text) × (printed.outcome ≡ Clean)
 
@@ -21,12 +21,13 @@ abbrev pub IsPrintedDraftGrammar : List ℕ → List Sourced → Printed → Typ
 IsPrintedDraftGrammar file [] printed = (printed.lines ≡ no_grammar_line file) × (printed.outcome ≡ Warnings)
 IsPrintedDraftGrammar file (c ∷ cs) printed = IsPrintedText (characters (c ∷ cs)) printed
 
--- the same of a draft in XML, of which this is gathered
+-- This is printed of the grammar of a draft in XML, of which this is gathered: its characters, a warning, or its fault.
 abbrev pub IsPrintedXmlGrammar : List ℕ → List ℕ → Result (List Sourced) XmlFault → Printed → Type 0
 IsPrintedXmlGrammar file text (Ok grammar) printed = IsPrintedDraftGrammar file grammar printed
 IsPrintedXmlGrammar file text (Err fault) printed = IsPrintedFault file text fault printed
 
--- This is printed of the grammar in a file of this format. A file that is a grammar is printed as it is.
+-- This is printed of the grammar in a file of this format. A file that is a grammar is printed as it is. There is one such
+-- print-out (`printed_grammars_exist`), and only one (`printed_grammars_are_unique`).
 abbrev pub IsPrintedGrammarAs : Format → List ℕ → List ℕ → Printed → Type 0
 IsPrintedGrammarAs Abnf file text printed = IsPrintedText text printed
 IsPrintedGrammarAs Markdown file text printed = IsPrintedDraftGrammar file (grammar_of (markdown_blocks text)) printed

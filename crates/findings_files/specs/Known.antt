@@ -1,5 +1,5 @@
--- What is printed of a file where the names of other files are known: rules of theirs are joined to its grammar, and nothing is told of
--- them.
+-- What is printed of a file where the names of other files are known: rules of theirs are joined to its grammar, and nothing
+-- is printed of them.
 use Rattle.std.specs.Prelude.{◌≡◌, ◌⊎◌, ℕ, List, [], ◌∷◌, ◌++◌, Result, Ok, Err, length}
 use Rattle.text_files.specs.declared.file.FileFault.{FileFault}
 use Rattle.text_files.specs.declared.file.FileFault.TheVariants.{CannotRead, Memory, NotText}
@@ -18,11 +18,12 @@ use Rattle.findings_files.specs.declared.format.Format.TheVariants.{Abnf, Markdo
 use Rattle.findings_files.specs.Drafts.{IsTextRefused, no_grammar_line}
 use Rattle.findings_files.specs.Formats.{ArePrintedRulesAs, IsPrintedAs, IsPrintedFault, IsRefusedAs}
 
--- a whole text as one block of grammar
+-- a whole text as one block of grammar, left aligned, with a line end more
 abbrev pub whole : List ℕ → List Sourced
 whole text = aligned (record { content = from 0 text; end = length text })
 
--- the grammar of a file of this format, left aligned, or the fault of a draft in XML
+-- the grammar of a file of this format, left aligned, with the place of each character, or the fault of a draft in XML; of a
+-- file that is a grammar the whole text is one block
 abbrev pub grammar_in : Format → List ℕ → Result (List Sourced) XmlFault
 grammar_in Abnf text = Ok (whole text)
 grammar_in Markdown text = Ok (grammar_of (markdown_blocks text))
@@ -34,12 +35,12 @@ IsGatheredIn format text gathered = (gathered ≡ Err x.Memory) ⊎ (gathered �
 
 -- ---- the files whose names are known
 
--- The grammar of a file is known too.
+-- The grammar of a file is known too, behind those that were.
 abbrev pub IsAdded : Result (List Sourced) XmlFault → List (List ℕ) → List (List ℕ) → Type 0
 IsAdded (Ok grammar) old new = new ≡ old ++ characters grammar ∷ []
 IsAdded (Err found) old new = ⊥
 
--- Why it isn't: its grammar is too large, its draft is at fault, or memory was refused.
+-- Why the grammar of a file isn't known: it is too large, its draft is at fault, or memory was refused.
 abbrev pub IsNotAdded : Result (List Sourced) XmlFault → FileFault → Type 0
 IsNotAdded (Ok grammar) fault = IsTextRefused (characters grammar) fault
 IsNotAdded (Err found) NotText = Unit {0}
@@ -48,7 +49,8 @@ IsNotAdded (Err found) CannotRead = ⊥
 
 -- ---- the findings
 
--- This is printed of a grammar to which others are joined: the lines of the findings that stand in it.
+-- This is printed of a grammar to which others are joined: the lines of the findings that stand in it, at their places in the
+-- file.
 abbrev pub IsPrintedJoined : List (List ℕ) → List ℕ → List ℕ → List Sourced → Printed → Type 0
 IsPrintedJoined known file draft grammar printed =
     (text : List ℕ) × IsJoined (characters grammar) known text × IsPrintedIn (characters grammar) (position_in_draft draft grammar text) file text printed
@@ -58,29 +60,34 @@ abbrev pub IsPrintedDraftWith : List (List ℕ) → List ℕ → List ℕ → Li
 IsPrintedDraftWith known file draft [] printed = (printed.lines ≡ no_grammar_line file) × (printed.outcome ≡ Warnings)
 IsPrintedDraftWith known file draft (c ∷ cs) printed = IsPrintedJoined known file draft (c ∷ cs) printed
 
--- the same of a file that may be at fault
+-- This is printed of a file with this grammar or at fault, where other files are known.
 abbrev pub IsPrintedBy : List (List ℕ) → List ℕ → List ℕ → Result (List Sourced) XmlFault → Printed → Type 0
 IsPrintedBy known file text (Ok grammar) printed = IsPrintedDraftWith known file text grammar printed
 IsPrintedBy known file text (Err fault) printed = IsPrintedFault file text fault printed
 
--- This is printed of a file of this format. Where no other file is known, it is what is printed of the file alone.
+-- This is printed of a file of this format. Where no other file is known, it is what is printed of the file alone. Else it is
+-- the lines of those findings of the joined text that stand in the file's grammar, at their places in the file; of a draft
+-- without a grammar, or at fault, what is printed of it alone. There is one (`joined_prints_exist`), and only one
+-- (`prints_are_unique`).
 abbrev pub IsPrintedWith : List (List ℕ) → Format → List ℕ → List ℕ → Printed → Type 0
 IsPrintedWith [] format file text printed = IsPrintedAs format file text printed
 IsPrintedWith (k ∷ known) format file text printed = IsPrintedBy (k ∷ known) file text (grammar_in format text) printed
 
 -- ---- the rules
 
--- This is printed of the rules of a grammar to which others are joined.
+-- This is printed of the rules of a grammar to which others are joined: those whose first definition stands in it.
 abbrev pub ArePrintedJoinedRules : List (List ℕ) → List ℕ → List ℕ → List Sourced → List ℕ → Type 0
 ArePrintedJoinedRules known file draft grammar lines =
     (text : List ℕ) × IsJoined (characters grammar) known text × ArePrintedRulesIn (characters grammar) (position_in_draft draft grammar text) file text lines
 
--- the same of a file that may be at fault
+-- This is printed of the rules of a file with this grammar or at fault, where other files are known.
 abbrev pub ArePrintedRulesBy : List (List ℕ) → List ℕ → List ℕ → Result (List Sourced) XmlFault → Printed → Type 0
 ArePrintedRulesBy known file text (Ok grammar) printed = ArePrintedJoinedRules known file text grammar printed.lines × (printed.outcome ≡ Clean)
 ArePrintedRulesBy known file text (Err fault) printed = IsPrintedFault file text fault printed
 
--- This is printed of the rules in a file of this format. Where no other file is known, it is what is printed of the file alone.
+-- This is printed of the rules in a file of this format. Where no other file is known, it is what is printed of the file
+-- alone. Else it is the lines of the rules whose first definition stands in the file's grammar, each by the joined text.
+-- There is one (`joined_rule_prints_exist`), and only one (`rule_prints_are_unique`).
 abbrev pub ArePrintedRulesWith : List (List ℕ) → Format → List ℕ → List ℕ → Printed → Type 0
 ArePrintedRulesWith [] format file text printed = ArePrintedRulesAs format file text printed
 ArePrintedRulesWith (k ∷ known) format file text printed = ArePrintedRulesBy (k ∷ known) file text (grammar_in format text) printed
@@ -91,12 +98,12 @@ ArePrintedRulesWith (k ∷ known) format file text printed = ArePrintedRulesBy (
 abbrev pub IsJoinRefused : List (List ℕ) → List Sourced → FileFault → Type 0
 IsJoinRefused known grammar fault = IsTextRefused (characters grammar) fault ⊎ ((text : List ℕ) × IsJoined (characters grammar) known text × IsTextRefused text fault)
 
--- the same of a file that may be at fault
+-- Why nothing is printed of a file with this grammar or at fault, where other files are known.
 abbrev pub IsRefusedBy : List (List ℕ) → Result (List Sourced) XmlFault → FileFault → Type 0
 IsRefusedBy known (Ok grammar) fault = IsJoinRefused known grammar fault
 IsRefusedBy known (Err found) fault = fault ≡ Memory
 
--- Why nothing is printed of a file of this format.
+-- Why nothing is printed of a file of this format: its grammar or the joined one is too large, or memory was refused.
 abbrev pub IsRefusedWith : List (List ℕ) → Format → List ℕ → FileFault → Type 0
 IsRefusedWith [] format text fault = IsRefusedAs format text fault
 IsRefusedWith (k ∷ known) format text fault = (fault ≡ Memory) ⊎ IsRefusedBy (k ∷ known) (grammar_in format text) fault

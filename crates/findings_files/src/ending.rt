@@ -7,22 +7,25 @@ ghost use Rattle.findings_files.specs.Endings as spec;
 use findings_text::Outcome;
 use text_files::FileFault;
 
-/// The endings of the program.
+/// The endings of the program, each with its exit status ([`status`](Ending::status)).
 #[derive(Clone, Copy, Debug, Drop, PartialEq, Eq)]
 pub enum Ending {
-    /// No file has what isn't to pass.
+    /// No file has what isn't to pass: 0.
     Good,
-    /// One has.
+    /// One has: 1.
     Found,
-    /// A file can't be read or isn't a text. Its own line has told it.
+    /// A file can't be read or isn't a text: 2. Its own line has said so.
     NotRead,
+    /// A write to standard output failed: 2.
     WriteFailed,
+    /// The arguments are none of the program's: 5.
     Usage,
+    /// An allocation was refused: 6.
     OutOfMemory,
 }
 
 impl Ending {
-    /// The status of the process.
+    /// The exit status of the process: 0, 1, 2, 5 or 6.
     pub fn status(self) -> u8
         ensures { result ≡ spec.status_of self }
     {
@@ -35,7 +38,7 @@ impl Ending {
         }
     }
 
-    /// The line on standard error, empty for none.
+    /// The line on standard error, without its line end; empty for none.
     pub fn line(self) -> &'static str
         ensures { result.now ≡ spec.line_of self }
     {
@@ -59,7 +62,7 @@ pub fn is_option(argument: &str) -> bool
     }
 }
 
-/// The line on standard error for a file with this name, in two parts.
+/// The line on standard error for a file with this name that can't be used, in two parts and without its line end.
 pub fn fault_line(fault: FileFault, file: &str) -> (&'static str, &str)
     ensures { result.0.now ++ result.1.now ≡ spec.line_of_fault fault file.entry.now }
 {
@@ -103,7 +106,8 @@ fn has_faulty(outcomes: &[Outcome], strict: bool) -> bool
     outcomes.iter().any(|outcome| is_faulty(*outcome, strict))
 }
 
-/// What a run over files that went so ends with.
+/// What a run over files that went so ends with: `NotRead` where one isn't read, else `Found` where one isn't to pass,
+/// which is one with an error, and where it is strict one with warnings too; else `Good`. Time goes by their number.
 pub fn ending_of(strict: bool, outcomes: &[Outcome]) -> Ending
     ensures { result ≡ spec.ending_of strict outcomes.now }
 {

@@ -27,8 +27,8 @@ pub enum Format {
 }
 
 impl Format {
-    /// The format of a file by the ending of its name: `.md`, `.mkd` and `.markdown` are those of drafts in Markdown, `.xml` that of
-    /// drafts in RFCXML.
+    /// The format of a file by the ending of its name: `.md`, `.mkd` and `.markdown` are those of drafts in Markdown,
+    /// `.xml` that of drafts in RFCXML, and all others are those of grammars.
     pub fn of_file(file: &str) -> Format
         ensures { result ≡ spec.format_of file.now }
     {
@@ -42,7 +42,7 @@ impl Format {
         }
     }
 
-    /// The format that is named `abnf`, `markdown` or `xml`.
+    /// The format that is named `abnf`, `markdown` or `xml`; `None` of any other name.
     pub fn named(name: &str) -> Option<Format>
         ensures { result ≡ spec.format_named name.now }
     {
@@ -69,8 +69,8 @@ pub(crate) fn markdown_grammar(alloc: Global, draft: &Snapshot) -> Result<Gather
     }
 }
 
-/// What is printed of a file with this name and this format: each finding in a line, in the order of the file. Lines and columns count
-/// from 1, and columns count characters. Of a draft in XML that is at fault the fault alone is told.
+/// What is printed of a file with this name and this format: each finding in a line, in the order of the file. Lines and
+/// columns count from 1, and columns count characters. Of a draft in XML that is at fault the fault alone is reported.
 ///
 /// # Errors
 ///
@@ -108,8 +108,8 @@ pub(crate) fn clean(lines: Text) -> Printed
     }
 }
 
-/// What is printed of the rules in a file with this name and this format: each rule that it defines in a line, at the first place that
-/// does. Of a draft in XML that is at fault the fault alone is told.
+/// What is printed of the rules in a file with this name and this format: each rule that it defines in a line, at the
+/// first place that does. Of a draft in XML that is at fault the fault alone is reported.
 ///
 /// # Errors
 ///

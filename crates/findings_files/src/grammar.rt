@@ -88,12 +88,13 @@ fn print_xml_grammar(alloc: Global, file: &str, draft: &Snapshot) -> Result<Prin
     }
 }
 
-/// What is printed of the grammar in a file with this name and this format: its text, which has the same findings as the file but for
-/// their places. Where a draft has no grammar, or is at fault, that is told as by [`print_as`](crate::print_as).
+/// What is printed of the grammar in a file with this name and this format: its text, which has the same findings as the
+/// file but for their places. Where a draft has no grammar, or is at fault, that is reported as by
+/// [`print_as`](crate::print_as). Time goes by the length of the file.
 ///
 /// # Errors
 ///
-/// As [`print_as`](crate::print_as).
+/// `NotText` where the grammar of a draft is larger than a text may be, and `Memory` where an allocation is refused.
 pub fn print_grammar_as(
     alloc: Global,
     file: &str,

@@ -36,7 +36,7 @@ impl Model for Known {
 impl Known {
     ghost use Rattle.findings_files.specs.Known as spec;
 
-    /// No files.
+    /// No files. It takes no memory.
     pub fn new(alloc: Global) -> Known
         ensures { result ≡ [] }
     {
@@ -45,12 +45,13 @@ impl Known {
         }
     }
 
-    /// Adds the grammar of a file of this format, behind those that are known.
+    /// Adds the grammar of a file of this format, left aligned, behind those that are known. Time goes by the length of
+    /// the file.
     ///
     /// # Errors
     ///
-    /// `NotText` where the file is a draft in XML that is at fault, or its grammar is larger than a text may be, and `Memory`. Then no
-    /// file is added.
+    /// `NotText` only where the file is a draft in XML that is at fault, or its grammar is larger than a text may be, and
+    /// `Memory` where an allocation is refused. Then no file is added.
     pub fn add(&mut self, alloc: Global, format: Format, text: &Snapshot) -> Result<(), FileFault>
         ensures added { OnOk result (spec.IsAdded (spec.grammar_in format text.now) self.old self.new) }
         ensures fault { IfErr result (λ fault. (fault ≡ FileFault.Memory) ⊎ spec.IsNotAdded (spec.grammar_in format text.now) fault) }
@@ -140,14 +141,21 @@ fn print_joined(
     }
 }
 
-/// What is printed of a file with this name and this format, where the names of other files are known: each finding in a line, in the
-/// order of the file. Rules of the other files whose names the file doesn't define are joined to its grammar, those of an earlier file
-/// first; nothing is told of them. Lines and columns count from 1, and columns count characters. Of a draft in XML that is at fault the
-/// fault alone is told.
+/// What is printed of a file with this name and this format, where the names of other files are known: each finding in a
+/// line, in the order of the file, at the place where it begins in the file. Lines and columns count from 1, and columns
+/// count characters. Of a draft it goes by the grammar in its blocks. Where it has no grammar that is a warning alone,
+/// and of a draft in XML that is at fault the fault alone is reported.
+///
+/// Rules of the other files whose names the file doesn't define are joined to its grammar, those of an earlier file
+/// first; nothing is reported of them. Names that stand for nothing are compared with those of the joined grammar, the
+/// file's own first, and then with the core rules.
+///
+/// Time goes by the length of the file and of all known grammars, which are joined anew for each file.
 ///
 /// # Errors
 ///
-/// `NotText` where the grammar of a draft, or a joined grammar, is larger than a text may be, and `Memory`.
+/// `NotText` only where the file's grammar, or the joined one, is larger than a text may be, and `Memory` where an
+/// allocation is refused.
 pub fn print_as(
     alloc: Global,
     file: &str,
@@ -203,13 +211,15 @@ fn print_joined_rules(
     }
 }
 
-/// What is printed of the rules in a file with this name and this format, where the names of other files are known: each rule that it
-/// defines in a line, at the first place that does, where no place of another file comes before. What a rule generates it generates by
-/// the joined grammar. Of a draft in XML that is at fault the fault alone is told.
+/// What is printed of the rules in a file with this name and this format, where the names of other files are known: each
+/// rule that it defines in a line, at the first place that does. What a rule generates it generates by the joined
+/// grammar. Of a draft in XML that is at fault the fault alone is reported. Each rule that has an example takes time by
+/// the size of the joined grammar.
 ///
 /// # Errors
 ///
-/// As [`print_as`].
+/// As [`print_as`]: `NotText` only where the file's grammar, or the joined one, is larger than a text may be, and
+/// `Memory`.
 pub fn print_rules_as(
     alloc: Global,
     file: &str,

@@ -43,7 +43,7 @@ pub fn joined_rule_prints_exist()
         → (lines : List ℕ) × ArePrintedJoinedRules known file draft grammar lines }
 {}
 
-/// A file of each format has a print-out of its grammar.
+/// A file of each format has a print-out of its grammar, whatever its length.
 pub fn printed_grammars_exist()
     ensures { (format : Format) (file text : List ℕ) → (printed : Printed) × IsPrintedGrammarAs format file text printed }
 {}

@@ -1,8 +1,9 @@
 //! What is printed of a file, by what it is written in and by which other files are known, and how the program ends.
 //!
-//! [`print_as`] and [`print_rules_as`] read files by their [`Format`], as specs/Formats has it: of a draft they tell the grammar in it, as
-//! specs/Drafts has it. They join rules of files that are [`Known`] to their grammars, as specs/Known has it. [`print_grammar_as`] gives a
-//! file's grammar. How a file went is an [`Outcome`], and the [`Ending`] of a run follows from the outcomes of its files.
+//! [`print_as`] and [`print_rules_as`] read files by their [`Format`], as specs/Formats has it: of a draft they go by the
+//! grammar in it, as specs/Drafts has it. They join rules of files that are [`Known`] to their grammars, as specs/Known
+//! has it. [`print_grammar_as`] gives a file's grammar. How a file went is an [`Outcome`], and the [`Ending`] of a run
+//! follows from the outcomes of its files.
 #![tactic(auto)]
 
 mod draft;

@@ -1,4 +1,4 @@
--- The rules that places define, by a table of those that are told.
+-- The rules that places define, by a table of those that have come.
 use Rattle.std.proofs.Common.{◌≡◌, ◌∙◌, ◌<◌, ℕ, suc, ◌+◌, Bool, true, false, cond, List, [], ◌∷◌, ◌++◌, length, map, drop, get_or, set, replicate, refl, sym, ap, subst, arith, eq-eqb, get_or-set_same, get_or-set_other, append_assoc, ⊎_elim}
 use Rattle.std.proofs.Math.Seq.{drop-cons}
 use Rattle.std.specs.Prelude.{Option, Some, None, IfSome, All, nat_eq, not, ◌&&◌, if◌then◌else◌, filter, find, ◌≤◌}
@@ -30,9 +30,9 @@ filter_all : {X : Type 0} (p : X → Bool) → ((x : X) → p x ≡ true) → (x
 filter_all p all [] = refl
 filter_all p all (x ∷ xs) = λ i. cond (all x i) (x ∷ filter_all p all xs i) (filter_all p all xs i)
 
--- ---- rules that aren't told
+-- ---- rules that haven't come
 
--- the rule of a head isn't told yet
+-- the rule of a head hasn't come yet
 abbrev pub is_left : List Bool → Named × ℕ → Bool
 is_left told head = not (get_or told head.1 false)
 

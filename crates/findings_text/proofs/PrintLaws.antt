@@ -1,4 +1,4 @@
--- Each text has one print-out, wherever it is told that it stands.
+-- Each text has one print-out, wherever it is said to stand.
 use Rattle.std.proofs.Common.{◌≡◌, ◌<◌, ◌^◌, ℕ, List, length, refl, ap, sym, ◌∙◌}
 use Rattle.std.specs.Prelude.{Result, Ok, Err, IfOk, flat_map}
 use Rattle.abnf_names.proofs.Exist.{some_grammar}

@@ -5,7 +5,7 @@ use Rattle.abnf_token.specs.Folded.{lowercase}
 use Rattle.abnf_parts.specs.Names.{Name, rule_number}
 use Rattle.abnf_names.specs.Places.{Named}
 
--- the number of the rule that a place defines, if it does
+-- the number of the rule that a place defines, if it defines one
 abbrev pub defined_at : List Name → Named → Option ℕ
 defined_at names n = if n.defines then rule_number names (lowercase n.text) else None
 
@@ -18,7 +18,8 @@ abbrev pub ahead : Named → Option ℕ → List (Named × ℕ) → List (Named 
 ahead n None heads = heads
 ahead n (Some r) heads = (n, r) ∷ filter (λ head. not (nat_eq r head.1)) heads
 
--- the heads among these places: of each rule the first that defines it, with the rule's number
+-- the heads among these places: of each rule the first that defines it, with the rule's number, in the order of the places; a
+-- rule that none of them defines has none (`heads_are_first`)
 abbrev pub heads : List Name → List Named → List (Named × ℕ)
 heads names [] = []
 heads names (n ∷ ns) = ahead n (defined_at names n) (heads names ns)

@@ -8,14 +8,16 @@ use Rattle.abnf_lint.specs.Messages.{severity_of}
 use Rattle.findings_text.specs.declared.outcome.Outcome.{Outcome}
 use Rattle.findings_text.specs.declared.outcome.Outcome.TheVariants as o
 
+-- the severity is that of an error, and not of a warning
 abbrev pub is_grave : Severity → Bool
 is_grave Error = true
 is_grave Warning = false
 
+-- the finding is an error
 abbrev pub is_error : Finding → Bool
 is_error finding = is_grave (severity_of finding.code)
 
--- the outcome of a text by its findings
+-- how a text went by its findings: clean without one, with warnings alone, or with an error among them
 abbrev pub outcome_of : List Finding → Outcome
 outcome_of [] = o.Clean
 outcome_of (f ∷ found) = if list_any is_error (f ∷ found) then o.Errors else o.Warnings

@@ -14,6 +14,7 @@ use Rattle.findings_text.specs.declared.print.Printed.{Printed}
 use Rattle.findings_text.specs.Hints.{AreKnown, compared, message}
 use Rattle.findings_text.specs.Outcomes.{outcome_of}
 
+-- how grave a finding is, in a word
 abbrev pub severity_text : Severity → List ℕ
 severity_text Error = codes "error"
 severity_text Warning = codes "warning"
@@ -22,25 +23,26 @@ severity_text Warning = codes "warning"
 abbrev pub begin_of : List ℕ → Finding → Position
 begin_of text finding = position_of (units Utf32) text (place_start text finding.place)
 
--- what is counted from 0, told from 1 behind a colon
+-- what is counted from 0, printed from 1 behind a colon
 abbrev pub counted_text : ℕ → List ℕ
 counted_text n = codes ":" ++ decimal (n + 1)
 
--- the line and the column of a position
+-- the line and the column of a position, printed from 1, each behind a colon
 abbrev pub place_text : Position → List ℕ
 place_text at = counted_text at.line ++ counted_text at.character ++ codes ": "
 
--- FILE:LINE:COLUMN: severity: message [code], and LF, of a finding that begins at this position, where its name is compared with these
+-- `FILE:LINE:COLUMN: severity: message [code]`, and LF, of a finding that begins at this position, where its name is compared
+-- with these. Line and column are printed from 1.
 abbrev pub line_of_finding : List (List ℕ) → List ℕ → Position → Finding → List ℕ
 line_of_finding known file at finding =
     file ++ place_text at ++ severity_text (severity_of finding.code) ++ codes ": "
     ++ message known finding ++ codes " [" ++ code_text finding.code ++ (codes "]" ++ 10 ∷ [])
 
--- where in the file stands what has this position in the grammar's text
+-- where in the file stands what has this position in the grammar's text; positions count characters
 abbrev pub Locator : Type 0
 Locator = Position → Position
 
--- the line of a finding, which is told where it stands in the file
+-- the line of a finding, at the place of the file where it begins
 abbrev pub finding_line : Locator → List (List ℕ) → List ℕ → List ℕ → Finding → List ℕ
 finding_line locate known file text finding = line_of_finding known file (locate (begin_of text finding)) finding
 
@@ -51,7 +53,8 @@ pub record AreFoundWith (text : List ℕ) (found : List Finding) (names : List (
   pub are_known : AreKnown text known
   pub names_are : names ≡ compared found known
 
--- This is printed of a grammar's text from a file with this name: the lines of its findings, in their order.
+-- This is printed of a grammar's text from a file with this name: the lines of its findings, in their order, and how the file
+-- went by them.
 pub record IsPrintedFrom (locate : Locator) (file text : List ℕ) (printed : Printed) : Type 0 where
   pub found : List Finding
   pub names : List (List ℕ)
@@ -59,6 +62,7 @@ pub record IsPrintedFrom (locate : Locator) (file text : List ℕ) (printed : Pr
   pub lines_are : printed.lines ≡ flat_map (finding_line locate names file text) found
   pub outcome_is : printed.outcome ≡ outcome_of found
 
--- the same of a file that is the text
+-- This is printed of a file with this name that is the grammar's text: the lines of its findings, in their order, and how the
+-- file went by them. There is one such print-out (`printed_texts_exist`), and only one (`printed_texts_are_unique`).
 abbrev pub IsPrinted : List ℕ → List ℕ → Printed → Type 0
 IsPrinted file text printed = IsPrintedFrom (λ at. at) file text printed

@@ -15,7 +15,7 @@ use Rattle.findings_text.specs.declared.rules.Head.{Head}
 use Rattle.findings_text.specs.Print.{Locator, place_text}
 pub use Rattle.findings_text.specs.Heads.{ahead, defined_at, defines_rule, heads}
 
--- what is known of the shortest strings of a rule
+-- what is known of the shortest strings of a rule, in words
 abbrev pub known_text : Shortest → List ℕ
 known_text (Shown n example) = codes "shortest length " ++ decimal n ++ codes ": " ++ rendered_text example
 known_text (Long n) = codes "shortest length " ++ decimal n ++ codes ", example not shown"
@@ -23,7 +23,7 @@ known_text Huge = codes "shortest length 18446744073709551615 or more"
 known_text Nothing = codes "generates nothing"
 known_text NotKnown = codes "not known"
 
--- FILE:LINE:COLUMN: NAME: what is known, and LF
+-- `FILE:LINE:COLUMN: NAME:`, what is known, and LF
 abbrev pub rule_line_at : List ℕ → Position → Named → Shortest → List ℕ
 rule_line_at file at head shown = file ++ place_text at ++ head.text ++ codes ": " ++ known_text shown ++ 10 ∷ []
 
@@ -31,7 +31,7 @@ rule_line_at file at head shown = file ++ place_text at ++ head.text ++ codes ":
 abbrev pub head_begin : List ℕ → Named → Position
 head_begin text head = position_of (units Utf32) text (place_start text head.place)
 
--- the line of a rule, which is told where it is defined in the file
+-- the line of a rule, at the place of the file where it is defined
 abbrev pub rule_line : Locator → List ℕ → List ℕ → Named → Shortest → List ℕ
 rule_line locate file text head shown = rule_line_at file (locate (head_begin text head)) head shown
 
@@ -53,7 +53,8 @@ pub record ArePrintedRulesFrom (locate : Locator) (file text lines : List ℕ) :
   pub right : IsGrammar grammar
   pub lines_are : AreRuleLines locate file grammar (heads grammar.names grammar.places) lines
 
--- the same of a file that is the text
+-- This is printed of the rules of a file with this name that is the grammar's text. There is one such print-out
+-- (`printed_rules_exist`), and only one (`printed_rules_are_unique`).
 abbrev pub ArePrintedRules : List ℕ → List ℕ → List ℕ → Type 0
 ArePrintedRules file text lines = ArePrintedRulesFrom (λ at. at) file text lines
 
@@ -63,12 +64,12 @@ ArePrintedRules file text lines = ArePrintedRulesFrom (λ at. at) file text line
 abbrev pub head_at : Head → Named × ℕ
 head_at head = (named_at head.spot, head.rule)
 
--- this rule, unless it is told
+-- the rule, unless it has come already
 abbrev pub if_new : List Bool → Option ℕ → Option ℕ
 if_new told None = None
 if_new told (Some r) = if slice_index_or told r false then None else Some r
 
--- this rule is told too
+-- the rules that have come, and this one
 abbrev pub also_told : Option ℕ → List Bool → List Bool
 also_told None told = told
 also_told (Some r) told = slice_set told r true

@@ -19,7 +19,7 @@ abbrev pub position_in_draft : List ℕ → List Sourced → List ℕ → Positi
 position_in_draft draft grammar text at =
     position_of (units Utf32) draft (draft_origin draft grammar (offset_of (units Utf32) text at.line at.character))
 
--- where what stands in the text of a source stands in the file
+-- where what stands in the text of a source stands in the file: of a text that is the file at the same position
 abbrev pub located : Source → List ℕ → Locator
 located File text at = at
 located (Draft draft grammar) text at = position_in_draft draft.now grammar.now text at

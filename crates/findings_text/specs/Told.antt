@@ -1,4 +1,5 @@
--- What is printed of a grammar at the front of a text, to which rules of others are joined behind it: nothing is told of these.
+-- What is printed of a grammar at the front of a text, to which rules of others are joined behind it: nothing is printed of
+-- these.
 use Rattle.std.specs.Prelude.{◌≡◌, ℕ, Bool, nat_lt, List, filter, flat_map}
 use Rattle.ls_text.specs.Lines.{line_ends}
 use Rattle.ls_text.specs.declared.position.Place.{Place}
@@ -12,17 +13,19 @@ use Rattle.findings_text.specs.Outcomes.{outcome_of}
 use Rattle.findings_text.specs.Print.{Locator, finding_line}
 use Rattle.findings_text.specs.Rules.{AreRuleLines, heads}
 
--- The place stands in the grammar at the front of a joined text. A grammar that was gathered ends in a line end, so it has as many lines
--- of the joined text as it has line ends.
+-- The place stands in the grammar at the front of a joined text: its line is one of those that end there. A grammar that was
+-- gathered ends in a line end, so it has as many lines of the joined text as it has line ends, and nothing that is found in
+-- it stands behind.
 abbrev pub stands_in : List ℕ → Place → Bool
 stands_in told place = nat_lt place.line (line_ends told)
 
--- the findings that stand there
+-- the findings that stand in the grammar at the front of a joined text
 abbrev pub told_findings : List ℕ → List Finding → List Finding
 told_findings told found = filter (λ finding. stands_in told finding.place) found
 
--- These are the findings that stand there, and the names with which theirs are compared. The rules of the joined text are known, in its
--- order, and then the core rules: so of names that are as near one of the grammar at the front is told.
+-- These are the findings of a joined text that stand in the grammar at its front, and the names with which theirs are
+-- compared. The rules of the joined text are known, in its order, and then the core rules: so of names that are as near one
+-- of the grammar at the front is found.
 pub record AreToldWith (told text : List ℕ) (found : List Finding) (names : List (List ℕ)) : Type 0 where
   pub all : List Finding
   pub of_text : AreRows text all
@@ -31,7 +34,8 @@ pub record AreToldWith (told text : List ℕ) (found : List Finding) (names : Li
   pub are_known : AreKnown text known
   pub names_are : names ≡ compared found known
 
--- This is printed of the grammar at the front of a joined text: the lines of the findings that stand there, in their order.
+-- This is printed of the grammar at the front of a joined text: the lines of the findings that stand there, in their order,
+-- and how the file went by them.
 pub record IsPrintedIn (told : List ℕ) (locate : Locator) (file text : List ℕ) (printed : Printed) : Type 0 where
   pub found : List Finding
   pub names : List (List ℕ)
@@ -45,7 +49,8 @@ pub record IsPrintedIn (told : List ℕ) (locate : Locator) (file text : List �
 abbrev pub told_heads : List ℕ → List (Named × ℕ) → List (Named × ℕ)
 told_heads told heads = filter (λ head. stands_in told head.0.place) heads
 
--- This is printed of the rules of that grammar: a line for each whose first definition stands there.
+-- This is printed of the rules of the grammar at the front of a joined text: a line for each whose first definition stands
+-- there, by the joined text.
 pub record ArePrintedRulesIn (told : List ℕ) (locate : Locator) (file text lines : List ℕ) : Type 0 where
   pub grammar : Grammar
   pub of_text : grammar.text ≡ text

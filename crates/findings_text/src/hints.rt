@@ -1,4 +1,4 @@
-//! What is told where a name stands for nothing.
+//! What is said where a name stands for nothing.
 
 ghost use Rattle.std.specs.Prelude.{◌≡◌, ◌++◌, IfOk, codes, count_by, map, string_bytes};
 ghost use Rattle.std.specs.Option.{option_map};
@@ -110,7 +110,7 @@ pub(crate) fn compared<'t>(
     }
 }
 
-/// What is told of a known name that is near.
+/// What is said of a known name that is near.
 fn hint_with(alloc: Global, name: &str) -> Result<String, Memory>
     ensures { IfOk result (λ text. string_bytes text ≡ codes ", did you mean " ++ name.now ++ codes "?") }
 {
@@ -120,7 +120,7 @@ fn hint_with(alloc: Global, name: &str) -> Result<String, Memory>
     Ok(text)
 }
 
-/// What is told of a known name if one is near.
+/// What is said of a known name if one is near.
 fn hint(alloc: Global, near: Option<&str>) -> Result<String, Memory>
     ensures { IfOk result (λ text. string_bytes text ≡ spec.hint (option_map (λ name. name.now) near.entry)) }
 {
@@ -130,7 +130,7 @@ fn hint(alloc: Global, near: Option<&str>) -> Result<String, Memory>
     }
 }
 
-/// What is told of a name that stands for nothing.
+/// What is said of a name that stands for nothing.
 fn hint_of(alloc: Global, known: &[&str], name: &str) -> Result<String, Memory>
     ensures { IfOk result (λ text. string_bytes text ≡ spec.hint (nearest name.now (map (λ name. name.now) known.now))) }
 {
@@ -138,7 +138,7 @@ fn hint_of(alloc: Global, known: &[&str], name: &str) -> Result<String, Memory>
     hint(alloc, near)
 }
 
-/// The message of a finding. Behind it the known name is told that is nearest to one that stands for nothing.
+/// The message of a finding. Behind it stands the known name that is nearest to one that stands for nothing.
 pub(crate) fn message(alloc: Global, known: &[&str], finding: &Finding) -> Result<String, Memory>
     ensures { IfOk result (λ text. string_bytes text ≡ spec.message (map (λ name. name.now) known.now) finding.now) }
 {

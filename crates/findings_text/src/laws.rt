@@ -24,7 +24,7 @@ pub fn printed_rules_exist()
     ensures { (file text : List ℕ) → length text < 2 ^ 62 → (lines : List ℕ) × ArePrintedRules file text lines }
 {}
 
-/// A text has at most one print-out of its rules, whatever certificate it is told by.
+/// A text has at most one print-out of its rules, whatever certificate their lengths are found by.
 pub fn printed_rules_are_unique()
     ensures { (file text a b : List ℕ) → ArePrintedRules file text a → ArePrintedRules file text b → a ≡ b }
 {}

@@ -1,9 +1,10 @@
 //! What is printed of the findings in a grammar's text: a line for each, in the form of compilers.
 //!
-//! [`print_findings`] gives the lines of a text, which are defined in specs/Print, and says how the text went by an [`Outcome`].
-//! [`print_rules`] gives a line for each rule instead, as specs/Rules has it. [`print_from`] and [`print_rules_from`] tell a text that comes
-//! from a [`Source`], at the places of its file. [`print_told`] and [`print_told_rules`] tell what stands in a grammar at the front of its
-//! text, as specs/Told has it. Behind a name that stands for nothing a known name is told which is near, as specs/Hints has it.
+//! [`print_findings`] gives the lines of a text, which are defined in specs/Print, and says how the text went by an
+//! [`Outcome`]. [`print_rules`] gives a line for each rule instead, as specs/Rules has it. [`print_from`] and
+//! [`print_rules_from`] do so of a text that comes from a [`Source`], at the places of its file. [`print_told`] and
+//! [`print_told_rules`] print what stands in a grammar at the front of its text, as specs/Told has it. Behind a name that
+//! stands for nothing a known name is printed which is near, as specs/Hints has it.
 #![tactic(auto)]
 
 mod hints;

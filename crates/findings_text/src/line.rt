@@ -18,7 +18,7 @@ fn severity_text(severity: Severity) -> &'static str
     }
 }
 
-/// What is counted from 0, told from 1 behind a colon.
+/// What is counted from 0, printed from 1 behind a colon.
 fn counted_text(alloc: Global, before: u32) -> Result<String, Memory>
     ensures { IfOk result (λ text. string_bytes text ≡ counted_text before) }
 {
@@ -26,9 +26,11 @@ fn counted_text(alloc: Global, before: u32) -> Result<String, Memory>
     format!(in alloc; ":{number}")
 }
 
-/// The line and the column of a position, told from 1, each behind a colon.
+/// The line and the column of a position, both printed from 1, each behind a colon, and then a colon and a blank.
 ///
-/// `Memory` says that an allocation was refused.
+/// # Errors
+///
+/// Where an allocation is refused.
 pub fn place_text(alloc: Global, at: Position) -> Result<String, Memory>
     ensures { IfOk result (λ text. string_bytes text ≡ place_text at) }
 {

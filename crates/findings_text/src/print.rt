@@ -21,8 +21,9 @@ use std::alloc::{AllocError as Memory, Global};
 /// What is printed of a text, and how the file went.
 #[derive(Drop)]
 pub struct Printed {
-    /// A line for each finding, `FILE:LINE:COLUMN: severity: message [code]`.
+    /// A line for each finding, `FILE:LINE:COLUMN: severity: message [code]`, or what else is asked of the file.
     pub lines: Text,
+    /// How the file went by what is found in it.
     pub outcome: Outcome,
 }
 
@@ -77,10 +78,16 @@ fn print_found(
     })
 }
 
-/// What is printed of a grammar's text from a file with this name: each finding in a line, in the order of the text, at the place where it
-/// begins in the file. Lines and columns count from 1, and columns count characters.
+/// What is printed of a grammar's text from a file with this name: each finding in a line, in the order of the text, at
+/// the place where it begins in the file. Lines and columns count from 1, and columns count characters.
 ///
-/// `Memory` says that an allocation was refused.
+/// Time goes by the length of the text and by its findings, of which n take n times the logarithm of n to order; in a
+/// draft each takes time by the characters of its lines. A name that stands for nothing is compared with each known one,
+/// but with none where there would be more than 100,000 such pairs.
+///
+/// # Errors
+///
+/// Where an allocation is refused.
 pub fn print_from(
     alloc: Global,
     file: &str,
@@ -126,10 +133,15 @@ fn told_in<'t>(
     Ok((found, names))
 }
 
-/// What is printed of a file's grammar at the front of a text to which rules of others are joined: each finding that stands there in a line,
-/// in the order of the text, at the place where it begins in the file.
+/// What is printed of a file's grammar at the front of a text to which rules of others are joined: each finding that
+/// stands there in a line, in the order of the text, at the place where it begins in the file. Names that stand for
+/// nothing are compared with those of the whole text, and then with the core rules.
 ///
-/// `Memory` says that an allocation was refused.
+/// The front is as many lines of the text as `told`, the file's grammar, has line ends. Time goes as for [`print_from`].
+///
+/// # Errors
+///
+/// Where an allocation is refused.
 pub fn print_told(
     alloc: Global,
     file: &str,
@@ -152,10 +164,12 @@ pub fn print_told(
     )
 }
 
-/// What is printed of a text in a file with this name: each finding in a line, in the order of the text. Lines and columns count from 1,
-/// and columns count characters.
+/// What is printed of a text in a file with this name: each finding in a line, in the order of the text. Lines and
+/// columns count from 1, and columns count characters. Time goes as for [`print_from`].
 ///
-/// `Memory` says that an allocation was refused.
+/// # Errors
+///
+/// Where an allocation is refused.
 pub fn print_findings(alloc: Global, file: &str, text: &Snapshot) -> Result<Printed, Memory>
     ensures { IfOk result (λ printed. IsPrinted file.now text.now printed) }
 {

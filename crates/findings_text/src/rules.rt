@@ -36,7 +36,7 @@ fn defined_at<'t>(grammar: &Grammar<'t>, spot: &Spot<'t>) -> Option<RuleNo>
     }
 }
 
-/// The rule that a place defines, unless it is told; from now on it is.
+/// The rule that a place defines, unless one before it does; from now on one does.
 fn new_rule<'t>(grammar: &Grammar<'t>, told: &mut [bool], spot: &Spot<'t>) -> Option<RuleNo>
     requires { length told.old ≡ length grammar.now.rules }
     ensures rule { result ≡ spec.if_new told.old (spec.defined_at grammar.now.names (named_at spot.now)) }
@@ -106,10 +106,14 @@ fn printed_by(
     rule_lines(alloc, file, source, grammar, &cert, heads.as_slice())
 }
 
-/// What is printed of the rules of a grammar's text from a file with this name: each rule that it defines in a line, at the first place of
-/// the file that does.
+/// What is printed of the rules of a grammar's text from a file with this name: each rule that it defines in a line, at
+/// the first place of the file that does, with what is known of its shortest strings.
 ///
-/// `Memory` says that an allocation was refused.
+/// A certificate is made for all rules. Then each rule that has an example takes time by the number of all parts.
+///
+/// # Errors
+///
+/// Where an allocation is refused.
 pub fn print_rules_from(
     alloc: Global,
     file: &str,
@@ -151,10 +155,15 @@ fn told_rules(
     rule_lines(alloc, file, source, grammar, &cert, heads.as_slice())
 }
 
-/// What is printed of the rules of a file's grammar at the front of a text to which rules of others are joined: each rule whose first
-/// definition stands there in a line, by all of the text.
+/// What is printed of the rules of a file's grammar at the front of a text to which rules of others are joined: each rule
+/// whose first definition stands there in a line, by all of the text.
 ///
-/// `Memory` says that an allocation was refused.
+/// The front is as many lines of the text as `told`, the file's grammar, has line ends. Time goes as for
+/// [`print_rules_from`].
+///
+/// # Errors
+///
+/// Where an allocation is refused.
 pub fn print_told_rules(
     alloc: Global,
     file: &str,
@@ -172,10 +181,13 @@ pub fn print_told_rules(
     lines
 }
 
-/// What is printed of the rules of a text in a file with this name: each rule that it defines in a line, with what is known of its
-/// shortest strings by a certificate that is found for it. Lines and columns count from 1, and columns count characters.
+/// What is printed of the rules of a text in a file with this name: each rule that it defines in a line, with what is
+/// known of its shortest strings by a certificate that is found for it. Lines and columns count from 1, and columns count
+/// characters. Time goes as for [`print_rules_from`].
 ///
-/// `Memory` says that an allocation was refused.
+/// # Errors
+///
+/// Where an allocation is refused.
 pub fn print_rules(alloc: Global, file: &str, text: &Snapshot) -> Result<Text, Memory>
     ensures { IfOk result (λ lines. spec.ArePrintedRules file.now text.now lines) }
 {

@@ -1,4 +1,4 @@
--- What is said of an answer doesn't tell its certificate.
+-- What is said of an answer doesn't depend on its certificate.
 use Rattle.std.proofs.Common.{◌≡◌, ℕ, ℤ, Bool, List, Some, None, refl, sym, ap, ◌∙◌}
 use Rattle.ls_rpc.specs.declared.message.Id.{Id}
 use Rattle.ls_answers.specs.Answers.{without_cert}

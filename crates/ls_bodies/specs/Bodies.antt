@@ -21,7 +21,7 @@ use Rattle.ls_answers.specs.declared.answer.RenameFault.{RenameFault}
 use Rattle.ls_answers.specs.declared.answer.Answer.{Answer}
 use Rattle.ls_answers.specs.declared.answer.Answer.TheVariants as answer
 
--- of the kind 12, a function (LSP 3.17, "Document Symbols Request")
+-- a symbol of the kind 12, a function (LSP 3.17, "Document Symbols Request": DocumentSymbol)
 abbrev pub symbol_json : Symbol → Data
 symbol_json symbol =
     object (member (codes "kind") (number (unsigned 12))
@@ -29,6 +29,7 @@ symbol_json symbol =
     (member (codes "range") (range_json symbol.range)
     (member (codes "selectionRange") (range_json symbol.name_range) no_members))))
 
+-- the symbols of a document, in their order (LSP 3.17, "Document Symbols Request")
 abbrev pub symbols_json : List Symbol → Data
 symbols_json symbols = array (items_of (map symbol_json symbols))
 
@@ -38,6 +39,7 @@ location_json uri range =
     object (member (codes "range") (range_json range)
     (member (codes "uri") (string uri) no_members))
 
+-- places in a document, in their order (LSP 3.17, "Location[]")
 abbrev pub locations_json : List ℕ → List Range → Data
 locations_json uri ranges = array (items_of (map (location_json uri) ranges))
 
@@ -53,11 +55,12 @@ hover_json hover =
     object (member (codes "contents") (plain_text_json hover.text)
     (member (codes "range") (range_json hover.range) no_members))
 
+-- what is shown of a name, or null where no name stands (LSP 3.17, "Hover Request")
 abbrev pub hover_or_null : Option HoverText → Data
 hover_or_null None = null
 hover_or_null (Some hover) = hover_json hover
 
--- `DiagnosticSeverity` (LSP 3.17, "Diagnostic")
+-- the number of a severity: 1 of an error, 2 of a warning (LSP 3.17, "Diagnostic": DiagnosticSeverity)
 abbrev pub severity_number : Severity → ℕ
 severity_number Error = 1
 severity_number Warning = 2
@@ -71,6 +74,7 @@ diagnostic_json diagnostic =
     (member (codes "severity") (number (unsigned (severity_number (severity_of diagnostic.code))))
     (member (codes "source") (string (codes "abnf")) no_members)))))
 
+-- what is wrong or doubtful in a document, in the order of its text (LSP 3.17, "Diagnostic[]")
 abbrev pub diagnostics_json : List Diagnostic → Data
 diagnostics_json diagnostics = array (items_of (map diagnostic_json diagnostics))
 
@@ -86,7 +90,7 @@ answer_json uri label links (answer.Insert insertion) = actions_json uri label l
 answer_json uri label links (answer.Numbers numbers) = tokens_json numbers
 answer_json uri label links (answer.Findings diagnostics) = diagnostics_json diagnostics
 
--- the findings that an answer tells; one of another kind tells none
+-- the findings that an answer has; one of another kind has none
 abbrev pub found_in : Answer → List Diagnostic
 found_in (answer.Findings diagnostics) = diagnostics
 found_in _ = []
@@ -103,20 +107,21 @@ abbrev pub fault_in : Answer → Option RenameFault
 fault_in (answer.Refused fault) = Some fault
 fault_in _ = None
 
--- the reply whose result an answer is
+-- the reply whose result an answer is, as JSON (JSON-RPC 2.0, section 5)
 unfoldable pub answered_json : Id → List ℕ → ℤ → Bool → Answer → Data
 answered_json id uri label links answer = result_json id (answer_json uri label links answer)
 
--- the notice that publishes what was found
+-- the notice that publishes what was found, as JSON (LSP 3.17, "PublishDiagnostics Notification")
 unfoldable pub published_json : List ℕ → ℤ → Answer → Data
 published_json uri label answer = notice_json (codes "textDocument/publishDiagnostics") (findings_json uri label answer)
 
--- the error where there is one, else the result
+-- the error of a rename that isn't granted, else the result
 abbrev pub error_or_result : Id → Option RenameFault → Data → List ℕ
 error_or_result id (Some fault) reply = error_body (Some id) (refusal_of_rename fault)
 error_or_result id None reply = compact_text reply
 
--- the body that replies to a request about a document with an answer
+-- The body that replies to a request about a document with an answer: the error of a rename that isn't granted, else the result that
+-- `answer_json` makes of the answer.
 unfoldable pub reply_body : Id → List ℕ → ℤ → Bool → Answer → List ℕ
 reply_body id uri label links answer = error_or_result id (fault_in answer) (answered_json id uri label links answer)
 

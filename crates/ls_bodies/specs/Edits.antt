@@ -40,7 +40,8 @@ abbrev pub document_changes_json : List ℕ → ℤ → Data → Data
 document_changes_json uri label edits =
     object (member (codes "documentChanges") (array (item (document_edit_json uri label edits) no_items)) no_members)
 
--- edits of a document as `documentChanges`, if the client takes these, or as `changes` (LSP 3.17, "WorkspaceEdit")
+-- edits of one document: as `documentChanges` of the client's version of it, if the client takes these, else as `changes` (LSP 3.17,
+-- "WorkspaceEdit")
 abbrev pub workspace_edit_json : List ℕ → ℤ → Bool → Data → Data
 workspace_edit_json uri label links edits = if links then document_changes_json uri label edits else changes_json uri edits
 
@@ -48,14 +49,14 @@ workspace_edit_json uri label links edits = if links then document_changes_json 
 abbrev pub empty_range : Position → Range
 empty_range position = record { start = position; end = position }
 
--- an action that inserts a text at a position (LSP 3.17, "Code Action Request")
+-- an action of the kind `refactor` that inserts a text at a position, in the place of an empty range (LSP 3.17, "Code Action Request")
 abbrev pub action_json : List ℕ → ℤ → Bool → Insertion → Data
 action_json uri label links insertion =
     object (member (codes "edit") (workspace_edit_json uri label links (edits_json insertion.text (empty_range insertion.position ∷ [])))
     (member (codes "kind") (string (codes "refactor"))
     (member (codes "title") (string (codes "Insert shortest example")) no_members)))
 
--- one action, where there is something to insert
+-- the one action that inserts a text; none where there is nothing to insert (LSP 3.17, "Code Action Request")
 abbrev pub actions_json : List ℕ → ℤ → Bool → Option Insertion → Data
 actions_json uri label links None = array no_items
 actions_json uri label links (Some insertion) = array (item (action_json uri label links insertion) no_items)

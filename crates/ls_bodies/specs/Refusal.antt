@@ -10,8 +10,9 @@ use Rattle.ls_answers.specs.declared.answer.RenameFault.TheVariants as rename
 use Rattle.ls_bodies.specs.declared.refusal.Refusal.{Refusal}
 use Rattle.ls_bodies.specs.declared.refusal.Refusal.TheVariants as refusal
 
--- a rename that isn't granted, and one request too many, have failed; a request with the id of one that waits isn't valid (LSP 3.17,
--- "Response Message": RequestFailed, InvalidRequest)
+-- The code of an error that is answered (JSON-RPC 2.0, section 5.1; LSP 3.17, "Response Message": ErrorCodes). A rename that isn't granted,
+-- and one request too many, have failed (RequestFailed); a request with the id of one that waits isn't valid (InvalidRequest), and one
+-- about a document that isn't open has parameters that aren't (InvalidParams).
 abbrev pub code_of : Refusal → ℤ
 code_of refusal.ParseError = parse_error
 code_of refusal.InvalidRequest = invalid_request
@@ -28,6 +29,7 @@ code_of refusal.NotAName = neg_ℤ (pos 32803)
 code_of refusal.NothingToRename = neg_ℤ (pos 32803)
 code_of refusal.NameInUse = neg_ℤ (pos 32803)
 
+-- the text of such an error, its `message`
 abbrev pub refusal_text : Refusal → List ℕ
 refusal_text refusal.ParseError = codes "parse error"
 refusal_text refusal.InvalidRequest = codes "invalid request"
@@ -44,7 +46,7 @@ refusal_text refusal.NotAName = codes "not a rule name"
 refusal_text refusal.NothingToRename = codes "nothing to rename"
 refusal_text refusal.NameInUse = codes "name in use"
 
--- the refusal of a body that is no message, by its code
+-- the refusal of a body that is no message, by its code: no JSON, or no message
 abbrev pub refusal_of_code : ℤ → Refusal
 refusal_of_code code = if int_eq code parse_error then refusal.ParseError else refusal.InvalidRequest
 
@@ -54,13 +56,14 @@ refusal_of_rename rename.NotAName = refusal.NotAName
 refusal_of_rename rename.NothingToRename = refusal.NothingToRename
 refusal_of_rename rename.NameInUse = refusal.NameInUse
 
--- the refusal of a request that was given up, by the code that is kept for it; any other code is the server's own fault
+-- The refusal of a request that was given up, by the code that is kept for it. Each code that a desk keeps is said as it is
+-- (`failures_have_their_code` in `ls_session`); any other is the server's own fault, and would be said as -32603.
 abbrev pub refusal_of_failure : ℤ → Refusal
 refusal_of_failure code =
     if int_eq code (code_of refusal.ContentModified) then refusal.ContentModified
     else if int_eq code (code_of refusal.RequestCancelled) then refusal.RequestCancelled
     else refusal.InternalError
 
--- the body of a reply with an error
+-- the body of a reply with an error, whose id is null where it isn't known (JSON-RPC 2.0, section 5.1)
 abbrev pub error_body : Option Id → Refusal → List ℕ
 error_body id refusal = compact_text (error_json id (code_of refusal) (refusal_text refusal))

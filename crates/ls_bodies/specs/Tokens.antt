@@ -3,6 +3,7 @@ use Rattle.std.specs.Prelude.{ℕ, List, map, codes}
 use Rattle.serde_json.specs.Data.{Data, number, array, object, unsigned, member, no_members}
 use Rattle.serde_json.specs.View.{items_of}
 
+-- one of these numbers
 abbrev pub count_json : ℕ → Data
 count_json n = number (unsigned n)
 

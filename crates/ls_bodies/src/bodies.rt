@@ -1,4 +1,6 @@
 //! The bodies of answers. `serde_json` writes each as a whole from the answer: no tree of JSON is made of it.
+//!
+//! They are functions and no impls of `Serialize` at each type, since those types stand in crates that know nothing of JSON.
 ghost use Rattle.std.specs.Prelude.{◌≡◌, IfOk, OnOk, Ok};
 ghost use Rattle.serde_json.specs.Data.{array, no_items};
 ghost use Rattle.serde_json.specs.Events.{SendsValue};
@@ -19,10 +21,12 @@ use std::alloc::{AllocError as Memory, Global};
 /// `SymbolKind.Function` (LSP 3.17, "Document Symbols Request").
 const FUNCTION: u32 = 12;
 
-/// The body that replies to a request with an answer, about a document with this uri and the client's
-/// label of its version. `links` says whether the client takes edits as `documentChanges`.
+/// The body that replies to a request with an answer, about a document with this uri and the client's number of its version. `links` says
+/// whether the client takes edits as `documentChanges` (LSP 3.17, "WorkspaceEdit"). A rename that isn't granted is answered by its error.
 ///
-/// `Memory` says that an allocation was refused.
+/// # Errors
+///
+/// Where an allocation is refused.
 #[tactic(auto, unfolding(crate::specs::Bodies::reply_body))]
 pub fn reply_body(
     alloc: Global,
@@ -48,7 +52,9 @@ pub fn reply_body(
 
 /// The body that replies to a request which was given up, by the code that is kept for it.
 ///
-/// `Memory` says that an allocation was refused.
+/// # Errors
+///
+/// Where an allocation is refused.
 #[tactic(auto, unfolding(crate::specs::Bodies::failure_body))]
 pub fn failure_body(alloc: Global, id: &Id, code: i32) -> Result<Vec<u8>, Memory>
     ensures { IfOk result (λ body. body.items ≡ failure_body id.now code) }
@@ -58,7 +64,9 @@ pub fn failure_body(alloc: Global, id: &Id, code: i32) -> Result<Vec<u8>, Memory
 
 /// The body that publishes what an answer found in a document, with the client's label of its version.
 ///
-/// `Memory` says that an allocation was refused.
+/// # Errors
+///
+/// Where an allocation is refused.
 #[tactic(auto, unfolding(crate::specs::Bodies::findings_body))]
 pub fn findings_body(
     alloc: Global,
@@ -164,7 +172,7 @@ fn write_nothing<S: Serializer>(out: &mut S) -> Result<(), S::Error>
     out.end_seq()
 }
 
-/// The findings that an answer tells.
+/// The findings that an answer has.
 fn found_in(answer: &Answer) -> &[Diagnostic]
     ensures { result.now ≡ found_in answer.now }
 {

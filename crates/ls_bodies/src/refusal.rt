@@ -7,42 +7,44 @@ use ls_answers::RenameFault;
 use ls_rpc::{INVALID_REQUEST, Id, PARSE_ERROR, error_text};
 use std::alloc::{AllocError as Memory, Global};
 
-/// The errors that are answered, each with a code and a text (JSON-RPC 2.0, section 5.1; LSP 3.17, "Response
-/// Message").
+/// The errors that are answered, each with a code and a text (JSON-RPC 2.0, section 5.1; LSP 3.17, "Response Message").
+///
+/// On one thread the server answers each request before it reads the next message. So no request waits then, and none of
+/// [`Refusal::IdInUse`], [`Refusal::RequestCancelled`], [`Refusal::ContentModified`] and [`Refusal::TooManyWaiting`] is said.
 #[derive(Clone, Copy, Debug, PartialEq, Eq)]
 pub enum Refusal {
-    /// The body is no JSON.
+    /// -32700: the body is no JSON.
     ParseError,
-    /// The body is no message, or the request doesn't fit the session's stage.
+    /// -32600: the body is no message; or the request came after `shutdown`, or is a second `initialize`.
     InvalidRequest,
-    /// The method isn't known as a request.
+    /// -32601: the method isn't known as a request.
     MethodNotFound,
-    /// The parameters can't be read.
+    /// -32602: the parameters can't be read.
     InvalidParams,
-    /// The document of the request isn't open.
+    /// -32602: the document of the request isn't open.
     DocumentNotOpen,
-    /// The request came before `initialize`.
+    /// -32002: the request came before `initialize`.
     NotInitialized,
-    /// As many requests wait as may.
+    /// -32803: 1,024 requests wait, which is the most.
     TooManyWaiting,
-    /// A request with this id waits.
+    /// -32600: a request with this id waits.
     IdInUse,
-    /// The document of the request has changed, so that the answer would be out of date.
+    /// -32801: the document of a rename or a code action was changed or closed while it waited, so that the answer would be out of date.
     ContentModified,
-    /// The client has cancelled the request.
+    /// -32800: the client has cancelled the request while it waited.
     RequestCancelled,
-    /// The answer couldn't be made.
+    /// -32603: memory was refused to the answer.
     InternalError,
-    /// A rename to a text that isn't the name of a rule.
+    /// -32803: a rename to a text that isn't the name of a rule.
     NotAName,
-    /// A rename where no name stands that the document defines.
+    /// -32803: a rename where no name stands that the document defines.
     NothingToRename,
-    /// A rename to a name that stands for something else.
+    /// -32803: a rename to another name of the document, or to that of a core rule.
     NameInUse,
 }
 
 impl Refusal {
-    /// The code of the error.
+    /// The code of the error, which is the one that stands beside each.
     pub fn code(self) -> i32
         ensures { result ≡ code_of self }
     {
@@ -62,7 +64,7 @@ impl Refusal {
         }
     }
 
-    /// The message of the error.
+    /// The text of the error, its `message`.
     pub fn text(self) -> &'static str
         ensures { result.now ≡ refusal_text self }
     {
@@ -84,7 +86,7 @@ impl Refusal {
         }
     }
 
-    /// The refusal of a body that is no message.
+    /// The refusal of a body that is no message, by the code that reading it gave: -32700 where it is no JSON; any other is -32600.
     pub fn of_code(code: i32) -> Refusal
         ensures { result ≡ refusal_of_code code }
     {
@@ -106,7 +108,7 @@ impl Refusal {
         }
     }
 
-    /// The refusal of a request that was given up, by the code that is kept for it.
+    /// The refusal of a request that was given up, by the code that is kept for it; -32603 for any but -32801 and -32800.
     pub(crate) fn of_failure(code: i32) -> Refusal
         ensures { result ≡ refusal_of_failure code }
     {
@@ -121,7 +123,9 @@ impl Refusal {
 
     /// The body that answers the error, with a null id where the request's isn't known.
     ///
-    /// `Memory` says that an allocation was refused.
+    /// # Errors
+    ///
+    /// Where an allocation is refused.
     pub fn body(self, alloc: Global, id: Option<&Id>) -> Result<Vec<u8>, Memory>
         ensures { IfOk result (λ body. body.items ≡ error_body (option_copied id.entry) self) }
     {

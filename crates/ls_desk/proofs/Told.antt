@@ -6,7 +6,7 @@ use Rattle.ls_machine.specs.declared.state.Request.{Request}
 use Rattle.ls_machine.specs.declared.state.Waiting.{Waiting}
 use Rattle.ls_machine.specs.Machine.{content_modified, end_of, ends, is_ended, told_to}
 
--- the end of the text ends the job, and its client is told so
+-- the end of the text ends the job, and its client is answered so
 abbrev pub is_told : List ℕ → Waiting → Bool
 is_told uri w = is_ended uri w && is_some w.request
 

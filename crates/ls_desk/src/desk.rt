@@ -1,7 +1,11 @@
 //! The desk and its calls.
 //!
-//! Each call has three steps: it makes all that needs memory and finds its refusal, it makes room, and it writes what changes, where nothing
-//! can fail any more.
+//! Each call has three steps: it makes all that needs memory and finds its refusal, it makes room, and it writes what changes, where
+//! nothing can fail any more. A refusal is the first whose cause holds in the order of the call's checks, and `Memory` where none does;
+//! nothing has changed then.
+//!
+//! A call takes time in proportion to the open documents, 256 at most, and the waiting jobs, but for what an opening or a change does to a
+//! text. One that makes a checkpoint copies these and the unsent replies besides, but no text of a document.
 ghost use Rattle.std.specs.Prelude.{◌≢◌, is_some, slice_get, false, is_none, find, position, ◌≡◌, ◌==◌, ◌+◌, ◌<◌, ◌≤◌, IfOk, IfErr, OnOk, OnErr, IfSome, IfNone, Some, None, [], length, true};
 ghost use Rattle.std.specs.Option.{option_map};
 ghost use Rattle.std.specs.Str.{chars};
@@ -43,8 +47,9 @@ const MOST_REQUESTS: usize = 1_024;
 
 /// The open documents, the waiting jobs, the unsent replies and the journal of a session.
 ///
-/// Contracts see its base, its journal, its unsent replies and its limits, and what is left of the journal that the last checkpoint ended. Its
-/// state is the replay of its journal from the base.
+/// Contracts see its base, its journal, its unsent replies and its limits, and what is left of the journal that the last checkpoint ended.
+/// Its state is the replay of its journal from the base. The type keeps that the journal is legal, that some legal list of events led to
+/// the base, and that the replies stand for the unsent entries of that state (`IsSound`).
 pub struct Desk {
     alloc: Global,
     present: Present,
@@ -80,8 +85,8 @@ impl Model for Desk {
 }
 
 impl Desk {
-    /// A desk on which nothing has happened. Its journal has at most `max_journal` events where a client's event comes to it, and the events of
-    /// the session and the unsent replies are at most `max_events` together. Takes no memory.
+    /// A desk on which nothing has happened. Its journal has at most `max_journal` events where a client's event comes to it, and the
+    /// events of the session and the unsent replies are at most `max_events` together. Takes no memory.
     pub fn new(alloc: Global, max_journal: usize, max_events: u64) -> Desk
         requires journal { (0 < max_journal) × (max_journal ≤ 1000000) }
         requires events { (0 < max_events) × (max_events ≤ 18446744073709551614) }
@@ -120,8 +125,8 @@ impl Desk {
         self.history.base.checkpoints
     }
 
-    /// What is left of the journal that the last checkpoint ended: all of it right behind the event that made the checkpoint. The desk has none of it
-    /// from now on, and else it stays as it was. Takes no memory.
+    /// What is left of the journal that the last checkpoint ended: all of it right behind the event that made the checkpoint, and less with
+    /// the events behind that. The desk has none of it from now on, and else it stays as it was. Takes no memory.
     pub fn take_ended(&mut self) -> Vec<Event>
         ensures ended { result.items ≡ self.old.ended }
         ensures same { self.new ≡ record self.old { ended = [] } }
@@ -129,7 +134,8 @@ impl Desk {
         self.history.events.take_ended()
     }
 
-    /// How many events of each kind there were over the session. There were none where the journal is empty.
+    /// How many events of each kind there were over the session. There were none where the journal is empty, since each checkpoint leaves
+    /// one there.
     pub fn counts(&self) -> Counts
         ensures value { result ≡ counts_of self.now }
         ensures none { self.now.journal ≡ [] → result ≡ no_events }
@@ -151,7 +157,7 @@ impl Desk {
         self.outbox.len()
     }
 
-    /// There is no room for an event and these replies.
+    /// Whether there is no room for an event and these replies.
     fn is_full(&self, replies: usize) -> bool
         ensures full { result ≡ is_full self.now (1 + replies) }
         ensures room { result ≡ false → used self.now + (1 + replies) ≤ self.now.max_events }
@@ -177,7 +183,7 @@ impl Desk {
         Ok(Some(state))
     }
 
-    /// What the end of a document's text tells, or the refusal that comes first.
+    /// What is answered where a document's text ends, or the refusal that comes first.
     #[tactic(auto, using(crate::proofs::Rules::desk_rules))]
     fn ends(&self, uri: &Text) -> Result<VecDeque<Out>, DeskFault>
         ensures replies { IfOk result (λ replies. replies.items ≡ failures uri.now (state_of self.now).waiting) }
@@ -203,8 +209,14 @@ impl Desk {
         Ok(self.present.changed_text(self.alloc, uri, label, edits)?)
     }
 
-    /// Changes a document by edits, each on the text that the ones before it left. `None`: one of these texts would be too
-    /// large, and the document is closed.
+    /// Changes a document by edits, each on the text that the ones before it left, and gives the version of the new text. That has a job
+    /// for its findings, and the document's waiting renames, code actions and findings end; each request among them is answered -32801.
+    /// `None`: one of these texts would have more than [`MAX_BYTES`] bytes, and the document is closed.
+    ///
+    /// # Errors
+    ///
+    /// The first of these that holds; nothing has changed then. `NotOpen` where no document of this uri is open; `SessionFull` where there
+    /// is no room for the event and the errors of the requests that it ends; `Memory` where an allocation is refused.
     pub fn did_change(
         &mut self,
         uri: Text,
@@ -239,7 +251,13 @@ impl Desk {
         Ok(version)
     }
 
-    /// Closes a document.
+    /// Closes a document. Its waiting renames, code actions and findings end, and each request among them is answered -32801; its other
+    /// requests go on for the text that they were asked about.
+    ///
+    /// # Errors
+    ///
+    /// The first of these that holds; nothing has changed then. `NotOpen` where no document of this uri is open; `SessionFull` where there
+    /// is no room for the event and the errors of the requests that it ends; `Memory` where an allocation is refused.
     pub fn did_close(&mut self, uri: Text) -> Result<(), DeskFault>
         ensures ok { OnOk result (Accepts (end_fault self.old uri) self.old self.new (Event.Closed uri)) }
         ensures err { IfErr result (λ fault. Refuses (end_fault self.old uri) self.old self.new fault) }
@@ -276,8 +294,14 @@ impl Desk {
         Ok((at, replies))
     }
 
-    /// Takes back a job that has run. Its answer is kept for sending; where memory was refused in it, a failure is, or nothing
-    /// for a diagnosis. A refusal hands the run back.
+    /// Takes back a job that has run. Its answer is kept for sending; where memory was refused in it, a failure (-32603) is, or nothing
+    /// where it was for findings. A run is taken only where its ticket is, and where its text, encoding and question are those of that job.
+    ///
+    /// # Errors
+    ///
+    /// The first of these that holds, with the run, which is handed back; nothing has changed then. `UnknownTicket` where no job with its
+    /// ticket is taken now; `OtherText` where the run is of another text, encoding or question than that job; `SessionFull` where there is
+    /// no room for the event and what the job leaves; `Memory` where an allocation is refused.
     pub fn finish(&mut self, done: Done) -> Result<Kept, (DeskFault, Done)>
         ensures ok { IfOk result (λ kept. Accepts (finish_fault self.old done) self.old self.new (Event.Finished done.ticket (is_none done.answer)) × (kept ≡ kept_of self.old done)) }
         ensures err { IfErr result (λ e. Refuses (finish_fault self.old done) self.old self.new e.0 × (e.1 ≡ done)) }
@@ -322,7 +346,15 @@ impl Desk {
         Ok(asked(document, self.present.next_ticket, id, question, links)?)
     }
 
-    /// A request about a document waits from now on.
+    /// A request about a document waits from now on, with the text that the document has now. Gives its ticket, from 1 over the session.
+    /// Findings are asked for by the desk alone. `links` says whether the client takes edits of a workspace as `documentChanges` (LSP 3.17,
+    /// "WorkspaceEdit").
+    ///
+    /// # Errors
+    ///
+    /// The first of these that holds; nothing has changed then. `NotOpen` where no document of this uri is open; `TooManyWaiting` where
+    /// 1,024 requests wait; `IdInUse` where one with this id does; `SessionFull` where there is no room for the event; `Memory` where an
+    /// allocation is refused.
     pub fn request(
         &mut self,
         id: Id,
@@ -378,7 +410,13 @@ impl Desk {
         Ok(Some((at, job_of(job)?)))
     }
 
-    /// Hands out the queued job with the least ticket. Where none is queued it answers so, whatever memory there is.
+    /// Hands out the queued job with the least ticket, to the worker of this number. `None`: no job is queued, which it answers whatever
+    /// memory there is; nothing has changed then.
+    ///
+    /// # Errors
+    ///
+    /// Only where a job is queued; nothing has changed then. `SessionFull` where there is no room for the event; `Memory` where an
+    /// allocation is refused.
     pub fn take(&mut self, worker: u32) -> Result<Option<Job>, DeskFault>
         ensures ok { IfOk result (λ job. Takes worker self.old self.new job) }
         ensures err { IfErr result (λ fault. Refuses (take_fault self.old) self.old self.new fault) }
@@ -411,7 +449,12 @@ impl Desk {
         Ok(at)
     }
 
-    /// Takes back a job that wasn't run. It is queued again.
+    /// Takes back a job that wasn't run. It is queued again, at its place by its ticket.
+    ///
+    /// # Errors
+    ///
+    /// The first of these that holds; nothing has changed then. `UnknownTicket` where no job with this ticket is taken now; `SessionFull`
+    /// where there is no room for the event; `Memory` where an allocation is refused.
     pub fn give_back(&mut self, ticket: u64) -> Result<(), DeskFault>
         ensures ok { OnOk result (Accepts (give_back_fault self.old ticket) self.old self.new (Event.Returned ticket)) }
         ensures err { IfErr result (λ fault. Refuses (give_back_fault self.old ticket) self.old self.new fault) }
@@ -448,7 +491,13 @@ impl Desk {
         }
     }
 
-    /// Cancels the request with an id, if it waits. Its client is told so.
+    /// Cancels the request with this id, queued or taken, if one waits: its job ends, and it is answered -32800 (LSP 3.17, "Cancellation
+    /// Support"). Gives whether one waited. Where none did, the event is entered all the same, and nothing else changes.
+    ///
+    /// # Errors
+    ///
+    /// The first of these that holds; nothing has changed then. `SessionFull` where there is no room for the event, and for the error where
+    /// a request with this id waits; `Memory` where an allocation is refused.
     pub fn cancel(&mut self, id: &Id) -> Result<bool, DeskFault>
         ensures ok { IfOk result (λ found. Accepts (cancel_fault self.old id.now) self.old self.new (Event.Cancelled id.now found)) }
         ensures err { IfErr result (λ fault. Refuses (cancel_fault self.old id.now) self.old self.new fault) }
@@ -487,7 +536,12 @@ impl Desk {
         Ok(body.copy()?)
     }
 
-    /// Says a body.
+    /// Keeps a body for sending, as it stands, behind all that is kept already.
+    ///
+    /// # Errors
+    ///
+    /// The first of these that holds; nothing has changed then. `SessionFull` where there is no room for the event and the body; `Memory`
+    /// where an allocation is refused.
     pub fn say(&mut self, body: List<u8>) -> Result<(), DeskFault>
         ensures ok { OnOk result (Accepts (full_fault self.old 2) self.old self.new (Event.Said body)) }
         ensures err { IfErr result (λ fault. Refuses (full_fault self.old 2) self.old self.new fault) }
@@ -500,14 +554,14 @@ impl Desk {
         Ok(())
     }
 
-    /// Whether a ticket waits, queued or taken.
+    /// Whether a job with this ticket waits, queued or taken: no worker need run one that doesn't.
     pub fn wanted(&self, ticket: u64) -> bool
         ensures { result ≡ waits ticket (state_of self.now).waiting }
     {
         find::waits(self.present.waiting.as_slice(), ticket)
     }
 
-    /// Whether a job is queued, so that a take would find one.
+    /// Whether a job is queued: true exactly where a take would find one.
     pub fn has_queued(&self) -> bool
         ensures { result ≡ is_some (find is_queued (state_of self.now).waiting) }
     {
@@ -521,8 +575,11 @@ impl Desk {
         self.present.waiting.is_empty()
     }
 
-    /// The reply with this number, from 0 for the oldest, of those that wait to be sent. It is what the unsent entry with that number stands
-    /// for: an answer is right for the text and the question of its job.
+    /// The reply with this number, from 0 for the oldest, of those that wait to be sent. None where there are no more. It is what the
+    /// unsent entry with that number stands for: an answer is right for the text and the question of its job. It names the document's
+    /// version and the client's number of it, and the text of that version was current when the request was accepted, or is the one that
+    /// was opened or changed, in events that led to the base and then the journal. So it is whatever was changed, closed or cancelled
+    /// since, and in whatever order the calls came.
     pub fn out_at(&self, at: usize) -> Option<&Out>
         ensures value { option_map (λ out. out.now) result ≡ slice_get self.now.outbox at }
         ensures stands { IfSome result (λ out. StandsAt self.now at out.now) }
@@ -590,8 +647,13 @@ impl Desk {
         Ok(version)
     }
 
-    /// Opens a document whose text is made already. It isn't copied, so this takes no longer for a large text. The positions in its texts
-    /// count these units from now on.
+    /// Opens a document whose text is made already, and gives the version of that text. It isn't copied, so this takes no longer for a
+    /// large text. The positions in its texts count these units from now on.
+    ///
+    /// # Errors
+    ///
+    /// The first of these that holds; nothing has changed then. `AlreadyOpen` where a document of this uri is open; `TooManyDocuments`
+    /// where 256 are; `SessionFull` where there is no room for the event; `Memory` where an allocation is refused.
     pub fn open_shared(
         &mut self,
         uri: Text,
@@ -607,7 +669,14 @@ impl Desk {
         Ok(self.put_open(uri, label, text, encoding)?)
     }
 
-    /// Opens a document, in whose texts positions count these units from now on.
+    /// Opens a document, in whose texts positions count these units from now on, and gives the version of its text, from 1 over the
+    /// session. The text has a job for its findings, which is nobody's request. All of the text is read.
+    ///
+    /// # Errors
+    ///
+    /// The first of these that holds; nothing has changed then. `AlreadyOpen` where a document of this uri is open; `TooManyDocuments`
+    /// where 256 are; `TooLarge` where the text has more than [`MAX_BYTES`] bytes; `SessionFull` where there is no room for the event;
+    /// `Memory` where an allocation is refused.
     pub fn did_open(
         &mut self,
         uri: Text,
@@ -623,7 +692,8 @@ impl Desk {
         Ok(self.put_open(uri, label, text, encoding)?)
     }
 
-    /// The oldest reply, which leaves the outbox. It is what the first unsent entry stands for. Takes no memory.
+    /// The oldest reply, which leaves the outbox. It is what the first unsent entry stands for, and what [`Desk::out_at`] says of it holds.
+    /// `None`: no reply waits, and nothing has changed. It takes no memory, and can't be refused: each reply has a place for its event.
     pub fn next_out(&mut self) -> Option<Out>
         ensures some { IfSome result (λ out. Sends self.old self.new out) }
         ensures none { IfNone result ((self.old.outbox ≡ []) × (self.new ≡ self.old)) }

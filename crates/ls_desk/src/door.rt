@@ -83,8 +83,12 @@ impl Desk {
         Ok(ClientAnswer::Cancelled(found))
     }
 
-    /// Does what an event of the client asks for, by the call that is its own. Where the text of an opening is made already, the desk keeps
-    /// that one. No text that is opened is too large.
+    /// Does what an event of the client asks for, by the call that is its own, and gives the answer that stands in the entry. Where the
+    /// text of an opening is made already, the desk keeps that one.
+    ///
+    /// # Errors
+    ///
+    /// Those of the event's own call, in the same order; nothing has changed then. A text of more than 4,194,304 bytes is never opened.
     pub fn enter(
         &mut self,
         event: ClientEvent,

@@ -10,6 +10,10 @@ use ls_rpc::Id;
 use std::alloc::AllocError;
 
 /// The job that a request makes.
+///
+/// # Errors
+///
+/// Where an allocation is refused.
 pub fn asked(
     document: &Document,
     ticket: u64,
@@ -36,6 +40,10 @@ pub fn asked(
 }
 
 /// What a worker is given for a job.
+///
+/// # Errors
+///
+/// Where an allocation is refused.
 pub fn job_of(job: &Waiting) -> Result<Job, AllocError>
     ensures { IfOk result (λ given. IsJobOf job.now given) }
 {

@@ -1,4 +1,7 @@
 //! The events since a base, and what is left of those before it.
+//!
+//! To move a long journal took 13 to 18 milliseconds on a busy machine, and to let a million events go at once 60. So it is moved once,
+//! into room for all that may come, and let go a few events at a time.
 ghost use Rattle.std.specs.Prelude.{◌≡◌, ◌+◌, ◌<◌, ◌≤◌, ◌++◌, ◌∷◌, [], OnOk, OnErr, length, vec_capacity};
 ghost use mathlib.Core.List.{IsPrefix};
 
@@ -49,8 +52,8 @@ fn seek_room(events: &mut Vec<Event>, more: usize)
     }
 }
 
-/// The events since a base. Where the journal begins anew, the one before isn't let go at once, which would take time in proportion to it: a
-/// few of its events go with each event that comes, or somebody takes them.
+/// The events since a base. Where the journal begins anew, the one before isn't let go at once, which would take time in proportion to it:
+/// a few of its events go with each event that comes, or somebody takes them.
 ///
 /// Contracts see the events, for how many there is room, in this journal and in the next, and what is left of the journal before.
 #[derive(Drop)]

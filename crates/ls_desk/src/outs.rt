@@ -1,4 +1,4 @@
-//! The replies: what the end of a text tells, what the end of a job does, and the ticket of each.
+//! The replies: what is answered where a text ends, what a job leaves, and the ticket of each.
 ghost use Rattle.std.specs.Prelude.{◌≡◌, ◌+◌, ◌≤◌, ◌++◌, IfOk, OnOk, length, is_none};
 ghost use Rattle.std.specs.VecDeque.{deque_len, deque_capacity};
 ghost use Rattle.ls_machine.specs.Machine.{ends};
@@ -13,12 +13,12 @@ use std::collections::VecDeque;
 
 const CONTENT_MODIFIED: i32 = -32801;
 
-/// The code that is told where a request is cancelled.
+/// The code with which a cancelled request is answered.
 pub const REQUEST_CANCELLED: i32 = -32800;
 
 const INTERNAL_ERROR: i32 = -32603;
 
-/// Adds what is told to the client of a job that a change of its text ends.
+/// Adds what is answered where a change of its text ends a job.
 fn push_failure(
     replies: &mut VecDeque<Out>,
     uri: &Text,
@@ -41,7 +41,11 @@ fn push_failure(
     Ok(())
 }
 
-/// What is told where the text of a document ends, in ticket order.
+/// What is answered where the text of a document ends, in the order of the tickets.
+///
+/// # Errors
+///
+/// Where an allocation is refused.
 pub fn failures(alloc: Global, uri: &Text, waiting: &[Waiting]) -> Result<VecDeque<Out>, AllocError>
     ensures { IfOk result (λ replies. replies.items ≡ failures uri.now waiting.now) }
 {
@@ -65,7 +69,7 @@ pub fn replies_at_end(uri: &Text, waiting: &[Waiting]) -> usize
     count
 }
 
-/// Puts down what is told to the client of a job.
+/// Puts down the error with this code for the request of a job.
 pub fn put_failure(outbox: &mut VecDeque<Out>, job: Waiting, code: i32)
     requires { deque_len outbox.old + length (failed code job) ≤ deque_capacity outbox.old }
     ensures { outbox.new.items ≡ outbox.old.items ++ failed code job }

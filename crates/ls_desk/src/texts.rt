@@ -16,9 +16,11 @@ pub struct Next {
     pub waiting: Waiting,
 }
 
-/// The text of a document that is to be opened, which isn't too large, as the desk keeps it.
+/// The text of a document that is to be opened, which isn't too large, as the desk keeps it. All of it is read.
 ///
-/// The error says that an allocation was refused.
+/// # Errors
+///
+/// Where an allocation is refused.
 pub fn snapshot_of_text(alloc: Global, text: Text) -> Result<SharedSnapshot, AllocError>
     requires { length text ≤ max_bytes }
     ensures text { IfOk result (λ shared. shared ≡ chars text) }

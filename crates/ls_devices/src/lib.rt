@@ -1,8 +1,8 @@
 //! Devices: where the bytes of a session come from and go to, and why a run over them breaks off.
 //!
-//! A [`Source`] gives bytes and a [`Sink`] takes them. Each says in its contract what it gave or took, where that is known, and whether it has
-//! failed. [`ReadFrom`] and [`WriteTo`] are those over std's readers and writers. Both ways to serve, on one thread and on several, stand on
-//! them.
+//! A [`Source`] gives bytes and a [`Sink`] takes them. Each says in its contract what it gave or took, where that is known, and whether it
+//! has failed. [`ReadFrom`] and [`WriteTo`] are those over std's readers and writers. Both ways to serve, on one thread and on several,
+//! stand on them.
 #![tactic(auto)]
 
 mod device;

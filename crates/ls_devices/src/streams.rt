@@ -1,4 +1,6 @@
 //! Devices over std's readers and writers.
+//!
+//! std's contracts don't say what a flush does, so a sink keeps for itself whether it has taken bytes since its writer was last flushed.
 ghost use Rattle.std.specs.Prelude.{◌≡◌, false};
 
 use crate::device::{DeviceFault, Sink, Source};
@@ -36,6 +38,11 @@ impl<R: Read> Source for ReadFrom<R> {
 
     ghost failed = { λ s. s.failed };
 
+    /// One read of std's reader.
+    ///
+    /// # Errors
+    ///
+    /// `Interrupted` where std's reader says so, and else `Failed`, which is remembered.
     fn read(&mut self, buf: &mut [u8]) -> Result<usize, DeviceFault> {
         self.reads += 1;
         match self.reader.read(buf) {
@@ -83,6 +90,11 @@ impl<W: Write> Sink for WriteTo<W> {
 
     ghost unflushed = { λ s. s.unflushed };
 
+    /// One write of std's writer.
+    ///
+    /// # Errors
+    ///
+    /// `Failed` where std's writer gives an error, of whatever kind, or takes none of the bytes; it is remembered.
     fn write(&mut self, buf: &[u8]) -> Result<usize, DeviceFault> {
         match self.writer.write(buf) {
             Ok(count) if count > 0 || buf.is_empty() => {
@@ -96,6 +108,11 @@ impl<W: Write> Sink for WriteTo<W> {
         }
     }
 
+    /// One flush of std's writer.
+    ///
+    /// # Errors
+    ///
+    /// `Failed` where std's writer gives an error; it is remembered, and so is that bytes are held back, if some were.
     fn flush(&mut self) -> Result<(), DeviceFault> {
         match self.writer.flush() {
             Ok(()) => {

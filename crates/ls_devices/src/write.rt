@@ -5,7 +5,11 @@ ghost use Rattle.ls_devices.specs.Devices.{AppendsFront, is_failed};
 
 use crate::device::{DeviceFault, Sink};
 
-/// Writes all the bytes, unless the sink fails. Its one fault is `Failed`; a front of the bytes has been written then.
+/// Writes all the bytes, by as many writes as that takes.
+///
+/// # Errors
+///
+/// `Failed` where the sink failed. A prefix of the bytes has been written then.
 pub fn write_all<W: Sink>(writer: &mut W, bytes: &[u8]) -> Result<(), DeviceFault>
     ensures ok { OnOk result (Appends (W.contents writer.old) (W.contents writer.new) bytes.now) }
     ensures front { AppendsFront (W.contents writer.old) (W.contents writer.new) bytes.now }

@@ -54,7 +54,7 @@ fn make_room(bytes: &mut Vec<u8>, wanted: usize)
 }
 
 impl Framer {
-    /// A framer at the start of a stream.
+    /// A framer at the start of a stream, to which no byte has come. It takes no memory.
     pub fn new(alloc: Global) -> Framer
         ensures { result ≡ [] }
     {
@@ -65,12 +65,20 @@ impl Framer {
         }
     }
 
-    /// Takes the next piece of the stream, appends to `out` the content of each frame that is whole now, and
-    /// answers how many those are.
+    /// Takes the next piece of the stream, appends to `out` the content of each frame that is whole now, and answers how
+    /// many those are.
     ///
-    /// A fault of the stream is answered by the call whose piece shows it, once the contents of the frames before it
-    /// have been appended, and by each later call. `Memory` comes only where no fault has been shown. After it the piece
-    /// hasn't been taken: the framer and `out` are as before. `Truncated` is `end`'s alone.
+    /// Over all pieces the contents given so far are those of all bytes so far as one stream, however they were cut into
+    /// pieces. Time goes by the bytes of the piece and of what is held of an unfinished frame. A header part is read
+    /// again from its start with each piece, as far as its 4,096 bytes; of a content that isn't whole only the number of
+    /// its bytes is looked at.
+    ///
+    /// # Errors
+    ///
+    /// The fault of the stream, by the call whose piece shows it, once the contents of the frames before it have been
+    /// appended, and by each later call. It is the least one that the shortest front of the stream that shows any shows.
+    /// `Memory` where an allocation is refused, which comes only where no fault has been shown. After it the piece hasn't
+    /// been taken: the framer and `out` are as before. `Truncated` is [`end`](Framer::end)'s alone.
     #[tactic(none)]
     pub fn feed(&mut self, piece: &[u8], out: &mut Vec<Vec<u8>>) -> Result<usize, FrameFault>
         ensures taken { FeedIs self.old piece.now (contents_of out.old.items) result self.new (contents_of out.new.items) }
@@ -103,8 +111,12 @@ impl Framer {
         }
     }
 
-    /// Whether the stream may end here: the fault that it has shown, or `Truncated` where a frame has begun and
-    /// isn't whole.
+    /// Whether the stream may end here. Nothing is read again.
+    ///
+    /// # Errors
+    ///
+    /// The fault that the stream has shown, or `Truncated` where a frame has begun and isn't whole. No memory is asked
+    /// for.
     pub fn end(&self) -> Result<(), FrameFault>
         ensures { EndIs (fault_of self.now) self.now result }
     {

@@ -15,7 +15,7 @@ pub fn streams_are_unique()
     ensures start { SoFar [] [] [] }
 {}
 
-/// Each list of bytes is a stream: frames with some contents, and a rest.
+/// Each list of bytes is a stream: frames with some contents, and a rest. With [`streams_are_unique`] there is one way.
 pub fn streams_exist()
     ensures { (bytes : List ℕ) → (contents : List (List ℕ)) × (rest : List ℕ) × Stream bytes contents rest }
 {}

@@ -7,7 +7,11 @@ use std::alloc::Global;
 
 /// Appends the frame with this content: `Content-Length: `, its count of bytes in decimal, two CRLF, and the content.
 ///
-/// The only error is `Memory`, and then `out` is as before. There is no limit of size.
+/// There is no limit of size. Time goes by the bytes of the content.
+///
+/// # Errors
+///
+/// `Memory` where an allocation is refused, and nothing else. Then `out` is as before.
 pub fn write_frame(alloc: Global, body: &[u8], out: &mut Vec<u8>) -> Result<(), FrameFault>
     ensures { WriteIs body.now out.old.items result out.new.items }
 {

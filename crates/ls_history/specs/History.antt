@@ -17,24 +17,24 @@ use Rattle.ls_history.specs.declared.happened.Happened.{Happened}
 use Rattle.ls_history.specs.declared.happened.Happened.TheVariants.{Began, Heard, Left, Stopped, Worked}
 use Rattle.ls_history.specs.Places.{Place, beginning, desk_at, happens, place_of}
 
--- An answer stands where nothing is against the event, and is the machine's. A refusal stands where it is the first whose cause holds. Memory may
--- be refused anywhere.
+-- An answer stands where nothing is against the event, and is the machine's. A refusal stands where it is the first whose cause holds.
+-- Memory may be refused anywhere.
 abbrev pub IsReply : Place → ClientEvent → Result ClientAnswer DeskFault → Type 0
 IsReply p e (Ok answer) = (client_fault (desk_at p) e ≡ None) × IsPossible p.state (entered_at p.state e) × (entry_of e answer ≡ Some (entered_at p.state e))
 IsReply p e (Err fault) = (fault ≡ Memory) ⊎ (client_fault (desk_at p) e ≡ Some fault)
 
--- a reply is for the first unsent entry: a finished one's is the answer for the job's own text
+-- The reply is for the first unsent entry there: that of a job that has run has the answer for the job's own text.
 abbrev pub IsReplyOut : Place → Out → Type 0
 IsReplyOut p out = IsPossible p.state (Sent (ticket_of_out out)) × ((e : Entry) × (es : List Entry) × (p.state.unsent ≡ e ∷ es) × IsOutFor e out)
 
--- a worker makes it
+-- The event is one that a worker makes.
 abbrev pub is_workers : Event → Bool
 is_workers (Took worker) = true
 is_workers (Returned ticket) = true
 is_workers (Finished ticket failed) = true
 is_workers _ = false
 
--- the entry is possible there: the board may always be told to end
+-- The entry is possible there. A history begins but once, and a board may always be asked to end.
 abbrev pub IsNext : Place → Happened → Type 0
 IsNext p (Began most) = p ≡ beginning
 IsNext p (Heard e reply) = IsReply p e reply
@@ -42,11 +42,11 @@ IsNext p (Left out) = IsReplyOut p out
 IsNext p (Worked event) = IsPossible p.state event × (is_workers event ≡ true)
 IsNext p (Stopped stop) = Unit {0}
 
--- the events and the unsent entries are within the limit
+-- The events so far and the unsent entries are within the limit.
 abbrev pub IsRoomy : Place → Type 0
 IsRoomy p = total p.counts + length p.state.unsent ≤ unwrap_or p.limit 0
 
--- the entry is possible there, and leaves room
+-- The entry is possible there, and behind it the events and the unsent entries are within the limit.
 abbrev pub MayHappen : Place → Happened → Type 0
 MayHappen p h = IsNext p h × IsRoomy (happens p h)
 
@@ -55,20 +55,20 @@ abbrev pub replay : Place → List Happened → Place
 replay p [] = p
 replay p (h ∷ hs) = replay (happens p h) hs
 
--- each entry may happen where it stands
+-- Each entry may happen where it stands, from this place on.
 abbrev pub IsLegalFrom : Place → List Happened → Type 0
 IsLegalFrom p [] = Unit {0}
 IsLegalFrom p (h ∷ hs) = MayHappen p h × IsLegalFrom (happens p h) hs
 
--- so it is from the beginning on
+-- Each entry may happen where it stands, from the beginning on.
 abbrev pub IsLegal : List Happened → Type 0
 IsLegal log = IsLegalFrom beginning log
 
--- the history has led to where the desk stands
+-- The history has led to where the desk stands: to its state, its counts and its limit.
 abbrev pub HasLedTo : Seen → List Happened → Type 0
 HasLedTo d log = place_of d ≡ replay beginning log
 
--- it is legal, and has led to where the desk stands
+-- The history is legal, and has led to where the desk stands.
 pub record IsHistoryOf (d : Seen) (log : List Happened) : Type 0 where
   pub legal : IsLegal log
   pub led : HasLedTo d log

@@ -14,7 +14,8 @@ use Rattle.ls_desk.specs.Stands.{Seen, counts_of, state_of, ticket_of_out}
 use Rattle.ls_history.specs.declared.happened.Happened.{Happened}
 use Rattle.ls_history.specs.declared.happened.Happened.TheVariants.{Began, Heard, Left, Stopped, Worked}
 
--- how many events and unsent replies there may be, the state that the desk is in, and how many events of each kind there were
+-- Where a history has led: how many events and unsent replies there may be together, once there is a desk; the state that the desk is in;
+-- and how many events of each kind there were.
 pub record Place : Type 0 where
   pub limit : Option ℕ
   pub state : State
@@ -28,21 +29,21 @@ beginning = record { limit = None; state = start; counts = no_events }
 abbrev pub place_of : Seen → Place
 place_of d = record { limit = Some d.max_events; state = state_of d; counts = counts_of d }
 
--- a desk that stands there, whose journal begins there
+-- a desk that stands there, whose journal begins there: what is against an event is asked of it
 abbrev pub desk_at : Place → Seen
 desk_at p = record { base = record { state = p.state; counts = p.counts; checkpoints = 0 }; journal = []; outbox = []; max_journal = 0; max_events = unwrap_or p.limit 0; ended = [] }
 
--- where the machine's event leads, if there is one
+-- where the machine's event leads, if there is one: to its next state, with one event more
 abbrev pub entered : Place → Option Event → Place
 entered p None = p
 entered p (Some e) = record { limit = p.limit; state = step p.state e; counts = count_one p.counts e }
 
--- an answer stands for what the machine entered with it, and a refusal leaves all as it is
+-- where a client's event leads: an answer stands for what the machine entered with it, and a refusal leaves all as it is
 abbrev pub heard_at : Place → ClientEvent → Result ClientAnswer DeskFault → Place
 heard_at p e (Ok answer) = entered p (entry_of e answer)
 heard_at p e (Err fault) = p
 
--- where an entry leads
+-- Where an entry leads. The beginning sets the limit, and an end that is asked for changes nothing of this.
 abbrev pub happens : Place → Happened → Place
 happens p (Began most) = record { limit = Some most; state = p.state; counts = p.counts }
 happens p (Heard e reply) = heard_at p e reply

@@ -12,19 +12,21 @@ use Rattle.ls_desk.specs.Stands.{ticket_of_out}
 use Rattle.ls_history.specs.declared.happened.Happened.{Happened}
 use Rattle.ls_history.specs.declared.happened.Happened.TheVariants.{Began, Heard, Left, Stopped, Worked}
 
+-- the client's event of an entry, with its answer or its refusal, if the entry is one of these
 abbrev pub heard_of_one : Happened → Option (ClientEvent × Result ClientAnswer DeskFault)
 heard_of_one (Heard e reply) = Some (e, reply)
 heard_of_one _ = None
 
--- the client's events, each with its answer or its refusal
+-- the client's events, each with its answer or its refusal, in their order
 abbrev pub heard_of : List Happened → List (ClientEvent × Result ClientAnswer DeskFault)
 heard_of log = filter_map heard_of_one log
 
+-- the reply that left with an entry, if one did
 abbrev pub out_of_one : Happened → Option Out
 out_of_one (Left out) = Some out
 out_of_one _ = None
 
--- the replies that left
+-- the replies that left, in their order
 abbrev pub outs_of : List Happened → List Out
 outs_of log = filter_map out_of_one log
 
@@ -41,15 +43,16 @@ event_of (Left out) = Some (Sent (ticket_of_out out))
 event_of (Worked event) = Some event
 event_of (Stopped stop) = None
 
+-- these events, and before them one more, if there is one
 abbrev pub with_event : Option Event → List Event → List Event
 with_event None events = events
 with_event (Some e) events = e ∷ events
 
--- all events of the machine, one behind the other
+-- the machine's events of a history, one behind the other
 abbrev pub events_of : List Happened → List Event
 events_of [] = []
 events_of (h ∷ hs) = with_event (event_of h) (events_of hs)
 
--- they are beginnings of one history: one begins the other
+-- Of two lists one begins the other, as two beginnings of one history do.
 abbrev pub LieBeside : List Happened → List Happened → Type 0
 LieBeside xs ys = IsPrefix xs ys ⊎ IsPrefix ys xs

@@ -45,7 +45,7 @@ impl Model for BlankHistory {
 }
 
 impl BlankHistory {
-    /// A new book. Takes no memory.
+    /// A new book, whose history is empty. Takes no memory.
     pub fn new() -> BlankHistory {
         let (seen, mut first, _second) = Seen::open(Start::alone(), 0, 0);
         BlankHistory {
@@ -54,7 +54,7 @@ impl BlankHistory {
         }
     }
 
-    /// The book, and a front that has seen nothing.
+    /// The word of the book, and a front that has seen nothing. The book must be the one that `C` names.
     pub fn named<C: BookName>(self) -> (HistoryBook<C>, Front<C>)
         requires { self ≡ C.book }
         ensures { result.1 ≡ [] }
@@ -102,7 +102,7 @@ impl<C: BookName> Model for Front<C> {
 }
 
 impl<C: BookName> Front<C> {
-    /// A copy.
+    /// A copy, which has seen the same. Takes no memory.
     pub fn again(&self) -> Front<C>
         ensures { result ≡ self.now }
     {
@@ -113,7 +113,8 @@ impl<C: BookName> Front<C> {
         }
     }
 
-    /// Two fronts are beginnings of one history: one of them begins the other. Nothing is done at run time.
+    /// Two fronts are beginnings of one history: one of them begins the other. Nothing is done at run time: it is called for what its
+    /// contract says.
     pub fn beside(&self, other: &Front<C>)
         ensures { LieBeside other.now self.now }
     {
@@ -128,10 +129,10 @@ impl<C: BookName> Front<C> {
         self.count <= other.count
     }
 
-    /// Sees what another front has seen, which isn't behind this one.
+    /// Sees what another front has seen, which isn't behind this one: it comes on from what it had seen itself.
     ///
-    /// Whoever has the desk has all of the history, and nobody has seen more. No proof knows that, so the lengths are compared: were this the longer
-    /// one, this would go on comparing.
+    /// Whoever has the desk has all of the history, and nobody has seen more. No proof knows that, so the lengths are compared: were this
+    /// the longer one, this would go on comparing.
     pub fn follow(&mut self, rt: &impl Wait, all: &Front<C>)
         ensures seen { self.new ≡ all.now }
         ensures grows { IsPrefix self.old all.now }
@@ -146,7 +147,8 @@ impl<C: BookName> Front<C> {
         unreachable!()
     }
 
-    /// What was seen of a history is legal. Nothing is done at run time.
+    /// What was seen of a history is legal: each entry may happen where those before it have led. Nothing is done at run time: it is called
+    /// for what its contract says.
     pub fn legal(&self)
         ensures { IsLegal self.now }
     {
@@ -178,10 +180,11 @@ impl<C: BookName> Front<C> {
         true
     }
 
-    /// Adds an entry to the history, all of which this is.
+    /// Adds an entry to the history, all of which this is: it stands behind all that there was. It must be one that may happen there. One
+    /// compare-and-exchange of the word, and no memory.
     ///
-    /// Whoever has the desk is alone in adding. That the history isn't longer than this, no proof knows, so it looks: where it were, this would go
-    /// on looking.
+    /// Whoever has the desk is alone in adding. That the history isn't longer than this, no proof knows, so it looks: where it were, this
+    /// would go on looking.
     pub fn add<X, M: Plain<X, Happened, u64>>(
         &mut self,
         rt: &impl Wait,

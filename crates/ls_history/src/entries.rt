@@ -101,7 +101,7 @@ impl Plain<(u64, bool), Happened, u64> for BringsRun {
     ghost state = { λ run. None };
 }
 
-/// The entry of a board that is told to end.
+/// The entry of a board that is asked to end.
 pub struct Stops;
 
 impl Plain<Stop, Happened, u64> for Stops {

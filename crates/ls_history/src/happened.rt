@@ -14,14 +14,14 @@ pub enum Stop {
 /// One entry of a history. No value of it is made.
 #[derive(Drop)]
 pub enum Happened {
-    /// The history began, over a desk that may have so many events and unsent replies together.
+    /// The history began, over a desk that may have so many events and unsent replies together. It is the first entry.
     Began(u64),
-    /// A client's event came, and had this answer, or this refusal.
+    /// A client's event came, and had this answer, or this refusal, which leaves the desk as it was.
     Heard(ClientEvent, Result<ClientAnswer, DeskFault>),
     /// A reply left.
     Left(Out),
-    /// A worker took a job, gave one back, or brought one back that has run.
+    /// A worker took a job, gave one back, or brought one back that has run, by this event of the machine.
     Worked(Event),
-    /// The board was told to end.
+    /// The board was asked to end so.
     Stopped(Stop),
 }

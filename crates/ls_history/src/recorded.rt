@@ -32,7 +32,7 @@ fn run_of(done: &Done) -> (u64, bool)
 }
 
 impl<C: BookName> Front<C> {
-    /// The history begins, over a desk on which nothing has happened.
+    /// The history begins, with the limit of a desk on which nothing has happened, and has led to where that stands.
     pub fn begin(&mut self, rt: &impl Wait, book: &HistoryBook<C>, desk: &Desk)
         requires front { self.old ≡ [] }
         requires desk { desk.now.journal ≡ [] }
@@ -44,7 +44,12 @@ impl<C: BookName> Front<C> {
         self.add::<Desk, Begins>(rt, book, desk);
     }
 
-    /// Enters a client's event at the desk. The history has it with its answer or its refusal.
+    /// Enters a client's event at the desk, as [`Desk::enter`] does. The history has it with its answer or its refusal, behind all that
+    /// there was.
+    ///
+    /// # Errors
+    ///
+    /// Those of [`Desk::enter`]; the desk has not changed then, and the history has the refusal.
     pub fn enter(
         &mut self,
         rt: &impl Wait,
@@ -70,7 +75,11 @@ impl<C: BookName> Front<C> {
         reply
     }
 
-    /// Enters that a client's event was refused since there was no memory to prepare it. The desk stays as it is.
+    /// Enters that a client's event was refused since there was no memory for its text or its note. The desk stays as it is.
+    ///
+    /// # Errors
+    ///
+    /// Always `Memory`, which is the refusal that the history has.
     pub fn refuse(
         &mut self,
         rt: &impl Wait,
@@ -91,7 +100,12 @@ impl<C: BookName> Front<C> {
         refusal
     }
 
-    /// Takes the first queued job for a worker. The history has it where there is one.
+    /// Takes the first queued job for the worker of this number, as [`Desk::take`] does. The history has it where there is one. `None`: no
+    /// job is queued, and nothing has changed.
+    ///
+    /// # Errors
+    ///
+    /// Those of [`Desk::take`]; neither the desk nor the history has changed then.
     pub fn take(
         &mut self,
         rt: &impl Wait,
@@ -116,7 +130,11 @@ impl<C: BookName> Front<C> {
         Ok(Some(job))
     }
 
-    /// Gives a job back that wasn't run. The history has it.
+    /// Gives a job back that wasn't run, as [`Desk::give_back`] does. The history has it.
+    ///
+    /// # Errors
+    ///
+    /// Those of [`Desk::give_back`]; neither the desk nor the history has changed then.
     pub fn give_back(
         &mut self,
         rt: &impl Wait,
@@ -137,7 +155,11 @@ impl<C: BookName> Front<C> {
         Ok(())
     }
 
-    /// Brings a job back that has run. The history has it.
+    /// Brings a job back that has run, as [`Desk::finish`] does. The history has it, with whether memory was refused in it.
+    ///
+    /// # Errors
+    ///
+    /// Those of [`Desk::finish`], with the run; neither the desk nor the history has changed then.
     pub fn finish(
         &mut self,
         rt: &impl Wait,
@@ -159,7 +181,7 @@ impl<C: BookName> Front<C> {
         Ok(kept)
     }
 
-    /// The oldest reply, which leaves. The history has it.
+    /// The oldest reply, which leaves. The history has it. `None`: no reply is unsent, and nothing has changed. Takes no memory.
     pub fn next_out(
         &mut self,
         rt: &impl Wait,
@@ -178,7 +200,7 @@ impl<C: BookName> Front<C> {
         Some(out)
     }
 
-    /// The board is told to end. The history has it, and the desk stays as it is.
+    /// The board is asked to end. The history has it, and the desk stays as it is.
     pub fn stop(&mut self, rt: &impl Wait, book: &HistoryBook<C>, desk: &Desk, stop: Stop)
         requires { HasLedTo desk.now self.old }
         ensures added { self.new ≡ self.old ++ Stopped stop ∷ [] }

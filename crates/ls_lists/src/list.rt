@@ -24,6 +24,7 @@ impl<T> Model for List<T> {
 }
 
 impl<T> List<T> {
+    /// A list with no items. It takes no memory until the first is put in.
     pub fn new(alloc: Global) -> List<T>
         ensures { result ≡ [] }
     {
@@ -32,7 +33,7 @@ impl<T> List<T> {
         }
     }
 
-    /// An empty list with this list's allocator.
+    /// A list with no items, with this list's allocator. It takes no memory until the first is put in.
     pub fn new_alike(&self) -> List<T>
         ensures { result ≡ [] }
     {
@@ -41,14 +42,14 @@ impl<T> List<T> {
         }
     }
 
-    /// The list that a `Vec` holds.
+    /// The list that a `Vec` holds. Nothing is copied.
     pub fn from_vec(vec: Vec<T>) -> List<T>
         ensures { result ≡ vec.items }
     {
         List { vec }
     }
 
-    /// The `Vec` that the list holds.
+    /// The `Vec` that the list holds. Nothing is copied.
     pub fn into_vec(self) -> Vec<T>
         ensures { result.items ≡ self }
     {
@@ -56,6 +57,7 @@ impl<T> List<T> {
         vec
     }
 
+    /// The items as a slice, which is borrowed from the list.
     pub fn as_slice(&self) -> &[T]
         ensures { result.now ≡ self.now }
     {
@@ -69,12 +71,14 @@ impl<T> List<T> {
         self.vec.len()
     }
 
+    /// Whether there are no items.
     pub fn is_empty(&self) -> bool
         ensures { IsTrue result ↔ (self.now ≡ []) }
     {
         self.vec.is_empty()
     }
 
+    /// The item at a place, counted from 0; `None` where the list has no more than `at` items.
     pub fn get(&self, at: usize) -> Option<&T>
         ensures value { option_copied result ≡ slice_get self.now at }
         ensures within { OnSome result (at < length self.now) }
@@ -82,7 +86,7 @@ impl<T> List<T> {
         self.vec.get(at)
     }
 
-    /// Takes the last item away.
+    /// Takes the last item away and gives it; `None` where there are no items.
     pub fn pop(&mut self) -> Option<T>
         ensures { MatchOption result ((self.old ≡ []) × (self.new ≡ []))
             (λ last. self.old ≡ self.new ++ last ∷ []) }
@@ -92,7 +96,12 @@ impl<T> List<T> {
 }
 
 impl<T: Drop> List<T> {
-    /// Makes room for so many more items, and for none beyond them. The items stay as they are.
+    /// Makes room for so many more items, and for none beyond them. The items stay as they are, also where it fails. They
+    /// are moved to the new room where the old one is too small.
+    ///
+    /// # Errors
+    ///
+    /// Where an allocation is refused.
     pub fn reserve(&mut self, more: usize) -> Result<(), AllocError>
         ensures { self.new ≡ self.old }
     {
@@ -100,6 +109,10 @@ impl<T: Drop> List<T> {
     }
 
     /// Puts an item at the end. The first item gets room for itself alone, as most lists have one.
+    ///
+    /// # Errors
+    ///
+    /// Where an allocation is refused. The list is then as it was, and the item is gone.
     pub fn push(&mut self, item: T) -> Result<(), AllocError>
         ensures ok { OnOk result (self.new ≡ self.old ++ item ∷ []) }
         ensures err { OnErr result (self.new ≡ self.old) }
@@ -113,7 +126,11 @@ impl<T: Drop> List<T> {
 }
 
 impl<T: Copy> List<T> {
-    /// A list of its own with the same items.
+    /// A list of its own with the same items, in time by their number.
+    ///
+    /// # Errors
+    ///
+    /// Where an allocation is refused.
     pub fn copy(&self) -> Result<List<T>, AllocError>
         ensures { IfOk result (λ list. list ≡ self.now) }
     {

@@ -20,14 +20,18 @@ impl Model for Text {
 }
 
 impl Text {
-    /// The text that a `String` holds.
+    /// The text that a `String` holds. Nothing is copied.
     pub fn new(string: String) -> Text
         ensures { result ≡ string_bytes string }
     {
         Text { string }
     }
 
-    /// A text of its own with the content of `content`.
+    /// A text of its own with the content of `content`, in time by its bytes.
+    ///
+    /// # Errors
+    ///
+    /// Where an allocation is refused.
     pub fn from_str(alloc: Global, content: &str) -> Result<Text, AllocError>
         ensures { IfOk result (λ text. text ≡ content.now) }
     {
@@ -36,13 +40,14 @@ impl Text {
         })
     }
 
+    /// The content as a `str`, which is borrowed from the text.
     pub fn as_str(&self) -> &str
         ensures { result.now ≡ self.now }
     {
         self.string.as_str()
     }
 
-    /// The `String` that the text holds.
+    /// The `String` that the text holds. Nothing is copied.
     pub fn into_string(self) -> String
         ensures { string_bytes result ≡ self }
     {
@@ -50,20 +55,25 @@ impl Text {
         string
     }
 
-    /// The length in bytes.
+    /// The length in bytes of UTF-8.
     pub fn len(&self) -> usize
         ensures { result ≡ length self.now }
     {
         self.string.len()
     }
 
+    /// Whether the text has no bytes.
     pub fn is_empty(&self) -> bool
         ensures { IsTrue result ↔ (self.now ≡ []) }
     {
         self.string.is_empty()
     }
 
-    /// A text of its own with the same content.
+    /// A text of its own with the same content, in time by its bytes.
+    ///
+    /// # Errors
+    ///
+    /// Where an allocation is refused.
     pub fn copy(&self) -> Result<Text, AllocError>
         ensures { IfOk result (λ text. text ≡ self.now) }
     {

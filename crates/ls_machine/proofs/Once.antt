@@ -41,9 +41,9 @@ no_request : (r : Option Request) → is_none r ≡ true → r ≡ None
 no_request None h = refl
 no_request (Some r) h = absurd (cc)
 
--- ---- what ends, and what is told of it
+-- ---- what ends, and what is said of it
 
--- the end of the text ends it, and tells nothing
+-- the end of the text ends it, and nothing is said of it
 untold : List ℕ → Waiting → Bool
 untold uri w = is_ended uri w && is_none w.request
 

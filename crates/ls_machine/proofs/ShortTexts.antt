@@ -133,7 +133,7 @@ short_edited_at : (o : Option Document) (edits : List Edit) → At HasShortText 
 short_edited_at None edits h = tt
 short_edited_at (Some d) edits h = short_measured d.encoding (edited_all (units d.encoding) d.text edits) (short_edited (units d.encoding) d.text edits h)
 
--- ---- what is told
+-- ---- what is said
 
 short_told : (ticket : ℕ) (code : ℤ) (r : Option Request) → Each IsShortEntry (told_to ticket code r)
 short_told ticket code None = tt

@@ -6,25 +6,27 @@ use Rattle.ls_machine.specs.declared.state.State.{State}
 use Rattle.ls_machine.specs.Counts.{counted, is_client, no_events}
 use Rattle.ls_machine.specs.Machine.{start, step, IsPossible}
 
--- the state after the events, from a base
+-- the state to which events lead from this state, one after the other
 unfoldable pub replay_from : State → List Event → State
 replay_from s [] = s
 replay_from s (e ∷ es) = replay_from (step s e) es
 
+-- the state to which events lead from the start of a session
 abbrev pub replay : List Event → State
 replay events = replay_from start events
 
--- Each event is possible in the state before it, and after each the events and the unsent entries together are at most `most`.
--- `before` events have gone before.
+-- Each event is possible in the state before it, and after each the events and the unsent entries together are at most `most`. `before`
+-- events have gone before.
 unfoldable pub IsLegalFrom : ℕ → ℕ → State → List Event → Type 0
 IsLegalFrom most before s [] = Unit {0}
 IsLegalFrom most before s (e ∷ es) =
     IsPossible s e × (before + 1 + length (step s e).unsent ≤ most) × IsLegalFrom most (before + 1) (step s e) es
 
+-- The events are legal from the start of a session: each is possible where it stands, and all are within the limit.
 abbrev pub IsLegal : ℕ → List Event → Type 0
 IsLegal most events = IsLegalFrom most 0 start events
 
--- Earlier events that lead to a base: they are legal from the start, their state is its own, and there are as many of each kind as it says.
+-- Earlier events that led to a base: they are legal from the start, their state is its own, and there are as many of each kind as it says.
 pub record IsPast (most : ℕ) (base : Base) (past : List Event) : Type 0 where
   pub legal : IsLegal most past
   pub state_is : replay past ≡ base.state

@@ -8,7 +8,7 @@ use Rattle.ls_machine.specs.declared.state.Entry.TheVariants.{Body, Failure, Out
 use Rattle.ls_machine.specs.declared.state.Request.{Request}
 use Rattle.ls_machine.specs.declared.state.Waiting.{Waiting}
 
--- the job that has run
+-- the job that has run, by what its reply carries and by the run; it was taken
 abbrev pub job_of_run : List ℕ → ℕ → ℤ → Option Request → Told → Waiting
 job_of_run uri version label request done = record {
   ticket = done.ticket;
@@ -22,7 +22,7 @@ job_of_run uri version label request done = record {
   taken = true;
 }
 
--- the entry for which a reply stands
+-- the entry of a state for which a reply stands
 abbrev pub entry_for : Out → Entry
 entry_for (Said body) = Body body
 entry_for (Failed ticket id code) = Failure ticket id code

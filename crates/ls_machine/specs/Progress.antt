@@ -6,7 +6,8 @@ use Rattle.ls_machine.specs.declared.state.State.{State}
 use Rattle.ls_machine.specs.declared.state.Waiting.{Waiting}
 use Rattle.ls_machine.specs.Machine.{IsPossible, step}
 
--- how many steps a job still needs at most: to be taken, to be finished, and that what it leaves is sent
+-- how many steps a job still needs at most, to be taken, to be finished, and that what it leaves is sent: 3 where it is queued, 2 where it
+-- is taken
 abbrev pub steps_of : Waiting → ℕ
 steps_of w = if w.taken then 2 else 3
 
@@ -14,33 +15,34 @@ steps_of w = if w.taken then 2 else 3
 abbrev pub left : State → ℕ
 left s = sum_by steps_of s.waiting + length s.unsent
 
--- A worker takes or finishes a job, or an entry is sent. That a worker gives a job back is none of these: it undoes a step, and a worker that runs
--- never does.
+-- A worker takes or finishes a job, or an entry is sent. That a worker gives a job back is none of these: it undoes a step, and a worker
+-- that runs never does.
 abbrev pub is_step : Event → Bool
 is_step (Took worker) = true
 is_step (Finished ticket failed) = true
 is_step (Sent ticket) = true
 is_step _ = false
 
--- a job can be taken, by whichever worker; or one can be finished, whether memory was refused in it or not; or an entry can be sent
+-- One of these steps is possible: a job can be taken, by whichever worker; or one can be finished, whether memory was refused in it or not;
+-- or an entry can be sent.
 abbrev pub CanGoOn : State → Type 0
 CanGoOn s =
     ((worker : ℕ) → IsPossible s (Took worker))
     ⊎ (((ticket : ℕ) × ((failed : Bool) → IsPossible s (Finished ticket failed))) ⊎ ((ticket : ℕ) × IsPossible s (Sent ticket)))
 
--- so it is wherever something is left
+-- So it is in each state where something is left.
 abbrev pub WorkGoesOn : Type 0
 WorkGoesOn = (s : State) → 0 < left s → CanGoOn s
 
--- and each job that a worker has can be finished, whatever else waits
+-- Each job that a worker has can be finished, whatever else waits, and whether memory was refused in it or not.
 abbrev pub TakenJobsCanFinish : Type 0
 TakenJobsCanFinish =
     (s : State) (before later : List Waiting) (w : Waiting) (failed : Bool) → s.waiting ≡ before ++ w ∷ later → w.taken ≡ true → IsPossible s (Finished w.ticket failed)
 
--- where nothing is left no job waits, and nothing is unsent
+-- Where nothing is left no job waits, and nothing is unsent.
 abbrev pub NothingIsLeft : Type 0
 NothingIsLeft = (s : State) → left s ≡ 0 → (s.waiting ≡ []) × (s.unsent ≡ [])
 
--- after each step fewer are left
+-- After each step fewer are left.
 abbrev pub StepsAreFew : Type 0
 StepsAreFew = (s : State) (e : Event) → is_step e ≡ true → IsPossible s e → left (step s e) < left s

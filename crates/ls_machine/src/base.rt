@@ -9,16 +9,20 @@ use std::alloc::Global;
 /// How many events there were of each kind.
 #[derive(Clone, Copy, PartialEq, Eq, Debug, Drop)]
 pub struct Counts {
-    /// The client's events.
+    /// The client's events, of whatever kind.
     pub client: u64,
+    /// Jobs that were taken.
     pub took: u64,
+    /// Taken jobs that were given back.
     pub returned: u64,
+    /// Jobs that have run.
     pub finished: u64,
+    /// Entries that were sent.
     pub sent: u64,
 }
 
 impl Counts {
-    /// No event.
+    /// No event of any kind.
     pub fn none() -> Counts
         ensures { result ≡ no_events }
     {
@@ -31,7 +35,7 @@ impl Counts {
         }
     }
 
-    /// How many events there were of all kinds.
+    /// How many events there were of all kinds together, which must be fewer than 2^64.
     pub fn total(&self) -> u64
         requires { total self.now < 2 ^ 64 }
         ensures { result ≡ total self.now }
@@ -39,7 +43,7 @@ impl Counts {
         self.client + self.took + self.returned + self.finished + self.sent
     }
 
-    /// With one event more.
+    /// The counts with this event more. All events together must be fewer than 2^64.
     pub fn with(self, event: &Event) -> Counts
         requires { total self + 1 < 2 ^ 64 }
         ensures { result ≡ count_one self event.now }
@@ -64,6 +68,7 @@ impl Counts {
 /// A state that earlier events led to. Behind it a journal begins anew.
 #[derive(Drop)]
 pub struct Base {
+    /// The state.
     pub state: State,
     /// How many events there were before.
     pub counts: Counts,

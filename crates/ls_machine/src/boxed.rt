@@ -28,7 +28,11 @@ impl<T> Boxed<T> {
 }
 
 impl<T: Drop> Boxed<T> {
-    /// Memory for a value, which is put there.
+    /// The value, put into memory of its own.
+    ///
+    /// # Errors
+    ///
+    /// Where an allocation is refused.
     pub fn new(alloc: Global, value: T) -> Result<Boxed<T>, AllocError>
         ensures { IfOk result (λ boxed. boxed ≡ value) }
     {

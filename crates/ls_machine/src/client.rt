@@ -9,8 +9,8 @@ use ls_rpc::Id;
 use ls_text::{Edit, Encoding};
 use std::alloc::AllocError as Memory;
 
-/// What a client does: a call of the desk, with its arguments. Texts and lists are those of
-/// `ls_lists`, here and in the calls of the desk, so contracts see what they hold and no memory.
+/// What a client does: a call of the desk, with its arguments. Texts and lists are those of `ls_lists`, here and in the calls of the desk,
+/// so contracts see what they hold and no memory.
 #[derive(Drop)]
 pub enum ClientEvent {
     /// A document is opened: its uri, the client's version of it, its text, and what the positions in its texts count.
@@ -23,7 +23,7 @@ pub enum ClientEvent {
     /// A request with this id asks about the document with this uri. The last field says whether the client takes edits of a workspace as
     /// `documentChanges` (LSP 3.17, "WorkspaceEdit").
     Request(Id, Text, Ask, bool),
-    /// The request with this id isn't wanted any more.
+    /// The request with this id isn't wanted any more (LSP 3.17, "Cancellation Support").
     Cancel(Id),
     /// A body that is to be said as it stands.
     Say(List<u8>),
@@ -45,9 +45,11 @@ pub enum ClientAnswer {
 }
 
 impl ClientEvent {
-    /// An event of its own that is the same.
+    /// An event of its own that is the same, with its texts and lists.
     ///
-    /// `Memory` says that an allocation was refused. A cancel by a number needs none.
+    /// # Errors
+    ///
+    /// Where an allocation is refused. A cancel by a number asks for none.
     pub fn copy(&self) -> Result<ClientEvent, Memory>
         ensures ok { IfOk result (λ event. event ≡ self.now) }
         ensures memory { OnErr result (HoldsText self.now) }
@@ -72,9 +74,11 @@ impl ClientEvent {
         }
     }
 
-    /// The id of the request, where the event is one: a refusal concerns whoever asked.
+    /// The id of the request, where the event is one: a refusal concerns whoever asked. None of all other events.
     ///
-    /// `Memory` says that an allocation was refused. Only a request whose id is a text needs one.
+    /// # Errors
+    ///
+    /// Where an allocation is refused. Only a request whose id is a text asks for one.
     pub fn asker(&self) -> Result<Option<Id>, Memory>
         ensures ok { IfOk result (λ id. id ≡ asker_of self.now) }
         ensures memory { OnErr result (IsText (asker_of self.now)) }
@@ -90,7 +94,11 @@ impl ClientEvent {
     }
 }
 
-/// Edits of their own that are the same. No edits need no memory.
+/// Edits of their own that are the same.
+///
+/// # Errors
+///
+/// Where an allocation is refused. No edits ask for none.
 pub fn copy_of(edits: &List<Edit>) -> Result<List<Edit>, Memory>
     ensures ok { IfOk result (λ copy. copy ≡ edits.now) }
     ensures memory { OnErr result (0 < length edits.now) }

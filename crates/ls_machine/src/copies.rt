@@ -113,7 +113,11 @@ fn entries_for(alloc: Global, outbox: &VecDeque<Out>) -> Result<List<Entry>, All
     Ok(entries)
 }
 
-/// The state that has these parts, and what these replies stand for unsent.
+/// The state that has these parts, and for its unsent entries what these replies stand for. All is copied but the texts, which are shared.
+///
+/// # Errors
+///
+/// Where an allocation is refused.
 pub fn state_of(
     alloc: Global,
     documents: &[Document],

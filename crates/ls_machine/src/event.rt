@@ -8,14 +8,12 @@ use ls_text::{Edit, Encoding};
 use std::alloc::AllocError;
 use thiserror::Error;
 
-/// One entry of the journal. A client's event has the answer that its call gave. Texts and lists are
-/// those of `ls_lists`.
+/// One entry of the journal. A client's event has the answer that its call gave. Texts and lists are those of `ls_lists`.
 ///
-/// Most entries of a journal are small ones, and each has the room of the largest kind: what would
-/// make it more than 64 bytes is in boxes.
+/// Most entries of a journal are small ones, and each has the room of the largest kind: what would make it more than 64 bytes is in boxes.
 #[derive(Drop)]
 pub enum Event {
-    /// A document was opened.
+    /// A document was opened, and its text got this version.
     Opened {
         uri: Text,
         label: i64,
@@ -24,8 +22,8 @@ pub enum Event {
         encoding: Encoding,
         version: u64,
     },
-    /// A document was changed by edits, each on the text that the ones before it left. Where one of these texts was too large there is no
-    /// version, and the document was closed.
+    /// A document was changed by edits, each on the text that the ones before it left, and the new text got this version. Where one of
+    /// these texts was too large there is no version, and the document was closed.
     Changed {
         uri: Text,
         label: i64,
@@ -36,7 +34,7 @@ pub enum Event {
     Closed {
         uri: Text,
     },
-    /// A request waits from here on.
+    /// A request waits from here on, with this ticket.
     Asked {
         id: Boxed<Id>,
         uri: Text,
@@ -44,7 +42,7 @@ pub enum Event {
         links: bool,
         ticket: u64,
     },
-    /// A request was cancelled, if one with this id waited.
+    /// A request was cancelled: `found` says whether one with this id waited. Where none did nothing has changed.
     Cancelled {
         id: Id,
         found: bool,
@@ -53,15 +51,15 @@ pub enum Event {
     Said {
         body: List<u8>,
     },
-    /// A worker took the first queued job.
+    /// The worker of this number took the first queued job.
     Took {
         worker: u32,
     },
-    /// A taken job was given back, and is queued again.
+    /// The taken job with this ticket was given back, and is queued again.
     Returned {
         ticket: u64,
     },
-    /// A taken job has run; it failed where memory was refused in it.
+    /// The taken job with this ticket has run; it failed where memory was refused in it.
     Finished {
         ticket: u64,
         failed: bool,
@@ -72,12 +70,13 @@ pub enum Event {
     },
 }
 
-/// A reply that leaves the desk.
+/// A reply that leaves the desk. The type of a job that has run keeps that its answer is right.
 #[derive(Drop)]
 pub enum Out {
     /// A body that was said.
     Said(List<u8>),
-    /// The answer to a request about a version of a document.
+    /// The answer to a request about a version of a document: the request's id, the document's uri, its version and the client's number of
+    /// that, whether the client takes edits as `documentChanges`, and the job that has run.
     Replied {
         id: Id,
         uri: Text,
@@ -86,14 +85,14 @@ pub enum Out {
         links: bool,
         done: Done,
     },
-    /// A request that gets no answer, and the code of its error: -32801 content modified, -32800 request cancelled, or -32603 internal error
-    /// where memory was refused (LSP 3.17, "ErrorCodes").
+    /// A request that gets no answer, and the code of its error: -32801 content modified, -32800 request cancelled, or -32603 internal
+    /// error where memory was refused (LSP 3.17, "ErrorCodes").
     Failed {
         ticket: u64,
         id: Id,
         code: i32,
     },
-    /// The findings on a version of a document.
+    /// The findings on a version of a document, with the client's number of that version.
     Findings {
         uri: Text,
         version: u64,
@@ -154,6 +153,7 @@ impl From<AllocError> for DeskFault {
 
     ghost from_gives = { λ e f. f ≡ Memory };
 
+    /// A refused allocation is [`DeskFault::Memory`].
     fn from(_: AllocError) -> DeskFault {
         DeskFault::Memory
     }

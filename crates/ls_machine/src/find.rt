@@ -1,4 +1,4 @@
-//! Look-ups in the parts of a state.
+//! Look-ups in the parts of a state. A look-up goes through the documents, 256 at most, or through the waiting jobs.
 ghost use Rattle.std.specs.Prelude.{◌≡◌, ◌↔◌, ◌<◌, IsTrue, position, is_some, IfOk, IfSome, find, length, bytes_eq, Some};
 ghost use Rattle.std.specs.Option.{option_map};
 ghost use Rattle.ls_machine.specs.Same.{id_eq, encoding_eq, ask_eq, position_eq, range_eq};
@@ -11,7 +11,7 @@ use ls_lists::Text;
 use ls_rpc::Id;
 use ls_text::{Encoding, Position, Range, Snapshot};
 
-/// Whether two ids are the same. A number and a text never are.
+/// Whether two ids are the same: true exactly where they are equal. A number and a text never are.
 pub fn same_id(a: &Id, b: &Id) -> bool
     ensures value { result ≡ id_eq a.now b.now }
     ensures same { IsTrue result ↔ (a.now ≡ b.now) }
@@ -52,7 +52,8 @@ pub fn same_range(a: &Range, b: &Range) -> bool
     same_position(&a.start, &b.start) && same_position(&a.end, &b.end)
 }
 
-/// Whether two questions are the same, with all that they carry.
+/// Whether two questions are the same, with all that they carry, a new name byte for byte: true exactly where they are equal. So the prover
+/// refuses a new kind of question that is forgotten here.
 pub fn same_ask(a: &Ask, b: &Ask) -> bool
     ensures value { result ≡ ask_eq a.now b.now }
     ensures same { IsTrue result ↔ (a.now ≡ b.now) }
@@ -70,7 +71,7 @@ pub fn same_ask(a: &Ask, b: &Ask) -> bool
     }
 }
 
-/// The open document of this name.
+/// The open document of this name. None where none is open.
 pub fn document_of<'d>(documents: &'d [Document], uri: &Text) -> Option<&'d Document>
     ensures { option_map (λ document. document.now) result ≡ document_of uri.now documents.now }
 {
@@ -87,7 +88,7 @@ fn asks_with(id: &Id, waiting: &Waiting) -> bool
     }
 }
 
-/// Whether the end of the text of the document of this name ends a job.
+/// Whether a change or a close of the document of this name ends a job: true where it is about that document, and its question is ended so.
 pub fn is_ended(uri: &Text, waiting: &Waiting) -> bool
     ensures { result ≡ is_ended uri.now waiting.now }
 {
@@ -104,14 +105,14 @@ fn ends_by_change(ask: &Ask) -> bool
     }
 }
 
-/// Where the job of a request with an id stands.
+/// The place, counted from 0, of the job of a request with this id. None where none waits.
 pub fn asked_at(waiting: &[Waiting], id: &Id) -> Option<usize>
     ensures { result ≡ position (asks_with id.now) waiting.now }
 {
     waiting.iter().position(|w| asks_with(id, w))
 }
 
-/// How many of the jobs are requests.
+/// How many of the jobs are requests, and not for findings.
 pub fn requests(waiting: &[Waiting]) -> usize
     ensures { result ≡ requests waiting.now }
 {
@@ -124,14 +125,14 @@ pub fn requests(waiting: &[Waiting]) -> usize
     count
 }
 
-/// Where the first queued job stands.
+/// The place, counted from 0, of the first job that no worker has. None where there is none.
 pub fn first_queued(waiting: &[Waiting]) -> Option<usize>
     ensures { result ≡ position is_queued waiting.now }
 {
     waiting.iter().position(|w| !w.taken)
 }
 
-/// Where the taken job with a ticket stands.
+/// The place, counted from 0, of the job with this ticket that a worker has. None where no worker has one.
 pub fn held_at(waiting: &[Waiting], ticket: u64) -> Option<usize>
     ensures { result ≡ position (is_held ticket) waiting.now }
 {
@@ -145,7 +146,8 @@ fn same_text(a: &Snapshot, b: &Snapshot) -> bool
     a.same_text(b)
 }
 
-/// Whether this job was run there, by its text, its encoding and its question.
+/// Whether this job was run there: true exactly where the run has the job's encoding, its text and its question. Texts are compared only
+/// where the encodings are the same.
 pub fn is_for(job: &Waiting, done: &Done) -> bool
     ensures { result ≡ is_for (Some job.now) done.now }
 {
@@ -154,7 +156,7 @@ pub fn is_for(job: &Waiting, done: &Done) -> bool
         && same_ask(&job.ask, done.ask())
 }
 
-/// How many replies a job leaves that has run.
+/// How many entries a job leaves that has run, 0 or 1: none only where memory was refused in a job for findings.
 pub fn replies_of(failed: bool, job: &Waiting) -> usize
     ensures { result ≡ length (left_by failed job.now) }
 {
@@ -164,7 +166,7 @@ pub fn replies_of(failed: bool, job: &Waiting) -> usize
     1
 }
 
-/// The first queued job.
+/// The first job that no worker has, and its place, counted from 0. None where there is none.
 pub fn queued(waiting: &[Waiting]) -> Option<(usize, &Waiting)>
     ensures at { option_map (λ found. found.0) result ≡ position is_queued waiting.now }
     ensures job { option_map (λ found. found.1.now) result ≡ find is_queued waiting.now }
@@ -176,7 +178,7 @@ pub fn queued(waiting: &[Waiting]) -> Option<(usize, &Waiting)>
     }
 }
 
-/// The taken job with a ticket.
+/// The job with this ticket that a worker has, and its place, counted from 0. None where no worker has one.
 pub fn held(waiting: &[Waiting], ticket: u64) -> Option<(usize, &Waiting)>
     ensures at { option_map (λ found. found.0) result ≡ position (is_held ticket) waiting.now }
     ensures job { option_map (λ found. found.1.now) result ≡ find (is_held ticket) waiting.now }
@@ -188,7 +190,7 @@ pub fn held(waiting: &[Waiting], ticket: u64) -> Option<(usize, &Waiting)>
     }
 }
 
-/// The job of a request with an id.
+/// The job of the request with this id, and its place, counted from 0. None where none waits.
 pub fn asked<'w>(waiting: &'w [Waiting], id: &Id) -> Option<(usize, &'w Waiting)>
     ensures at { option_map (λ found. found.0) result ≡ position (asks_with id.now) waiting.now }
     ensures job { option_map (λ found. found.1.now) result ≡ find (asks_with id.now) waiting.now }
@@ -200,7 +202,7 @@ pub fn asked<'w>(waiting: &'w [Waiting], id: &Id) -> Option<(usize, &'w Waiting)
     }
 }
 
-/// Whether a ticket waits.
+/// Whether the job with this ticket waits, queued or taken.
 pub fn waits(waiting: &[Waiting], ticket: u64) -> bool
     ensures { result ≡ waits ticket waiting.now }
 {

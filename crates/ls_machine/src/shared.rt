@@ -1,4 +1,7 @@
 //! A snapshot that several owners read.
+//!
+//! Another owner asks for no memory, but `Arc::clone` answers an error where its count of owners can't grow, and its contract leaves open
+//! when. Two owners can't be known for owners of one snapshot, as the kit's `Arc` has no comparison of addresses: their texts are compared.
 ghost use Rattle.std.specs.Prelude.{◌≡◌, IfOk};
 ghost use Rattle.std.specs.Arc.{arc_value};
 
@@ -24,6 +27,10 @@ impl Model for SharedSnapshot {
 
 impl SharedSnapshot {
     /// The first owner of a snapshot.
+    ///
+    /// # Errors
+    ///
+    /// Where an allocation is refused.
     pub fn new(alloc: Global, snapshot: Snapshot) -> Result<SharedSnapshot, AllocError>
         ensures { IfOk result (λ shared. shared ≡ snapshot) }
     {
@@ -47,6 +54,10 @@ impl SharedSnapshot {
     }
 
     /// Another owner of the snapshot, for a job.
+    ///
+    /// # Errors
+    ///
+    /// Where an allocation is refused.
     pub fn arc(&self) -> Result<Arc<Snapshot>, AllocError>
         ensures { IfOk result (λ arc. arc_value arc ≡ self.now) }
     {
@@ -54,6 +65,10 @@ impl SharedSnapshot {
     }
 
     /// Another owner of the snapshot, which is shared and not copied.
+    ///
+    /// # Errors
+    ///
+    /// Where an allocation is refused.
     pub fn again(&self) -> Result<SharedSnapshot, AllocError>
         ensures { IfOk result (λ shared. shared ≡ self.now) }
     {

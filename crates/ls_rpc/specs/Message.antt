@@ -9,29 +9,31 @@ use Rattle.ls_rpc.specs.declared.message.Id.TheVariants.{Number, Text}
 use Rattle.ls_rpc.specs.declared.message.Message as source
 use Rattle.ls_rpc.specs.declared.message.Message.TheVariants as variant
 
--- what a client sent: a request has its id, its method and its parameters, a bad body the error's code
+-- What a client sent (JSON-RPC 2.0, sections 4 and 5): a request has its id, its method and its parameters, a bad body the
+-- error's code, and its id where it has one.
 pub data Message : Type 0 where
   request : Id → List ℕ → Data → Message
   notice : List ℕ → Data → Message
   response : Message
   bad : Option Id → ℤ → Message
 
--- what a `Message` of the code stands for
+-- what a `Message` of the code stands for; a `Value` of `serde_json` in it stands for the JSON that it holds
 abbrev pub message_view : source.Message → Message
 message_view (variant.Request id method params) = request id method (view params)
 message_view (variant.Notice method params) = notice method (view params)
 message_view variant.Response = response
 message_view (variant.Bad id code) = bad id code
 
--- -32700: the body is no JSON
+-- -32700: the body is no JSON (JSON-RPC 2.0, section 5.1)
 abbrev pub parse_error : ℤ
 parse_error = neg_ℤ (pos 32700)
 
--- -32600: the body is JSON, but no message
+-- -32600: the body is JSON, but no message (JSON-RPC 2.0, section 5.1)
 abbrev pub invalid_request : ℤ
 invalid_request = neg_ℤ (pos 32600)
 
--- an id is an integer of i64 or a text
+-- The id that a JSON value is: an integer of 64 bits with a sign or a text (LSP 3.17, "Request Message"). A number with a
+-- point or an exponent is none.
 abbrev pub id_of : Data → Option Id
 id_of null = None
 id_of (boolean b) = None
@@ -50,11 +52,11 @@ IsText (Some (Text s)) = Unit {0}
 abbrev pub has_key : List ℕ → Data → Bool
 has_key key d = is_some (get key d)
 
--- absent params are null
+-- absent params are null (JSON-RPC 2.0, section 4.2)
 abbrev pub params_of : Data → Data
 params_of d = unwrap_or (get (codes "params") d) null
 
--- a request, where what stands as its id is one
+-- a request, where what stands as its id is one; else bad, with no id
 abbrev pub with_id : List ℕ → Data → Option Id → Message
 with_id method params None = bad None invalid_request
 with_id method params (Some id) = request id method params
@@ -64,7 +66,7 @@ abbrev pub with_method : List ℕ → Option Data → Data → Message
 with_method method None params = notice method params
 with_method method (Some d) params = with_id method params (id_of d)
 
--- an object that is no message, with the id that it has
+-- an object that is no message, with the id that it has, if it has one
 abbrev pub bad_object : Data → Message
 bad_object d = bad (option_and_then id_of (get (codes "id") d)) invalid_request
 
@@ -79,6 +81,7 @@ abbrev pub by_method : Option (List ℕ) → Data → Message
 by_method (Some method) d = with_method method (get (codes "id") d) (params_of d)
 by_method None d = without_method d
 
+-- what an object is, by its `method`, its `id`, its `result` and its `error`
 abbrev pub message_of_object : Data → Message
 message_of_object d = by_method (option_and_then as_str (get (codes "method") d)) d
 
@@ -91,10 +94,15 @@ message_of_value (string s) = bad None invalid_request
 message_of_value (array ds) = bad None invalid_request
 message_of_value (object ms) = message_of_object (object ms)
 
+-- what a body is by its JSON: where it has none it is bad, with no id
 abbrev pub message_of_json : Option Data → Message
 message_of_json None = bad None parse_error
 message_of_json (Some d) = message_of_value d
 
--- the message of a body
+-- the message of a body:
+-- - no JSON: bad, -32700; no object, and so a batch of calls too: bad, -32600
+-- - `method` a text and no `id`: a notice; `method` a text and `id` an id: a request; any other `id`: bad, -32600
+-- - no `method`, but `result` or `error`: a response
+-- - all else: bad with the id that it has, -32600
 unfoldable pub message_of : List ℕ → Message
 message_of body = message_of_json (json_of body)

@@ -6,12 +6,12 @@ use Rattle.serde_json.specs.Events.{SendsValue}
 use Rattle.ls_rpc.specs.declared.message.Id.{Id}
 use Rattle.ls_rpc.specs.Reply.{notice_json, result_json}
 
--- a reply, once its result is sent and its object ended
+-- What was sent to a serializer is the reply, once the value of its result is sent and its object is ended.
 abbrev pub OpensReply : Id → Log → Log → Type 0
 OpensReply id old new =
     (result : Data) (last end : Log) → SendsValue result new last → Logs last end map_ends → SendsValue (result_json id result) old end
 
--- a notice, once its parameters are sent and its object ended
+-- What was sent to a serializer is the notice, once the value of its parameters is sent and its object is ended.
 abbrev pub OpensNotice : List ℕ → Log → Log → Type 0
 OpensNotice method old new =
     (params : Data) (last end : Log) → SendsValue params new last → Logs last end map_ends → SendsValue (notice_json method params) old end

@@ -6,13 +6,13 @@ ghost use Rattle.ls_rpc.specs.Reply.{error_json, notice_json};
 ghost use Rattle.ls_rpc.specs.Message.{message_of, request, notice, response, bad, invalid_request, parse_error};
 ghost use Rattle.ls_rpc.specs.declared.message.Id.TheVariants.{Number, Text};
 
-/// The reply to a body that is no message.
+/// The bytes of the reply to a body that is no message.
 pub fn bad_reply_bytes()
     ensures { compact_text (error_json None invalid_request (codes "invalid request"))
         ≡ codes "{\"error\":{\"code\":-32600,\"message\":\"invalid request\"},\"id\":null,\"jsonrpc\":\"2.0\"}" }
 {}
 
-/// The notice that publishes no finding.
+/// The bytes of the notice that publishes no finding.
 pub fn findings_bytes()
     ensures { compact_text (notice_json (codes "textDocument/publishDiagnostics")
         (object (member (codes "diagnostics") (array no_items)
@@ -21,7 +21,8 @@ pub fn findings_bytes()
         ≡ codes "{\"jsonrpc\":\"2.0\",\"method\":\"textDocument/publishDiagnostics\",\"params\":{\"diagnostics\":[],\"uri\":\"file:///g\",\"version\":1}}" }
 {}
 
-/// Which ids are ids.
+/// Which ids are ids: integers of 64 bits with a sign and texts, but no number with a point or an exponent, no `-0` and
+/// no `null`. Of two members `id` the last counts, and a key may be written with escapes.
 pub fn ids()
     ensures whole { message_of (codes "{\"id\":1,\"method\":\"m\"}") ≡ request (Number (pos 1)) (codes "m") null }
     ensures negative { message_of (codes "{\"id\":-5,\"method\":\"m\"}") ≡ request (Number (neg_ℤ (pos 5))) (codes "m") null }
@@ -34,7 +35,7 @@ pub fn ids()
     ensures escaped { message_of (codes "{\"\\u0069d\":1,\"method\":\"m\"}") ≡ request (Number (pos 1)) (codes "m") null }
 {}
 
-/// Which bodies are something else than a request.
+/// Which bodies are something else than a request: a notice, a response, and those that are bad.
 pub fn others()
     ensures no_id { message_of (codes "{\"method\":\"m\"}") ≡ notice (codes "m") null }
     ensures reply { message_of (codes "{\"id\":2,\"result\":null}") ≡ response }

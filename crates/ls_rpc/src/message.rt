@@ -38,10 +38,12 @@ pub enum Message {
     Bad { id: Option<Id>, code: i32 },
 }
 
-/// The message that a body is. `jsonrpc` isn't looked at. Bytes that aren't UTF-8, aren't JSON or nest deeper than
-/// 127 are a parse error; of members with the same key the last counts.
+/// The message that a body is, for every list of bytes. `jsonrpc` isn't looked at. Bytes that aren't UTF-8, aren't JSON
+/// or nest deeper than 127 are a parse error; of members with the same key the last counts.
 ///
-/// `Memory` says that an allocation was refused. A body of no bytes needs none.
+/// # Errors
+///
+/// Where an allocation is refused. A body of no bytes needs none.
 pub fn read_message(alloc: Global, body: &[u8]) -> Result<Message, Memory>
     ensures ok { IfOk result (λ message. message_view message ≡ message_of body.now) }
     ensures memory { OnErr result (0 < length body.now) }
@@ -61,9 +63,11 @@ pub fn read_message(alloc: Global, body: &[u8]) -> Result<Message, Memory>
     }
 }
 
-/// The id that a value is: an integer of `i64` or a text. None for any other value.
+/// The id that a value is: an integer of `i64` or a text. `None` for any other value, also a number with a point.
 ///
-/// `Memory` says that an allocation was refused. Only a text needs one.
+/// # Errors
+///
+/// Where an allocation is refused. Only a text needs one.
 pub fn read_id(alloc: Global, value: &Value) -> Result<Option<Id>, Memory>
     ensures ok { IfOk result (λ id. id ≡ id_of (view value.now)) }
     ensures memory { OnErr result (IsText (id_of (view value.now))) }
@@ -80,7 +84,9 @@ pub fn read_id(alloc: Global, value: &Value) -> Result<Option<Id>, Memory>
 impl Id {
     /// An id of its own that is the same.
     ///
-    /// `Memory` says that an allocation was refused. Only a text needs one.
+    /// # Errors
+    ///
+    /// Where an allocation is refused. Only a text needs one.
     pub fn copy(&self) -> Result<Id, Memory>
         ensures ok { IfOk result (λ id. id ≡ self.now) }
         ensures memory { OnErr result (IsText (Some self.now)) }

@@ -17,9 +17,12 @@ use std::alloc::{AllocError as Memory, Global};
 /// The version of JSON-RPC that each message names (JSON-RPC 2.0, section 4).
 const VERSION: &str = "2.0";
 
-/// The text of a reply with a result (JSON-RPC 2.0, section 5).
+/// The compact text of a reply with a result (JSON-RPC 2.0, section 5), in time by its bytes. The result has no float in
+/// it.
 ///
-/// `Memory` says that an allocation was refused.
+/// # Errors
+///
+/// Where an allocation is refused.
 pub fn result_text(alloc: Global, id: &Id, result_value: Value) -> Result<Vec<u8>, Memory>
     requires { has_float (view result_value) ≡ false }
     ensures { IfOk result (λ text.
@@ -32,9 +35,11 @@ pub fn result_text(alloc: Global, id: &Id, result_value: Value) -> Result<Vec<u8
     json_text(alloc, &reply)
 }
 
-/// The text of a reply with an error (JSON-RPC 2.0, section 5.1). Its id is null where the request's isn't known.
+/// The compact text of a reply with an error (JSON-RPC 2.0, section 5.1). Its id is null where the request's isn't known.
 ///
-/// `Memory` says that an allocation was refused.
+/// # Errors
+///
+/// Where an allocation is refused.
 pub fn error_text(
     alloc: Global,
     id: Option<&Id>,
@@ -51,9 +56,12 @@ pub fn error_text(
     json_text(alloc, &reply)
 }
 
-/// The text of a notice, a call that wants no reply (JSON-RPC 2.0, section 4.1).
+/// The compact text of a notice, a call that wants no reply (JSON-RPC 2.0, section 4.1), in time by its bytes. The
+/// parameters have no float in them.
 ///
-/// `Memory` says that an allocation was refused.
+/// # Errors
+///
+/// Where an allocation is refused.
 pub fn notice_text(alloc: Global, method: &str, params: Value) -> Result<Vec<u8>, Memory>
     requires { has_float (view params) ≡ false }
     ensures { IfOk result (λ text. text.items ≡ compact_text (notice_json method.now (view params))) }
@@ -67,8 +75,9 @@ pub fn notice_text(alloc: Global, method: &str, params: Value) -> Result<Vec<u8>
 
 /// The compact text of what a value sends to a serializer, by the JSON that this is. No [`Value`] is made of it.
 ///
-/// `Memory` says that an allocation was refused. Nothing else can fail, since no key is a number and no integer is
-/// wider than 64 bits.
+/// # Errors
+///
+/// Where an allocation is refused. Nothing else can fail, since no key is a number and no integer is wider than 64 bits.
 pub fn json_text<T: Serialize>(alloc: Global, value: &T) -> Result<Vec<u8>, Memory>
     ghost json: { Data }
     requires sends { (old : Log) → (new : Log) → T.writes value.now old new → SendsValue json old new }
@@ -83,6 +92,10 @@ pub fn json_text<T: Serialize>(alloc: Global, value: &T) -> Result<Vec<u8>, Memo
 
 /// Writes a reply as far as the key of its result (JSON-RPC 2.0, section 5). The result and the end of the object are the
 /// caller's to write.
+///
+/// # Errors
+///
+/// The serializer's own, where it takes no more.
 pub fn open_reply<S: Serializer>(out: &mut S, id: &Id) -> Result<(), S::Error>
     ensures { OnOk result (OpensReply id.now (S.written out.old) (S.written out.new)) }
 {
@@ -94,8 +107,12 @@ pub fn open_reply<S: Serializer>(out: &mut S, id: &Id) -> Result<(), S::Error>
     out.key("result")
 }
 
-/// Writes a notice as far as the key of its parameters (JSON-RPC 2.0, section 4.1). The parameters and the end of the object
-/// are the caller's to write.
+/// Writes a notice as far as the key of its parameters (JSON-RPC 2.0, section 4.1). The parameters and the end of the
+/// object are the caller's to write.
+///
+/// # Errors
+///
+/// The serializer's own, where it takes no more.
 pub fn open_notice<S: Serializer>(out: &mut S, method: &str) -> Result<(), S::Error>
     ensures { OnOk result (OpensNotice method.now (S.written out.old) (S.written out.new)) }
 {
@@ -196,6 +213,11 @@ impl Described for Id {
 }
 
 impl Serialize for Id {
+    /// Writes the id as JSON: a number or a text.
+    ///
+    /// # Errors
+    ///
+    /// The serializer's own, where it takes no more.
     fn serialize<S: Serializer>(&self, out: &mut S) -> Result<(), S::Error> {
         match self {
             Id::Number(number) => Value::from(*number).serialize(out),

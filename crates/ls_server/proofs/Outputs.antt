@@ -79,7 +79,7 @@ run_by input rest contents left old (Err Memory) new s h =
     let c = completed h.answered h.left contents h.after h.bytes h.contents_are h.said in
     (last_status c.after rest, h.bytes ++ c.later, (contents, rest, c.after, (s, c.said, refl)), front_more old new h.bytes c.later h.written)
 
--- A run on an input that is told, and an output of this input.
+-- A run on an input that is known, and an output of this input.
 pub run_told : (told left : Option (List ℕ)) (spent failed : Type 0) (old : Option (List ℕ)) (r : Result Status ServeFault) (new : Option (List ℕ)) → ServedIs told left spent failed old r new
     → (input : List ℕ) → told ≡ Some input → (status : Status) × (bytes : List ℕ) × IsOutput true input status bytes × RunIs input status bytes left old r new
 run_told told left spent failed old r new h input e =

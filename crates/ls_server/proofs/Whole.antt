@@ -119,7 +119,7 @@ whole input rest contents left spent failed old (Err Memory) new s h =
     let c : (unread : List ℕ) × (left ≡ Some unread) × (input ≡ h.0 ++ unread) = consumed input h.0 left h.1 in
     by_stop input rest h.0 c.0 contents old new s c.2 h.2
 
--- the same, of an input that is told
+-- the same, of an input that is known
 pub whole_told : (told : Option (List ℕ)) (left : Option (List ℕ)) (spent failed : Type 0) (old : Option (List ℕ)) (r : Result Status ServeFault) (new : Option (List ℕ)) → ServedIs told left spent failed old r new
     → (input rest : List ℕ) (contents : List (List ℕ)) → told ≡ Some input → Stream input contents rest → RunsOn input contents rest left old r new
 whole_told told left spent failed old r new h input rest contents e s =

@@ -17,7 +17,7 @@ abbrev pub behind_empty_line : ℕ → List ℕ → Option (List ℕ)
 behind_empty_line before [] = None
 behind_empty_line before (b ∷ bs) = if before == 10 && b == 10 then Some bs else behind_empty_line b bs
 
--- what follows the first empty line, or all where there is none
+-- of a certificate's file what follows the first empty line, or all where there is none
 abbrev pub cert_part : List ℕ → List ℕ
 cert_part bytes = unwrap_or (behind_empty_line 10 bytes) bytes
 
@@ -29,15 +29,16 @@ pub record IsExampleIn (grammar : Grammar) (name bytes : List ℕ) : Type 0 wher
   pub accepted : IsAccepted grammar.rules entries
   pub bytes_are : bytes ≡ shown ++ 10 ∷ 10 ∷ [] ++ cert_text entries
 
--- They do so for the grammar of a text.
+-- This is what `example` prints for a text and a name: the bytes show the rule of that name, by the grammar of the text.
 pub record IsExampleText (text name bytes : List ℕ) : Type 0 where
   pub grammar : Grammar
   pub of_text : grammar.text ≡ text
   pub right : IsGrammar grammar
   pub example : IsExampleIn grammar name bytes
 
--- The answer is yes exactly where the bytes, past their first empty line, are the text of a certificate that is accepted for the
--- text's grammar, and then each of its entries is right. They are the text of a certificate with numbers of 64 bits.
+-- This is what `check` answers for a text and a file. The answer is yes exactly where the bytes, past their first empty line, are the text
+-- of a certificate that is accepted for the text's grammar, and then each of its entries is right of strings. They are the text of a
+-- certificate with numbers of 64 bits.
 pub record IsChecked (text bytes : List ℕ) (yes : Bool) : Type 0 where
   pub grammar : Grammar
   pub of_text : grammar.text ≡ text
@@ -48,11 +49,11 @@ pub record IsChecked (text bytes : List ℕ) (yes : Bool) : Type 0 where
   pub answer : IsTrue yes ↔ IsAccepted grammar.rules entries
   pub sound : IsTrue yes → EachSays grammar.rules entries
 
--- each text of fewer than 2^62 characters has an example for each name
+-- Each text of fewer than 2^62 characters has an example for each name.
 abbrev pub ExampleTextsExist : Type 0
 ExampleTextsExist = (text name : List ℕ) → length text < 2 ^ 62 → (bytes : List ℕ) × IsExampleText text name bytes
 
--- what is said of an example of the same text is yes
+-- A check of an example for the same text says yes, where the numbers of its certificate are of 64 bits.
 abbrev pub ExampleTextsAreAccepted : Type 0
 ExampleTextsAreAccepted =
     (text name bytes : List ℕ) (yes : Bool) (example : IsExampleText text name bytes) → IsOf64Bits example.example.entries →

@@ -24,7 +24,7 @@ ending_of_session (Err Write) = WriteFailed
 ending_of_session (Err Strayed) = HasStrayed
 ending_of_session (Err Memory) = OutOfMemory
 
--- the ending of a command that can't use the file with this path
+-- the ending of a command that can't use the file with this path, by the file's fault
 abbrev pub ending_of_file : FileFault → List ℕ → Ending
 ending_of_file file.CannotRead path = CannotRead path
 ending_of_file file.NotText path = NotText path
@@ -39,13 +39,14 @@ ending_of_check (Err cert.OutOfOrder) = Certificate cert.OutOfOrder
 ending_of_check (Err cert.NumberTooLarge) = Certificate cert.NumberTooLarge
 ending_of_check (Err cert.Memory) = OutOfMemory
 
--- what a check prints
+-- what a check prints: `yes` or `no` with a line end, and nothing where the certificate can't be read
 abbrev pub text_of_check : Result Bool CertFault → List ℕ
 text_of_check (Ok true) = codes "yes" ++ 10 ∷ []
 text_of_check (Ok false) = codes "no" ++ 10 ∷ []
 text_of_check (Err fault) = []
 
--- the status of the process
+-- the exit status of the process, by its ending: 0 where all is well or the answer is yes, 1 where a session ended without shutdown or the
+-- answer is no, and from 2 on where something went wrong
 abbrev pub status_of_ending : Ending → ℕ
 status_of_ending Good = 0
 status_of_ending Not = 1
@@ -60,7 +61,7 @@ status_of_ending HasStrayed = 4
 status_of_ending Usage = 5
 status_of_ending OutOfMemory = 6
 
--- number and name of a framing fault
+-- the number and the name of a framing fault
 abbrev pub framing_fault_text : FrameFault → List ℕ
 framing_fault_text HeaderTooLong = codes "1 HeaderTooLong"
 framing_fault_text BadHeader = codes "2 BadHeader"
@@ -71,14 +72,14 @@ framing_fault_text TooLarge = codes "6 TooLarge"
 framing_fault_text Truncated = codes "7 Truncated"
 framing_fault_text NoMemory = codes "8 Memory"
 
--- number and name of a certificate's fault
+-- the number and the name of a certificate's fault
 abbrev pub cert_fault_text : CertFault → List ℕ
 cert_fault_text cert.BadLine = codes "1 BadLine"
 cert_fault_text cert.OutOfOrder = codes "2 OutOfOrder"
 cert_fault_text cert.NumberTooLarge = codes "3 NumberTooLarge"
 cert_fault_text cert.Memory = codes "4 Memory"
 
--- the line on standard error, empty for none
+-- the line of an ending on standard error, without its line end; empty where none is printed
 abbrev pub line_of_ending : Ending → List ℕ
 line_of_ending Good = []
 line_of_ending Not = []

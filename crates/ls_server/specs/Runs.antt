@@ -15,13 +15,13 @@ use Rattle.ls_devices.specs.Input.{BreaksOff, ComesToEnd, ComesMore}
 use Rattle.ls_devices.specs.declared.fault.ServeFault.{ServeFault}
 use Rattle.ls_devices.specs.declared.fault.ServeFault.TheVariants.{Read, Write, Strayed, Memory}
 
--- What is said on contents from a state on has been written. A job in it may have been refused memory.
+-- What is said on these contents (`Says`), from a state on, has been written. A job in it may have been refused memory.
 pub record Written (state : Going) (contents : List (List ℕ)) (after : Going) (old new : Option (List ℕ)) : Type 0 where
   pub bytes : List ℕ
   pub said : Says true state contents after bytes
   pub written : Appends old new bytes
 
--- A front of what is said on the first of these contents has been written.
+-- A prefix of what is said on the first of these contents has been written.
 pub record WrittenFront (state : Going) (contents : List (List ℕ)) (old new : Option (List ℕ)) : Type 0 where
   pub answered : List (List ℕ)
   pub left : List (List ℕ)
@@ -31,7 +31,7 @@ pub record WrittenFront (state : Going) (contents : List (List ℕ)) (old new : 
   pub said : Says true state answered after bytes
   pub written : AppendsFront old new bytes
 
--- the session has come here by messages
+-- The session has come to this state by messages (`Says`), from the beginning.
 abbrev pub WasServed : Going → Type 0
 WasServed state = (bodies : List (List ℕ)) × (bytes : List ℕ) × Says true begun bodies state bytes
 
@@ -42,7 +42,7 @@ pub record SomeSent (state now : Going) (old new : Option (List ℕ)) : Type 0 w
   pub sent : Runs true state (times replies (send ∷ [])) now bytes
   pub written : Appends old new bytes
 
--- Behind them one more has left, and a front of it is written.
+-- Some replies have left and are written, and one more has left, of whose frame a prefix is written.
 pub record SentFront (state after : Going) (old new : Option (List ℕ)) : Type 0 where
   pub before : Going
   pub between : Option (List ℕ)
@@ -51,7 +51,8 @@ pub record SentFront (state after : Going) (old new : Option (List ℕ)) : Type 
   pub last : Steps true before send after frame
   pub front : AppendsFront between new frame
 
--- All that is kept is sent: what r says, what the state is then, and what is written.
+-- All that is kept is sent: what the result says, what the state is then, and what is written. With Ok all of it is; after `Write` a prefix
+-- of the last reply that left; after `Memory` those that are written are whole.
 abbrev pub SendsIs : Going → Option (List ℕ) → Result Unit ServeFault → Going → Option (List ℕ) → Type 0
 SendsIs state old (Ok sent) after new = (replies : ℕ) × (bytes : List ℕ) × Replies true replies state after bytes × Appends old new bytes
 SendsIs state old (Err Read) after new = ⊥
@@ -59,7 +60,8 @@ SendsIs state old (Err Write) after new = SentFront state after old new
 SendsIs state old (Err Strayed) after new = ⊥
 SendsIs state old (Err Memory) after new = (now : Going) × SomeSent state now old new
 
--- From a state the contents are answered: what r says, what the state is then, and what is written.
+-- From a state the contents are answered: what the result says, what the state is then, and what is written. After a fault that is a prefix
+-- of what is said on the first of them.
 abbrev pub AnswersIs : Going → List (List ℕ) → Option (List ℕ) → Result (Option Status) ServeFault → Going → Option (List ℕ) → Type 0
 AnswersIs state contents old (Ok status) after new = (after.status ≡ status) × Written state contents after old new
 AnswersIs state contents old (Err Read) after new = ⊥
@@ -67,6 +69,7 @@ AnswersIs state contents old (Err Write) after new = WrittenFront state contents
 AnswersIs state contents old (Err Strayed) after new = ⊥
 AnswersIs state contents old (Err Memory) after new = WrittenFront state contents old new
 
+-- A run broke off because a write failed.
 abbrev pub is_write : {A : Type 0} → Result A ServeFault → Bool
 is_write (Ok x) = false
 is_write (Err Read) = false
@@ -82,7 +85,7 @@ RunGoesOn rest bytes state old after_rest after_state new = ComesMore (λ conten
 abbrev pub Ends : List ℕ → List ℕ → Going → Option (List ℕ) → Status → Option (List ℕ) → Type 0
 Ends rest bytes state old status new = ComesToEnd (λ contents exit. (after : Going) × AnswersIs state contents old (Ok exit) after new) rest bytes status
 
--- Bytes come after a rest, and a front of what a front of them asks for is written.
+-- Bytes come after a rest, and a prefix of what a prefix of them asks for is written.
 abbrev pub Stops : List ℕ → List ℕ → Going → Option (List ℕ) → Option (List ℕ) → Type 0
 Stops rest bytes state old new = BreaksOff (λ contents. WrittenFront state contents old new) rest bytes
 
@@ -95,7 +98,7 @@ PieceIs rest piece state old (Err Write) after_rest after_state new = Stops rest
 PieceIs rest piece state old (Err Strayed) after_rest after_state new = ⊥
 PieceIs rest piece state old (Err Memory) after_rest after_state new = Stops rest piece state old new
 
--- what a fed piece means for the run, where its contents have been answered
+-- what a fed piece means for the run, once its contents have been answered
 abbrev pub outcome : Result ℕ FrameFault → Result (Option Status) ServeFault
 outcome (Ok n) = Ok None
 outcome (Err NoMemory) = Err Memory
@@ -105,7 +108,10 @@ outcome (Err fault) = Ok (Some (BadFrame fault))
 abbrev pub ReadsToEnd : List ℕ → Option (List ℕ) → Status → Option (List ℕ) → Type 0
 ReadsToEnd bytes old answer new = (last : List ℕ) × (after : Going) × RunGoesOn [] bytes begun old last after new × (answer ≡ end_status None last)
 
--- What a run has read of the input and written: spent and failed say where Read and Write may stand.
+-- What a run has read of the input and written, by its result. With Ok it is what is said on the messages up to an exit, the end, a framing
+-- fault or the event that finds the session full; after `Read` what is said on the frames that were read; after any other fault a prefix of
+-- what is said on the first of the messages. `spent` and `failed` say where `Read` and `Write` may stand. That the run has strayed never
+-- comes.
 abbrev pub ServedIs : Option (List ℕ) → Option (List ℕ) → Type 0 → Type 0 → Option (List ℕ) → Result Status ServeFault → Option (List ℕ) → Type 0
 ServedIs input left spent failed old (Ok status) new = (read : List ℕ) × Consumes input left read
     × (Ends [] read begun old status new ⊎ (IsAtEnd left × ReadsToEnd read old status new))
@@ -114,18 +120,19 @@ ServedIs input left spent failed old (Err Write) new = failed × ((read : List �
 ServedIs input left spent failed old (Err Strayed) new = ⊥
 ServedIs input left spent failed old (Err Memory) new = (read : List ℕ) × Consumes input left read × Stops [] read begun old new
 
--- the status of a run that leaves this state, with this rest behind the frames
+-- the status of a run: how its session ended, or else what stands behind its last frame
 abbrev pub last_status : Going → List ℕ → Status
 last_status after rest = unwrap_or after.status (end_status (fault_of rest) rest)
 
--- What a run on a whole input ends with and writes, where no device fails and no memory is refused but in jobs, and in these only where
--- `may_fail` is true: such a request is answered with an error.
+-- What a run on a whole input ends with and says, where no device fails and no memory is refused but in jobs, and in these only where
+-- `may_fail` is true: such a request is answered with an error. Where it is false there is one output, and only one
+-- (`inputs_have_one_output`).
 abbrev pub IsOutput : Bool → List ℕ → Status → List ℕ → Type 0
 IsOutput may_fail input status bytes = (contents : List (List ℕ)) × (rest : List ℕ) × (after : Going)
     × (Stream input contents rest × Says may_fail begun contents after bytes × (status ≡ last_status after rest))
 
--- A run on a whole input with this status and these bytes as its output: what is left of the input, and what is written. After a
--- fault that is a front of the output; where a read failed, it is what is said on the messages that had been read.
+-- A run on a whole input with this status and these bytes as its output: what is left of the input, and what is written. After a fault that
+-- is a prefix of the output; where a read failed, it is what is said on the messages that had been read.
 abbrev pub RunIs : List ℕ → Status → List ℕ → Option (List ℕ) → Option (List ℕ) → Result Status ServeFault → Option (List ℕ) → Type 0
 RunIs input status bytes left old (Ok answer) new = (answer ≡ status) × Appends old new bytes
 RunIs input status bytes left old (Err Read) new = (read : List ℕ) × (unread : List ℕ) × (contents : List (List ℕ)) × (rest : List ℕ) × (after : Going)

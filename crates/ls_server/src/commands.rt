@@ -16,8 +16,8 @@ use ls_answers::hover_text;
 use ls_text::Snapshot;
 use std::alloc::{AllocError as Memory, Global};
 
-/// The part of a certificate's file that is read: what follows the first empty line, or all where there is none. So what
-/// [`example_text`] gives can be read as it is.
+/// The part of a certificate's file that is read: what follows the first empty line, or all where there is none. So what [`example_text`]
+/// gives can be read as it is. An empty line is an LF right behind another, or at the first byte.
 pub fn cert_part(bytes: &[u8]) -> &[u8]
     ensures { result.now ≡ cert_part bytes.now }
 {
@@ -37,7 +37,7 @@ fn grammar_of(alloc: Global, snapshot: &Snapshot) -> Result<Grammar<'_>, Memory>
     ensures grammar { IfOk result (λ grammar. IsGrammar grammar) }
 {
     let grammar = Grammar::of(alloc, snapshot)?;
-    // What is known of a grammar is told by its text.
+    // What is known of a grammar is said by the call for its text.
     let _known = grammar.source();
     Ok(grammar)
 }
@@ -62,11 +62,13 @@ fn example_in(alloc: Global, grammar: &Grammar, rule: &str) -> Result<String, Me
     with_cert(alloc, shown, &cert)
 }
 
-/// What is known of the shortest strings of a rule, and a certificate for it: the text of [`hover_text`] for the rule that the
-/// name stands for, an empty line, and the text of a certificate that [`check`] accepts. Names are read without case; a core rule
-/// that no rule of the text needs has none.
+/// What is known of the shortest strings of a rule, and a certificate for it: the text of [`hover_text`] for the rule that the name stands
+/// for, an empty line, and the text of a certificate that [`check`] accepts. Names are read without case; a core rule that no rule of the
+/// text needs has none. The certificate is searched for the whole text.
 ///
-/// `Memory` says that an allocation was refused.
+/// # Errors
+///
+/// Where an allocation is refused.
 pub fn example_text(alloc: Global, snapshot: &Snapshot, rule: &str) -> Result<String, Memory>
     ensures { IfOk result (λ text. IsExampleText snapshot.now rule.now (string_bytes text)) }
 {
@@ -74,11 +76,13 @@ pub fn example_text(alloc: Global, snapshot: &Snapshot, rule: &str) -> Result<St
     example_in(alloc, &grammar, rule)
 }
 
-/// Whether the [`cert_part`] of these bytes is the text of a certificate that [`check`] accepts for the grammar of a text.
+/// Whether the [`cert_part`] of these bytes is the text of a certificate that [`check`] accepts for the grammar of a text. With true each
+/// of its entries is right of the strings that its part generates. False: it is the text of another certificate with numbers of 64 bits.
 ///
 /// # Errors
 ///
-/// The fault of [`read_cert`], and `Memory` where an allocation is refused, which none needs for a fault of the first line.
+/// The fault of [`read_cert`], that of the first faulty line, and `Memory` where an allocation is refused. None is asked for where the
+/// first line of all is faulty.
 pub fn check_text(alloc: Global, snapshot: &Snapshot, cert: &[u8]) -> Result<bool, CertFault>
     ensures answer { IfOk result (λ yes. IsChecked snapshot.now cert.now yes) }
 

@@ -9,26 +9,33 @@ use ls_lists::Text;
 use ls_session::Status;
 use text_files::FileFault;
 
-/// The endings of the program, with the fault or path that each shows.
+/// The endings of the program, with the fault or path that each shows. Each has its exit status, and from 2 on a line on standard error, as
+/// the manual page has them.
 #[derive(Drop)]
 pub enum Ending {
     /// The client exited after a shutdown, an example was printed, or the answer is yes.
     Good,
     /// The input ended without that, or the answer is no.
     Not,
+    /// The client's bytes are no frames.
     Framing(FrameFault),
     /// The session has had as many events as it may have.
     Full,
+    /// Standard input can't be read.
     ReadFailed,
+    /// Standard output can't be written.
     WriteFailed,
     /// A file can't be read.
     CannotRead(Text),
     /// A file is too large, or the one with the grammar isn't UTF-8.
     NotText(Text),
+    /// A file's certificate can't be read.
     Certificate(CertFault),
     /// What was done at the desk isn't what its journal has, or something was left undone.
     HasStrayed,
+    /// The arguments ask for nothing that there is.
     Usage,
+    /// An allocation was refused.
     OutOfMemory,
 }
 
@@ -61,6 +68,8 @@ fn numbered_cert_fault(fault: CertFault) -> &'static str
 }
 
 impl Ending {
+    /// How a session ends the program: `Good` by an exit after a shutdown, `Not` by an exit or the end of the input without one, and else
+    /// by what the session met or why the run broke off.
     pub fn of(served: Result<Status, ServeFault>) -> Ending
         ensures { result ≡ ending_of_session served }
     {
@@ -76,7 +85,7 @@ impl Ending {
         }
     }
 
-    /// How a command ends that can't use the file with this path.
+    /// How a command ends that can't use the file with this path. The path is shown, but where memory was refused.
     pub fn of_file(fault: FileFault, path: String) -> Ending
         ensures { result ≡ ending_of_file fault (string_bytes path) }
     {
@@ -87,7 +96,8 @@ impl Ending {
         }
     }
 
-    /// How a check with this answer ends, and what it prints.
+    /// How a check with this answer ends, and what it prints: `yes` or `no` with a line end, or nothing where the certificate can't be
+    /// read.
     pub fn of_check(answer: Result<bool, CertFault>) -> (&'static str, Ending)
         ensures text { result.0.now ≡ text_of_check answer }
         ensures ending { result.1 ≡ ending_of_check answer }
@@ -100,6 +110,8 @@ impl Ending {
         }
     }
 
+    /// The exit status: 0 for `Good`, 1 for `Not`, 3 for a full session, 4 where the run has strayed, 5 for a misuse, 6 where memory was
+    /// refused, and 2 for all else.
     pub fn status(&self) -> u8
         ensures { result ≡ status_of_ending self.now }
     {
@@ -119,6 +131,8 @@ impl Ending {
         }
     }
 
+    /// The line on standard error, without its line end, in two parts: what happened, and the path or the fault that it happened to. Both
+    /// are empty where nothing is to be printed, and the second where there is nothing to show.
     pub fn line(&self) -> (&str, &str)
         ensures { result.0.now ++ result.1.now ≡ line_of_ending self.now }
     {

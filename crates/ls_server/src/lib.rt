@@ -1,5 +1,6 @@
-//! The server: it reads frames from a source, answers each message by a session over a desk, and writes its
-//! answers to a sink. Beside it the program's two commands, which read a grammar from a file: [`example_text`] and [`check_text`].
+//! The server: it reads frames from a source, answers each message by a session over a desk, and writes its answers to a sink. Beside it
+//! the program's two commands, which read a grammar from a file: [`example_text`] and [`check_text`]. What is written on one thread
+//! ([`serve_plain`]) is what such a session says, or a prefix of it.
 //!
 //! What a program needs of the crates below is handed on: a session and its bodies, runs by steps, devices, and the server on several
 //! threads ([`serve_threads`]).

@@ -16,7 +16,7 @@ use ls_session::Status;
 use ls_steps::Conversation;
 use std::alloc::Global;
 
-/// Writes a frame and flushes it.
+/// Writes a frame and flushes it. Where that fails a prefix of it may be written.
 fn send_frame<W: Sink>(writer: &mut W, frame: &[u8]) -> Result<(), ServeFault>
     ensures ok { OnOk result (Appends (W.contents writer.old) (W.contents writer.new) frame.now) }
     ensures front { AppendsFront (W.contents writer.old) (W.contents writer.new) frame.now }
@@ -169,8 +169,11 @@ fn answer_input<R: Source, W: Sink>(
     Err(ServeFault::Read)
 }
 
-/// Serves as [`serve_plain`] does, with fewer than this many reads: the read with this number isn't made, and
-/// is answered as `Read`.
+/// Serves as [`serve_plain`] does, with fewer than this many reads: the read with this number isn't made, and is answered as `Read`.
+///
+/// # Errors
+///
+/// Those of [`serve_plain`].
 pub fn serve_limited<R: Source, W: Sink>(
     alloc: Global,
     reader: &mut R,
@@ -206,8 +209,19 @@ pub fn serve_limited<R: Source, W: Sink>(
     )
 }
 
-/// Serves one client: reads its messages and writes the answers, until it exits, its input ends or a fault
-/// stops the run.
+/// Serves one client on this thread: reads its messages and writes the answers, each before the next message is heard, until it exits, its
+/// input ends, the session is full or a fault stops the run. With Ok what was written is what a session says on the messages by the plain
+/// schedule, and the status is that. That is what the desk keeps: results, each for the text that was current when its request was
+/// accepted, errors, and the findings of each version, with its uri and the client's number of it.
+///
+/// It is said twice: of the bytes that were read, and of the whole input, where the source says what that is. With any end but `Write`
+/// nothing is left unflushed that wasn't before.
+///
+/// # Errors
+///
+/// `Read`: the source failed in this call, or was read one time less than [`READS_END`]; what is said on the frames that were read is
+/// written. `Write`: the sink failed in this call. `Memory`: an allocation was refused, but in a job itself, whose request is answered
+/// -32603. After these two a prefix of what is said on the first of the messages is written. `Strayed` never comes.
 pub fn serve_plain<R: Source, W: Sink>(
     alloc: Global,
     reader: &mut R,

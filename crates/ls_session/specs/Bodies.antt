@@ -10,14 +10,17 @@ use Rattle.ls_machine.specs.declared.event.Out.TheVariants as out
 use Rattle.ls_machine.specs.declared.event.DeskFault.{DeskFault}
 use Rattle.ls_machine.specs.declared.event.DeskFault.TheVariants as fault
 
--- the body of what waits to be said; there is none of a job that was refused memory
+-- The body of what waits to be said, byte for byte. Places in a document come with its uri (LSP 3.17, "Location"), findings with the
+-- document's uri and the client's version of it (LSP 3.17, "PublishDiagnostics Notification"). There is none of a job that was refused
+-- memory.
 unfoldable pub body_of : Out → Option (List ℕ)
 body_of (out.Said body) = Some body
 body_of (out.Replied id uri version label links done) = option_map (reply_body id uri label links) done.answer
 body_of (out.Failed ticket id code) = Some (failure_body id code)
 body_of (out.Findings uri version label done) = option_map (findings_body uri label) done.answer
 
--- the refusal of a request that the desk doesn't take, where it is one that is answered
+-- The error that answers a request which a desk doesn't take: one about a document that isn't open, one too many, or one with the id of
+-- another that waits. No other fault of a desk is answered: it isn't a request's, or is the server's own.
 abbrev pub refusal_of_fault : DeskFault → Option Refusal
 refusal_of_fault fault.NotOpen = Some refusal.DocumentNotOpen
 refusal_of_fault fault.AlreadyOpen = None
@@ -30,11 +33,11 @@ refusal_of_fault fault.OtherText = None
 refusal_of_fault fault.SessionFull = None
 refusal_of_fault fault.Memory = None
 
--- the body that answers a refused request, where there is one
+-- The body that answers a refused request, byte for byte, where there is one.
 unfoldable pub refusal_of : Id → DeskFault → Option (List ℕ)
 refusal_of id fault = option_map (error_body (Some id)) (refusal_of_fault fault)
 
--- the body that tells whoever asked that the desk refused it; none where nobody asked
+-- The body that says to whoever asked that the desk refused it. There is none where nobody asked.
 abbrev pub refusal_to : Option Id → DeskFault → Option (List ℕ)
 refusal_to None fault = None
 refusal_to (Some id) fault = refusal_of id fault

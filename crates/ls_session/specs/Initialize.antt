@@ -5,13 +5,13 @@ use Rattle.ls_text.specs.declared.position.Encoding.{Encoding}
 use Rattle.ls_text.specs.declared.position.Encoding.TheVariants.{Utf8, Utf16, Utf32}
 use Rattle.ls_session.specs.Legend.{legend_json}
 
--- documents are opened and closed, and changes come as edits
+-- Documents are opened and closed, and changes come as edits (LSP 3.17, "Text Document Synchronization").
 abbrev pub sync_json : Data
 sync_json =
     object (member (codes "change") (number (unsigned 2))
     (member (codes "openClose") (boolean true) no_members))
 
--- the tokens of a whole document are told (LSP 3.17, "Semantic Tokens")
+-- The tokens of a whole document are reported, with what their numbers stand for (LSP 3.17, "Semantic Tokens").
 abbrev pub semantic_tokens_json : Data
 semantic_tokens_json =
     object (member (codes "full") (boolean true)
@@ -46,6 +46,8 @@ capabilities_json encoding =
     (member (codes "semanticTokensProvider") semantic_tokens_json
     (member (codes "textDocumentSync") sync_json no_members)))))))))
 
+-- The result of `initialize`: the capabilities, with the encoding that was agreed, and the server's name (LSP 3.17, "Initialize Request":
+-- InitializeResult).
 abbrev pub initialize_json : Encoding → Data
 initialize_json encoding =
     object (member (codes "capabilities") (capabilities_json encoding)

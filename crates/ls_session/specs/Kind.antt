@@ -5,11 +5,12 @@ use Rattle.ls_session.specs.declared.kind.RequestKind.TheVariants as request
 use Rattle.ls_session.specs.declared.kind.NoticeKind.{NoticeKind}
 use Rattle.ls_session.specs.declared.kind.NoticeKind.TheVariants as notice
 
--- the entry of a name in a table, or the default
+-- what a table has for a name, or else the default
 abbrev pub row_of : {A : Type 0} → List (List ℕ × A) → A → List ℕ → A
 row_of [] other name = other
 row_of (row ∷ rows) other name = if bytes_eq name row.0 then row.1 else row_of rows other name
 
+-- the methods that are known as requests, and as these alone (LSP 3.17)
 abbrev pub requests : List (List ℕ × RequestKind)
 requests =
     (codes "initialize", request.Initialize) ∷
@@ -22,6 +23,7 @@ requests =
     (codes "textDocument/codeAction", request.CodeAction) ∷
     (codes "textDocument/semanticTokens/full", request.SemanticTokens) ∷ []
 
+-- the methods that are known as notices, and as these alone (LSP 3.17)
 abbrev pub notices : List (List ℕ × NoticeKind)
 notices =
     (codes "exit", notice.Exit) ∷
@@ -30,8 +32,10 @@ notices =
     (codes "textDocument/didClose", notice.DidClose) ∷
     (codes "$/cancelRequest", notice.CancelRequest) ∷ []
 
+-- what the method of a request is; a notice's is none that is known
 abbrev pub request_named : List ℕ → RequestKind
 request_named name = row_of requests request.Unknown name
 
+-- what the method of a notice is; a request's is none that is known
 abbrev pub notice_named : List ℕ → NoticeKind
 notice_named name = row_of notices notice.Unknown name

@@ -3,6 +3,7 @@ use Rattle.std.specs.Prelude.{ℕ, List, [], ◌∷◌, map, codes}
 use Rattle.serde_json.specs.Data.{Data, string, array, object, member, no_members}
 use Rattle.serde_json.specs.View.{items_of}
 
+-- texts, as JSON
 abbrev pub texts_json : List (List ℕ) → Data
 texts_json texts = array (items_of (map string texts))
 

@@ -23,34 +23,37 @@ infixl 10 ◌>>=◌
 abbrev pub ◌>>=◌ : {A B : Type 0} → Option A → (A → Option B) → Option B
 o >>= f = option_and_then f o
 
--- a member of the member `textDocument`
+-- a member of the member `textDocument` (LSP 3.17, "TextDocumentIdentifier")
 abbrev pub document_member : List ℕ → Data → Option Data
 document_member key params = get (codes "textDocument") params >>= get key
 
+-- the uri of a document in parameters; none where it is absent or no text
 abbrev pub uri_of : Data → Option (List ℕ)
 uri_of params = document_member (codes "uri") params >>= as_str
 
--- the client's version of a document: 0 where it is absent or no integer of i64
+-- the client's version of a document: 0 where it is absent or no integer of 64 bits with a sign
 abbrev pub label_of : Data → ℤ
 label_of params = unwrap_or (document_member (codes "version") params >>= as_number >>= as_i64) (pos 0)
 
--- an integer from 0; one above the greatest u32 counts as that
+-- an integer from 0; one above 4,294,967,295 counts as that
 abbrev pub count_in : Data → Option ℕ
 count_in value = option_map (min 4294967295) (as_number value >>= as_u64)
 
+-- a position: a line and a character, each counted from 0 (LSP 3.17, "Position")
 abbrev pub read_position : Data → Option Position
 read_position value = do
   line ← get (codes "line") value >>= count_in
   character ← get (codes "character") value >>= count_in
   Some (record { line = line; character = character })
 
+-- a range, from a position to a position (LSP 3.17, "Range")
 abbrev pub range_of : Data → Option Range
 range_of value = do
   start ← get (codes "start") value >>= read_position
   end ← get (codes "end") value >>= read_position
   Some (record { start = start; end = end })
 
--- a range of null is as none
+-- A range of null is as none. Any other value but an object can't be read.
 abbrev pub range_or_none : Data → Option (Option Range)
 range_or_none null = Some None
 range_or_none (boolean b) = None
@@ -59,13 +62,15 @@ range_or_none (string s) = None
 range_or_none (array ds) = None
 range_or_none (object ms) = option_map Some (range_of (object ms))
 
+-- an edit: a text, and the range that it takes the place of, or none where it is a whole text (LSP 3.17, "DidChangeTextDocument
+-- Notification")
 abbrev pub edit_of : Data → Option Edit
 edit_of value = do
   text ← get (codes "text") value >>= as_str
   range ← range_or_none (unwrap_or (get (codes "range") value) null)
   Some (record { range = range; text = text })
 
--- all of them, or nothing
+-- all of them, or nothing where one can't be read
 abbrev pub edits_of : Items → Option (List Edit)
 edits_of no_items = Some []
 edits_of (item value values) = do
@@ -73,31 +78,35 @@ edits_of (item value values) = do
   edits ← edits_of values
   Some (edit ∷ edits)
 
+-- the edits in parameters, in their order (LSP 3.17, "DidChangeTextDocument Notification": `contentChanges`)
 abbrev pub changes_of : Data → Option (List Edit)
 changes_of params = get (codes "contentChanges") params >>= as_array >>= edits_of
 
 -- ---- notices
 
+-- the opening of a document, whose uri and text must be there (LSP 3.17, "DidOpenTextDocument Notification")
 abbrev pub did_open_of : Encoding → Data → Option ClientEvent
 did_open_of encoding params = do
   uri ← uri_of params
   text ← document_member (codes "text") params >>= as_str
   Some (event.DidOpen uri (label_of params) text encoding)
 
--- where the uri can be read and the changes can't, the document is closed: its text isn't known any more
+-- The change of a document (LSP 3.17, "DidChangeTextDocument Notification"). Where the uri can be read and the changes can't, the document
+-- is closed: its text isn't known any more.
 abbrev pub did_change_of : Data → Option ClientEvent
 did_change_of params = do
   uri ← uri_of params
   Some (unwrap_or (option_map (event.DidChange uri (label_of params)) (changes_of params)) (event.DidClose uri))
 
+-- the close of a document (LSP 3.17, "DidCloseTextDocument Notification")
 abbrev pub did_close_of : Data → Option ClientEvent
 did_close_of params = option_map event.DidClose (uri_of params)
 
--- an id is read as it is in a message (LSP 3.17, "Cancellation Support")
+-- the cancel of the request that is named: its id is read as it is in a message (LSP 3.17, "Cancellation Support")
 abbrev pub cancel_of : Data → Option ClientEvent
 cancel_of params = option_map event.Cancel (get (codes "id") params >>= id_of)
 
--- the event of a notice, if there is one, where this encoding was agreed
+-- the event of a notice, if there is one, where this encoding was agreed: the positions in each document that is opened count its units
 abbrev pub event_of : Encoding → NoticeKind → Data → Option ClientEvent
 event_of encoding notice.Exit params = None
 event_of encoding notice.DidOpen params = did_open_of encoding params
@@ -112,30 +121,33 @@ event_of encoding notice.Unknown params = None
 abbrev pub position_in : Data → Option Position
 position_in params = get (codes "position") params >>= read_position
 
+-- what `context.includeDeclaration` says, if it says true or false (LSP 3.17, "Find References Request")
 abbrev pub named_declarations : Data → Option Bool
 named_declarations params = get (codes "context") params >>= get (codes "includeDeclaration") >>= as_bool
 
--- whether the places that define a name are asked for: `includeDeclaration` says false, and all else says that they are (LSP 3.17,
--- "Find References Request")
+-- whether the places that define a name are asked for, which only a `context.includeDeclaration` of false denies (LSP 3.17, "Find
+-- References Request")
 abbrev pub declarations_of : Data → Bool
 declarations_of params = unwrap_or (named_declarations params) true
 
+-- where a name is asked for, and whether the places that define it are (LSP 3.17, "Find References Request")
 abbrev pub references_of : Data → Option Ask
 references_of params = do
   position ← position_in params
   Some (ask.References position (declarations_of params))
 
--- the name that a rename gives is a text (LSP 3.17, "Rename Request")
+-- where a name is asked for, and the text that it gets (LSP 3.17, "Rename Request")
 abbrev pub rename_of : Data → Option Ask
 rename_of params = do
   position ← position_in params
   new ← get (codes "newName") params >>= as_str
   Some (ask.Rename position new)
 
--- the context is passed over (LSP 3.17, "Code Action Request")
+-- the range that is asked about; the context is passed over (LSP 3.17, "Code Action Request")
 abbrev pub action_of : Data → Option Ask
 action_of params = option_map ask.Action (get (codes "range") params >>= range_of)
 
+-- the question of a request; none where its parameters can't be read, and of a request that asks nothing about a document
 abbrev pub ask_of : RequestKind → Data → Option Ask
 ask_of request.Initialize params = None
 ask_of request.Shutdown params = None
@@ -148,23 +160,24 @@ ask_of request.CodeAction params = action_of params
 ask_of request.SemanticTokens params = Some ask.Tokens
 ask_of request.Unknown params = None
 
--- the document and the question of a request
+-- the document's uri and the question of a request; none where one of them can't be read
 abbrev pub question_of : RequestKind → Data → Option (List ℕ × Ask)
 question_of kind params = do
   uri ← uri_of params
   ask ← ask_of kind params
   Some (uri, ask)
 
+-- what `capabilities.workspace.workspaceEdit.documentChanges` says, if it says true or false (LSP 3.17, "Initialize Request")
 abbrev pub named_links : Data → Option Bool
 named_links params = get (codes "capabilities") params >>= get (codes "workspace") >>= get (codes "workspaceEdit") >>= get (codes "documentChanges") >>= as_bool
 
--- whether the client takes edits of a workspace as `documentChanges`: it says true, and all else doesn't
+-- whether the client takes edits of a workspace as `documentChanges`, which only true says (LSP 3.17, "WorkspaceEdit")
 abbrev pub links_of : Data → Bool
 links_of params = unwrap_or (named_links params) false
 
 -- ---- what positions count (LSP 3.17, "PositionEncodingKind")
 
--- the encoding of a name, if it is one of the three
+-- the encoding of a name, if it is one of the three; names are compared byte for byte
 abbrev pub encoding_named : List ℕ → Option Encoding
 encoding_named name =
     if bytes_eq name (codes "utf-8") then Some Utf8
@@ -172,26 +185,29 @@ encoding_named name =
     else if bytes_eq name (codes "utf-32") then Some Utf32
     else None
 
--- what a client offers: a text that names one
+-- what one offer of a client's names: the encoding, if it is a text that names one
 abbrev pub offer_of : Data → Option Encoding
 offer_of value = as_str value >>= encoding_named
 
+-- the first of two that is there
 abbrev pub offer_or : Option Encoding → Option Encoding → Option Encoding
 offer_or None later = later
 offer_or (Some encoding) later = Some encoding
 
--- the first offer that names one
+-- the first of these offers that names an encoding
 abbrev pub first_offer : Items → Option Encoding
 first_offer no_items = None
 first_offer (item value values) = offer_or (offer_of value) (first_offer values)
 
+-- the first of the offers in `capabilities.general.positionEncodings` that names an encoding; none where none does
 abbrev pub named_encoding : Data → Option Encoding
 named_encoding params = get (codes "capabilities") params >>= get (codes "general") >>= get (codes "positionEncodings") >>= as_array >>= first_offer
 
--- what is agreed: the first of the client's offers that is known, and UTF-16 where there is none
+-- what positions count: the first of the client's offers that names one of the three encodings, and UTF-16 where none does. The reply to
+-- `initialize` names it, and each document is opened in it.
 abbrev pub encoding_of : Data → Encoding
 encoding_of params = unwrap_or (named_encoding params) Utf16
 
--- what `initialize` settles
+-- what `initialize` settles: that encoding, and `links_of`
 abbrev pub agreed_of : Data → Agreed
 agreed_of params = record { links = links_of params; encoding = encoding_of params }

@@ -9,7 +9,9 @@ use std::alloc::{AllocError as Memory, Global};
 
 /// The body that says what waits. Members of its JSON stand in the order of their keys.
 ///
-/// `Memory` says that an allocation was refused, here or in the job that has run.
+/// # Errors
+///
+/// Where an allocation is refused, here or in the job that has run.
 #[tactic(auto, unfolding(crate::specs::Bodies::body_of))]
 pub fn body_of(alloc: Global, out: &Out) -> Result<Vec<u8>, Memory>
     ensures { IfOk result (λ body. Some body.items ≡ body_of out.now) }
@@ -34,10 +36,12 @@ pub fn body_of(alloc: Global, out: &Out) -> Result<Vec<u8>, Memory>
     }
 }
 
-/// The body that answers a request which the desk refused. None where there is nothing to
-/// answer: the fault isn't a request's, or is the server's own.
+/// The body that answers a request which the desk refused. None where there is nothing to answer: the fault isn't a request's, or is the
+/// server's own.
 ///
-/// `Memory` says that an allocation was refused. Where there is nothing to answer none is needed.
+/// # Errors
+///
+/// Where an allocation is refused. Where there is nothing to answer none is asked for.
 #[tactic(auto, unfolding(crate::specs::Bodies::refusal_of))]
 pub fn refusal_body(alloc: Global, id: &Id, fault: DeskFault) -> Result<Option<Vec<u8>>, Memory>
     ensures body { IfOk result (λ body. option_map (λ b. b.items) body ≡ refusal_of id.now fault) }
@@ -49,10 +53,11 @@ pub fn refusal_body(alloc: Global, id: &Id, fault: DeskFault) -> Result<Option<V
     }
 }
 
-/// The body that tells whoever asked that the desk refused it. None where nobody asked, or where
-/// there is nothing to answer.
+/// The body that says to whoever asked that the desk refused it. None where nobody asked, or where there is nothing to answer.
 ///
-/// `Memory` says that an allocation was refused. Where nothing is told none is needed.
+/// # Errors
+///
+/// Where an allocation is refused. Where nothing is answered none is asked for.
 pub fn refusal_to(
     alloc: Global,
     asker: &Option<Id>,

@@ -13,7 +13,9 @@ const HEADER_ROOM: usize = 64;
 
 /// The frame of what is to be said.
 ///
-/// `Memory` says that an allocation was refused, here or in the job that has run.
+/// # Errors
+///
+/// Where an allocation is refused, here or in the job that has run.
 pub fn framed(alloc: Global, out: &Out) -> Result<Vec<u8>, Memory>
     ensures { IfOk result (λ frame. (body : List ℕ) × (body_of out.now ≡ Some body) × (frame.items ≡ frame_of body)) }
 {

@@ -6,7 +6,7 @@ ghost use Rattle.ls_rpc.specs.declared.message.Id.{Id};
 ghost use Rattle.ls_machine.specs.Machine.{content_modified, internal_error, request_cancelled};
 ghost use Rattle.ls_bodies.specs.Bodies.{failure_body};
 
-/// Each code that the desk keeps for a request is said as it is, with its text.
+/// Each code that the desk keeps for a request is said as it is, with its text: -32801, -32800 and -32603.
 #[tactic(auto, unfolding(ls_bodies::specs::Bodies::failure_body))]
 pub fn failures_have_their_code()
     ensures modified { (id : Id) → failure_body id content_modified

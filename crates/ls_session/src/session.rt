@@ -25,7 +25,7 @@ use std::marker::Model;
 /// What `initialize` has settled.
 #[derive(Clone, Copy, Debug, PartialEq, Eq)]
 pub struct Agreed {
-    /// Whether the client takes edits of a workspace as `documentChanges`.
+    /// Whether the client takes edits of a workspace as `documentChanges` (LSP 3.17, "WorkspaceEdit").
     pub links: bool,
     /// What positions count (LSP 3.17, "PositionEncodingKind").
     pub encoding: Encoding,
@@ -60,7 +60,7 @@ impl Model for Session {
 }
 
 impl Session {
-    /// A session to which no message has come.
+    /// A session to which no message has come: it stands before `initialize`. Takes no memory.
     pub fn new(alloc: Global) -> Session
         ensures { result ≡ BeforeInitialize }
     {
@@ -70,10 +70,12 @@ impl Session {
         }
     }
 
-    /// The turn on the next message, by its body. Every body has one: what is no message is refused to the client.
+    /// The turn on the next message, by its body, and the session goes on to the stage after it. Every body has one: what is no message is
+    /// refused to the client. All of the body is read, but after `exit`, where nothing comes of any.
     ///
-    /// `Memory` says that an allocation was refused. The session is then as before. After `exit` no
-    /// body is read, and no memory is needed.
+    /// # Errors
+    ///
+    /// Where an allocation is refused. The session is as before then. After `exit` no body is read, and none is asked for.
     #[tactic(auto, using(crate::proofs::Ended::turn_ended))]
     pub fn event(&mut self, body: &[u8]) -> Result<Turn, Memory>
         ensures turn { IfOk result

@@ -8,7 +8,7 @@ use ls_machine::ClientEvent;
 pub enum Status {
     /// By `exit` after `shutdown`.
     Clean,
-    /// By `exit` without `shutdown`, or by the end of the input.
+    /// By `exit` without `shutdown`, or by the end of the input before any `exit`.
     Unclean,
     /// By bytes that are no frames.
     BadFrame(FrameFault),
@@ -19,6 +19,7 @@ pub enum Status {
 /// What one message of the client comes to.
 #[derive(Drop)]
 pub enum Turn {
+    /// Nothing is said, and nothing happens at the desk.
     Nothing,
     /// What the client does, or a body that is to be said. Texts and lists are those of `ls_lists`.
     Event(ClientEvent),

@@ -15,7 +15,7 @@ unfoldable pub come : Seen → List Event → Seen
 come d [] = d
 come d (e ∷ es) = come (after d e) es
 
--- the session goes from `g` to `h` by these events
+-- The session goes from `g` to `h` by these events.
 abbrev pub ComesTo : Going → List Event → Going → Type 0
 ComesTo g events h = desk_of h ≡ come (desk_of g) events
 
@@ -26,5 +26,7 @@ pub record EndWith (events : List Event) (d : Seen) : Type 0 where
   pub state_is : replay past ≡ d.base.state
   pub counts_are : counted no_events past ≡ d.base.counts
 
+-- The desk of each run from the beginning has come about by events, one after the other, which end with its journal, and those before it
+-- lead to its base.
 abbrev pub RunsHaveEvents : Type 0
 RunsHaveEvents = (may_fail : Bool) (acts : List Act) (h : Going) (bytes : List ℕ) → Runs may_fail begun acts h bytes → (events : List Event) × ComesTo begun events h × EndWith events (desk_of h)

@@ -12,7 +12,7 @@ use ls_rpc::Id;
 use ls_session::{ClientEvent, refusal_to};
 use std::alloc::{AllocError as Memory, Global};
 
-/// Tells a refused request so, and answers whether the session is full.
+/// Answers a refused request by its error, and gives whether the session is full.
 fn tell(alloc: Global, desk: &mut Desk, asker: Option<Id>, fault: DeskFault) -> Result<bool, Memory>
     ensures left { IfOk result (λ full. IsLeft (refused desk.old asker fault) full desk.old desk.new) }
     ensures sound { IsSound desk.old → IsSound desk.new }
@@ -30,7 +30,11 @@ fn tell(alloc: Global, desk: &mut Desk, asker: Option<Id>, fault: DeskFault) -> 
     }
 }
 
-/// Does what an event of the client asks for, and answers whether the session is full. A refused request is told so.
+/// Does what an event of the client asks for, and gives whether the session is full. A refused request is answered by its error.
+///
+/// # Errors
+///
+/// Where an allocation is refused.
 pub fn meet(alloc: Global, desk: &mut Desk, event: ClientEvent) -> Result<bool, Memory>
     requires { IsAllowed event }
     ensures left { IfOk result (λ full. IsLeft (meets desk.old event) full desk.old desk.new) }
@@ -44,7 +48,11 @@ pub fn meet(alloc: Global, desk: &mut Desk, event: ClientEvent) -> Result<bool, 
     }
 }
 
-/// Takes a job that has run back to the desk, and answers whether the session is full.
+/// Takes a job that has run back to the desk, and gives whether the session is full. A run whose ticket waits no longer is dropped.
+///
+/// # Errors
+///
+/// Where an allocation is refused.
 pub fn finish(desk: &mut Desk, done: Done) -> Result<bool, Memory>
     ensures left { IfOk result (λ full. IsLeft (finishes desk.old done) full desk.old desk.new) }
     ensures sound { IsSound desk.old → IsSound desk.new }

@@ -23,10 +23,11 @@ const MOST_EVENTS: u64 = 18_446_744_073_709_551_614;
 /// The number of the worker.
 const WORKER: u32 = 0;
 
-/// The session of one client, the desk with its documents, the jobs that the worker holds, and the texts that it diagnosed last. Its methods are the steps
-/// that can come in any order.
+/// The session of one client, the desk with its documents, the jobs that the worker holds, and the texts that it diagnosed last. Its
+/// methods are the steps that can come in any order, each one step of the relation `Steps`. A session that is full only sends on, and after
+/// an exit or a framing fault nothing is heard.
 ///
-/// `Memory` says that an allocation was refused. The session is over then.
+/// Where a method is refused memory the session is over.
 pub struct Conversation {
     alloc: Global,
     session: Session,
@@ -63,7 +64,8 @@ impl Model for Conversation {
 }
 
 impl Conversation {
-    /// A session to which nothing has come.
+    /// A session to which nothing has come. Its journal has at most 1,000,000 events where a client's event comes to it, and the events of
+    /// the session and the unsent replies are at most 18,446,744,073,709,551,614 together. Takes no memory.
     pub fn new(alloc: Global) -> Conversation
         ensures { result ≡ begun }
     {
@@ -94,21 +96,26 @@ impl Conversation {
         }
     }
 
-    /// How the session ended, if it has.
+    /// How the session ended. None where it goes on.
     pub fn status(&self) -> Option<Status>
         ensures { result ≡ self.now.status }
     {
         self.status
     }
 
-    /// The journal takes no more.
+    /// Whether the session is full.
     fn is_full(&self) -> bool
         ensures { result ≡ is_filled self.now.status }
     {
         matches!(self.status, Some(Status::Full))
     }
 
-    /// Hears a message of the client, by its body. After the end of the session nothing is heard.
+    /// Hears a message of the client, by its body. What it asks for goes to the desk, and a request that is refused there is answered by
+    /// its error. After the end of the session nothing is heard.
+    ///
+    /// # Errors
+    ///
+    /// Where an allocation is refused.
     #[tactic(auto, unfolding(crate::specs::Runs::Steps))]
     pub fn hear(&mut self, body: &[u8]) -> Result<(), Memory>
         ensures { OnOk result (Steps true self.old (hear body.now) self.new []) }
@@ -128,7 +135,7 @@ impl Conversation {
         Ok(())
     }
 
-    /// Ends the session where the client's bytes are no frames.
+    /// Ends the session where the client's bytes are no frames, unless it has ended.
     #[tactic(auto, unfolding(crate::specs::Runs::Steps))]
     pub fn break_off(&mut self, fault: FrameFault)
         ensures { Steps true self.old (break_off fault) self.new [] }
@@ -138,7 +145,12 @@ impl Conversation {
         }
     }
 
-    /// Takes the queued job with the least ticket, if there is one, and answers whether a job was taken.
+    /// Takes the queued job with the least ticket, and gives whether one was taken: true exactly where one is queued and the session isn't
+    /// full, before or by this.
+    ///
+    /// # Errors
+    ///
+    /// Where an allocation is refused.
     #[tactic(auto, unfolding(crate::specs::Runs::Steps))]
     pub fn take(&mut self) -> Result<bool, Memory>
         ensures steps { OnOk result (Steps true self.old take_job self.new []) }
@@ -162,7 +174,13 @@ impl Conversation {
         }
     }
 
-    /// Runs a job that was taken, from the first on that is held, and hands it in.
+    /// Runs a job that was taken and hands it in: the one at this place, counted from 0, of those that are held. Where none is held there,
+    /// or the session is full, nothing happens. Where memory is refused in the job itself a request is answered -32603, and a job whose
+    /// ticket waits no longer is dropped. It takes as long as the job does.
+    ///
+    /// # Errors
+    ///
+    /// Where an allocation is refused at the desk, as its event is entered.
     #[tactic(auto, unfolding(crate::specs::Runs::Steps))]
     pub fn finish(&mut self, at: usize) -> Result<(), Memory>
         ensures { OnOk result (Steps true self.old (finish_job at) self.new []) }
@@ -180,7 +198,12 @@ impl Conversation {
         Ok(())
     }
 
-    /// The frame of what is to be said first, which counts as sent from now on.
+    /// The frame of what is to be said first, which counts as sent from now on. None where nothing is unsent. An answer in it is right for
+    /// the text that was current when its request was accepted.
+    ///
+    /// # Errors
+    ///
+    /// Where an allocation is refused. What was to be said has left the desk then.
     pub fn send(&mut self) -> Result<Option<Vec<u8>>, Memory>
         ensures sent { IfOk result (λ frame. Steps true self.old send self.new (bytes_in frame)) }
         ensures none { IfOk result (λ frame. IfNone frame ((state_at self.old).unsent ≡ [])) }
@@ -192,7 +215,7 @@ impl Conversation {
         Ok(Some(framed(self.alloc, &out)?))
     }
 
-    /// The desk, as the session leaves it.
+    /// The desk, as the session leaves it, with its base, journal and limits.
     pub fn into_desk(self) -> Desk
         ensures base { result.base ≡ self.base }
         ensures journal { result.journal ≡ self.journal }

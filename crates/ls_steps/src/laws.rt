@@ -10,13 +10,13 @@ pub fn sessions_are_runs()
         → (acts : List Act) × AreServing bodies acts × Runs may_fail g acts h bytes }
 {}
 
-/// On a list of messages no two things can be said where no memory is refused in a job.
+/// On a list of messages no two things can be said, byte for byte, by the plain schedule, where no memory is refused in a job.
 pub fn sessions_are_unique()
     ensures { (g h k : Going) (bodies : List (List ℕ)) (bytes other : List ℕ) → Says false g bodies h bytes → Says false g bodies k other
         → (h ≡ k) × (bytes ≡ other) }
 {}
 
-/// On each list of messages something is said, where no memory is refused in a job.
+/// On each list of messages something is said by the plain schedule, where no memory is refused in a job.
 pub fn sessions_exist()
     ensures { (bodies : List (List ℕ)) → (h : Going) × (bytes : List ℕ) × Says false begun bodies h bytes }
 {}
@@ -27,7 +27,7 @@ pub fn runs_are_unique()
         → (h ≡ k) × (bytes ≡ other) }
 {}
 
-/// Each list of acts is a run, where no memory is refused in a job.
+/// Each list of acts is a run from the beginning, where no memory is refused in a job.
 pub fn runs_exist()
     ensures { (acts : List Act) → (h : Going) × (bytes : List ℕ) × Runs false begun acts h bytes }
 {}

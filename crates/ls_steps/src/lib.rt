@@ -1,7 +1,8 @@
 //! The session of one client over a desk, step by step.
 //!
-//! A [`Conversation`] hears the client's messages, holds the jobs that its one worker has taken, and hands out the
-//! frames of what is said, in any order of these steps. [`run_steps`] does so for a whole input and a list of steps.
+//! A [`Conversation`] hears the client's messages, holds the jobs that its one worker has taken, and hands out the frames of what is said,
+//! in any order of these steps. [`run_steps`] does so for a whole input and a list of steps, and writes just the bytes that these steps say
+//! on its messages.
 #![tactic(auto)]
 
 mod at_desk;

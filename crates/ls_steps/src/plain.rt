@@ -17,8 +17,12 @@ fn behind(mut bytes: Vec<u8>, frame: Vec<u8>) -> Result<Vec<u8>, Memory>
 }
 
 impl Conversation {
-    /// Hears a message of the client, and runs the jobs that wait, one after the other. What is to be said then is given by
-    /// [`Conversation::send`].
+    /// Hears a message of the client, and runs the jobs that wait, one after the other, until none does or the session is full. What is to
+    /// be said then is given by [`Conversation::send`].
+    ///
+    /// # Errors
+    ///
+    /// Where an allocation is refused, but in a job itself.
     pub fn meet(&mut self, body: &[u8]) -> Result<(), Memory>
         ensures { OnOk result (HearsAndRuns true self.old body.now self.new) }
     {
@@ -26,7 +30,12 @@ impl Conversation {
         self.work()
     }
 
-    /// Hears a message of the client, runs the jobs that wait, one after the other, and gives the frames of all that is to be said.
+    /// Hears a message of the client, runs the jobs that wait, one after the other, until none does or the session is full, and gives the
+    /// frames of all that is to be said.
+    ///
+    /// # Errors
+    ///
+    /// Where an allocation is refused, but in a job itself.
     pub fn serve(&mut self, alloc: Global, body: &[u8]) -> Result<Vec<u8>, Memory>
         ensures { IfOk result (λ bytes. Serves true self.old body.now self.new bytes.items) }
     {

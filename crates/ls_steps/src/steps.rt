@@ -17,7 +17,7 @@ use std::alloc::{AllocError as Memory, Global};
 pub enum Step {
     /// The next whole frame is heard. Where bytes stand in its place that are no frame, the session ends by that fault.
     Message,
-    /// The worker takes a job.
+    /// The worker takes the queued job with the least ticket.
     Take,
     /// The worker runs one of the jobs that it holds, counted from 0, and hands it in.
     Finish(usize),
@@ -30,7 +30,9 @@ pub enum Step {
 pub struct Run {
     /// The frames that were written.
     pub bytes: Vec<u8>,
+    /// The desk, as the session leaves it.
     pub desk: Desk,
+    /// How the session ended. None where it goes on.
     pub status: Option<Status>,
 }
 
@@ -67,10 +69,13 @@ impl Frames {
     }
 }
 
-/// Runs a session by steps, over all that its client sends. What each step does is a method of [`Conversation`]; a Message with
-/// no frame left does nothing.
+/// Runs a session by steps, over all that its client sends. What each step does is a method of [`Conversation`]; a Message with no frame
+/// left does nothing, but where bytes stand behind the last frame that are none: these end the session. The session has the limits of
+/// [`Conversation::new`], and its desk the base and the journal that the steps lead to.
 ///
-/// `Memory` says that an allocation was refused.
+/// # Errors
+///
+/// Where an allocation is refused, but in a job itself.
 pub fn run_steps(alloc: Global, input: &[u8], steps: &[Step]) -> Result<Run, Memory>
     ensures run { IfOk result (λ run. (h : Going) × IsRun input.now steps.now h run.bytes.items × (run.desk.base ≡ h.base) × (run.desk.journal ≡ h.journal) × (run.status ≡ h.status)) }
     ensures sound { IfOk result (λ run. IsSound run.desk × (run.desk.max_events ≡ 18446744073709551614)) }

@@ -6,6 +6,7 @@ use Rattle.ls_text.specs.Lines.{is_break, starts_with_lf, max_bytes}
 use Rattle.ls_text.specs.declared.line_end.LineEnd.{LineEnd}
 use Rattle.ls_text.specs.declared.line_end.LineEnd.TheVariants.{Eof, Lf, Cr, CrLf}
 
+-- the characters of a line end; the end of the text has none
 abbrev pub end_text : LineEnd → List ℕ
 end_text Eof = []
 end_text Lf = 10 ∷ []
@@ -17,9 +18,11 @@ pub record Row : Type 0 where
   pub text : List ℕ
   pub end : LineEnd
 
+-- the line of this text and this line end
 abbrev pub row : List ℕ → LineEnd → Row
 row text end = record { text = text; end = end }
 
+-- the characters of a line without its line end
 abbrev pub line_text : Row → List ℕ
 line_text l = l.text
 
@@ -103,12 +106,13 @@ pub record IsCutOnto (old : List Row) (text rest : List ℕ) (now : List Row) : 
   pub joins : now ≡ old ++ cut
   pub so_far : IsCutSoFar text cut rest
 
--- the characters and the end of line m
+-- the characters of line m without its line end, none where there is no such line
 abbrev pub text_at : List Row → ℕ → List ℕ
 text_at [] m = []
 text_at (l ∷ ls) zero = line_text l
 text_at (l ∷ ls) (suc m) = text_at ls m
 
+-- the line end of line m, that of the text's end where there is no such line
 abbrev pub end_at : List Row → ℕ → LineEnd
 end_at [] m = Eof
 end_at (l ∷ ls) zero = l.end

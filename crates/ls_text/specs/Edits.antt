@@ -10,6 +10,7 @@ use Rattle.ls_text.specs.declared.edit.Edit.{Edit}
 abbrev pub position_offset : (ℕ → ℕ) → List ℕ → Position → ℕ
 position_offset width t p = offset_of width t p.line p.character
 
+-- the greater of two numbers
 abbrev pub greater : ℕ → ℕ → ℕ
 greater a b = if nat_lt a b then b else a
 
@@ -17,7 +18,8 @@ greater a b = if nat_lt a b then b else a
 abbrev pub replaced : List ℕ → ℕ → ℕ → List ℕ → List ℕ
 replaced t a b new = take (min a b) t ++ (new ++ drop (greater a b) t)
 
--- the text after an edit, which gives the whole text where it has no range
+-- the text after an edit (LSP 3.17, "TextDocumentContentChangeEvent"): what stands before the smaller of its range's two
+-- offsets, the new text, and what stands behind the greater one; without a range the new text alone
 unfoldable pub edited : (ℕ → ℕ) → List ℕ → Edit → List ℕ
 edited width t e = by_range e.range
   where
@@ -25,11 +27,12 @@ edited width t e = by_range e.range
     by_range None = chars e.text
     by_range (Some r) = replaced t (position_offset width t r.start) (position_offset width t r.end) (chars e.text)
 
--- over 4,194,304 bytes of UTF-8
+-- over `max_bytes`, so over 4,194,304 bytes of UTF-8
 abbrev pub is_too_large : List ℕ → Bool
 is_too_large t = nat_lt max_bytes (length (encode_utf8_all t))
 
--- the text after the edits, each on the text that the ones before it left, or none where one of these texts is too large
+-- the text after the edits, each on the text that the ones before it left, or none where one of these texts is too large,
+-- also where a later edit would shrink it
 unfoldable pub edited_all : (ℕ → ℕ) → List ℕ → List Edit → Option (List ℕ)
 edited_all width t [] = Some t
 edited_all width t (e ∷ es) =

@@ -6,7 +6,7 @@ use Rattle.std.specs.Char.{len_utf8}
 use Rattle.ls_text.specs.declared.position.Encoding.{Encoding}
 use Rattle.ls_text.specs.declared.position.Encoding.TheVariants.{Utf8, Utf16, Utf32}
 
--- how many bytes of UTF-8 a text of a document may have
+-- how many bytes of UTF-8 a text of a document may have: 4,194,304, a limit of this project
 abbrev pub max_bytes : ℕ
 max_bytes = 4_194_304
 
@@ -14,9 +14,11 @@ max_bytes = 4_194_304
 abbrev pub is_break : ℕ → Bool
 is_break c = c == 10 || c == 13
 
+-- the text begins with LF
 abbrev pub starts_with_lf : List ℕ → Bool
 starts_with_lf t = slice_index t 0 == 10
 
+-- the text ends with CR
 abbrev pub ends_with_cr : List ℕ → Bool
 ends_with_cr [] = false
 ends_with_cr (c ∷ []) = c == 13
@@ -26,7 +28,7 @@ ends_with_cr (c ∷ d ∷ t) = ends_with_cr (d ∷ t)
 abbrev pub ends_line : ℕ → List ℕ → Bool
 ends_line c t = c == 10 || (c == 13 && not (starts_with_lf t))
 
--- how many line ends a text has
+-- how many line ends a text has, one fewer than it has lines
 unfoldable pub line_ends : List ℕ → ℕ
 line_ends [] = 0
 line_ends (c ∷ t) = (if ends_line c t then 1 else 0) + line_ends t
@@ -41,15 +43,17 @@ abbrev pub put_first : ℕ → List (List ℕ) → List (List ℕ)
 put_first c [] = (c ∷ []) ∷ []
 put_first c (l ∷ ls) = (c ∷ l) ∷ ls
 
--- the lines of a text without their line ends: one more than it has line ends
+-- the lines of a text without their line ends, which are CRLF, LF and CR and nothing else: one more than it has line ends
+-- (LSP 3.17, "Text Documents")
 unfoldable pub lines : List ℕ → List (List ℕ)
 lines [] = [] ∷ []
 lines (c ∷ t) = if ends_line c t then [] ∷ lines t else (if c == 13 then lines t else put_first c (lines t))
 
--- an offset runs from 0 to the length, and doesn't stand between CR and LF
+-- whether an offset stands between CR and LF
 abbrev pub splits_crlf : List ℕ → ℕ → Bool
 splits_crlf t o = ends_with_cr (take o t) && starts_with_lf (drop o t)
 
+-- an offset counts characters, from 0 to the length, and doesn't stand between CR and LF
 abbrev pub is_offset : List ℕ → ℕ → Bool
 is_offset t o = nat_le o (length t) && not (splits_crlf t o)
 
@@ -67,7 +71,7 @@ units Utf8 = len_utf8
 units Utf16 = utf16_len
 units Utf32 = λ c. 1
 
--- the units of the characters of that line before the offset o
+-- the units of the characters of that line before the offset o, by the width of a character
 abbrev pub units_at : (ℕ → ℕ) → List ℕ → ℕ → ℕ
 units_at width t o = sum_by width (last_line (take o t))
 

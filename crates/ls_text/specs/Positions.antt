@@ -7,7 +7,8 @@ use Rattle.ls_text.specs.declared.position.Position.{Position}
 use Rattle.ls_text.specs.declared.position.Range.{Range}
 use Rattle.ls_text.specs.declared.position.Place.{Place}
 
--- the position of an offset: its line, and its units there
+-- the position of an offset, lowered to the length, and by one between CR and LF: its line, and its units there (LSP 3.17,
+-- "Position")
 abbrev pub position_of : (ℕ → ℕ) → List ℕ → ℕ → Position
 position_of width t o = record { line = line_at t (lowered t o); character = units_at width t (lowered t o) }
 
@@ -17,7 +18,7 @@ abbrev pub position_in : (ℕ → ℕ) → ℕ → List ℕ → ℕ → Position
 position_in width l text bytes =
     record { line = l; character = sum_by width (take (fitting len_utf8 text bytes) text) }
 
--- the empty place at an offset: its line, and the bytes of UTF-8 before it there
+-- the empty place at an offset, lowered as for `position_of`: its line, and the bytes of UTF-8 before it there
 abbrev pub place_at : List ℕ → ℕ → Place
 place_at t o = record {
   line = line_at t (lowered t o);
@@ -25,14 +26,15 @@ place_at t o = record {
   end = units_at len_utf8 t (lowered t o);
 }
 
--- the offsets of a place's two ends, which count bytes of UTF-8 within their line
+-- the offset of a place's start, which counts bytes of UTF-8 within its line
 abbrev pub place_start : List ℕ → Place → ℕ
 place_start t p = offset_of len_utf8 t p.line p.start
 
+-- the offset of a place's end, which counts bytes of UTF-8 within its line
 abbrev pub place_end : List ℕ → Place → ℕ
 place_end t p = offset_of len_utf8 t p.line p.end
 
--- the positions of a place's two ends
+-- the positions of a place's two ends, which count bytes of UTF-8 within their line
 abbrev pub place_range : (ℕ → ℕ) → List ℕ → Place → Range
 place_range width t p = record { start = position_of width t (place_start t p); end = position_of width t (place_end t p) }
 

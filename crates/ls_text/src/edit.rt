@@ -30,7 +30,11 @@ pub struct Edit {
 }
 
 impl Edit {
-    /// An edit of its own with the same content.
+    /// An edit of its own with the same content, in time by the bytes of its text.
+    ///
+    /// # Errors
+    ///
+    /// Where an allocation is refused.
     pub fn copy(&self) -> Result<Edit, AllocError>
         ensures { IfOk result (λ edit. edit ≡ self.now) }
     {

@@ -20,6 +20,7 @@ impl From<AllocError> for TextFault {
 
     ghost from_gives = { λ _ r. r ≡ Memory };
 
+    /// A refused allocation is `Memory`.
     fn from(_: AllocError) -> TextFault {
         TextFault::Memory
     }

@@ -1,4 +1,7 @@
 //! The lines of a text, in chunks.
+//!
+//! An edit pays for the list of chunks and for the lines of the chunks that it touches. Of the sizes that were timed, 512 lines are the
+//! best at 100,000 lines. No public contract speaks of chunks; the type of one keeps that it has no more.
 
 ghost use Rattle.std.specs.Prelude.{◌≡◌, ◌+◌, ◌<◌, ◌≤◌, ◌++◌, ◌∷◌, [], length, take, drop, All, OnOk, IfOk, IfErr};
 ghost use Rattle.std.specs.Arc.{arc_value};
@@ -349,14 +352,14 @@ impl Lines {
         }
     }
 
-    // How many lines at the front are the same in other lines. It may tell too few.
+    // How many lines at the front are the same in other lines. It may be fewer than there are.
     pub fn same_front(&self, other: &Lines) -> usize
         ensures { IsSameFront self.now other.now result }
     {
         same_front(&self.chunks, &other.chunks)
     }
 
-    // How many lines at the back are the same in other lines, at most so many. It may tell too few.
+    // How many lines at the back are the same in other lines, at most so many. It may be fewer than there are.
     pub fn same_back(&self, other: &Lines, most: usize) -> usize
         ensures most { result ≤ most }
         ensures same { IsSameBack self.now other.now result }

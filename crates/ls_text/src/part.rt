@@ -1,4 +1,8 @@
 //! Some lines that follow one another, in one text.
+//!
+//! Texts and marks stand in one block each, so that an edit copies a few blocks. Marks are made where a line is cut: a snapshot is shared
+//! and never changes, so a mark that is made later would need a lock. Where a number of 32 bits can't say where a line stands, memory is
+//! refused.
 
 ghost use Rattle.std.specs.Prelude.{◌≡◌, ◌-◌, ◌<◌, ◌≤◌, ◌^◌, ◌++◌, ◌+◌, [], length, map, take, drop, All, IsTrue, IfOk, OnOk, slice_index_or};
 ghost use Rattle.std.specs.List.{slice_range};

@@ -11,10 +11,10 @@ pub enum Encoding {
     Utf32,
 }
 
-/// A position in a text (LSP 3.17, "Position"). What it counts is told beside it, by an [`Encoding`].
+/// A position in a text (LSP 3.17, "Position"). An [`Encoding`], which stands beside it, says what it counts.
 ///
-/// It stands between two characters. A character past the line's end means the line's end, before its line end.
-/// A line past the last means the text's end. A character inside a character's units means the start of that character.
+/// It stands between two characters. A character past the line's end means the line's end, before its line end. A line
+/// past the last means the text's end. A character inside a character's units means the start of that character.
 #[derive(Clone, Copy, Debug, PartialEq, Eq)]
 pub struct Position {
     /// The line, from 0.
@@ -26,6 +26,7 @@ pub struct Position {
 /// The text from one position to another (LSP 3.17, "Range").
 #[derive(Clone, Copy, Debug, PartialEq, Eq)]
 pub struct Range {
+    /// The position before the first character of the range.
     pub start: Position,
     /// The position after the last character of the range.
     pub end: Position,

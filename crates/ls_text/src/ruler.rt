@@ -1,4 +1,7 @@
 //! Ranges of places that ascend.
+//!
+//! The units before a place are counted from the place before, where that stands in the same line, and not at all where the line is ASCII
+//! or the units are bytes. So the ranges of all places in a line cost the length of the line once.
 
 ghost use Rattle.std.specs.Prelude.{◌≡◌, ◌≤◌, ℕ, List, Some, length, take, sum_by, IfSome};
 ghost use Rattle.std.specs.Char.{len_utf8};
@@ -53,8 +56,10 @@ impl<'s> Counted<'s> {
     }
 }
 
-/// Tells the ranges of places in a text. It counts on from the place that it was asked for last, where the next one stands behind it in the
-/// same line: so places that ascend cost no more than the length of their line together. In a line of ASCII nothing is counted, nor in UTF-8.
+/// Gives the ranges of places in a text, each as [`Snapshot::range_of`] does, whatever was asked before. It counts on
+/// from the place that it was asked for last, where the next one stands behind it in the same line: so places that ascend
+/// cost no more than the length of their line together. In a line of ASCII nothing is counted, nor in UTF-8
+/// where characters begin.
 ///
 /// Contracts see the text and the encoding.
 #[derive(Drop)]
@@ -123,7 +128,8 @@ impl<'s> Ruler<'s> {
         }
     }
 
-    /// The positions of a place's two ends, as [`Snapshot::range_of`] tells them.
+    /// The positions of a place's two ends, as [`Snapshot::range_of`] gives them. Time goes by the bytes of the line that
+    /// haven't been counted yet, where any are to be counted.
     pub fn range_of(&mut self, place: &Place) -> Range
         ensures text { self.new ≡ self.old }
         ensures range { result ≡ place_range (units self.old.encoding) self.old.text place.now }

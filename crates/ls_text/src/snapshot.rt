@@ -83,11 +83,12 @@ fn same_lines(a: &Lines, b: &Lines) -> bool
 }
 
 impl Snapshot {
-    /// The snapshot of a text.
+    /// The snapshot of a text. It is cut into lines, and each line into tokens, in time by the bytes of the text.
     ///
     /// # Errors
     ///
-    /// `TooLarge` exactly where the text has more than [`MAX_BYTES`] bytes, and `Memory` where an allocation is refused.
+    /// `TooLarge` exactly where the text has more than [`MAX_BYTES`] bytes, whatever memory there is; else `Memory` where
+    /// an allocation is refused.
     pub fn of_text(alloc: Global, text: String) -> Result<Snapshot, TextFault>
         ensures ok { IfOk result (λ s. (s ≡ chars (string_bytes text)) × (string_len text ≤ MAX_BYTES)) }
         ensures too_large { (result ≡ Err TextFault.TooLarge) ↔ (MAX_BYTES < string_len text) }
@@ -98,7 +99,8 @@ impl Snapshot {
         Ok(kept(alloc, whole(alloc, text.as_str())?))
     }
 
-    /// The number of characters. All are Unicode scalar values, and they have at most [`MAX_BYTES`] bytes of UTF-8.
+    /// The number of characters. All are Unicode scalar values, and they have at most [`MAX_BYTES`] bytes of UTF-8. It is
+    /// kept, not counted.
     pub fn char_count(&self) -> usize
         ensures count { result ≡ length self.now }
         ensures scalars { All IsScalar self.now }
@@ -107,14 +109,15 @@ impl Snapshot {
         self.lines.char_count()
     }
 
-    /// The number of lines, one more than the text has line ends.
+    /// The number of lines, one more than the text has line ends. It is kept, not counted.
     pub fn line_count(&self) -> usize
         ensures { result ≡ line_ends self.now + 1 }
     {
         self.lines.len()
     }
 
-    /// The line `at`, from 0, without its line end. There is none from [`line_count`](Snapshot::line_count) on.
+    /// The line `at`, from 0, without its line end. There is none from [`line_count`](Snapshot::line_count) on. It is
+    /// found by halving the list of chunks.
     pub fn line(&self, at: usize) -> Option<&str>
         ensures characters { option_map (λ line. chars line.now) result ≡ slice_get (lines self.now) at }
         ensures bytes { option_map (λ line. line.now) result
@@ -129,9 +132,10 @@ impl Snapshot {
         }
     }
 
-    /// Where the tokens of the line `at`, from 0, stand. There is none from [`line_count`](Snapshot::line_count) on.
+    /// Where the tokens of the line `at`, from 0, stand, in bytes of the line. There is none from
+    /// [`line_count`](Snapshot::line_count) on.
     ///
-    /// They were made when the line was cut, so the call takes no memory.
+    /// They were made when the line was cut, so the call takes no memory, and as long as [`line`](Snapshot::line).
     pub fn marks(&self, at: usize) -> Option<&[TokenMark]>
         ensures { AreMarksOf (slice_get (lines self.now) at) (option_map (λ marks. marks.now) result) }
     {
@@ -158,8 +162,9 @@ impl Snapshot {
         }
     }
 
-    /// The offset of a position, in characters: the greatest in its line with at most that many units before it in the line. Past the
-    /// last line it is the text's end.
+    /// The offset of a position, in characters: the greatest in its line with at most that many units before it in the
+    /// line. Past the last line it is the text's end. Time goes by the characters of the line before it, but in a line of
+    /// ASCII nothing is counted.
     pub fn offset_of(&self, at: Position, encoding: Encoding) -> usize
         ensures { result ≡ offset_of (units encoding) self.now at.line at.character }
     {
@@ -173,8 +178,9 @@ impl Snapshot {
         }
     }
 
-    /// The position of an offset, which counts characters. Past the text's end it is that of the end, and between CR and LF
-    /// that before the CR.
+    /// The position of an offset, which counts characters. Past the text's end it is that of the end, and between CR and
+    /// LF that before the CR. Time goes by the characters of the line before it, but in a line of ASCII nothing is
+    /// counted.
     pub fn position_of(&self, offset: usize, encoding: Encoding) -> Position
         ensures { result ≡ position_of (units encoding) self.now offset }
     {
@@ -239,6 +245,8 @@ impl Snapshot {
     /// The positions of a place's two ends.
     ///
     /// An end past the line's end is taken for the line's end, and one inside a character for that character's start.
+    /// Time goes by the bytes of the line before its ends, but in a line of ASCII nothing is counted, nor in UTF-8 where
+    /// characters begin. [`Ruler`](crate::Ruler) is for many places of one line.
     pub fn range_of(&self, place: &Place, encoding: Encoding) -> Range
         ensures range { result ≡ place_range (units encoding) self.now place.now }
 
@@ -254,7 +262,11 @@ impl Snapshot {
         }
     }
 
-    /// The whole text.
+    /// The whole text with its line ends, in time by its bytes.
+    ///
+    /// # Errors
+    ///
+    /// Where an allocation is refused.
     pub fn to_text(&self) -> Result<String, AllocError>
         ensures { IfOk result (λ text. chars (string_bytes text) ≡ self.now) }
     {
@@ -263,20 +275,21 @@ impl Snapshot {
         Ok(text)
     }
 
-    /// Whether both texts have the same characters.
+    /// Whether both texts have the same characters. Time goes by the bytes of the shorter one, up to the first line that
+    /// differs.
     pub fn same_text(&self, other: &Snapshot) -> bool
         ensures { IsTrue result ↔ (self.now ≡ other.now) }
     {
         same_lines(&self.lines, &other.lines)
     }
 
-    /// Feeds the bytes of all lines to a hasher, many lines in one piece.
+    /// Feeds the bytes of all lines to a hasher, without their line ends, many lines in one piece.
     pub fn feed(&self, hasher: &mut DefaultHasher) {
         self.lines.feed(hasher);
     }
 
-    /// How many lines at the front are the same in another text, with their line ends: by whole chunks, and within the first
-    /// that differs. It may tell too few.
+    /// How many lines at the front are the same in another text, with their line ends: by whole chunks, and within the
+    /// first that differs. It may be fewer than there are.
     pub fn same_front(&self, other: &Snapshot) -> usize
         ensures within { (result ≤ line_ends self.now + 1) × (result ≤ line_ends other.now + 1) }
         ensures same { take result (lines self.now) ≡ take result (lines other.now) }
@@ -284,7 +297,8 @@ impl Snapshot {
         self.lines.same_front(&other.lines)
     }
 
-    /// The same from the back, at most so many. It may tell too few.
+    /// How many lines at the back are the same in another text, with their line ends, at most so many. It may be fewer
+    /// than there are.
     pub fn same_back(&self, other: &Snapshot, most: usize) -> usize
         ensures most { result ≤ most }
         ensures within { (result ≤ line_ends self.now + 1) × (result ≤ line_ends other.now + 1) }
@@ -355,13 +369,14 @@ impl Snapshot {
 
     /// The text after these edits, each on the text that the ones before it left. This text stays as it is.
     ///
-    /// Chunks of lines that no edit comes near are shared and not copied.
+    /// Chunks of lines that no edit comes near are shared and not copied. An edit takes time by the bytes of its text and
+    /// of the lines that it replaces, and by the number of chunks.
     ///
     /// # Errors
     ///
-    /// `TooLarge` where the text after one of the edits has more than [`MAX_BYTES`] bytes, also where a later edit would shrink it,
-    /// and `Memory` where an allocation is refused before. The bytes of a text are counted before anything grows for it, so of the
-    /// first edit `TooLarge` is told whatever memory there is.
+    /// `TooLarge` where the text after one of the edits has more than [`MAX_BYTES`] bytes, also where a later edit would
+    /// shrink it, and `Memory` where an allocation is refused before. The bytes of a text are counted before anything
+    /// grows for it, so of the first edit `TooLarge` is reported whatever memory there is.
     pub fn apply(&self, edits: &[Edit], encoding: Encoding) -> Result<Snapshot, TextFault>
         ensures ok { IfOk result (λ s. edited_all (units encoding) self.now edits.now ≡ Some s) }
         ensures too_large { IfErr result

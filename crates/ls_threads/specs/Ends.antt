@@ -15,42 +15,46 @@ use Rattle.ls_threads.specs.declared.ending.Wrote.TheVariants as wrote
 use Rattle.ls_threads.specs.declared.ending.Worked.{Worked}
 use Rattle.ls_threads.specs.declared.ending.Worked.TheVariants as worked
 
+-- The source failed, or was read as often as one session may.
 abbrev pub is_read : Heard → Bool
 is_read heard.Failed = true
 is_read _ = false
 
+-- The sink failed.
 abbrev pub has_failed : Wrote → Bool
 has_failed wrote.Failed = true
 has_failed _ = false
 
+-- A worker ran what the desk doesn't know.
 abbrev pub has_strayed : Worked → Bool
 has_strayed worked.Strayed = true
 has_strayed _ = false
 
--- one of the threads was refused memory
+-- One of the threads was refused memory.
 abbrev pub lacked_memory : Heard → Wrote → Worked → Bool
 lacked_memory (heard.Broken early.Memory) w k = true
 lacked_memory h wrote.Memory k = true
 lacked_memory h w worked.Memory = true
 lacked_memory h w k = false
 
--- the reader or a worker found the session full
+-- The reader or a worker found the session full.
 abbrev pub has_met_full_session : Heard → Worked → Bool
 has_met_full_session (heard.Broken early.Full) k = true
 has_met_full_session h worked.Full = true
 has_met_full_session h k = false
 
--- the reader ended by itself
+-- The reader ended by itself: neither the source nor another thread broke it off.
 abbrev pub is_ended : Heard → Bool
 is_ended (heard.Ended s) = true
 is_ended _ = false
 
--- the reader's own status
+-- the reader's own status, unclean where it broke off
 abbrev pub readers_status : Heard → Status
 readers_status (heard.Ended s) = s
 readers_status _ = status.Unclean
 
--- the causes that hold, in the order of this table: each with what it makes of the run
+-- the causes of which each may hold, in the order of this table, with what each makes of the run: the source failed, the sink failed, the
+-- board wasn't closed or a worker has strayed, memory was refused, its desk isn't settled, the session was full
 abbrev pub causes : Heard → Wrote → Worked → Bool → Bool → List (Bool × Result Status ServeFault)
 causes h w k audited settled =
     (is_read h, Err fault.Read)
@@ -61,12 +65,12 @@ causes h w k audited settled =
     ∷ (has_met_full_session h k, Ok status.Full)
     ∷ []
 
--- the first that holds, or else the last resort
+-- what the first cause that holds makes of the run, or else the last resort
 abbrev pub first_that_holds : {A : Type 0} → List (Bool × A) → A → A
 first_that_holds [] last = last
 first_that_holds ((holds, x) ∷ rest) last = if holds then x else first_that_holds rest last
 
--- what a run answers, where all its threads could be made
+-- what a run answers, where all its threads could be made: by the first of these causes, else the reader's status
 abbrev pub result_of : Heard → Wrote → Worked → Bool → Bool → Result Status ServeFault
 result_of h w k audited settled = first_that_holds (causes h w k audited settled) (Ok (readers_status h))
 
@@ -75,14 +79,14 @@ abbrev pub early_by : DeskFault → Early
 early_by desk.SessionFull = early.Full
 early_by fault = early.Memory
 
--- how a worker ended, by the fault that ended its work
+-- how a worker ended, by the fault that ended its work early, if one did
 abbrev pub worked_by : Option DeskFault → Worked
 worked_by None = worked.All
 worked_by (Some desk.SessionFull) = worked.Full
 worked_by (Some desk.Memory) = worked.Memory
 worked_by (Some _) = worked.Strayed
 
--- how much the end of a worker counts
+-- how much the end of a worker counts, where several workers ended in several ways
 abbrev pub weight : Worked → ℕ
 weight worked.All = 0
 weight worked.Full = 1
@@ -93,7 +97,7 @@ weight worked.Strayed = 3
 abbrev pub worse : Worked → Worked → Worked
 worse j k = if nat_lt (weight j) (weight k) then k else j
 
--- where reading failed, the source failed or was read as often as one session may
+-- Where the reader says that reading failed, the source has failed or was read 1,099,511,627,775 times.
 abbrev pub has_cause : Heard → Bool → ℕ → Bool
 has_cause heard.Failed failed reads = failed || (reads + 1 == 1099511627776)
 has_cause _ failed reads = true

@@ -13,9 +13,10 @@ use Rattle.ls_threads.specs.Settled.{IsSettled}
 use Rattle.ls_threads.specs.Writing.{frames_for}
 use Rattle.ls_threads.specs.declared.ending.Heard.{Heard}
 
--- A run that ended well has one history, which is legal, and led to a desk of these limits. The client's events in it, each with its answer or its
--- refusal, are what hearing the messages of the input left, from the first on and in their order. The status says how that ended, and what it
--- leaves at the desk. What was written are the frames of the replies in it, all of them, whole and in order.
+-- A run that ended well has one history, which is legal from the start of the session on, and has led to a desk of these limits, whose
+-- journal is legal. The client's events in it, each with its answer or its refusal, are what hearing the messages of the input left, from
+-- the first on and in their order. The status and the desk are as that end leaves them. What was written are the frames of the replies in
+-- it, all of them, whole and in their order.
 pub record IsServed (journal events : ℕ) (status : Status) (input left old new : Option (List ℕ)) : Type 0 where
   pub desk : Seen
   pub limits : HasLimits journal events desk

@@ -8,12 +8,13 @@ use Rattle.ls_threads.specs.declared.ending.Heard.{Heard}
 use Rattle.ls_threads.specs.declared.ending.Heard.TheVariants.{Ended}
 use Rattle.ls_threads.specs.declared.ending.Worked.{Worked}
 
--- So little is left of so many events that an event may find the session full. The dearest, a change or a close, needs a place for itself and one
--- for each request that it ends, of which at most 1024 wait.
+-- So little is left of so many events that an event may find the session full: the events and the unsent replies are within 1,025 of that
+-- limit. The dearest event, a change or a close, needs a place for itself and one for each request that it ends, of which at most 1,024
+-- wait.
 abbrev pub is_nearly_full : ℕ → Seen → Bool
 is_nearly_full events desk = nat_lt events (used desk + 1025)
 
--- no job waits, and no reply is unsent
+-- No job waits, and no reply is unsent.
 abbrev pub is_done : Seen → Bool
 is_done desk = (length (state_of desk).waiting == 0) && (length desk.outbox == 0)
 
@@ -21,8 +22,8 @@ is_done desk = (length (state_of desk).waiting == 0) && (length desk.outbox == 0
 abbrev pub is_settled : ℕ → Heard → Worked → Seen → Bool
 is_settled events h k desk = if has_met_full_session h k then is_nearly_full events desk else (is_ended h && is_done desk)
 
--- With a status that is answered no read has failed, and nothing is unsent. The status is the reader's, and no job waits; or it says that the session
--- is full, and so it is.
+-- With a status that is answered no read has failed, and nothing is unsent. The status is the reader's, and no job waits; or it says that
+-- the session is full, and the desk is as near its limit as that.
 pub record IsSettled (events : ℕ) (status : Status) (end : Heard) (desk : Seen) : Type 0 where
   pub read : is_read end ≡ false
   pub sent : desk.outbox ≡ []

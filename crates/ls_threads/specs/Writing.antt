@@ -21,11 +21,11 @@ use Rattle.ls_threads.specs.declared.ending.Wrote.TheVariants.{All}
 abbrev pub frame_for : Out → List ℕ
 frame_for out = option_map_or frame_of (body_of out) []
 
--- in their order
+-- the frames of replies, in their order
 abbrev pub frames_for : List Out → List ℕ
 frames_for outs = flat_map frame_for outs
 
--- Of replies all were written, each with its whole frame, but at most the last one. Of that one a front was written where the sink failed,
+-- Of replies all were written, each with its whole frame, but at most the last one. Of that one a prefix was written where the sink failed,
 -- and else nothing.
 pub record WritesFront (failed : Bool) (old new : Option (List ℕ)) (outs : List Out) : Type 0 where
   pub whole : List Out
@@ -38,8 +38,9 @@ pub record WritesFront (failed : Bool) (old new : Option (List ℕ)) (outs : Lis
   pub none : failed ≡ false → part ≡ []
   pub written : Appends old new (frames_for whole ++ part)
 
--- There is one legal history. Its client's events are what hearing the input left, from the first message on, however that ended. What was written are,
--- whole and in order, the frames of its replies, but at most the last one's; of that one a front, and only where the sink failed.
+-- There is one legal history. Its client's events are what hearing the input left, from the first message on, however that ended. What was
+-- written are, whole and in order, the frames of its replies, but at most the last one's; of that one a prefix, and only where the sink
+-- failed.
 pub record WritesFrames (failed : Bool) (input left old new : Option (List ℕ)) : Type 0 where
   pub log : List Happened
   pub legal : IsLegal log
@@ -47,14 +48,14 @@ pub record WritesFrames (failed : Bool) (input left old new : Option (List ℕ))
   pub heard : HasHeard input left BeforeInitialize [] end (heard_of log)
   pub front : WritesFront failed old new (outs_of log)
 
--- The frames of these replies were written, but at most the last one's, and all of them where the writer ended well. All that was written is
--- handed on, unless the sink failed.
+-- The frames of these replies were written, but at most the last one's, and all of them where the writer ended well. A sink that held
+-- nothing back and hasn't failed holds nothing back.
 pub record HasWritten (old new : Option (List ℕ)) (held holds : Bool) (end : Wrote) (outs : List Out) : Type 0 where
   pub front : WritesFront (has_failed end) old new outs
   pub whole : end ≡ All → Appends old new (frames_for outs)
   pub flushed : held ≡ false → has_failed end ≡ false → holds ≡ false
 
--- these replies leave the desk, one after the other, and nothing else happens there
+-- These replies leave the desk, one after the other, and nothing else happens there.
 abbrev pub Leave : List Out → Seen → Seen → Type 0
 Leave [] before after = after ≡ before
 Leave (out ∷ outs) before after = (next : Seen) × Sends before next out × Leave outs next after
@@ -66,7 +67,7 @@ pub record HasTold (end : Wrote) (before after : Seen) (old new : Option (List �
   pub front : WritesFront (has_failed end) old new outs
   pub whole : end ≡ All → Appends old new (frames_for outs)
 
--- Where its session is full a desk told what it still had to say, all of it where that ended well, and otherwise nothing.
+-- Where its session is full, what a desk still had to say was written, all of it where that ended well. Otherwise nothing was.
 pub record SaysTheRest (full : Bool) (end : Wrote) (before : Seen) (old new : Option (List ℕ)) : Type 0 where
   pub after : Seen
   pub told : HasTold end before after old new

@@ -129,8 +129,9 @@ pub fn is_ended(heard: Heard) -> bool
     }
 }
 
-/// What a run answers whose threads could all be made: of several faults the one that comes first in [`ServeFault`], then `Strayed` where the
-/// desk isn't as such ends leave it (`settled`), else `Full`, else the reader's status. `audited` says that the board was closed and gave its desk.
+/// What a run answers whose threads could all be made: of several faults the one that comes first in [`ServeFault`], then `Strayed` where
+/// the desk isn't as such ends leave it (`settled`), else `Full`, else the reader's status. `audited` says that the board was closed and
+/// gave its desk.
 pub fn result_of(
     heard: Heard,
     wrote: Wrote,

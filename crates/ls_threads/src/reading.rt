@@ -53,7 +53,7 @@ fn end_of_piece(fed: Result<usize, FrameFault>) -> Result<Option<Status>, Early>
 }
 
 impl<C: Crew> Reader<C> {
-    /// Tells whoever asked that the desk refused it. Where no request did, nothing is said.
+    /// Says to whoever asked that the desk refused it. Where no request did, nothing is said.
     fn tell<R: Wait>(
         &mut self,
         rt: &R,
@@ -73,7 +73,7 @@ impl<C: Crew> Reader<C> {
         Ok(())
     }
 
-    /// Enters an event of the client. A refused request is told so.
+    /// Enters an event of the client. A refused request is answered by its error.
     fn meet<R: Wait>(&mut self, rt: &R, board: &Board<C>, event: ClientEvent) -> Result<(), Early>
         requires { IsAllowed event }
         ensures ok { OnOk result (IsMet event (heard_of self.old.seat.front) (heard_of self.new.seat.front)) }

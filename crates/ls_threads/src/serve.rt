@@ -39,9 +39,10 @@ const MOST_EVENTS: u64 = 18_446_744_073_709_551_614;
 /// The mark of the board. A run has one.
 const MARK: u64 = 1;
 
-/// What a run leaves.
+/// What a run leaves: its answer, and the devices, which come back with every answer.
 #[derive(Drop)]
 pub struct Served<I: Source, W: Sink> {
+    /// How the session ended, or why the run broke off.
     pub answer: Result<Status, ServeFault>,
     /// The source as it was left.
     pub source: I,
@@ -264,8 +265,8 @@ fn run_threads<
     )
 }
 
-/// Writes what the desk of a full session still has unsent, where the writer has written all that left it before. How that went is told with how
-/// the writer ended.
+/// Writes what the desk of a full session still has unsent, where the writer has written all that left it before. How that went is answered
+/// with how the writer ended.
 fn finished<W: Sink>(alloc: Global, desk: Desk, sink: &mut W, full: bool, wrote: Wrote) -> Wrote
     requires { W.failed sink.old ≡ has_failed wrote }
     ensures failed { W.failed sink.new ≡ has_failed result }
@@ -291,9 +292,9 @@ fn finished<W: Sink>(alloc: Global, desk: Desk, sink: &mut W, full: bool, wrote:
     rest
 }
 
-/// Closes the board, and answers for the run: `Memory` where a thread couldn't be made, whatever the audit says; `Strayed` only where the board can't
-/// be closed with these seats, its desk isn't as these ends leave it, or a worker has strayed. Once the session is full the desk's unsent replies are written, whatever else was met, unless the writer has broken
-/// off.
+/// Closes the board, and answers for the run: `Memory` where a thread couldn't be made, whatever the audit says; `Strayed` only where the
+/// board can't be closed with these seats, its desk isn't as these ends leave it, or a worker has strayed. Once the session is full the
+/// desk's unsent replies are written, whatever else was met, unless the writer has broken off.
 fn closed<C: Crew, I: Source + Drop, W: Sink + Drop>(
     alloc: Global,
     board: Board<C>,
@@ -361,7 +362,8 @@ fn closed<C: Crew, I: Source + Drop, W: Sink + Drop>(
     }
 }
 
-/// Makes a board whose ledgers are those of `C`, runs its threads and closes it. It stands apart for the caller to say which ledgers these are.
+/// Makes a board whose ledgers are those of `C`, runs its threads and closes it. It stands apart for the caller to say which ledgers these
+/// are.
 fn run_session<
     C: Crew + Send + Sync,
     R: Threads + Wait + Sync,
@@ -419,20 +421,27 @@ fn run_session<
     closed(alloc, board, input, begun, ran)
 }
 
-/// Serves one client with 1 to 8 workers, each in a thread of its own, and gives the source and the sink back.
+/// Serves one client with 1 to 8 workers, each in a thread of its own, and gives the source and the sink back. Each worker passes the gate
+/// between the take of a job and its run. The journal begins anew with the client's next event once it has 1,000,000 events; the events of
+/// the session and the unsent replies are at most 18,446,744,073,709,551,614 together. It waits for the source, the sink and its threads.
 ///
-/// With `Ok` there is one legal history of all that the board did, from its beginning to the end of the run ([`ls_history`]). Its client's events are
-/// the messages of the input, in order: each has the answer or the refusal that the state at that place gives. What was written are the frames of the
-/// replies that left in it, whole and in order: the k-th frame is that of the k-th reply. The status is how the reader ended, no job waits and no
-/// reply is unsent; or it says that the session is full, and the desk that the history led to nearly is.
+/// With `Ok` there is one legal history of all that the board did, from its beginning to the end of the run ([`ls_history`]), however long
+/// the session was. Its client's events are the messages of the input, in order: each has the answer or the refusal that the state at that
+/// place gives, or a refusal for want of memory. Each event is that of a message, or says that there was a refusal, and each message has
+/// its event, unless it asked for none. What was written are the frames of the replies that left in it, whole and in order: the k-th frame
+/// is that of the k-th reply, whose answer is right for its job's own text. The status is how the reader ended, no job waits and no reply
+/// is unsent; or it says that the session is full, and the desk that the history led to is within 1,025 events of its limit. The sink
+/// hasn't failed.
 ///
-/// `Read`: the source failed, or was read one time less than [`ls_devices::READS_END`]. `Write`: the sink failed. `Strayed`: the board wasn't
-/// closed, the desk didn't know what ran, or something was left undone. `Memory`: an allocation was refused, or a thread couldn't be made.
-/// With any answer there is one legal history of which the client's events are what hearing the input left, up to where that broke off, and what was
-/// written are the frames of its replies, whole and in order, but at most the last one's; of that one a front may be written where the sink failed.
-/// With `Ok` the sink hasn't failed, and where it hasn't and held nothing back, it holds nothing back.
+/// With any answer there is one legal history of which the client's events are what hearing the input left, up to where that broke off, and
+/// what was written are the frames of its replies, whole and in order, but at most the last one's; of that one a prefix may be written
+/// where the sink failed. A sink that held nothing back at the start and hasn't failed holds nothing back.
 ///
-/// Each worker passes the gate between the take of a job and its run.
+/// # Errors
+///
+/// The answer of what it gives is, of those that hold, the first of these. `Read`: the source failed, or was read one time less than
+/// [`ls_devices::READS_END`]. `Write`: the sink failed. `Strayed`: the board wasn't closed, or the desk didn't know what ran. `Memory`: an
+/// allocation was refused. `Strayed`: something was left undone. Where a thread couldn't be made it is `Memory`, whatever else holds.
 pub fn serve_threads<
     R: Threads + Wait + Sync,
     I: Source + Drop,
@@ -453,7 +462,12 @@ pub fn serve_threads<
     serve_with_journal(rt, alloc, source, sink, workers, gate, MOST_JOURNAL)
 }
 
-/// Serves as [`serve_threads`] does, by a journal that begins anew with the client's next event once it has so many.
+/// Serves as [`serve_threads`] does, by a journal that begins anew with the client's next event once it has `max_journal` events, 1 to
+/// 1,000,000.
+///
+/// # Errors
+///
+/// Those of [`serve_threads`].
 pub fn serve_with_journal<
     R: Threads + Wait + Sync,
     I: Source + Drop,

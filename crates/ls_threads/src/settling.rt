@@ -1,4 +1,8 @@
 //! Whether the desk of a closed board is as the threads' ends leave it.
+//!
+//! The threads only say how they ended, and one that was wrong could say that all is done: so the closed desk is looked at. A full session
+//! is believed only where the dearest event might not have fitted. What is used never falls, since a reply that leaves goes from the unsent
+//! ones into the count, so a board that once refused an event for want of room stays so near its limit.
 ghost use Rattle.std.specs.Prelude.{◌≡◌, ◌<◌, ◌^◌};
 ghost use Rattle.ls_desk.specs.Stands.{used};
 ghost use Rattle.ls_threads.specs.Settled.{is_done, is_nearly_full, is_settled};
@@ -34,8 +38,8 @@ fn is_done(desk: &Desk) -> bool
     desk.is_idle() && desk.unsent() == 0
 }
 
-/// Whether the desk is as these ends leave it: nearly full where one of them met a full session; else the reader ended by itself, and all is
-/// done.
+/// Whether the desk is as these ends leave it: nearly full where one of them met a full session; else the reader ended by itself, and all
+/// is done.
 pub fn is_settled(desk: &Desk, events: u64, heard: Heard, worked: Worked) -> bool
     ensures { result ≡ is_settled events heard worked desk.now }
 {

@@ -43,8 +43,8 @@ impl<C: Crew, W: Sink> Promise<Written<C, W>> for Writes<W> {
     ghost kept_by = { λ promise left. HasWritten (W.contents promise.0.value) (W.contents left.sink) (W.unflushed promise.0.value) (W.unflushed left.sink) left.end (outs_of left.seat.front) };
 }
 
-/// Writes the frame of a reply, and flushes it. `All`: all of it was written. `Failed`: a front of it was. `Memory`: nothing was. A sink that held
-/// nothing back and doesn't fail holds nothing back.
+/// Writes the frame of a reply, and flushes it. `All`: all of it was written. `Failed`: a prefix of it was. `Memory`: nothing was. A sink
+/// that held nothing back and doesn't fail holds nothing back.
 pub fn put<W: Sink>(alloc: Global, sink: &mut W, out: Out) -> Wrote
     requires { W.failed sink.old ≡ false }
     ensures failed { W.failed sink.new ≡ has_failed result }
@@ -114,7 +114,8 @@ impl<C: Crew, W: Sink> Writer<C, W> {
     }
 }
 
-/// Writes what a closed board's desk still has unsent. `All`: all of it was written.
+/// Writes what a closed board's desk still has unsent. `All`: all of it was written. Else the replies up to the one that broke it off have
+/// left the desk, and of that one's frame at most a prefix was written.
 pub fn write_rest<W: Sink>(alloc: Global, desk: &mut Desk, sink: &mut W) -> Wrote
     requires { W.failed sink.old ≡ false }
     ensures failed { W.failed sink.new ≡ has_failed result }

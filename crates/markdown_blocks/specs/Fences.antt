@@ -50,7 +50,7 @@ abbrev pub is_abnf_word : List ℕ → Bool
 is_abnf_word word =
     length word == 4 && is_letter 97 65 (slice_index word 0) && is_letter 98 66 (slice_index word 1) && is_letter 110 78 (slice_index word 2) && is_letter 102 70 (slice_index word 3)
 
--- whether the first word of an info string is `abnf`
+-- whether the first word of an info string is `abnf`, in any case of letters
 abbrev pub is_abnf : List ℕ → Bool
 is_abnf info = is_abnf_word (take_while (λ c. not (is_blank_char c)) (without_blanks info))
 
@@ -69,11 +69,12 @@ fence_of indent mark line =
     })
     else None
 
--- the fence that a line opens, if it is one
+-- The fence that a line opens, if it opens one (CommonMark 0.31, section 4.5): behind any indentation three or more backticks
+-- or tildes, and an info string, in which no backtick follows backticks.
 abbrev pub opening_fence : List ℕ → Option Fence
 opening_fence line = fence_of (blank_count line) (slice_index (without_blanks line) 0) (without_blanks line)
 
--- whether a line closes what a fence opened: at least as many of its marks, and only blanks behind them
+-- Whether a line closes what a fence opened: it has as many of its marks or more, and nothing else but blanks.
 abbrev pub closes_fence : Fence → List ℕ → Bool
 closes_fence fence line =
     let rest = without_blanks line in
@@ -81,7 +82,7 @@ closes_fence fence line =
 
 -- ---- blocks
 
--- a line of the content without the fence's indentation, as far as the line has it
+-- a line of a block, without the fence's indentation, as far as the line has it
 abbrev pub fence_content : Fence → Line → List Sourced
 fence_content fence line =
     let gone = min fence.indent (blank_count line.1) in
@@ -104,6 +105,7 @@ fenced_blocks end (Some opened) (l ∷ ls) =
     if closes_fence opened.0 (without_end l.1) then ended_block opened l.0 ++ fenced_blocks end None ls
     else fenced_blocks end (Some (opened.0, opened.1 ++ fence_content opened.0 l)) ls
 
--- the blocks of ABNF in a draft
+-- the blocks of ABNF in a draft in Markdown: its fenced code blocks whose info string begins with the word `abnf`; one that
+-- isn't closed ends where the text ends
 abbrev pub markdown_blocks : List ℕ → List SourcedBlock
 markdown_blocks draft = fenced_blocks (length draft) None (placed_lines_from 0 draft)

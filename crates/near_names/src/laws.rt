@@ -8,7 +8,7 @@ pub fn nearest_names_are_nearest()
     ensures { (name : List ℕ) (known : List (List ℕ)) → IsNearAnswer name known (nearest name known) }
 {}
 
-/// Among known names there is no other answer.
+/// Among known names there is no other answer than [`nearest_names_are_nearest`] says.
 pub fn nearest_names_are_unique()
     ensures { (name : List ℕ) (known : List (List ℕ)) (a b : Option (List ℕ)) → IsNearAnswer name known a → IsNearAnswer name known b → a ≡ b }
 {}

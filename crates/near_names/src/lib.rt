@@ -1,6 +1,7 @@
-//! Which of the known names is meant where an unknown one is told.
+//! Which of the known names is meant where another one stands that isn't known.
 //!
-//! [`nearest`] gives the known name that is the fewest letters away from another one, where it is near at all, as specs/Near has it.
+//! [`nearest`] gives the known name that is the fewest letters away from another one, where it is near at all, as
+//! specs/Near has it.
 #![tactic(auto)]
 
 mod laws;

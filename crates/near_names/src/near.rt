@@ -60,7 +60,11 @@ fn near_distance(alloc: Global, name: &str, other: &str) -> Result<Option<usize>
     }
 }
 
-/// The nearest of the known names; of those that are as near it is the first.
+/// The known name that is the fewest letters away from this one, in any case of letters; of those that are as near it is
+/// the first. `None` where none is near: a near one is at most a third of the longer name's letters away, or one letter.
+///
+/// Each known name is compared, in time by the product of both lengths; but a name of one letter, or of more than 64, is
+/// passed over.
 ///
 /// # Errors
 ///

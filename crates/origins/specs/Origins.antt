@@ -27,14 +27,14 @@ is_blank_char c = c == 32 || c == 9
 abbrev pub is_break : ℕ → Bool
 is_break c = c == 10 || c == 13
 
--- how many blanks stand at the front
+-- how many blanks stand at the front of characters
 abbrev pub blank_front : List Sourced → ℕ
 blank_front [] = 0
 blank_front (c ∷ cs) = if is_blank_char c.0 then suc (blank_front cs) else 0
 
--- The indent of the first line with content, as RFC 5234 section 2.2 has it of a grammar: how many blanks it begins with. A line has
--- content, unless it has only blanks, or its first other character is the `;` of a comment. Of the line at hand so many blanks have
--- come and nothing else, or, with None, a comment has begun.
+-- How many blanks the first line with content begins with, 0 where none has content (RFC 5234 section 2.2). A line has
+-- content, unless it has only blanks, or its first other character is the `;` of a comment. Of the line at hand so many
+-- blanks have come and nothing else, or, with None, a comment has begun.
 abbrev pub first_indent : Option ℕ → List ℕ → ℕ
 first_indent front [] = 0
 first_indent None (c ∷ cs) = first_indent (if is_break c then Some 0 else None) cs
@@ -42,14 +42,14 @@ first_indent (Some n) (c ∷ cs) =
     if is_break c then first_indent (Some 0) cs
     else (if is_blank_char c then first_indent (Some (suc n)) cs else (if c == 59 then first_indent None cs else n))
 
--- without so many blanks at the front of each line, of which so many may still go
+-- a block without so many blanks at the front of each line, of which so many may still go on the line at hand
 abbrev pub left_aligned : ℕ → ℕ → List Sourced → List Sourced
 left_aligned base left [] = []
 left_aligned base left (c ∷ cs) =
     if is_blank_char c.0 && nat_lt 0 left then left_aligned base (pred left) cs
     else c ∷ left_aligned base (if is_break c.0 then base else 0) cs
 
--- the characters of a block without its base indent, and a line end at the block's end
+-- the characters of a block, aligned by its first indent, and a line end, which has the place of the block's end
 abbrev pub aligned : SourcedBlock → List Sourced
 aligned block =
     let base = first_indent (Some 0) (characters block.content) in

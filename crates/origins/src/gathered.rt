@@ -43,7 +43,7 @@ fn char_count(text: &str) -> usize
 }
 
 impl Gathered {
-    /// No characters.
+    /// No characters. It takes no memory.
     pub fn new(alloc: Global) -> Gathered
         ensures { result ≡ [] }
     {
@@ -54,7 +54,7 @@ impl Gathered {
         }
     }
 
-    /// Adds characters that stand in a row in the draft, from this offset on.
+    /// Adds characters that stand in a row in the draft, from this offset on, in time by the bytes of the text.
     ///
     /// # Errors
     ///
@@ -72,7 +72,7 @@ impl Gathered {
     ///
     /// # Errors
     ///
-    /// As [`copy`](Gathered::copy).
+    /// As [`copy`](Gathered::copy): where an allocation is refused, and of an offset from 2^63 on.
     pub fn put(&mut self, character: char, at: usize) -> Result<(), AllocError>
         ensures { OnOk result (self.new ≡ self.old ++ (character, at) ∷ []) }
     {
@@ -82,11 +82,13 @@ impl Gathered {
         Ok(())
     }
 
-    /// Adds a block that ends at this offset of the draft: without its base indent, and with a line end at its end.
+    /// Adds a block that ends at this offset of the draft: without its base indent, and with a line end at its end. Time
+    /// goes by the block's characters.
     ///
     /// # Errors
     ///
-    /// As [`copy`](Gathered::copy).
+    /// As [`copy`](Gathered::copy): where an allocation is refused, and of an offset from 2^63 on. Part of the block may
+    /// be there.
     pub fn add_block(&mut self, block: &Gathered, end: usize) -> Result<(), AllocError>
         ensures { OnOk result (self.new ≡ self.old ++ spec.aligned (record { content = block.now; end = end })) }
     {
@@ -105,14 +107,15 @@ impl Gathered {
         self.runs.clear();
     }
 
-    /// The characters alone.
+    /// The characters alone, as a text.
     pub fn as_str(&self) -> &str
         ensures { chars result.now ≡ spec.characters self.now }
     {
         self.text.as_str()
     }
 
-    /// Where a character begins in the draft; `None` behind the last one.
+    /// The offset at which a character begins in the draft, by its place here, both in characters; `None` behind the last
+    /// one. It is found by halving the runs of characters that stand in a row in the draft.
     pub fn origin_of(&self, offset: usize) -> Option<usize>
         ensures { result ≡ option_map (λ c. c.1) (slice_get self.now offset) }
     {

@@ -1,5 +1,5 @@
 //! The server on one thread over standard input and output: each message is answered before the next one is read. The sessions of the gate
-//! run on it, since their bytes are known to the last.
+//! run on it, since their bytes are known to the last. No function here has a contract beyond safety.
 #![tactic(auto)]
 
 use ls_server::{Ending, ReadFrom, WriteTo, keep_freed_blocks, serve_plain};
@@ -12,7 +12,7 @@ fn main(rt: HostRuntime) -> ExitCode {
     let ending = Ending::of(serve_plain(rt.alloc(), &mut reader, &mut writer));
     let (kind, detail) = ending.line();
     if !kind.is_empty() {
-        // A line that can't be printed leaves the status to tell the ending.
+        // A line that can't be printed leaves the status to say how it ended.
         let _ = eprintln!(&rt; "{kind}{detail}");
     }
     ExitCode::from(ending.status())

@@ -20,12 +20,13 @@ pub enum FileFault {
     /// It is too large, or isn't UTF-8.
     #[error("the file is not a text")]
     NotText,
+    /// An allocation was refused.
     #[error("out of memory")]
     Memory,
 }
 
 impl FileFault {
-    /// What a file's error means: `Memory` where its kind says so, else `CannotRead`.
+    /// What an error of a file means: `Memory` exactly where its kind says that memory was refused, else `CannotRead`.
     pub fn of(error: &io::Error) -> FileFault
         ensures one { (result ≡ FileFault.CannotRead) ⊎ (result ≡ FileFault.Memory) }
         ensures memory { (result ≡ FileFault.Memory) ↔ (error_kind error.now ≡ ErrorKind.OutOfMemory) }
@@ -38,11 +39,12 @@ impl FileFault {
     }
 }
 
-/// The bytes of a file. Of a larger one no more than one byte above the most is read.
+/// All bytes of a file, at most so many. Of a larger file no more than one byte above the most is read.
 ///
 /// # Errors
 ///
-/// `NotText` exactly where there are more bytes, `CannotRead` where a read fails, and `Memory`.
+/// `NotText` only where there are more bytes, `CannotRead` where a read fails, and `Memory` where an allocation is
+/// refused.
 pub fn read_bytes<R: Read + Drop>(alloc: Global, file: R, most: u32) -> Result<Vec<u8>, FileFault>
     ensures few { IfOk result (λ bytes. length bytes.items ≤ most) }
     ensures all { IfSome (R.remaining file) (λ all. IfOk result (λ bytes. bytes.items ≡ all)) }
@@ -60,11 +62,12 @@ pub fn read_bytes<R: Read + Drop>(alloc: Global, file: R, most: u32) -> Result<V
     }
 }
 
-/// The text of a grammar's file: UTF-8 of at most [`MAX_BYTES`] bytes.
+/// The text of a grammar's file: UTF-8 of at most [`MAX_BYTES`] bytes, in time by these.
 ///
 /// # Errors
 ///
-/// `NotText` exactly where it is another, `CannotRead` where a read fails, and `Memory`.
+/// `NotText` only where the file has more bytes or isn't UTF-8, `CannotRead` where a read fails, and `Memory` where an
+/// allocation is refused.
 pub fn read_text<R: Read + Drop>(alloc: Global, file: R) -> Result<Snapshot, FileFault>
     ensures text { IfSome (R.remaining file) (λ all. IfOk result (λ text. IsTextFile all × (text ≡ chars all))) }
     ensures fault { IfSome (R.remaining file) (λ all. result ≡ Err FileFault.NotText → ¬ (IsTextFile all)) }

@@ -1,4 +1,4 @@
--- A short history, written out by hand.
+-- A short history, written out.
 use Rattle.std.specs.Prelude.{◌≡◌, ℕ, List, [], ◌∷◌, Ok, Err}
 use Rattle.ls_machine.specs.declared.client.ClientAnswer.TheVariants as answer
 use Rattle.ls_machine.specs.declared.client.ClientEvent.TheVariants.{DidClose, Say}
@@ -11,7 +11,7 @@ use Rattle.ls_history.specs.declared.happened.Happened.TheVariants.{Began, Heard
 use Rattle.ls_history.specs.History.{IsLegal}
 use Rattle.ls_history.specs.Told.{events_of, heard_of, outs_of}
 
--- "hi"
+-- a body of two bytes, `hi`
 abbrev pub body : List ℕ
 body = 104 ∷ 105 ∷ []
 
@@ -19,10 +19,11 @@ body = 104 ∷ 105 ∷ []
 abbrev pub refused_for : DeskFault → List Happened
 refused_for fault = Began 3 ∷ Heard (Say body) (Ok answer.Said) ∷ Left (out.Said body) ∷ Heard (DidClose []) (Err fault) ∷ []
 
+-- the same, for the cause that holds: no document of this uri is open
 abbrev pub short : List Happened
 short = refused_for NotOpen
 
--- what it says of each kind, and that it is legal for the cause that holds, and for no other
+-- What that history says of each kind, and that it is legal for the cause that holds, and for no other.
 pub record IsShort : Type 0 where
   pub heard : heard_of short ≡ (Say body, Ok answer.Said) ∷ (DidClose [], Err NotOpen) ∷ []
   pub outs : outs_of short ≡ out.Said body ∷ []

@@ -235,8 +235,8 @@ fn is_of_client(event: &Event, number: usize) -> bool {
     }
 }
 
-/// Whether the client's events in a journal are that one document is opened and two hovers are asked, in this order, and what was sent has these
-/// tickets, in this order.
+/// Whether the client's events in a journal are that one document is opened and two hovers are asked, in this order, and what was sent has
+/// these tickets, in this order.
 pub(crate) fn has_told(
     alloc: Global,
     journal: &[Event],

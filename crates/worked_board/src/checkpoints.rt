@@ -1,5 +1,5 @@
-//! A client's list that is altered before a checkpoint or behind it: closing the board finds it out, at once and after more events. A list that
-//! isn't altered is the journal's, however often that begins anew.
+//! A client's list that is altered before a checkpoint or behind it: closing the board finds it out, at once and after more events. A list
+//! that isn't altered is the journal's, however often that begins anew.
 ghost use Rattle.std.specs.Prelude.{◌≡◌, ◌<◌, ◌≤◌};
 
 use super::calls::{next_ticket, opening, run_one};
@@ -119,8 +119,8 @@ fn closes<C: Crew>(
     counted && strayed != matches!(place, Place::Nowhere)
 }
 
-// The journal is filled, one event more makes a checkpoint, and so many more come behind it. The longer journal has a worker's events and the
-// writer's too.
+// The journal is filled, one event more makes a checkpoint, and so many more come behind it. The longer journal has a worker's events and
+// the writer's too.
 fn one_row<C: Crew, R: Wait>(
     rt: &R,
     alloc: Global,
@@ -157,8 +157,8 @@ fn one_row<C: Crew, R: Wait>(
     Ok(opened && filled && before && ended && behind && went_on && closed)
 }
 
-// The same with ledgers that are picked here, at once behind the checkpoint, where some of what it ended is compared, where all is, and behind
-// further checkpoints.
+// The same with ledgers that are picked here, at once behind the checkpoint, where some of what it ended is compared, where all is, and
+// behind further checkpoints.
 fn holds<R: Wait>(rt: &R, alloc: Global, journal: u32, place: Place) -> Result<bool, AllocError>
     requires { (0 < journal) × (journal ≤ 40) }
 {

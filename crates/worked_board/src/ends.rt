@@ -1,5 +1,5 @@
-//! How a board ends, and that lists which aren't those of the journal are found out, also those of a journal that has begun anew since. It has
-//! one worker, and one document is opened.
+//! How a board ends, and that lists which aren't those of the journal are found out, also those of a journal that has begun anew since. It
+//! has one worker, and one document is opened.
 ghost use Rattle.std.specs.Prelude.{◌≡◌, ◌+◌, ◌<◌, nat_lt, if◌then◌else◌};
 
 use super::calls::{DESKS, counts, has_no_job, hover, next_ticket, nth_desk, opening, run_one};

@@ -1,4 +1,4 @@
-//! A short history, written out by hand: what it says of the client and of replies, and that it is legal.
+//! A short history, written out: what it says of the client and of replies, and that it is legal.
 ghost use Rattle.worked_board.specs.Histories.{IsShort};
 
 // Of a closed document "not open" is the cause that holds, and no other refusal may stand there.

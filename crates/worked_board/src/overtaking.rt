@@ -15,7 +15,7 @@ use std::test::Fail;
 use std::thread;
 use std::thread::Threads;
 
-// Holds ticket 2 until 3 isn't wanted any more, for a million turns at most, and tells whether it gave up.
+// Holds ticket 2 until 3 isn't wanted any more, for a million turns at most, and says whether it gave up.
 #[derive(Drop)]
 struct HoldsFirst<'b, C: Crew> {
     board: &'b Board<C>,
@@ -55,7 +55,8 @@ fn sends<C: Crew, R: Wait>(
     is_it
 }
 
-// The workers' seats as they come back, and whether the second hover was answered before the first, and both workers have worked up to the end.
+// The workers' seats as they come back, and whether the second hover was answered before the first, and both workers have worked up to the
+// end.
 #[derive(Drop)]
 struct Worked<C: Crew> {
     writer: WriterSeat<C>,
@@ -141,8 +142,8 @@ enum Seats {
     OtherMark,
 }
 
-// Whether the desk is that of the session: by how many events of each kind there were, and, where its journal has them all, by the client's events
-// themselves and by what was sent.
+// Whether the desk is that of the session: by how many events of each kind there were, and, where its journal has them all, by the client's
+// events themselves and by what was sent.
 fn is_whole(alloc: Global, desk: &Desk, number: usize) -> Result<bool, AllocError> {
     let told = number < LAST || has_told(alloc, desk.journal(), &[1, 3, 2])?;
     Ok(told && counts(desk) == (3, 4, 1, 3, 3))

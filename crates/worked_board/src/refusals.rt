@@ -1,5 +1,5 @@
-//! A worker whose call is refused: the session is full, or what it brings back is the run of another text. The board has one worker, and one
-//! document is opened.
+//! A worker whose call is refused: the session is full, or what it brings back is the run of another text. The board has one worker, and
+//! one document is opened.
 ghost use Rattle.std.specs.Prelude.{◌≡◌, ◌<◌, ◌≤◌};
 
 use super::calls::{counts, opening};
@@ -84,8 +84,8 @@ fn ends<C: Crew, R: Wait>(
     Ok(ended == fault)
 }
 
-// The document is opened, and its findings are left to a worker, in a session of so many events and unsent replies. Whether the work ends by this
-// fault, and the seats count these events.
+// The document is opened, and its findings are left to a worker, in a session of so many events and unsent replies. Whether the work ends
+// by this fault, and the seats count these events.
 fn works<C: Crew, R: Wait>(
     rt: &R,
     alloc: Global,
@@ -154,8 +154,8 @@ fn is_kept(answer: Result<Kept, (DeskFault, Done)>) -> bool {
     is_reply
 }
 
-// The findings are taken. The run of another text under their ticket is refused and comes back, and the seat has brought nothing; then their
-// own run is kept.
+// The findings are taken. The run of another text under their ticket is refused and comes back, and the seat has brought nothing; then
+// their own run is kept.
 fn strays<C: Crew, R: Wait>(
     rt: &R,
     alloc: Global,

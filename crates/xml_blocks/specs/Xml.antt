@@ -16,7 +16,7 @@ use Rattle.xml_blocks.specs.declared.gather.Open.{Open}
 
 -- ---- texts
 
--- a text begins with a mark
+-- the text begins with this mark
 unfoldable pub begins : List ℕ → List ℕ → Bool
 begins [] t = true
 begins (m ∷ ms) [] = false
@@ -31,6 +31,7 @@ until mark (c ∷ t) = if begins mark (c ∷ t) then Some 0 else option_map suc 
 abbrev pub is_space : ℕ → Bool
 is_space c = c == 32 || c == 9 || c == 10 || c == 13
 
+-- a text without the white space at its front
 abbrev pub without_space : List ℕ → List ℕ
 without_space t = drop (prefix_len is_space t) t
 
@@ -86,27 +87,28 @@ has_abnf_type quote (c ∷ t) = begins_type quote c t || has_abnf_type (open_quo
 abbrev pub is_empty_element : List ℕ → Bool
 is_empty_element t = slice_index t (length t - 2) == 47
 
+-- the name of an element: `sourcecode` or `artwork` (RFC 7991 sections 2.48 and 2.5)
 abbrev pub element_name : Element → List ℕ
 element_name Sourcecode = 115 ∷ 111 ∷ 117 ∷ 114 ∷ 99 ∷ 101 ∷ 99 ∷ 111 ∷ 100 ∷ 101 ∷ []
 element_name Artwork = 97 ∷ 114 ∷ 116 ∷ 119 ∷ 111 ∷ 114 ∷ 107 ∷ []
 
--- how many characters the name has
+-- how many characters the name of an element has
 abbrev pub name_len : Element → ℕ
 name_len Sourcecode = 10
 name_len Artwork = 7
 
--- a start tag without its `<` has a name, behind which comes white space: without it there is no attribute
+-- a start tag without its `<` has the name of this element, behind which comes white space: without it there is no attribute
 abbrev pub is_named : Element → List ℕ → Bool
 is_named element t = begins (element_name element) t && is_space (slice_index t (name_len element))
 
--- the element that a tag without its `<` begins, if it has content, and this is ABNF
+-- the element `sourcecode` or `artwork` that a tag without its `<` begins, if its `type` is `abnf`, and it isn't empty
 abbrev pub opening_element : List ℕ → Option Element
 opening_element t =
     if not (is_empty_element t) && has_abnf_type None t then
     (if is_named Sourcecode t then Some Sourcecode else (if is_named Artwork t then Some Artwork else None))
     else None
 
--- the end tag of an element, without its `<`
+-- the tag without its `<` is the end tag of this element
 abbrev pub is_end : Element → List ℕ → Bool
 is_end element t =
     slice_index t 0 == 47 && begins (element_name element) (drop 1 t) && slice_index (without_space (drop (name_len element) (drop 1 t))) 0 == 62
@@ -137,7 +139,8 @@ number base value [] = None
 number base value (c ∷ t) =
     if c == 59 then named_value value 1 else with_value (value_with_digit value base c) (λ more. option_map (λ r. (r.0, suc r.1)) (number base more t))
 
--- the same of at least one digit, behind so many characters
+-- the character whose number has these digits, at least one, up to a `;`, behind so many characters, and how many characters
+-- all are
 abbrev pub numbered_value : ℕ → ℕ → List ℕ → Option (ℕ × ℕ)
 numbered_value base front t = if is_digit (slice_index (drop front t) 0) base then option_map (λ r. (r.0, r.1 + front)) (number base 0 (drop front t)) else None
 
@@ -170,7 +173,7 @@ markup at t =
     else (if begins (33 ∷ 91 ∷ 67 ∷ 68 ∷ 65 ∷ 84 ∷ 65 ∷ 91 ∷ []) t then piece_of Section (SectionWithoutEnd at) (until (93 ∷ 93 ∷ 62 ∷ []) (drop 8 t)) 11
     else piece_of Tag (TagWithoutEnd at) (tag_len t) 0)
 
--- what `&` begins
+-- what `&` begins: a reference, or a fault where it is none
 abbrev pub referred_piece : ℕ → Option (ℕ × ℕ) → Result Piece XmlFault
 referred_piece at None = Err (BadReference at)
 referred_piece at (Some r) = Ok (record { kind = Reference r.0; more = r.1 })
@@ -179,7 +182,8 @@ referred_piece at (Some r) = Ok (record { kind = Reference r.0; more = r.1 })
 abbrev pub is_plain_char : Bool → ℕ → Bool
 is_plain_char in_block c = not (c == 60) && not (in_block && c == 38)
 
--- the piece that stands at an offset: its first character, and what stands behind it
+-- what stands at an offset, by its first character and what stands behind it: a comment, a section, a tag, in a block a
+-- reference, or characters
 abbrev pub piece_at : Bool → ℕ → ℕ → List ℕ → Result Piece XmlFault
 piece_at in_block at c t =
     if c == 60 then markup at t
@@ -226,6 +230,7 @@ behind_piece (Some opened) kind at t =
     if ends (opened.0).element kind t then (None, record { content = opened.1; end = at } ∷ [])
     else (Some (opened.0, opened.1 ++ piece_content kind at t), [])
 
+-- what comes next, unless there is a fault
 abbrev pub and_then : {A B : Type 0} → Result A XmlFault → (A → Result B XmlFault) → Result B XmlFault
 and_then (Ok x) f = f x
 and_then (Err e) f = Err e
@@ -249,7 +254,7 @@ element_blocks state zero at (c ∷ t) =
     let next = behind_piece state piece.kind at (take piece.more t) in
     put_before next.1 (element_blocks next.0 piece.more (suc at) t))
 
--- the blocks of ABNF in a draft, or its first fault
+-- the blocks of ABNF in a draft in RFCXML, or its first fault
 abbrev pub xml_blocks : List ℕ → Result (List SourcedBlock) XmlFault
 xml_blocks draft = element_blocks None 0 0 draft
 

@@ -32,6 +32,7 @@ impl From<AllocError> for XmlFault {
 
     ghost from_gives = { λ _ r. r ≡ Memory };
 
+    /// A refused allocation is `Memory`.
     fn from(_: AllocError) -> XmlFault {
         XmlFault::Memory
     }

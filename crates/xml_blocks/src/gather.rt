@@ -94,12 +94,16 @@ fn read(
     Ok(current)
 }
 
-/// The grammar of all blocks of ABNF in a draft in RFCXML, one behind the other, with the offset of each character in the draft. A draft
-/// without blocks has an empty one.
+/// The grammar of all blocks of ABNF in a draft in RFCXML, one behind the other, with the offset of each character in the
+/// draft. A draft without blocks has an empty one.
+///
+/// A block's characters are there without the indentation of the block, with those for which references and CDATA
+/// sections stand. Each block has a line end more, which stands where its end tag begins. Time and memory go by the
+/// length of the draft.
 ///
 /// # Errors
 ///
-/// The first fault of the draft, or [`XmlFault::Memory`] where an allocation is refused.
+/// The first fault of the draft, at its offset in characters, or [`XmlFault::Memory`] where an allocation is refused.
 pub fn gather_xml(alloc: Global, draft: &str) -> Result<Gathered, XmlFault>
     ensures { spec.IsGathered (chars draft.now) result }
 {

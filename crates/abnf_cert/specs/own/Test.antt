@@ -6,6 +6,7 @@ use Rattle.abnf_cert.specs.declared.checker.Test.{Test}
 use Rattle.abnf_cert.specs.declared.checker.Test.TheVariants as test
 use Rattle.abnf_cert.specs.Accepted.{NotBefore, After, Saturated, entry_at}
 
+-- the entry of a part passes the test
 abbrev pub Passes : Test → Entry → Type 0
 Passes test.Empty e = e ≡ entry.Nothing
 Passes (test.NotBefore l h) e = NotBefore l h e

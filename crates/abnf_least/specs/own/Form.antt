@@ -7,6 +7,8 @@ use Rattle.abnf_parts.specs.declared.node.Node.TheVariants.{Quoted, Series, Span
 use Rattle.abnf_parts.specs.Part.{Part, quoted, series, span, seq, alt, rep, ref, opaque, numbers}
 use Rattle.abnf_cert.specs.Accepted.{all_in_a_row, times, referred}
 
+-- The form of a part: a text of so many characters; what is given no entry ever; a row of parts, and a choice among parts, by
+-- their numbers; a part so many times and once more; and a reference to a root.
 pub data Form : Type 0 where
   text : (characters : ℕ) → Form
   never : Form
@@ -15,11 +17,12 @@ pub data Form : Type 0 where
   repeated : (more : ℕ) (body : ℕ) → Form
   refers : (root : ℕ) → Form
 
--- the form of a repetition
+-- the form of part n, repeated at least so many times: a text of none where that is no time
 abbrev pub repetition_form : ℕ → ℕ → Form
 repetition_form zero n = text 0
 repetition_form (suc more) n = repeated more n
 
+-- the form of a repetition, which is given no entry where its minimum is above its maximum
 abbrev pub repetition_up_to : ℕ → Option ℕ → ℕ → Form
 repetition_up_to least None n = repetition_form least n
 repetition_up_to least (Some most) n = cond (nat_lt most least) never (repetition_form least n)
@@ -36,6 +39,7 @@ part_form root n (ref name None) = never
 part_form root n (ref name (Some r)) = refers (root r)
 part_form root n opaque = never
 
+-- the form of a node, where the rules have their roots at these numbers
 abbrev pub node_form : (ℕ → ℕ) → Node → Form
 node_form root (Quoted t exact) = text (length t.now)
 node_form root (Series characters) = text (length characters)
@@ -71,6 +75,7 @@ abbrev pub first_least : ℕ → List Entry → Entry
 first_least i [] = Nothing
 first_least i (e ∷ es) = better i e (first_least (suc i) es)
 
+-- the entry that a part of this form is given, where the entries of other parts are known
 abbrev pub entry_given : (ℕ → Entry) → Form → Entry
 entry_given at (text n) = Least n 0 0
 entry_given at never = Nothing
@@ -79,6 +84,6 @@ entry_given at (one_of ns) = first_least 0 (map at ns)
 entry_given at (repeated more n) = times (suc more) (at n)
 entry_given at (refers n) = referred (at n)
 
--- where no part is settled, this one is given nothing
+-- A part of this form is given nothing where no part is settled.
 abbrev pub AwaitsParts : Form → Type 0
 AwaitsParts f = entry_given (λ n. Nothing) f ≡ Nothing

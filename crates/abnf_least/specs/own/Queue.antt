@@ -13,23 +13,23 @@ comes_before x y = is_before x.length x.height y.length y.height
 abbrev pub NotAfter : Candidate → Candidate → Type 0
 NotAfter x y = (x.length < y.length) ⊎ ((x.length ≡ y.length) × (x.height ≤ y.height))
 
--- x is one of them, and comes after none
+-- x is one of these candidates, and comes after none of them
 abbrev pub IsFirstCandidate : List Candidate → Candidate → Type 0
 IsFirstCandidate all x = Contains all x × ((y : Candidate) → Contains all y → NotAfter x y)
 
--- x comes before none of them
+-- x comes before none of these candidates
 abbrev pub ComesLast : List Candidate → Candidate → Type 0
 ComesLast all x = (y : Candidate) → Contains all y → NotAfter y x
 
--- each comes before none of those in front of it
+-- each of these candidates comes before none of those in front of it
 abbrev pub IsInOrder : List Candidate → Type 0
 IsInOrder row = (i j : ℕ) (d : Candidate) → i < j → j < length row → comes_before (slice_index_or row j d) (slice_index_or row i d) ≡ false
 
--- x joins what waits, and nothing else comes or goes
+-- x joins what waits, and nothing else comes or goes, up to order
 abbrev pub JoinsQueue : List Candidate → Candidate → List Candidate → Type 0
 JoinsQueue old x new = IsPermutation (x ∷ old) new
 
--- x leaves, the others stay, and it comes after none of them
+-- x leaves what waits, where it came after none of the others, and these stay, up to order
 pub record LeavesQueue (old : List Candidate) (x : Candidate) (new : List Candidate) : Type 0 where
   pub others : IsPermutation old (x ∷ new)
   pub least : (y : Candidate) → Contains old y → NotAfter x y

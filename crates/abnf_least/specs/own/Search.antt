@@ -9,11 +9,12 @@ use Rattle.abnf_least.specs.declared.candidate.Candidate.{Candidate}
 use Rattle.abnf_least.specs.own.Form.{Form, never, one_of, entry_given, part_form}
 use Rattle.abnf_least.specs.Table.{InRange, IsUnchosen, IsUpTo, unsettled}
 
--- the form of each part of a grammar
+-- the form of part n, if there is one
 abbrev pub form_or : (ℕ → ℕ) → ℕ → Option Part → Form
 form_or root n None = never
 form_or root n (Some p) = part_form root n p
 
+-- the form of part n of a grammar
 abbrev pub form_at : List Part → ℕ → Form
 form_at trees n = form_or (root_number trees) n (slice_get (parts_of trees) n)
 
@@ -36,13 +37,15 @@ IsNextPart form at l h = (k : ℕ) → at k ≡ Nothing → NotBefore l h (entry
 abbrev pub IsDone : (ℕ → Form) → (ℕ → Entry) → Type 0
 IsDone form at = (k : ℕ) → at k ≡ Nothing → entry_given at (form k) ≡ Nothing
 
+-- part n with this pair of a length and a height
 abbrev pub candidate : ℕ → ℕ → ℕ → Candidate
 candidate l h n = record { length = l; height = h; number = n }
 
--- each part that isn't settled, but this one, waits with the pair that it is given
+-- each of these parts that isn't settled waits with the pair that it is given
 abbrev pub OthersWait : (ℕ → Type 0) → (ℕ → Form) → (ℕ → Entry) → List Candidate → Type 0
 OthersWait Apart form at queue = (k l h d : ℕ) → Apart k → at k ≡ Nothing → entry_given at (form k) ≡ Least l h d → Contains queue (candidate l h k)
 
+-- each part that isn't settled waits with the pair that it is given
 abbrev pub AllWait : (ℕ → Form) → (ℕ → Entry) → List Candidate → Type 0
 AllWait form at queue = (k l h d : ℕ) → at k ≡ Nothing → entry_given at (form k) ≡ Least l h d → Contains queue (candidate l h k)
 
@@ -53,7 +56,7 @@ pub record IsGiven (form : ℕ → Form) (table : List Entry) (x : Candidate) : 
   pub choice : ℕ
   pub given : entry_given (entry_at table) (form x.number) ≡ Least x.length x.height choice
 
--- and no other has a pair before it
+-- the candidate isn't settled and has the pair that it is given, no other part is given one before it, and all others wait
 pub record IsFound (form : ℕ → Form) (table : List Entry) (x : Candidate) (queue : List Candidate) : Type 0 where
   pub is_given : IsGiven form table x
   pub first : IsNextPart form (entry_at table) x.length x.height
@@ -72,6 +75,7 @@ IsOffered form at part user queue = (l h d : ℕ) → at user ≡ Nothing → of
 abbrev pub IsPushedPart : Entry → ℕ → List Candidate → Type 0
 IsPushedPart e n queue = (l h d : ℕ) → e ≡ Least l h d → Contains queue (candidate l h n)
 
+-- what waited waits still
 abbrev pub Keeps : List Candidate → List Candidate → Type 0
 Keeps old new = (y : Candidate) → Contains old y → Contains new y
 

@@ -34,6 +34,7 @@ Leads links place here next = (k : ℕ) → Reaches links place k → (here ≡ 
 abbrev pub Uses : Users → ℕ → ℕ → Type 0
 Uses users part user = Reaches users.links.items (slice_index_or users.starts.items part 0) user
 
+-- the user is added under the part, and those that were there stay
 pub record AddsUser (old : Users) (part user : ℕ) (new : Users) : Type 0 where
   pub one_each : length new.starts.items ≡ length old.starts.items
   pub kept : (m k : ℕ) → Uses old m k → Uses new m k

@@ -15,29 +15,32 @@ abbrev pub IsBelowTop : Entry → Type 0
 IsBelowTop Nothing = ⊥
 IsBelowTop (Least l h c) = l < top
 
+-- the choice that an entry names, 0 of nothing
 abbrev pub choice_of : Entry → ℕ
 choice_of Nothing = 0
 choice_of (Least l h c) = c
 
--- a part is to be written before all else, where the entry has a length
+-- a part is to be written before all else, where its entry has a length above 0
 abbrev pub keep_by : Entry → ℕ → List Task → List Task
 keep_by Nothing n ts = ts
 keep_by (Least zero h c) n ts = ts
 keep_by (Least (suc l) h c) n ts = Write n ∷ ts
 
+-- a part is to be written before all else, by its entry
 abbrev pub keep : (ℕ → Entry) → ℕ → List Task → List Task
 keep at n ts = keep_by (at n) n ts
 
--- these parts, in their order
+-- these parts are to be written before all else, in their order
 abbrev pub keep_all : (ℕ → Entry) → List ℕ → List Task → List Task
 keep_all at [] ts = ts
 keep_all at (m ∷ ms) ts = keep at m (keep_all at ms ts)
 
--- a part, so many times
+-- a part is to be written before all else, so many times
 abbrev pub keep_times : (ℕ → Entry) → ℕ → ℕ → List Task → List Task
 keep_times at zero n ts = ts
 keep_times at (suc k) n ts = keep at n (keep_times at k n ts)
 
+-- a part is to be written before all else, if there is one
 abbrev pub keep_some : (ℕ → Entry) → Option ℕ → List Task → List Task
 keep_some at None ts = ts
 keep_some at (Some n) ts = keep at n ts
@@ -67,6 +70,7 @@ abbrev pub LiesWithin : ℕ → Place → Type 0
 LiesWithin count None = Unit {0}
 LiesWithin count (Some x) = (x.0 ≤ x.1) × (x.1 ≤ count)
 
+-- each of these places lies in a text of so many characters
 abbrev pub AllLieWithin : ℕ → List Place → Type 0
 AllLieWithin count places = (n : ℕ) → LiesWithin count (slice_index_or places n None)
 

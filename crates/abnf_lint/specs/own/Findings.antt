@@ -29,7 +29,7 @@ use Rattle.abnf_lint.specs.Order.{key, key_cmp}
 abbrev pub found_if : Bool → Code → Place → List ℕ → List Finding
 found_if holds code place name = if holds then record { place = place; code = code; name = name } ∷ [] else []
 
--- of a block's fault
+-- what is found of a block's fault
 abbrev pub fault_findings : SyntaxFault → List Finding
 fault_findings (f.NoName p) = found_if true (c.Syntax (f.NoName p)) p []
 fault_findings (f.NoDefinedAs p) = found_if true (c.Syntax (f.NoDefinedAs p)) p []
@@ -41,37 +41,39 @@ fault_findings (f.NumberTooLarge p) = found_if true c.NumberTooLarge p []
 fault_findings (f.TooDeep p) = found_if true c.TooDeep p []
 fault_findings f.Memory = []
 
--- of a use: its name stands for nothing
+-- what is found of a use: its name stands for nothing
 abbrev pub use_findings : List Name → Named → List Finding
 use_findings names used = found_if (not (is_some (rule_number names (lowercase used.text)))) c.Undefined used.place used.text
 
--- the minimum is above the maximum
+-- the minimum of a repeat is above its maximum
 abbrev pub is_empty_repeat : ℕ × Option ℕ → Bool
 is_empty_repeat b = option_map_or (λ most. nat_lt most b.0) b.1 false
 
--- the low end is above the high end
+-- the low end of a range is above its high end
 abbrev pub is_empty_range : Option (ℕ × ℕ) → Bool
 is_empty_range ends = option_map_or (λ e. nat_lt e.1 e.0) ends false
 
--- of a repeat or a number
+-- what is found of a repeat or a number
 abbrev pub number_findings : Kind → Place → List ℕ → List Finding
 number_findings Repeat place text = found_if (is_empty_repeat (repeat_limits text)) c.EmptyRepeat place []
 number_findings Number place text = found_if (is_empty_range (ends_of (number_part text))) c.EmptyRange place []
 number_findings _ place text = []
 
--- of an item that stands behind an item of this kind
+-- what is found of an item that stands behind an item of this kind
 abbrev pub item_findings : List Name → Kind → Item → List Finding
 item_findings names before item = flat_map (use_findings names) (use_after before item) ++ number_findings (kind_of item) (place_of item.token) item.token.text.now
 
+-- what is found of the items behind an item of this kind
 abbrev pub items_findings : List Name → Kind → List Item → List Finding
 items_findings names before [] = []
 items_findings names before (item ∷ items) = item_findings names before item ++ items_findings names (kind_of item) items
 
--- of the items of a block without fault; the first of them is its head
+-- what is found of the items of a block without fault; the first of them is its head
 abbrev pub body_findings : List Name → List Item → List Finding
 body_findings names [] = []
 body_findings names (item ∷ items) = items_findings names (kind_of item) items
 
+-- what is found of a block's fault, or of its items where it shows none
 abbrev pub said_findings : List Name → Excerpt → List Finding
 said_findings names block = option_map_or fault_findings block.fault (body_findings names block.items)
 
@@ -79,10 +81,12 @@ said_findings names block = option_map_or fault_findings block.fault (body_findi
 abbrev pub is_marked : List Bool → List Name → Name → Bool
 is_marked marks names name = option_map_or (λ r. slice_index_or marks r false) (rule_number names name) false
 
+-- the name is one of these
 abbrev pub has_name : List Name → Name → Bool
 has_name names name = is_some (rule_number names name)
 
--- of a head, where blocks before its own have heads with these names, and `=` blocks among them with those of `bases`
+-- what is found of a head, where blocks before its own have heads with these names, and `=` blocks among them with those of
+-- `bases`
 abbrev pub head_findings : List Bool → List Name → List Name → List Name → Head → List Finding
 head_findings marks names heads bases head =
     let name = name_of head in
@@ -91,7 +95,7 @@ head_findings marks names heads bases head =
     ++ found_if (head.adds && not (has_name bases name)) c.NoBase place head.name.text.now
     ++ found_if (not (has_name heads name) && is_marked marks names name) c.Unproductive place head.name.text.now
 
--- of a block, where earlier blocks have heads with these names
+-- what is found of a block, where earlier blocks have heads with these names
 abbrev pub block_findings : List Bool → List Name → List Name → List Name → Excerpt → List Finding
 block_findings marks names heads bases block =
     said_findings names block ++ option_map_or (head_findings marks names heads bases) (head_of block.items) []
@@ -100,7 +104,7 @@ block_findings marks names heads bases block =
 abbrev pub based : List Block → List Name
 based blocks = defined (filter (λ block. not (adds block)) blocks)
 
--- of blocks behind those before
+-- what is found of blocks behind those before
 abbrev pub findings_after : List Bool → List Name → List Block → List Block → List Finding
 findings_after marks names before [] = []
 findings_after marks names before (block ∷ blocks) =

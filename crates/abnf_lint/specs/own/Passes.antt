@@ -15,15 +15,15 @@ use Rattle.abnf_lint.specs.declared.finding.Code.TheVariants as c
 use Rattle.abnf_lint.specs.declared.finding.Finding.{Finding}
 use Rattle.abnf_lint.specs.own.Findings.{block_findings, found_if, has_name, said_findings}
 
--- the names of heads, and one more block's
+-- the names of heads, and that of one more block's head
 abbrev pub with_head : List Name → Excerpt → List Name
 with_head heads block = option_map_or (λ head. with_name heads (name_of head)) (head_of block.items) heads
 
--- the same unless the block adds
+-- the names of `=` blocks, and that of one more block unless it adds
 abbrev pub with_base : List Name → Excerpt → List Name
 with_base bases block = option_map_or (λ head. if head.adds then bases else with_name bases (name_of head)) (head_of block.items) bases
 
--- of blocks behind those with these heads
+-- what is found of blocks behind those with these heads
 abbrev pub findings_behind : List Bool → List Name → List Name → List Name → List Excerpt → List Finding
 findings_behind marks names heads bases [] = []
 findings_behind marks names heads bases (block ∷ blocks) =
@@ -33,15 +33,15 @@ findings_behind marks names heads bases (block ∷ blocks) =
 abbrev pub seen_of : List Name → List Name → Name → Seen
 seen_of heads bases name = record { is_head = has_name heads name; is_base = has_name bases name }
 
--- beside each rule stands what they say of its name
+-- beside each rule stands what the blocks say of its name
 abbrev pub AreSeen : List Name → List Name → List Name → List Seen → Type 0
 AreSeen names heads bases seen = (name : Name) (r : ℕ) → rule_number names name ≡ Some r → slice_get seen r ≡ Some (seen_of heads bases name)
 
--- with one more head of the name
+-- what blocks say of a name, with one more head of it
 abbrev pub seen_more : Seen → Head → Seen
 seen_more before head = record { is_head = true; is_base = before.is_base || not head.adds }
 
--- of a head, by what the blocks before say of its name
+-- what is found of a head, by what the blocks before say of its name
 abbrev pub head_found : Seen → Bool → Head → List Finding
 head_found before marked head =
     found_if (not head.adds && before.is_base) c.Duplicate (place_of head.name) head.name.text.now
@@ -87,18 +87,19 @@ counts bases block = option_map_or (λ head. head.adds || not (has_name bases (n
 abbrev pub IsSoundBlock : List Name → Excerpt → Type 0
 IsSoundBlock names block = block.fault ≡ None → said_findings names block ≡ []
 
--- so if the block counts, by what the blocks before say of its head's name, and a mark stands beside the name's rule
+-- Nothing is found at the items of the block if it counts, by what the blocks before say of its head's name, and a mark
+-- stands beside the name's rule.
 abbrev pub IsSoundIfMarked : List Bool → List Name → List Seen → Excerpt → Type 0
 IsSoundIfMarked marks names seen block =
     (head : Head) → head_of block.items ≡ Some head → (r : ℕ) → rule_number names (name_of head) ≡ Some r → slice_index_or marks r false ≡ true
     → (before : Seen) → slice_get seen r ≡ Some before → (head.adds || not before.is_base) ≡ true → IsSoundBlock names block
 
--- of the block that counts nothing is found at its items, if a mark stands beside its rule
+-- nothing is found at the items of a block that counts, if a mark stands beside its rule
 abbrev pub IsSoundWhereMarked : List Bool → List Name → List Name → Excerpt → Type 0
 IsSoundWhereMarked marks names bases block =
     counts bases block ≡ true → (head : Head) → head_of block.items ≡ Some head → (r : ℕ) → rule_number names (name_of head) ≡ Some r → slice_index_or marks r false ≡ true → IsSoundBlock names block
 
--- so of each block
+-- nothing is found at the items of each of these blocks that counts, if a mark stands beside its rule
 abbrev pub AreSoundWhereMarked : List Bool → List Name → List Name → List Excerpt → Type 0
 AreSoundWhereMarked marks names bases [] = Unit {0}
 AreSoundWhereMarked marks names bases (block ∷ blocks) = IsSoundWhereMarked marks names bases block × AreSoundWhereMarked marks names (with_base bases block) blocks

@@ -19,6 +19,7 @@ numbers_code = coded× coded_ℕ (coded× coded_ℕ coded_ℕ)
 abbrev place_code : Coded Place
 place_code = code_by Numbers numbers_code (λ p. (p.line, (p.start, p.end))) (λ n. record { line = n.0; start = n.1.0; end = n.1.1 }) (λ p. refl)
 
+-- a code for places with names
 abbrev pub named_code : Coded Named
 named_code = code_by (List ℕ × (Place × Bool)) (coded× (coded_list coded_ℕ) (coded× place_code coded_bool)) (λ n. (n.text, (n.place, n.defines))) (λ t. record { text = t.0; place = t.1.0; defines = t.1.1 }) (λ n. refl)
 
@@ -44,6 +45,7 @@ numbered_fault (suc (suc (suc (suc (suc (suc (suc zero)))))), p) = f.NumberTooLa
 numbered_fault (suc (suc (suc (suc (suc (suc (suc (suc zero))))))), p) = f.TooDeep p
 numbered_fault (_, p) = f.Memory
 
+-- a fault is read back from its number and its place
 pub fault_back : (fault : SyntaxFault) → numbered_fault (numbered fault) ≡ fault
 fault_back (f.NoName p) = refl
 fault_back (f.NoDefinedAs p) = refl
@@ -61,6 +63,7 @@ fault_code = code_by (ℕ × Place) (coded× coded_ℕ place_code) numbered numb
 abbrev Fields : Type 0
 Fields = List ℕ × (List (List ℕ) × (List Part × (List Named × List (Place × SyntaxFault))))
 
+-- a code for grammars, by their fields
 abbrev pub grammar_code : Coded Grammar
 grammar_code = code_by Fields
     (coded× (coded_list coded_ℕ) (coded× (coded_list (coded_list coded_ℕ)) (coded× trees_code (coded× (coded_list named_code) (coded_list (coded× place_code fault_code))))))

@@ -9,6 +9,7 @@ use Rattle.abnf_names.specs.Places.{named_at}
 use Rattle.abnf_names.specs.Excerpts.{HasSections}
 use Rattle.abnf_names.specs.declared.grammar.Grammar.TheInside.{Inside}
 
+-- the grammar that the fields of the code hold
 abbrev pub grammar_inside : Inside → Grammar
 grammar_inside g = record {
   text = g.source.now;
@@ -18,6 +19,7 @@ grammar_inside g = record {
   faults = g.faults;
 }
 
+-- the fields hold the grammar of their text, and beside it which rules lead to an opaque part, and the text's blocks
 pub record IsGrammarInside (g : Inside) : Type 0 where
   pub numbered : AreNumbered g.nodes.items g.roots.items
   pub is_grammar : IsGrammar (grammar_inside g)

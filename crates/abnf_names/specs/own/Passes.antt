@@ -61,9 +61,11 @@ AreBeside R _ _ = ⊥
 abbrev pub AreTold : List Listed → List Definition → Type 0
 AreTold sections definitions = AreBeside (λ listed definition. IsToldDefinition listed.section.now definition) sections definitions
 
+-- name by name the sections' blocks say these definitions
 abbrev pub AllTold : List (List Listed) → List (List Definition) → Type 0
 AllTold own definitions = AreBeside AreTold own definitions
 
+-- the definition adds to its name
 abbrev pub is_adding : Definition → Bool
 is_adding d = d.adds
 
@@ -72,6 +74,7 @@ abbrev pub counted_among : List Definition → List Definition
 counted_among [] = []
 counted_among (d ∷ ds) = d ∷ (if is_adding d then counted_among ds else filter is_adding ds)
 
+-- the alternatives that a definition says
 abbrev pub alternatives_of : (Name → Option ℕ) → Definition → List Part
 alternatives_of number d = alternatives_said number d.said
 
@@ -89,6 +92,7 @@ members_in [] members name = []
 members_in (n ∷ names) [] name = []
 members_in (n ∷ names) (list ∷ members) name = if bytes_eq name n then list else members_in names members name
 
+-- the things that were put under a name
 abbrev pub members_of : {T : Type 0} → Grouped T → Name → List T
 members_of groups name = members_in groups.0 groups.1 name
 
@@ -100,6 +104,7 @@ if_same name other item = if bytes_eq name other then item ∷ [] else []
 abbrev pub names_defined : List Excerpt → List Name
 names_defined excerpts = fold with_name [] (filter_map (λ e. option_map name_of (head_of e.items)) excerpts)
 
+-- the excerpt has a head with this name
 abbrev pub defines_name : Name → Excerpt → Bool
 defines_name name e = option_map_or (λ head. bytes_eq (name_of head) name) (head_of e.items) false
 
@@ -138,6 +143,7 @@ pub record AreRead (sections : List Section) (found : NamesOfText) (blocks : Lis
   pub excerpts : map excerpt sections ≡ map excerpt_of blocks
   pub places : AreNamesOfText blocks found
 
+-- some blocks are those of the sections, and the names stand at these places in them
 pub record HasBlocks (sections : List Section) (found : NamesOfText) : Type 0 where
   pub blocks : List Block
   pub are : AreRead sections found blocks

@@ -3,6 +3,7 @@
 use Rattle.std.specs.Prelude.{◌≡◌, ◌==◌, ℕ, zero, suc, ◌+◌, ◌<◌, ◌↔◌, Bool, true, false, IsTrue, if◌then◌else◌, List, [], ◌∷◌, ◌++◌, length, slice_index_or, Contains}
 use Rattle.std.specs.List.{list_any, sum_by}
 
+-- the users of a place
 abbrev pub users_at : List (List ℕ) → ℕ → List ℕ
 users_at users place = slice_index_or users place []
 
@@ -11,6 +12,7 @@ abbrev pub LeadsBy : List (List ℕ) → ℕ → ℕ → Type 0
 LeadsBy users zero place = suc place ≡ length users
 LeadsBy users (suc steps) place = (next : ℕ) × Contains (users_at users next) place × LeadsBy users steps next
 
+-- some steps lead from the place to the last one
 abbrev pub LeadsToLast : List (List ℕ) → ℕ → Type 0
 LeadsToLast users place = (steps : ℕ) × LeadsBy users steps place
 
@@ -27,6 +29,7 @@ pub record AreReachMarks (users : List (List ℕ)) (marks : List Bool) : Type 0 
 abbrev pub with_place : List ℕ → ℕ → List ℕ
 with_place places place = if list_any (λ p. p == place) places then places else places ++ place ∷ []
 
+-- 1 without a mark, 0 with one
 abbrev pub unmarked : Bool → ℕ
 unmarked true = 0
 unmarked false = 1

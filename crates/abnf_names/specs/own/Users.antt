@@ -12,7 +12,7 @@ place_of_part last (ref name rule) = rule
 place_of_part last opaque = Some last
 place_of_part last _ = None
 
--- the same of a node
+-- the place to which a node leads: a rule that it refers to, or if it is opaque the last place
 abbrev pub place_of_node : ℕ → Node → Option ℕ
 place_of_node last (Ref name rule) = rule
 place_of_node last Opaque = Some last

@@ -15,6 +15,7 @@ itself_or_empty = alt (parts (ref (codes "a") (Some 0) ∷ quoted [] false ∷ [
 abbrev pub other_or_text : Part
 other_or_text = alt (parts (ref (codes "b") (Some 1) ∷ quoted (codes "x") false ∷ []))
 
+-- `b = a`, where `a` is the first rule
 abbrev pub first_rule : Part
 first_rule = alt (parts (ref (codes "a") (Some 0) ∷ []))
 

@@ -23,7 +23,7 @@ places_of_all blocks = flat_map (λ block. places_in block.items) blocks
 abbrev pub AreWanted : List Text → Wanted → Name → List Named → Type 0
 AreWanted ls wanted name found = (blocks : List Block) → AreBlocksFrom ls 0 blocks → found ≡ wanted_places wanted name (places_of_all blocks)
 
--- those on a line
+-- those of some places that are on a line
 abbrev pub places_on : ℕ → List Named → List Named
 places_on line places = filter (λ named. nat_eq named.place.line line) places
 

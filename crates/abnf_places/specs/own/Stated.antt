@@ -10,11 +10,11 @@ use Rattle.abnf_token.specs.declared.token.Token.{Token}
 use Rattle.abnf_syntax.specs.Kinds.{is_item, is_name}
 use Rattle.abnf_parts.specs.Names.{Name}
 
--- the token is this name
+-- the token is this name, in any case of letters
 abbrev pub is_called : Name → Token → Bool
 is_called name token = is_name token.kind && bytes_eq name (lowercase token.text.now)
 
--- the same of a line's token with this mark
+-- a line's token with this mark is this name
 abbrev pub is_called_at : Name → Text → TokenMark → Bool
 is_called_at name line mark = is_name mark.kind && bytes_eq name (lowercase (slice_range line mark.start mark.end))
 
@@ -23,7 +23,7 @@ abbrev pub is_first : Name → List Token → Bool
 is_first name [] = false
 is_first name (token ∷ tokens) = if is_item token.kind then is_called name token else is_first name tokens
 
--- the same of a line's tokens with these marks
+-- the first item among a line's tokens with these marks is this name
 abbrev pub is_first_at : Name → Text → List TokenMark → Bool
 is_first_at name line [] = false
 is_first_at name line (mark ∷ marks) = if is_item mark.kind then is_called_at name line mark else is_first_at name line marks

@@ -3,6 +3,7 @@ use Rattle.std.specs.Prelude.{ℕ, List, [], ◌∷◌, ◌++◌, codes, fold}
 use Rattle.findings_files.specs.declared.ending.Ending.TheVariants.{Usage}
 use Rattle.findings_files.specs.Endings.{line_of}
 
+-- the lines below that of usage: what the program prints, and what each option does
 abbrev pub options : List (List ℕ)
 options =
     codes "Prints what is found in the ABNF grammars of files: of drafts in Markdown or RFCXML too."

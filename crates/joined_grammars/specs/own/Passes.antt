@@ -16,6 +16,7 @@ pub record JoinsBlocks (other : List ℕ) (old new : Joining) : Type 0 where
   pub names : new.names ≡ with_heads old.names blocks
   pub text : new.text ≡ old.text ++ new_text old.names other blocks
 
+-- what has been joined so far, with these names
 abbrev pub state : List Name → List ℕ → Joining
 state names text = record { names = names; text = text }
 

@@ -3,7 +3,7 @@ use Rattle.std.specs.Prelude.{◌≡◌, Bool}
 use Rattle.ls_desk.specs.Stands.{Seen, IsSound}
 use Rattle.ls_steps.specs.Runs.{Left}
 
--- this is left
+-- A call leaves this at the desk, and gives whether the session is full. The desk keeps its limits, and stays sound.
 pub record IsLeft (left : Left) (full : Bool) (old new : Seen) : Type 0 where
   pub base : new.base ≡ left.base
   pub journal : new.journal ≡ left.journal

@@ -12,9 +12,11 @@ use Rattle.ls_text.specs.declared.chunk.Chunk.{Chunk}
 abbrev pub lines_behind : {Z : Type 0} → Arc Chunk Z → List Row
 lines_behind c = (arc_value c).lines
 
+-- the characters of lines with their line ends
 abbrev pub char_length : List Row → ℕ
 char_length ls = length (text_of ls)
 
+-- the bytes of UTF-8 of lines with their line ends
 abbrev pub byte_length : List Row → ℕ
 byte_length ls = length (encode_utf8_all (text_of ls))
 

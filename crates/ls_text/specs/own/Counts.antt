@@ -5,7 +5,8 @@ use Rattle.std.specs.Str.{chars, encode_utf8_all, IsUtf8}
 use Rattle.ls_text.specs.Lines.{lines, max_bytes}
 use Rattle.ls_text.specs.declared.ruler.Counted.{Counted}
 
--- What has been counted, in units of this width, stands at the front of the line, and the rest behind it.
+-- What has been counted stands at the front of the line, with so many bytes, and so many units of this width; the rest stands
+-- behind it.
 pub record IsCountedIn (width : ℕ → ℕ) (line : List ℕ) (counted : Counted) : Type 0 where
   pub front : List ℕ
   pub parts : line ≡ front ++ chars counted.rest.now
@@ -14,7 +15,7 @@ pub record IsCountedIn (width : ℕ → ℕ) (line : List ℕ) (counted : Counte
   pub utf8 : IsUtf8 counted.rest.now
   pub small : length (encode_utf8_all line) ≤ max_bytes
 
--- So far a line of the text has been counted.
+-- So far this line of the text has been counted, by its number.
 pub record IsCountedAt (width : ℕ → ℕ) (text : List ℕ) (at : ℕ) (counted : Counted) : Type 0 where
   pub line : List ℕ
   pub here : slice_get (lines text) at ≡ Some line

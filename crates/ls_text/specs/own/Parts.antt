@@ -8,11 +8,11 @@ use Rattle.ls_text.specs.Cut.{Row, row}
 use Rattle.ls_text.specs.declared.part.Held.{Held}
 use Rattle.ls_text.specs.declared.part.Shift.{Shift}
 
--- the bytes of a line
+-- the bytes of a line that is held
 abbrev pub held_text : List ℕ → Held → List ℕ
 held_text bytes h = slice_range bytes h.text_start h.text_end
 
--- the line
+-- the line that is held: its characters and its line end
 abbrev pub held_row : List ℕ → Held → Row
 held_row bytes h = row (chars (held_text bytes h)) h.end
 
@@ -26,12 +26,12 @@ pub record IsHeldLine (bytes : List ℕ) (marks : List TokenMark) (h : Held) : T
   pub marks_are : AreMarks (held_text bytes h) (slice_range marks h.marks_start h.marks_end)
   pub count_is : h.char_count ≡ length (chars (held_text bytes h))
 
--- all these lines do
+-- each of these lines stands in this text, and its marks in this list of marks
 abbrev pub AreHeld : List ℕ → List TokenMark → List Held → Type 0
 AreHeld bytes marks [] = Unit {0}
 AreHeld bytes marks (h ∷ hs) = IsHeldLine bytes marks h × AreHeld bytes marks hs
 
--- they stand one behind another, their texts from t up to u, and their marks from m up to n
+-- the lines stand one behind another, their texts from t up to u, and their marks from m up to n
 abbrev pub AreInOrder : ℕ → ℕ → List Held → ℕ → ℕ → Type 0
 AreInOrder t m [] u n = (t ≤ u) × (m ≤ n)
 AreInOrder t m (h ∷ hs) u n = (t ≤ h.text_start) × (m ≤ h.marks_start) × AreInOrder h.text_end h.marks_end hs u n
@@ -71,6 +71,6 @@ pub record IsAlike (place there : ℕ) (h k : Held) : Type 0 where
   pub text_end : h.text_end - place ≡ k.text_end - there
   pub end : h.end ≡ k.end
 
--- so many of these lines do, each as the one at its place among others
+-- so many of these lines stand as far behind one place as those at their places among others behind another, and end alike
 abbrev pub AreAlike : ℕ → ℕ → List Held → List Held → ℕ → Type 0
 AreAlike place there hs ks n = (i : ℕ) → i < n → (h k : Held) → h ≡ slice_index_or hs i h → k ≡ slice_index_or ks i k → IsAlike place there h k

@@ -10,10 +10,11 @@ bytes_at [] m = []
 bytes_at (l ∷ ls) zero = encode_utf8_all (line_text l)
 bytes_at (l ∷ ls) (suc m) = bytes_at ls m
 
--- the characters of its line before a spot, and after it
+-- the characters of its line before a spot
 abbrev pub front_of : List Row → Spot → List ℕ
 front_of ls s = chars (take s.bytes (bytes_at ls s.line))
 
+-- the characters of its line after a spot, without the line end
 abbrev pub back_of : List Row → Spot → List ℕ
 back_of ls s = chars (drop s.bytes (bytes_at ls s.line))
 

@@ -13,8 +13,8 @@ use Rattle.ls_threads.specs.declared.ending.Heard.{Heard}
 use Rattle.ls_threads.specs.declared.ending.Worked.{Worked}
 use Rattle.ls_threads.specs.declared.ending.Wrote.{Wrote}
 
--- what the threads of a run leave: how they ended, how many events of each kind their seats counted, what the client's seat was told, and what the
--- writer's was given since the last checkpoint that it has seen
+-- what the threads of a run leave: how they ended, how many events of each kind their seats counted, what the client's seat knows, and what
+-- the writer's was given since the last checkpoint that it has seen
 pub record WhatThreadsLeft : Type 0 where
   pub heard : Heard
   pub wrote : Wrote
@@ -28,7 +28,7 @@ pub record WhatThreadsLeft : Type 0 where
   pub seen : ℕ
   pub tickets : List ℕ
 
--- by how the threads ended, how many events of each kind were counted, and what the client's seat and the writer's seat were told
+-- by how the threads ended, how many events of each kind were counted, and what the client's seat and the writer's seat know
 abbrev pub left_by_threads : Heard × Wrote × Worked → ℕ × ℕ × ℕ × ℕ × ℕ → ToldClient → ℕ × List ℕ → WhatThreadsLeft
 left_by_threads (heard, wrote, worked) (client, took, returned, finished, sent) told (seen, tickets) = record {
   heard = heard;
@@ -44,20 +44,20 @@ left_by_threads (heard, wrote, worked) (client, took, returned, finished, sent) 
   tickets = tickets;
 }
 
--- there were as many events of each kind as the seats counted, and the desk has these limits
+-- A desk had as many events of each kind as the seats counted, and has these limits.
 abbrev pub HasCounts : ℕ → ℕ → WhatThreadsLeft → Seen → Type 0
 HasCounts journal events left desk = Counts left.client left.took left.returned left.finished left.sent desk × HasLimits journal events desk
 
--- The desk stands for what its legal journal leads to. There were as many events of each kind as the seats counted. Since the last checkpoint the
--- client's events, with their answers, and the tickets that were sent are what the seats were told.
+-- The desk stands for what its legal journal leads to. There were as many events of each kind as the seats counted. Since the last
+-- checkpoint the client's events, with their answers, and the tickets that were sent are what the seats know.
 pub record IsAudited (journal events : ℕ) (left : WhatThreadsLeft) (desk : Seen) : Type 0 where
   pub sound : IsSound desk
   pub counts : HasCounts journal events left desk
   pub agrees : Agrees desk.journal left.told.list (since desk.base.checkpoints left.seen left.tickets)
 
--- What a run answers whose threads could all be made, and why: by how they ended, with the writer's end that of the rest of the replies where the
--- session was full; by whether the board could be closed with these seats, and if not, what the cause is; and by whether its audited desk is as
--- such ends leave it.
+-- What a run answers whose threads could all be made, and why: by how they ended (`result_of`), with the writer's end that of the rest of
+-- the replies where the session was full; by whether the board could be closed with these seats, and if not, what the cause is; and by
+-- whether its audited desk is as such ends leave it (`is_settled`).
 pub record IsAnswered (AreOwn : Type 0) (journal events : ℕ) (left : WhatThreadsLeft) (failed : Bool) (answer : Result Status ServeFault) : Type 0 where
   pub wrote : Wrote
   pub audited : Bool

@@ -72,7 +72,7 @@ fn a_hover_is_for_its_own_text(rt: HostRuntime) -> Result<(), Fail> {
     Ok(())
 }
 
-// A rename is taken, and a change ends it, which is told at once.
+// A rename is taken, and a change ends it, which is answered at once.
 fn ends(desk: &mut Desk, alloc: Global) -> Result<bool, DeskFault> {
     let begun = opened(desk, alloc)? && rename(desk, alloc, 3)? == 2;
     let job = take(desk)?;

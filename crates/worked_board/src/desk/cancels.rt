@@ -7,7 +7,7 @@ use ls_rpc::Id;
 use std::alloc::Global;
 use std::test::Fail;
 
-/// A taken request is cancelled: its run isn't wanted any more, and its client is told once.
+/// A taken request is cancelled: its run isn't wanted any more, and it is answered once.
 pub(crate) fn cancels(desk: &mut Desk, alloc: Global) -> Result<bool, DeskFault> {
     let begun = opened(desk, alloc)? && symbols(desk, alloc, 2)? == 2;
     let job = take(desk)?;

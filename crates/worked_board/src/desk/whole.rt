@@ -7,7 +7,7 @@ use ls_desk::{Desk, DeskFault};
 use std::alloc::Global;
 use std::test::Fail;
 
-// A rename, which has ticket 4, is taken, and a change ends it, which is told at once.
+// A rename, which has ticket 4, is taken, and a change ends it, which is answered at once.
 fn ends_the_fourth(desk: &mut Desk, alloc: Global) -> Result<bool, DeskFault> {
     let asked = rename(desk, alloc, 3)? == 4;
     let job = take(desk)?;

@@ -24,6 +24,7 @@ use Rattle.ls_lists.specs.contracts.list.List.TheInside as inside
 abbrev pub the_former : Former {0} → Former {0}
 the_former item = list item
 
+-- the largest measure among the items
 abbrev pub the_weighed : {item : Former {0}} → Weighed item → Weighed (the_former item)
 the_weighed weighed = w_list weighed
 
@@ -31,9 +32,11 @@ the_weighed weighed = w_list weighed
 pub the_empty : lists.List ⊥
 the_empty = lists.[]
 
+-- the items of a list as a list: the list itself
 abbrev pub the_items : (T : Type 0) → lists.List T → lists.List T
 the_items T items = items
 
+-- the items are what the shape holds, in order
 pub the_items_listed : (T : Type 0) (items : lists.List T) → listed _ (children (the_former this) T items) ≡ the_items T items
 the_items_listed T items = list-listed T items
 
@@ -44,6 +47,7 @@ field =
     (λ T fields. fields.vec) (λ T vec. record { vec = vec }) (λ T fields. refl) (λ T vec. refl)
 
 module _ (From To : RattleType) (along : From.Denot → To.Denot) where
+  -- lists of items that lie alike lie alike
   pub the_places : Alike From To along → Alike (outside.the_row From) (outside.the_row To) ((the_former this).map From.Denot To.Denot along)
   the_places alike =
       view_places field (list this) view (λ X Y k fields. refl) (λ X fields. refl) From.Denot To.Denot along
@@ -53,5 +57,6 @@ module _ (From To : RattleType) (along : From.Denot → To.Denot) where
       (struct_places (inside.the_type From) (inside.the_type To) (vec_former.mapped along, tt) _ (λ fields. refl) refl
       (laid _ _ _ (vec_former.the_places global.the_row ghosts From To along alike), tt))
 
+  -- the code of a list of items is that of the list of their codes
   pub the_codes_placed : Recodes From To along → Recodes (outside.the_row From) (outside.the_row To) ((the_former this).map From.Denot To.Denot along)
   the_codes_placed recodes items = sym (code_map From.coded.code To.coded.code along (λ item. sym (recodes item)) items)

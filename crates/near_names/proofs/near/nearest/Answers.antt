@@ -3,7 +3,7 @@ use Rattle.std.specs.Prelude.{if◌then◌else◌}
 use Rattle.std.proofs.lemmas.Grind.{common_steps}
 use Rattle.near_names.proofs.near.nearest.Goals as goal
 
--- the distance that is told of a name that is near
+-- the distance that is known of a name that is near
 told : (near : Bool) (letters distance : ℕ) → Some letters ≡ (if near then Some distance else None) → letters ≡ distance
 told true letters distance e = cc
 told false letters distance e = cc

@@ -6,7 +6,7 @@ use Rattle.ls_history.specs.Told.{heard_of}
 use Rattle.ls_threads.specs.Reading.{IsTold, Replies}
 use Rattle.ls_threads.proofs.reading.Reader.tell.Goals as goal
 
--- what whoever asked is told, by the body that was made
+-- what is said to whoever asked, by the body that was made
 by_body : (wanted : Option (List ℕ)) (made known : Option (Vec ℕ Global)) → option_map (λ (b : Vec ℕ Global). b.items) made ≡ wanted → made ≡ known
     → wanted ≡ option_map (λ (b : Vec ℕ Global). b.items) known
 by_body wanted made known said is = sym said ∙ ap (option_map (λ (b : Vec ℕ Global). b.items)) is
