@@ -19,6 +19,7 @@ import sys
 import reference
 from edits.functions import Source
 from reference import DEFINITIONS, FUNCTIONS
+from rows import report_faults
 from workspace import TOP, crates
 
 ERRORS = "Errors"
@@ -90,11 +91,7 @@ def all_sources():
 
 
 def main():
-    found = [*seen_of(all_sources()).faults(LEAST)]
-    for line in found:
-        print(f"comments: {line}")
-    print(f"comments: {'all that must be there' if not found else 'FAILED'}")
-    return 1 if found else 0
+    return report_faults("comments", seen_of(all_sources()).faults(LEAST), "all that must be there")
 
 
 if __name__ == "__main__":

@@ -22,6 +22,7 @@ import re
 import sys
 
 import figures
+from rows import report_faults
 from workspace import EDITS, NO_COMPILE, SAME_MEANING, TOP, crates, out_of_place, places, text_of
 
 COUNTS = os.path.join(TOP, "counts.txt")
@@ -253,11 +254,7 @@ def main(words):
         listed = raise_all(listed)
     elif words:
         sys.exit("usage: tools/counts.py [--raise]")
-    found = [*faults(listed)]
-    for line in found:
-        print(f"counts: {line}")
-    print(f"counts: {'as counts.txt has them' if not found else 'FAILED'}")
-    return 1 if found else 0
+    return report_faults("counts", faults(listed), "as counts.txt has them")
 
 
 if __name__ == "__main__":

@@ -26,7 +26,7 @@ import re
 import sys
 from typing import Any, NamedTuple
 
-from rows import TOP
+from rows import TOP, report_faults
 
 ARCHITECTURE, DEFINITIONS, PROOFS, README = "docs/ARCHITECTURE.md", "docs/DEFINITIONS.md", "docs/PROOFS.md", "README.md"
 QUOTING = ("docs/TRUST.md", "docs/CONTRACTS.md")
@@ -437,11 +437,7 @@ def faults(tree):
 
 
 def main():
-    found = [*faults(whole_tree())]
-    for line in found:
-        print(f"documents: {line}")
-    print(f"documents: {'as the repository is' if not found else 'FAILED'}")
-    return 1 if found else 0
+    return report_faults("documents", faults(whole_tree()), "as the repository is")
 
 
 if __name__ == "__main__":

@@ -57,6 +57,15 @@ def report(cases):
     return 1 if failed or not passed else 0
 
 
+def report_faults(tool, faults, good):
+    """Prints what a tool has found to be wrong, and at last that nothing is, in the tool's words. Gives its status."""
+    found = [*faults]
+    for line in found:
+        print(f"{tool}: {line}")
+    print(f"{tool}: {'FAILED' if found else good}")
+    return 1 if found else 0
+
+
 def programs_of(words, *others):
     """The programs that are named, with these others in place of those that aren't; and whether --all stands among the words."""
     named = [word for word in words if word != "--all"]
