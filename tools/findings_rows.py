@@ -22,7 +22,7 @@ The file - is standard input.
   --rules          prints the rules and their shortest strings instead
   --grammar        prints the grammars themselves instead
   --with FILE      the names that FILE defines are known; it may stand more than once
-  --format FORMAT  what all files are written in: abnf, markdown or xml
+  --format FORMAT  what each FILE is written in: abnf, markdown or xml
   --               what follows are files, whatever their names are
   --help           prints this
   --version        prints the version
@@ -248,7 +248,7 @@ WITH_ROWS = (
         ("4:3: a: generates nothing",),
     ),
     (("a.md", "text"), (("core.abnf", CORE),), NO_GRAMMAR, ()),
-    (("a.abnf", 'a = "x"'), (("none.md", "text"),), (), ("1:1: a: shortest length 1: x",)),
+    (("a.abnf", 'a = "x"'), (("none.md", "```abnf\n```\n"),), (), ("1:1: a: shortest length 1: x",)),
     (("a.xml", "<rfc><!-- a"), (("core.abnf", CORE),), ("1:6: error: comment without an end [xml]",), None),
 )
 
@@ -347,6 +347,19 @@ def with_cases(program, files):
     is_bad = printed(bad, ("1:5: error: bad character [syntax]",))
     too_large = outcome(program, None, ["--with", core, widest, bad])
     yield "a joined grammar that is too large", too_large, (2, f"not a text: {widest}\n".encode(), is_bad)
+    plain, empty = files.written("plain.md", 'a = OWS "x"'), files.written("empty.md", "text")
+    warned = printed(empty, NO_GRAMMAR)
+    yield "a file of --with that has no grammar", outcome(program, None, ["--with", empty, "--with", core, core]), (0, b"", warned)
+    yield "strict, one that has none", outcome(program, None, ["--strict", "--with", empty, core]), (1, b"", warned)
+    yield "one that has none, beside an error", outcome(program, None, ["--with", empty, bad]), (1, b"", warned + is_bad)
+    yield "rules beside one that has none", outcome(program, None, ["--rules", "--with", empty, core])[::2], (0, printed(core, ("1:1: OWS: shortest length 0: ", "2:1: RWS: shortest length 1:  ")))
+    unread = outcome(program, None, ["--with", empty, "--with", none, core])
+    yield "one that has none, and one that can't be read", unread, (2, f"cannot read {none}\n".encode(), warned)
+    for words in (["--format", "abnf", "--with", core, plain], ["--with", core, "--format", "abnf", plain]):
+        yield f"{' '.join(words[:2])}, and a known file by its name", outcome(program, None, ["--strict", *words]), (0, b"", b"")
+    fenced = files.written("fenced.abnf", "```abnf\na = OWS\n```\n")
+    known = outcome(program, None, ["--format", "markdown", "--with", core, "--strict", fenced])
+    yield "--format markdown, and a known file that is a grammar by its name", known, (0, b"", b"")
     own = [os.path.join(rows.TOP, "examples", *it) for it in (("rfc3986.abnf",), ("known", "rfc9110.abnf"))]
     link = files.written("link.abnf", 'Link = "<" URI-Reference ">" *( ows ";" OWS token [ BWS "=" BWS ( token / quoted-string ) ] )')
     yield "names of standards", outcome(program, None, ["--strict", "--with", own[0], "--with", own[1], link]), (0, b"", b"")

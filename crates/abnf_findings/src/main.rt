@@ -6,8 +6,8 @@
 
 use findings_arguments::{Arguments, Asked, Request, help, request_of};
 use findings_files::{
-    Ending, FileFault, Format, Known, Outcome, Snapshot, Text, ending_of, fault_line, print_as,
-    print_grammar_as, print_rules_as, read_text,
+    Ending, FileFault, Format, Known, Outcome, Printed, Snapshot, Text, ending_of, fault_line,
+    print_as, print_grammar_as, print_rules_as, read_text,
 };
 use std::io::{ErrorKind, Write};
 use std::process::ExitCode;
@@ -32,7 +32,7 @@ fn words_of(rt: &HostRuntime) -> Result<Vec<Text>, Ending> {
     Ok(words)
 }
 
-/// The format of a file: that which is named for all, else that of its name.
+/// The format of a file of which something is asked: that which is named for these, else that of its name.
 fn format_of(arguments: &Arguments, file: &str) -> Format {
     match arguments.format {
         Some(format) => format,
@@ -62,29 +62,46 @@ fn tell_fault(rt: &HostRuntime, fault: FileFault, file: &str) -> Result<Outcome,
     Ok(Outcome::NotRead)
 }
 
-/// Makes the names of a file known.
-fn add_known(
+/// Makes the names of a file known. What it is written in its name says.
+fn add_known(rt: &HostRuntime, known: &mut Known, file: &str) -> Result<Printed, FileFault> {
+    let text = text_at(rt, file)?;
+    known.add(rt.alloc(), file, Format::of_file(file), &text)
+}
+
+/// Makes the names of a file known, and prints its warning, if it has one and findings are asked for. How the file went.
+fn tell_known(
     rt: &HostRuntime,
     arguments: &Arguments,
     known: &mut Known,
     file: &str,
-) -> Result<(), FileFault> {
-    let text = text_at(rt, file)?;
-    known.add(rt.alloc(), format_of(arguments, file), &text)
+) -> Result<Outcome, Ending> {
+    let printed = match add_known(rt, known, file) {
+        Ok(printed) => printed,
+        Err(fault) => return tell_fault(rt, fault, file),
+    };
+    match arguments.asked {
+        Asked::Findings | Asked::StrictFindings => {
+            say(rt, printed.lines.as_str())?;
+            Ok(printed.outcome)
+        }
+        Asked::Rules | Asked::Grammar => Ok(Outcome::Clean),
+    }
 }
 
-/// The files whose names are known. Each that can't be used is reported, and then it ends.
-fn known_files(rt: &HostRuntime, arguments: &Arguments) -> Result<Known, Ending> {
+/// The files whose names are known, and how each of them went. Each that can't be used is reported, and then it ends.
+fn known_files(rt: &HostRuntime, arguments: &Arguments) -> Result<(Known, Vec<Outcome>), Ending> {
     let mut known = Known::new(rt.alloc());
+    let mut outcomes = Vec::new(rt.alloc());
     let mut all_read = true;
     for file in arguments.with.as_slice() {
-        if let Err(fault) = add_known(rt, arguments, &mut known, file.as_str()) {
-            tell_fault(rt, fault, file.as_str())?;
-            all_read = false;
+        let outcome = tell_known(rt, arguments, &mut known, file.as_str())?;
+        all_read = all_read && outcome != Outcome::NotRead;
+        if outcomes.push(outcome).is_err() {
+            return Err(Ending::OutOfMemory);
         }
     }
     if all_read {
-        Ok(known)
+        Ok((known, outcomes))
     } else {
         Err(Ending::NotRead)
     }
@@ -139,8 +156,7 @@ fn tell(
 
 /// Prints what is asked of the files.
 fn tell_all(rt: &HostRuntime, arguments: &Arguments) -> Result<Ending, Ending> {
-    let known = known_files(rt, arguments)?;
-    let mut outcomes = Vec::new(rt.alloc());
+    let (known, mut outcomes) = known_files(rt, arguments)?;
     for file in arguments.files.as_slice() {
         let outcome = tell(rt, arguments, &known, file.as_str())?;
         if outcomes.push(outcome).is_err() {

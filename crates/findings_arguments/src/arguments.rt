@@ -26,9 +26,9 @@ pub enum Asked {
 pub struct Arguments {
     /// What is asked of each file.
     pub asked: Asked,
-    /// What all files are written in; where it is `None` their names say it.
+    /// What the files are written in of which something is asked; where it is `None` their names say it.
     pub format: Option<Format>,
-    /// The files whose names are known.
+    /// The files whose names are known; what each is written in its name says.
     pub with: List<Text>,
     /// The files of which something is asked, in their order.
     pub files: List<Text>,

@@ -19,7 +19,7 @@ fn options() -> &'static [&'static str]
         "  --rules          prints the rules and their shortest strings instead",
         "  --grammar        prints the grammars themselves instead",
         "  --with FILE      the names that FILE defines are known; it may stand more than once",
-        "  --format FORMAT  what all files are written in: abnf, markdown or xml",
+        "  --format FORMAT  what each FILE is written in: abnf, markdown or xml",
         "  --               what follows are files, whatever their names are",
         "  --help           prints this",
         "  --version        prints the version",

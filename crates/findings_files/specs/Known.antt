@@ -47,6 +47,16 @@ IsNotAdded (Err found) NotText = Unit {0}
 IsNotAdded (Err found) Memory = Unit {0}
 IsNotAdded (Err found) CannotRead = ⊥
 
+-- What is printed of a file whose names are known, with this grammar: nothing, or, of a draft without a block of grammar, a warning.
+abbrev pub printed_source : List ℕ → List Sourced → Printed
+printed_source file [] = record { lines = no_grammar_line file; outcome = Warnings }
+printed_source file (c ∷ cs) = record { lines = []; outcome = Clean }
+
+-- This is printed of a file whose names are known, of which this is gathered; of one at fault nothing is.
+abbrev pub IsPrintedSource : List ℕ → Result (List Sourced) XmlFault → Printed → Type 0
+IsPrintedSource file (Ok grammar) printed = printed ≡ printed_source file grammar
+IsPrintedSource file (Err found) printed = ⊥
+
 -- ---- the findings
 
 -- This is printed of a grammar to which others are joined: the lines of the findings that stand in it, at their places in the

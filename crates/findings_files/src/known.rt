@@ -45,15 +45,23 @@ impl Known {
         }
     }
 
-    /// Adds the grammar of a file of this format, left aligned, behind those that are known. Time goes by the length of
-    /// the file.
+    /// Adds the grammar of a file with this name and this format, left aligned, behind those that are known. What is
+    /// printed of the file itself is nothing, or, of a draft without a grammar, a warning. Time goes by the length of the
+    /// file, in bytes.
     ///
     /// # Errors
     ///
     /// `NotText` only where the file is a draft in XML that is at fault, or its grammar is larger than a text may be, and
     /// `Memory` where an allocation is refused. Then no file is added.
-    pub fn add(&mut self, alloc: Global, format: Format, text: &Snapshot) -> Result<(), FileFault>
+    pub fn add(
+        &mut self,
+        alloc: Global,
+        file: &str,
+        format: Format,
+        text: &Snapshot,
+    ) -> Result<Printed, FileFault>
         ensures added { OnOk result (spec.IsAdded (spec.grammar_in format text.now) self.old self.new) }
+        ensures printed { IfOk result (λ printed. spec.IsPrintedSource file.now (spec.grammar_in format text.now) printed) }
         ensures fault { IfErr result (λ fault. (fault ≡ FileFault.Memory) ⊎ spec.IsNotAdded (spec.grammar_in format text.now) fault) }
         ensures same { OnErr result (self.new ≡ self.old) }
     {
@@ -62,9 +70,10 @@ impl Known {
             Err(XmlFault::Memory) => return Err(FileFault::Memory),
             Err(_) => return Err(FileFault::NotText),
         };
+        let printed = print_source(alloc, file, &grammar)?;
         let text = text_of(alloc, &grammar)?;
         match self.grammars.push(text) {
-            Ok(()) => Ok(()),
+            Ok(()) => Ok(printed),
             Err(_) => Err(FileFault::Memory),
         }
     }
@@ -74,6 +83,17 @@ impl Known {
         ensures { result.now ≡ self.now }
     {
         self.grammars.as_slice()
+    }
+}
+
+/// What is printed of a file whose names are known, with this grammar.
+fn print_source(alloc: Global, file: &str, grammar: &Gathered) -> Result<Printed, FileFault>
+    ensures printed { IfOk result (λ printed. printed ≡ spec.printed_source file.now grammar.now) }
+    ensures fault { IfErr result (λ fault. fault ≡ FileFault.Memory) }
+{
+    match grammar.origin_of(0) {
+        None => no_grammar_in(alloc, file),
+        Some(_) => Ok(clean(Text::new(String::new(alloc)))),
     }
 }
 

@@ -24,7 +24,7 @@ pub fn known_of(alloc: Global, files: &[File]) -> Result<Known, FileFault> {
     let mut known = Known::new(alloc);
     for (format, text) in files {
         let text = snapshot(alloc, text)?;
-        known.add(alloc, *format, &text)?;
+        known.add(alloc, "k", *format, &text)?;
     }
     Ok(known)
 }

@@ -1,7 +1,7 @@
 //! What is printed of files where the names of others are known, written out by hand.
 
 use crate::texts::{File, known_of, snapshot};
-use findings_files::{FileFault, Format, Outcome, Printed, print_as, print_rules_as};
+use findings_files::{FileFault, Format, Known, Outcome, Printed, print_as, print_rules_as};
 use std::alloc::Global;
 
 /// A file that is called `f`, the files whose names are known, and what is printed.
@@ -264,10 +264,42 @@ fn tells_rules(rt: HostRuntime) -> Result<(), FileFault> {
 fn refuses_drafts_at_fault(rt: HostRuntime) -> Result<(), FileFault> {
     let mut known = known_of(rt.alloc(), &[(Format::Abnf, "b = \"x\"\n")])?;
     let draft = snapshot(rt.alloc(), "<rfc><!-- a")?;
-    let added = known.add(rt.alloc(), Format::Xml, &draft);
-    assert!(rt; added == Err(FileFault::NotText));
+    let added = known.add(rt.alloc(), "k", Format::Xml, &draft);
+    assert!(rt; matches!(added, Err(FileFault::NotText)));
     let text = snapshot(rt.alloc(), "a = b\n")?;
     let found = print_as(rt.alloc(), "f", Format::Abnf, &text, &known)?;
     assert!(rt; found.lines.as_str() == "");
+    Ok(())
+}
+
+/// What is printed of a file that is called `k`, and becomes known.
+fn added(alloc: Global, file: File) -> Result<Printed, FileFault> {
+    let mut known = Known::new(alloc);
+    let text = snapshot(alloc, file.1)?;
+    known.add(alloc, "k", file.0, &text)
+}
+
+#[test]
+fn warns_of_known_drafts_without_a_grammar(rt: HostRuntime) -> Result<(), FileFault> {
+    for file in [
+        (Format::Markdown, "text\n"),
+        (Format::Markdown, ""),
+        (Format::Xml, "<rfc/>"),
+    ] {
+        let found = added(rt.alloc(), file)?;
+        assert!(rt;
+            found.lines.as_str() == "k:1:1: warning: no grammar in this draft [no-grammar]\n"
+        );
+        assert!(rt; found.outcome == Outcome::Warnings);
+    }
+    for file in [
+        (Format::Markdown, "```abnf\n```\n"),
+        (Format::Abnf, ""),
+        (Format::Abnf, "a = ?"),
+    ] {
+        let found = added(rt.alloc(), file)?;
+        assert!(rt; found.lines.as_str() == "");
+        assert!(rt; found.outcome == Outcome::Clean);
+    }
     Ok(())
 }

@@ -13,7 +13,7 @@ options =
     ∷ codes "  --rules          prints the rules and their shortest strings instead"
     ∷ codes "  --grammar        prints the grammars themselves instead"
     ∷ codes "  --with FILE      the names that FILE defines are known; it may stand more than once"
-    ∷ codes "  --format FORMAT  what all files are written in: abnf, markdown or xml"
+    ∷ codes "  --format FORMAT  what each FILE is written in: abnf, markdown or xml"
     ∷ codes "  --               what follows are files, whatever their names are"
     ∷ codes "  --help           prints this"
     ∷ codes "  --version        prints the version"
