@@ -18,7 +18,7 @@ ROOT = """//! What the crate is for.
 
 mod inner;
 
-pub use inner::{Fault, Pair, made, law};
+pub use inner::{Fault, Pair, made, law, pairs};
 
 /// How many there are.
 pub const MOST: usize = 3;
@@ -47,9 +47,14 @@ impl Pair {
         made(alloc)
     }
 
-    fn half(&self) -> u8 {
-        self.left
+    fn hidden(&self) -> bool {
+        self.left == 0
     }
+}
+
+/// So many pairs.
+pub fn pairs(count: usize) -> Vec<Pair> {
+    Vec::new()
 }
 
 impl From<AllocError> for Fault {
@@ -95,20 +100,22 @@ module _ (n : ℕ) where
 """
 FILES = {"src/lib.rt": ROOT, "src/inner.rt": INNER, "specs/Lib.antt": "pub mod Sums\n", "specs/Sums.antt": SUMS}
 # Of each kind how many are looked at there.
-LOOKED = {"Types": 3, "Functions": 2, "Laws": 1, "Definitions": 3, "Errors": 2}
+LOOKED = {"Types": 3, "Functions": 3, "Laws": 1, "Definitions": 3, "Errors": 2, "Numbers": 1}
 # A change of a file, and what is then found to lack something, by its kind.
 CHANGES = (
     ("src/lib.rt", "/// How many there are.\n", "", ("Types", "crates/made/src/lib.rt: MOST")),
     ("src/inner.rt", "/// Two numbers.\n", "", ("Types", "crates/made/src/inner.rt: Pair")),
     ("src/inner.rt", "/// Two numbers.\n", "///\n", ("Types", "crates/made/src/inner.rt: Pair")),
     ("src/inner.rt", "/// Two numbers.\n", "// Two numbers.\n", ("Types", "crates/made/src/inner.rt: Pair")),
-    ("src/inner.rt", "    fn half", "    pub fn half", ("Functions", "crates/made/src/inner.rt: inner::Pair::half")),
+    ("src/inner.rt", "    fn hidden", "    pub fn hidden", ("Functions", "crates/made/src/inner.rt: inner::Pair::hidden")),
     ("src/inner.rt", "/// Each pair has a sum.\n", "", ("Laws", "crates/made/src/inner.rt: inner::law")),
     ("src/inner.rt", "    /// # Errors\n", "", ("Errors", "crates/made/src/inner.rt: inner::Pair::copy")),
     ("src/inner.rt", "    /// # Errors\n", "    /// Errors\n", ("Errors", "crates/made/src/inner.rt: inner::Pair::copy")),
     ("src/inner.rt", " It is refused memory alone.", "", ("Errors", "crates/made/src/inner.rt: inner::made")),
-    ("src/inner.rt", "    fn half(&self) -> u8 {", "    /// A half.\n    pub fn half(&self) -> std::Result<u8, Fault> {", ("Errors", "crates/made/src/inner.rt: inner::Pair::half")),
-    ("src/lib.rt", "made, law", "made, law, not_handed_on", ("Functions", "crates/made/src/inner.rt: inner::not_handed_on")),
+    ("src/inner.rt", "    fn hidden(&self) -> bool {", "    /// Whether it is.\n    pub fn hidden(&self) -> std::Result<bool, Fault> {", ("Errors", "crates/made/src/inner.rt: inner::Pair::hidden")),
+    ("src/inner.rt", "/// So many pairs.\n", "/// Some pairs.\n", ("Numbers", "crates/made/src/inner.rt: inner::pairs")),
+    ("src/inner.rt", "made(alloc: Global)", "made(alloc: Global, left: u8)", ("Numbers", "crates/made/src/inner.rt: inner::made")),
+    ("src/inner.rt", "copy(&self, alloc: Global)", "copy(&self, alloc: Global, left: u8)", ("Numbers", "crates/made/src/inner.rt: inner::Pair::copy")),
     ("specs/Sums.antt", "-- the sum of a pair\n", "", ("Definitions", "crates/made/specs/Sums.antt: Sum")),
     ("specs/Sums.antt", "-- the sum of a pair\n", "-- the sum of a pair\n\n", ("Definitions", "crates/made/specs/Sums.antt: Sum")),
     ("specs/Sums.antt", "abbrev half", "abbrev pub half", ("Definitions", "crates/made/specs/Sums.antt: half")),
@@ -118,6 +125,7 @@ CHANGES = (
 )
 # Changes by which nothing comes to lack anything.
 HARMLESS = (
+    ("src/inner.rt", "made(alloc: Global)", "made(alloc: Global, left: &[u8])"),
     ("specs/Sums.antt", "abbrev mutual\n", "-- even and odd numbers\nabbrev mutual\n"),
     ("src/inner.rt", "-> Result<Pair, AllocError> {", "-> Pair {"),
     ("src/inner.rt", "    fn from(", "    /// Memory is refused.\n    fn from("),
@@ -147,6 +155,8 @@ def fault_cases():
     yield "a type without a comment", [*few.faults(LOOKED)], ["crates/made/src/lib.rt: MOST: no comment"]
     unsaid = seen_with("src/inner.rt", " It is refused memory alone.", "")
     yield "a function that doesn't say when it fails", [it.rpartition(": ")[2] for it in unsaid.faults(LOOKED)], ["nothing says when it fails"]
+    uncounted = seen_with("src/inner.rt", "/// So many pairs.\n", "/// Some pairs.\n")
+    yield "a function whose number counts nothing", [it.rpartition(": ")[2] for it in uncounted.faults(LOOKED)], ["nothing says what its numbers count"]
     for kind, count in LOOKED.items():
         line = f"of {kind} {count} were looked at, and at least {count + 1} must be"
         yield f"too few {kind}", [*seen_with().faults({**LOOKED, kind: count + 1})], [line]

@@ -4,7 +4,7 @@
     tools/reference.py [FOLDER]
 
 A function stands with the comment above it, its signature and its contract as they are in the code, and the edits of it that the prover
-must refuse; a definition with the comment above it, and the edits that change it. The folder (out/reference where none is named) then has
+must refuse; a type with what contracts see of it (its `impl Model`); a definition with the comment above it, and the edits that change it. The folder (out/reference where none is named) then has
 `index.html`, with a search over all names, a page for each crate, in which a word that is defined leads to its definition, and all of it as
 plain text in `reference.txt`, for grep. It takes seconds and proves nothing.
 """
@@ -32,6 +32,11 @@ CYCLE, IN_A_CYCLE = re.compile(r"(?:infix\w* .*\n)?(?:\w+ )*mutual\n"), re.compi
 WITH_PARAMETERS = re.compile(r"module _ .*where\n")
 # A field that isn't public, with the comments and attributes above it.
 PRIVATE_FIELD = re.compile(r"(?m)^(?: {4}(?:///|#\[).*\n)* {4}(?:pub\(\w+\) )?\w+: .*\n")
+# What contracts see of a type, and what isn't shown of that.
+MODEL = re.compile(r"(?ms)^impl(?:<[^>]*>)? Model for (\w+)[^{]*\{\n.*?^\}$")
+NOT_SHOWN = re.compile(r"(?m)^    (?:ghost use|//) .*\n\n?")
+# The first lines of the plain text.
+HOW_TO = "Each entry begins with a line of its name: grep -n -- '---- .*NAME ' reference.txt\n"
 WORD = re.compile(r"[^\W\d][\w.-]*")
 TYPES, FUNCTIONS, LAWS, DEFINITIONS = SECTIONS = ("Types", "Functions", "Laws", "Definitions")
 
@@ -107,12 +112,13 @@ def functions_of(source, door, edits):
 def types_of(source, door):
     """The public types and constants of a crate."""
     for (path, text), tokens in zip(source.texts.items(), syntax.tokens_of([*source.texts.values()])):
+        models = {it[1]: f"\n\n{NOT_SHOWN.sub('', it[0])}" for it in MODEL.finditer(text)}
         reader = Reader(text, tokens)
         reader.items(0, len(tokens))
         for name, start, end in reader.values:
             comment, found = parted(text[start:end], "///")
             if re.search("(?m)^pub ", found) and door.has(name, module_of(path)):
-                yield Entry(TYPES, name, path, comment, PRIVATE_FIELD.sub("", found), ())
+                yield Entry(TYPES, name, path, comment, PRIVATE_FIELD.sub("", found) + models.get(name, ""), ())
 
 
 # ---- definitions
@@ -192,9 +198,12 @@ STYLE = (
     "body{font:15px/1.5 sans-serif;max-width:60em;margin:2em auto;padding:0 1em}pre{background:#f5f5f2;padding:.7em;overflow-x:auto}"
     "a{color:#034}h3{margin-bottom:.2em}.at{color:#666;font-size:85%}li{list-style:none}input{font-size:110%;width:100%}"
 )
+# A name that is just what is typed comes first, then names that begin so, then all that have it somewhere.
 SEARCH = (
-    "const all=[...document.querySelectorAll('li')];document.querySelector('input').oninput=event=>{"
-    "const word=event.target.value.toLowerCase();for(const it of all)it.hidden=!it.textContent.toLowerCase().includes(word)}"
+    "const list=document.querySelector('ul'),all=[...list.children];const rank=(it,word)=>it.dataset.name===word?0:"
+    "it.dataset.name.startsWith(word)?1:it.textContent.toLowerCase().includes(word)?2:3;document.querySelector('input').oninput=event=>{"
+    "const word=event.target.value.toLowerCase(),ranked=all.map((it,at)=>[rank(it,word),at,it]).sort((a,b)=>a[0]-b[0]||a[1]-b[1]);"
+    "for(const[found,,it]of ranked){it.hidden=found===3;list.append(it)}}"
 )
 
 
@@ -242,8 +251,13 @@ def crate_page(crate, links):
 
 
 def index_page(made):
-    found = sorted((it.name.lower(), html.escape(it.name), crate.name, it.section) for crate in made for it in crate.entries)
-    names = [f'<li><a href="{crate}.html#{name}">{name}</a> <span class="at">{crate}, {section}</span></li>' for _, name, crate, section in found]
+    # (by what it is called in its module, and there types first)
+    found = [(html.escape(it.name), crate.name, it.section) for crate in made for it in crate.entries]
+    called = sorted(((name.rpartition("::")[2].lower(), SECTIONS.index(section)), name, crate, section) for name, crate, section in found)
+    names = [
+        f'<li data-name="{word}"><a href="{crate}.html#{name}">{name}</a> <span class="at">{crate}, {section}</span></li>'
+        for (word, _), name, crate, section in called
+    ]
     about = [f'<p><a href="{it.name}.html">{it.name}</a>: {html.escape(it.about.partition(chr(10) * 2)[0])}</p>' for it in made]
     return page("Reference", '<input placeholder="a name" autofocus>', *about, "<ul>", *names, f"</ul><script>{SEARCH}</script>")
 
@@ -264,7 +278,7 @@ def main(folder=FOLDER):
     for it in made:
         write(f"{folder}/{it.name}.html", crate_page(it, links))
     write(f"{folder}/index.html", index_page(made))
-    write(f"{folder}/reference.txt", "\n".join(line for it in made for line in plain(it)))
+    write(f"{folder}/reference.txt", "\n".join([HOW_TO, *(line for it in made for line in plain(it))]))
     print(f"{folder}/index.html: {len(made)} crates, {sum(len(it.entries) for it in made):,} entries")
     return 0
 

@@ -49,6 +49,15 @@ pub struct Hidden {
     pub a: u8,
 }
 
+impl Model for Pair {
+    ghost use Rattle.std.specs.Prelude.{ℕ};
+
+    // what the left one is
+    ghost Value = { ℕ };
+
+    ghost view = { λ p. p.left };
+}
+
 impl Pair {
     /// The sum.
     ///
@@ -160,7 +169,11 @@ ENTRIES = [
 ]
 # The comment and the text of some.
 TEXTS = {
-    "Pair": ("Two numbers.", "#[derive(Drop)]\npub struct Pair {\n    /// The left one, in bytes.\n    pub left: u8,\n}"),
+    "Pair": (
+        "Two numbers.",
+        "#[derive(Drop)]\npub struct Pair {\n    /// The left one, in bytes.\n    pub left: u8,\n}\n\n"
+        "impl Model for Pair {\n    ghost Value = { ℕ };\n\n    ghost view = { λ p. p.left };\n}",
+    ),
     "MOST": ("How many there are, at most.", "pub const MOST: usize = 3;"),
     "inner::Pair::sum": ("The sum.\n\n# Errors\nNone.", "pub fn sum(&self) -> u8\n    ensures { result ≡ Sum self.now }"),
     "inner::law": ("Each pair has a sum.", "pub fn law()\n    ensures { (p : Pair) → Sum p ≡ Sum p }"),
@@ -189,6 +202,9 @@ def cases():
         yield f"where {word} is defined", links.place(crate, word), wanted
     yield "a text with links", links.linked(crate, "Sum < amp"), '<a href="made.html#Sum">Sum</a> &lt; amp'
     yield "what isn't below is no link", links.linked(low, "Sum"), "Sum"
+    index = reference.index_page([crate])
+    yield "a name in the index", '<li data-name="sum"><a href="made.html#inner::Pair::sum">inner::Pair::sum</a>' in index, True
+    yield "how many names are in the index", index.count("<li data-name="), len(ENTRIES)
     said = "\n".join(reference.plain(crate))
     yield "as plain text", [f"---- {name} ({section}, crates/made/" in said for section, name, _ in ENTRIES], [True] * len(ENTRIES)
     yield "edits as plain text", said.count("Edits that are refused: another_sum\n"), 1

@@ -1,4 +1,4 @@
-//! What is kept of each of the two texts that were diagnosed last: the text, what was found in it, and the digests of its blocks.
+//! What is kept of each of the four texts that were diagnosed last: the text, what was found in it, and the digests of its blocks.
 //!
 //! [`Diagnosed::followed`] goes over to another text, which differs from it in a part. Where nothing was found in the part, and its lines
 //! say the same of blocks before and after (they differ in layout, comments, the case of names, quoted texts and prose alone), what is

@@ -130,7 +130,7 @@ impl<C: BookName> Front<C> {
         Ok(Some(job))
     }
 
-    /// Gives a job back that wasn't run, as [`Desk::give_back`] does. The history has it.
+    /// Gives back the job with this ticket, which wasn't run, as [`Desk::give_back`] does. The history has it.
     ///
     /// # Errors
     ///
