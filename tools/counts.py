@@ -60,18 +60,6 @@ LIKE_A_TEST = re.compile(r"(?m)^((?: *#\[.*\]\n)*) *(?:pub(?:\(\w+\))? )?fn (\w+
 ROOTS = ("lib.rt", "main.rt", "mod.rt")
 # Where a module of specs/ is named
 SAID_IN = (".rt", ".antt")
-# Libraries that a crate is given though no text of it names them: it isn't known whether it is proved without.
-UNNAMED = {
-    "abnf_outcome": ("abnf_least", "abnf_cert"),
-    "ls_history": ("ls_rpc", "ls_text", "ls_lists"),
-    "ls_workers": ("logbook",),
-    "ls_bodies": ("abnf_syntax", "abnf_token", "ls_lists"),
-    "ls_steps": ("serde_json",),
-    "ls_threads": ("logbook",),
-    "ls_runs": ("ls_workers", "logbook", "ls_devices", "ls_frame"),
-    "worked_board": ("logbook",),
-    "refused_memory": ("ls_history", "logbook"),
-}
 # A module of what a crate says for itself alone
 OWN = re.compile(r"Rattle\.(\w+)\.specs\.own\.(\w+)")
 
@@ -227,8 +215,7 @@ def faults(listed):
     yield from misused({it[len("crates/") :]: text for it, text in said.items()})
     for crate, libraries in crates().items():
         own = [text for path, text in said.items() if path.startswith(f"crates/{crate}/")]
-        looked_for = [it for it in libraries if it not in UNNAMED.get(crate, ())]
-        yield from (f"crates/{crate}: {it}" for it in unnamed(looked_for, own))
+        yield from (f"crates/{crate}: {it}" for it in unnamed(libraries, own))
     for crate in names:
         texts = sources(crate)
         yield from (f"crates/{crate}/src/{it}" for some in (unmarked, unread) for it in some(texts))

@@ -2,11 +2,13 @@
 """Runs the gate, or the command that is given, and tells the processor minutes that each crate takes in it.
 
     tools/gate_minutes.py [--write] [COMMAND ..]
+    tools/gate_minutes.py --bounds LOG
 
 All that the command prints goes to out/gate.log. The table has, for each crate, the processor minutes of its proof, of its edits that
 must be refused and of the proof of its tests. They are read from /proc twice a second while the command runs. Below it stand the edits that
 are refused only at a bound. With --write all that goes into docs/GATE.md, in the place of what stands there: to be done from nothing, on a
-machine that does nothing else.
+machine that does nothing else. With --bounds only the edits at a bound do, as a log of tools/refused_edits.py has them, in which all edits
+were tried.
 """
 import collections
 import os
@@ -25,7 +27,7 @@ KINDS = ("proof", "edits", "tests")
 PAGE = os.path.join(TOP, "docs", "GATE.md")
 WIDTH = 100
 EDIT = re.compile(r"(?m)^(\w+)/([\w.-]+)\.edit: (refused, .*)")
-PLACE = re.compile(r"(?s)(<!-- the figures of one run -->\n).*?(<!-- their end -->)")
+FIGURES, BOUNDS = "the figures of one run", "the edits at a bound"
 
 
 def processes():
@@ -118,7 +120,28 @@ def wrapped(text):
     return "\n".join(textwrap.fill(it, WIDTH, subsequent_indent="  ", break_on_hyphens=False) for it in text.splitlines())
 
 
+def put(mark, text):
+    """Puts a text into the page, behind a mark and up to the end of what stands there."""
+    with open(PAGE, encoding="utf-8") as file:
+        page = file.read()
+    with open(PAGE, "w", encoding="utf-8") as file:
+        file.write(re.sub(rf"(?s)(<!-- {mark} -->\n).*?(<!-- their end -->)", lambda it: f"{it[1]}\n{text}\n\n{it[2]}", page))
+
+
+def put_bounds(path):
+    """Puts the edits at a bound into the page, if a log has all edits."""
+    with open(path, encoding="utf-8", errors="replace") as file:
+        log = file.read()
+    tried, there = {(crate, name) for crate, name, _ in EDIT.findall(log)}, sum(map(edits_of, crates()))
+    if len(tried) != there:
+        sys.exit(f"{path}: {len(tried)} edits were refused, and there are {there}")
+    put(BOUNDS, wrapped(at_a_bound(log)))
+    return 0
+
+
 def main(words):
+    if words[:1] == ["--bounds"]:
+        return put_bounds(*words[1:])
     does_write = words[:1] == ["--write"]
     os.makedirs(f"{TOP}/out", exist_ok=True)
     began = time.time()
@@ -130,14 +153,12 @@ def main(words):
     said = f"{(time.time() - began) / 60:.1f} minutes on {len(os.sched_getaffinity(0))} processors, {(used.ru_utime + used.ru_stime) / 60:.1f} of all together."
     with open(f"{TOP}/out/gate.log", encoding="utf-8", errors="replace") as file:
         log = file.read()
-    figures = f"{table(seconds, works)}\n\n{said}\n\n{wrapped(at_a_bound(log))}\n"
-    print(f"{figures}out/gate.log ends:")
+    figures, bounds = f"{table(seconds, works)}\n\n{said}", wrapped(at_a_bound(log))
+    print(f"{figures}\n\n{bounds}\n\nout/gate.log ends:")
     print("\n".join(log.splitlines()[-2:]))
     if does_write and not gate.returncode:
-        with open(PAGE, encoding="utf-8") as file:
-            page = file.read()
-        with open(PAGE, "w", encoding="utf-8") as file:
-            file.write(PLACE.sub(lambda it: f"{it[1]}\n{figures}\n{it[2]}", page))
+        put(FIGURES, figures)
+        put(BOUNDS, bounds)
     return gate.returncode
 
 

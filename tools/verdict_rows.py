@@ -46,6 +46,8 @@ OWN_HOLE = "depends on a hole in `Rattle.made.proofs.f.Proof.f_spec`"
 GOAL = "note: src/lib.rt:{}:5: it is not proved: a ≡ b"
 TWINS_GOAL, FS_GOAL, GS_GOAL = GOAL.format(12), GOAL.format(2), GOAL.format(22)
 BREAK = "note: what antt said of a `search` in the proof that rattle made: src/lib.rt:12:5: error: `search`: give the call less to do"
+GIVEN_UP = f"{TWINS_GOAL}; `search` gave up at one of its limits"
+VALUES = f"{TWINS_GOAL}; the facts known there allow values at which this goal is false"
 ANSWER = "proofs/f_twin0/Answers.antt:3:1: error: `returns`: the sides differ"
 NO_NAME = "proofs/f_twin0/Answers.antt:3:1: error: `returns`: `goal` has no field `loop`"
 LEMMA = "proofs/Laws.antt:3:1: error: `law`: the sides differ"
@@ -65,6 +67,7 @@ LOGS = (
     ("a search broke off", 1, [f"{F}{DONE}", BREAK, f"{TWIN}not proved", f"{G}{HOLE}", END], BOUND),
     ("a search broke off, and its goal is told too", 1, [f"{F}{DONE}", BREAK, TWINS_GOAL, f"{TWIN}not proved", f"{G}{HOLE}", END], BOUND),
     ("a search broke off beside a false goal", 1, [f"{F}{DONE}", BREAK, GOAL.format(13), f"{TWIN}not proved", f"{G}{HOLE}", END], REFUSED),
+    ("a search broke off, and values say no", 1, [f"{F}{DONE}", BREAK, VALUES, f"{TWIN}not proved", f"{G}{HOLE}", END], REFUSED),
     ("status 0 beside a fault", 0, CLEAN, NONE),
     ("status 2", 2, CLEAN, NONE),
     ("status 3", 3, CLEAN, NONE),
@@ -88,7 +91,9 @@ LOGS = (
     ("the witness has no proof", 1, [*CLEAN[:3], f"{G}no proof: its file is missing", END], NONE),
     ("a lemma fails", 1, [*CLEAN[:-1], LEMMA, END], NONE),
     ("the function without its edit is left out", 1, [f"{F}{OWN_HOLE}", *CLEAN[1:]], NONE),
-    ("a search gave up", 1, [f"{F}{DONE}", f"{TWINS_GOAL}; `search` gave up at one of its limits", *CLEAN[2:]], BOUND),
+    ("a search gave up", 1, [f"{F}{DONE}", GIVEN_UP, *CLEAN[2:]], BOUND),
+    ("a search gave up, and one at the same place went to its end", 1, [f"{F}{DONE}", GIVEN_UP, *CLEAN[1:]], REFUSED),
+    ("a search gave up, and values say no", 1, [f"{F}{DONE}", GIVEN_UP, VALUES, *CLEAN[2:]], REFUSED),
     ("the edited function can't be told", 1, [f"{F}{DONE}", f"{TWIN}could not tell", f"{G}{HOLE}", END], KEPT),
 )
 ALONE = (

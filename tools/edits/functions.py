@@ -42,9 +42,6 @@ class Function:
     def has_body(self):
         return bool(self.body().strip())
 
-    def whole(self):
-        return self.text[self.place.start : self.place.end]
-
     def renamed(self, name):
         """The whole function by another name."""
         return self.text[self.place.start : self.place.name_start] + name + self.text[self.place.name_end : self.place.end]

@@ -16,12 +16,15 @@ TOO_LONG, STALE = "its check took too long", "the kept work of a library could n
 # Nothing would come of it to try fewer edits.
 IS_FINAL = (TOO_LONG, STALE)
 LAST_LINES = ("logic=", "only=")
-# A goal that isn't proved, by its place. Where the search for it breaks off at its bound, rattle tells that in antt's words.
+# A goal that isn't proved, by its place. Where the search for it breaks off at its bound, its line says so, or antt's own words do, which
+# have the place alone. Of a goal that is false by values no search matters.
 GOAL = re.compile(
     r"note: (?:what antt said of a `search` in the proof that rattle made: )?(?:\./)?(src/[^:]*):(\d+):(\d+): "
     r"(?:it is not proved|`search` found no proof|error: `[^`]*`: give the call less to do)"
 )
-BROKE_OFF = re.compile(r"error: `[^`]*`: give the call less to do|`search` gave up at one of its limits")
+LESS_TO_DO = re.compile(r"error: `[^`]*`: give the call less to do")
+GAVE_UP = "`search` gave up at one of its limits"
+FALSE_BY_VALUES = "the facts known there allow values at which this goal is false"
 ERROR = re.compile(r"(?:\./)?(\S+?):\d+:\d+: error: (`[^`]*`(?:: | is not admitted)|\d+ declarations? that depend|module `)?")
 PROOF_FILE = re.compile(r"proofs/(.*)/(Answers|Proof|Invariants)\.antt")
 # What is proved, or was where the holes that it rests on are filled.
@@ -143,8 +146,8 @@ def is_lemma(name):
 def refusal(lines):
     """What to say of an edit that these lines show to be refused, or None where they don't."""
     lines = [it for it in lines if not SAYS_LITTLE.match(it)]
-    places = {GOAL.match(it)[0].partition("src/")[2].split(" ")[0] for it in lines if BROKE_OFF.search(it) and GOAL.match(it)}
-    to_their_end = [it for it in lines if not any(f"src/{place} " in it for place in places)]
+    places = {GOAL.match(it)[0].partition("src/")[2].split(" ")[0] for it in lines if LESS_TO_DO.search(it) and GOAL.match(it)}
+    to_their_end = [it for it in lines if FALSE_BY_VALUES in it or GAVE_UP not in it and not any(f"src/{place} " in it for place in places)]
     if to_their_end:
         return f"{REFUSED_TEXT}: {to_their_end[0][:160]}"
     return f"{BOUND_TEXT}: {lines[0][:160]}" if lines else None

@@ -1,7 +1,7 @@
 //! The part in which two texts differ.
 
-ghost use Rattle.std.specs.Prelude.{◌≤◌, ◌<◌, ◌^◌, ◌↔◌, IfSome, IsTrue, length};
-ghost use Rattle.abnf_syntax.specs.Blocks.{IsSeam};
+ghost use Rattle.std.specs.Prelude.{◌≢◌, ◌≤◌, ◌<◌, ◌^◌, ◌↔◌, IfNone, IfSome, IsTrue, length};
+ghost use Rattle.abnf_syntax.specs.Blocks.{IsSeam, base_indent};
 ghost use Rattle.abnf_digests.specs.Replaced.{AreReplaced};
 ghost use Rattle.abnf_kept.specs.own.Parts as spec;
 
@@ -137,7 +137,8 @@ impl Difference {
     /// The part in which two texts differ, between places over which no block goes in either of them; it is short where these are the blocks
     /// of our lines. There is none where the indents of their blocks differ.
     pub fn between(ours: &Sheet, theirs: &Sheet, blocks: &[BlockDigest]) -> Option<Difference>
-        ensures { IfSome result (λ part. AreReplaced ours.now theirs.now part.front part.old part.new) }
+        ensures some { IfSome result (λ part. AreReplaced ours.now theirs.now part.front part.old part.new) }
+        ensures none { IfNone result (base_indent ours.now ≢ base_indent theirs.now) }
     {
         if ours.base() != theirs.base() {
             return None;

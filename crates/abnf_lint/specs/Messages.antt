@@ -7,8 +7,8 @@ use Rattle.abnf_lint.specs.declared.finding.Code.TheVariants as c
 use Rattle.abnf_lint.specs.declared.message.Severity.{Severity}
 use Rattle.abnf_lint.specs.declared.message.Severity.TheVariants.{Error, Warning}
 
--- whether a finding is an error or a warning: rows 1 to 5 are errors, a text that is no rule, a name without a rule and a
--- second definition; rows 6 to 9 are warnings
+-- whether a finding is an error or a warning: a text that is no rule, a name without a rule and a second definition are
+-- errors; the others are warnings
 abbrev pub severity_of : Code → Severity
 severity_of (c.Syntax fault) = Error
 severity_of c.NumberTooLarge = Error

@@ -18,7 +18,7 @@ pub enum Severity {
 }
 
 impl Code {
-    /// Whether it is an error, as rows 1 to 5 are, or a warning, as rows 6 to 9.
+    /// Whether it is an error, as all are from `syntax` to `duplicate`, or a warning, as those behind them.
     pub fn severity(self) -> Severity
         ensures { result ≡ messages.severity_of self }
     {
@@ -33,7 +33,7 @@ impl Code {
         }
     }
 
-    /// The code as a text, as `empty-range`; of each fault of the syntax in row 1 it is `syntax`.
+    /// The code as a text, as `empty-range`; of each fault of the syntax it is `syntax`.
     pub fn text(self) -> &'static str
         ensures { result.now ≡ messages.code_text self }
     {

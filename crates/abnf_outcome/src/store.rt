@@ -1,6 +1,6 @@
 //! The digests of a text's blocks, as they are kept.
 
-ghost use Rattle.std.specs.Prelude.{◌≡◌, ◌+◌, ◌-◌, ◌<◌, ◌≤◌, ◌∷◌, ◌++◌, [], All, Some, Result, IfOk, OnOk, drop, is_some, length, map, option_map, slice_get, slice_range, take};
+ghost use Rattle.std.specs.Prelude.{◌≡◌, ◌+◌, ◌-◌, ◌<◌, ◌≤◌, ◌∷◌, ◌++◌, [], All, Some, Result, IfOk, OnErr, OnOk, drop, is_some, length, map, option_map, slice_get, slice_range, take};
 ghost use Rattle.abnf_syntax.specs.declared.fault.SyntaxFault.{SyntaxFault};
 ghost use Rattle.abnf_syntax.specs.declared.tree.Rule.{Rule};
 ghost use Rattle.abnf_syntax.specs.Bounds.{bounds};
@@ -161,11 +161,12 @@ impl Digests {
     ///
     /// # Errors
     ///
-    /// Where an allocation is refused.
+    /// Where an allocation is refused. Then nothing has changed.
     pub fn push_again(&mut self, at: usize, first: usize, behind: usize) -> Result<(), AllocError>
         requires { at < length self.old.kept }
-        ensures { OnOk result ((block : BlockDigest) → slice_get self.old.kept at ≡ Some block →
+        ensures ok { OnOk result ((block : BlockDigest) → slice_get self.old.kept at ≡ Some block →
             self.new ≡ record { table = self.old.table; words = self.old.words; kept = self.old.kept ++ at_lines first behind block ∷ [] }) }
+        ensures err { OnErr result (self.new ≡ self.old) }
     {
         let block = self.blocks[at];
         self.blocks.push(BlockDigest {

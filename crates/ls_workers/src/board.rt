@@ -22,7 +22,7 @@ use ls_machine::{ClientAnswer, ClientEvent};
 use std::alloc::{AllocError as Memory, Global};
 use std::sync::{Condvar, Mutex, Wait};
 
-/// A desk that several threads use, each through its seat, under one lock.
+/// A desk that several threads use, each through its seat, under one lock. The texts that its workers diagnosed last lie behind another.
 ///
 /// Whenever the lock is free, the history has led to where the desk stands, and says how the board has ended. The desk is what its legal
 /// journal leads to, as each desk is, and has the limits of the board's [`Crew`]. The book of each kind of event has the number of that
@@ -189,7 +189,8 @@ impl<C: Crew> Board<C> {
         job
     }
 
-    /// Gives a job back that wasn't run. It is queued again. It waits for the lock alone. The seat has seen all of the history each time.
+    /// Gives back the job with this ticket, which wasn't run. It is queued again. It waits for the lock alone. The seat has seen all of the
+    /// history each time.
     ///
     /// # Errors
     ///

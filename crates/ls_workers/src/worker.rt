@@ -1,5 +1,6 @@
 //! What a worker does.
 ghost use Rattle.std.specs.Prelude.{◌≡◌, IfNone, IfSome, true};
+ghost use Rattle.std.specs.Arc.{arc_value};
 ghost use Rattle.ls_workers.specs.Jobs.{HasNoJob, IsNotHeld};
 ghost use Rattle.ls_workers.specs.Refusals.{ends_work, may_refuse_run};
 
@@ -29,7 +30,10 @@ fn ended_by(fault: DeskFault) -> Option<DeskFault>
 /// Runs a job. What is found in a text is found with the help of a text near to it, if all workers together have diagnosed one lately: that
 /// is taken out meanwhile, and the job's own is kept then. No lock is held while the job runs.
 fn run_with_others<C: Crew, R: Wait>(rt: &R, alloc: Global, board: &Board<C>, job: Job) -> Done
-    ensures { result.ticket ≡ job.ticket }
+    ensures ticket { result.ticket ≡ job.ticket }
+    ensures text { result.text ≡ arc_value job.snapshot }
+    ensures encoding { result.encoding ≡ job.encoding }
+    ensures ask { result.ask ≡ job.ask }
 {
     let Ask::Diagnose = &job.ask else {
         return run(alloc, job);
@@ -72,7 +76,7 @@ fn run_one<C: Crew, R: Wait, G: Gate>(
 /// ran (`OtherText`), or memory was refused. Where a job ended meanwhile its run is dropped. `None` beside the seat: the board has ended by
 /// then, and by `Drain` no job was queued.
 ///
-/// It waits for jobs, and for the lock.
+/// It waits for jobs, and for the locks.
 pub fn work<C: Crew, R: Wait, G: Gate>(
     rt: &R,
     alloc: Global,

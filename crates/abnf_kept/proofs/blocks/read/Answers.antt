@@ -32,7 +32,7 @@ blocks-2-preserved-in_ok-push_again c =
     subst (λ (ks : List BlockDigest). IsLike before.sheet.now before.to ks others first end at) c.blocks-in-blocks-2.ensures both.2
     in
     copied_more before.sheet.now others c.args.from c.args.to c.args.digests.now c.blocks-2.digests first end at before.to both.1.0 both.1.1 c.blocks-2.invariant like
-    c.blocks-2-test.true c.requires.seams.1 c.next_block-end.ensures c.push_again.new.self c.in_ok-push_again.ensures
+    c.blocks-2-test.true c.requires.seams.1 c.next_block-end.ensures c.push_again.new.self c.in_ok-push_again.ensures.ok
 
 pub blocks-2-preserved : goal.blocks-2-preserved
 blocks-2-preserved c =

@@ -9,10 +9,10 @@ returns-then-not-wanted-clause-done g c = unwanted c.args.job.ticket _ (sym c.wa
 pub returns-in_default-clause-done : goal.returns-in_default-clause-done
 returns-in_default-clause-done g c =
     let P : ℕ → Type 0 = λ ticket. IsNotHeld ticket c.finish.new.seat.front in
-    subst P c.run_with_others-done.ensures (finished_not_held c.run_with_others-done.result c.in_default.field-0 _ c.finish.new.seat.front c.in_default.ensures.finished c.legal.ensures)
+    subst P c.run_with_others-done.ensures.ticket (finished_not_held c.run_with_others-done.result c.in_default.field-0 _ c.finish.new.seat.front c.in_default.ensures.finished c.legal.ensures)
 
 pub returns-clause-done : goal.returns-clause-done
 returns-clause-done g c =
     let P : ℕ → Type 0 = λ ticket. IsNotHeld ticket c.finish.new.seat.front in
     none_then c.ended_by.result
-    (λ is. subst P c.run_with_others-done.ensures (unknown_not_held c.run_with_others-done.result c.finish.new.seat.front c.in-Err.fault c.in-Err.ensures.cause is)) c.ended_by.ensures.none
+    (λ is. subst P c.run_with_others-done.ensures.ticket (unknown_not_held c.run_with_others-done.result c.finish.new.seat.front c.in-Err.fault c.in-Err.ensures.cause is)) c.ended_by.ensures.none

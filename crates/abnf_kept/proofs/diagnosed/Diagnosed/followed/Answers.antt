@@ -22,7 +22,7 @@ invariant_of-result c =
     let rows : AreRows other c.moved.result =
     elim c.if-is_clean.branch [
       | then-is_clean w ↦
-          rows_moved text other c.with_top-ours.result c.followed-theirs.result c.self.inside.findings c.as_slice.result.now c.moved.result c.in-Some.part ours theirs small there c.in-Some.ensures
+          rows_moved text other c.with_top-ours.result c.followed-theirs.result c.self.inside.findings c.as_slice.result.now c.moved.result c.in-Some.part ours theirs small there c.in-Some.ensures.some
           c.as_slice.ensures (c.is_clean.ensures w.if-is_clean.true) (w.say_the_same-moves.ensures (sym w.moves-is ∙ c.if-moves.true)) c.moved.ensures c.self.invariant.0
       | else-is_clean w ↦ absurd (cc (w.moves-is, c.if-moves.true))
     ]

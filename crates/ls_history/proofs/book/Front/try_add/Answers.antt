@@ -1,4 +1,4 @@
-use Rattle.std.proofs.Common.{◌≡◌, sym, ◌∙◌, ap, length}
+use Rattle.std.proofs.Common.{◌≡◌, sym, ◌∙◌, ap, length, rules}
 use Rattle.ls_history.specs.History.{MayHappen, replay}
 use Rattle.ls_history.specs.Places.{beginning}
 use Rattle.ls_history.proofs.Adding.{adds_moves}
@@ -19,3 +19,6 @@ compare_exchange-found-requires g c =
       offer.0,
       rw (ap (λ w. w.key) h, pen.1, offer.3 ∙ c.requires.plain) (adds_moves c.again-seen.result.log c.plain-offer.result.ask inside.count (c.self.invariant.0 ∙ sym (ap (λ s. length s.log) again)) may),
     )
+
+pub returns : goal.returns
+returns = search rules depth 3

@@ -1,4 +1,4 @@
-use Rattle.std.proofs.Common.{◌≡◌, ◌≤◌, Option, None, Some, sym, subst}
+use Rattle.std.proofs.Common.{◌≡◌, ◌≤◌, Option, None, Some, sym, subst, rules}
 use Rattle.ls_answers.specs.declared.job.Job.{Job}
 use Rattle.ls_machine.specs.Counts.{total}
 use Rattle.ls_desk.specs.Stands.{Seen, counts_of}
@@ -24,3 +24,6 @@ pub returns-in-Err-SessionFull-clause-fits : goal.returns-in-Err-SessionFull-cla
 returns-in-Err-SessionFull-clause-fits c =
     let P : Seen → Type 0 = λ d. total (counts_of d) ≤ d.max_events in
     subst P (sym c.in-Err-SessionFull.ensures.err.same) (sound_fits c.self.inside.desk c.self.invariant)
+
+pub returns-in_ok-push-in-Ok-Some-clause-taken : goal.returns-in_ok-push-in-Ok-Some-clause-taken
+returns-in_ok-push-in-Ok-Some-clause-taken = search rules depth 3
