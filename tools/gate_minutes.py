@@ -112,7 +112,7 @@ def at_a_bound(log):
         if is_at_a_bound(text):
             found[crate].append(f"`{name}`")
     total = sum(map(len, found.values()))
-    return "\n".join([f"{total} edits are refused only at a bound:", "", *(f"- `{it}`: {', '.join(names)}." for it, names in found.items())])
+    return "\n".join([f"{total} edits are refused only at a bound:", "", *(f"- `{it}`: {', '.join(found[it])}." for it in crates() if it in found)])
 
 
 def wrapped(text):
