@@ -4,7 +4,7 @@
     tools/broken_input.py [PROGRAM [COUNT [SEED]]]
 
 How each run must end, and which replies it must give, is told by a plain reading of the same bytes (`plain_messages`): the status and the line
-of the README's table, one reply for each request and for each body that is no message, by its id and with an error that there is, and findings
+of `man abnf_ls`, one reply for each request and for each body that is no message, by its id and with an error that there is, and findings
 no more than versions. COUNT streams are made from SEED, a number.
 """
 import collections
@@ -20,7 +20,7 @@ import session_rows
 from plain_messages import Plain
 
 COUNT, SEED = 4000, 1
-# The README's table
+# The framing faults of `man abnf_ls`, by their numbers
 FAULTS = ("", "HeaderTooLong", "BadHeader", "NoLength", "TwoLengths", "BadLength", "TooLarge", "Truncated")
 # The errors of docs/DEFINITIONS.md, but for want of memory
 ERRORS = {
