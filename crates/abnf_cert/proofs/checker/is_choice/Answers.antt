@@ -1,4 +1,4 @@
-use Rattle.std.proofs.Common.{◌<◌, ◌↔◌, IsTrue, arith, subst, sym}
+use Rattle.std.proofs.Common.{rules, ◌<◌, ◌↔◌, IsTrue, arith, subst, sym}
 use Rattle.abnf_cert.specs.own.Test.{entries_at}
 use Rattle.abnf_cert.specs.Accepted.{HasPair, top, IsChoice, entry_at}
 use Rattle.abnf_cert.proofs.Checked.{chosen, full_choice, first_choice}
@@ -22,3 +22,6 @@ returns-else-length c =
     let below : c.in-Least.length < top = omega arith in
     subst (λ e. IsTrue c.is_first_least.result ↔ IsChoice es e) (sym c.in-Least.is)
     (first_choice es c.in-Least.length c.in-Least.height c.in-Least.choice c.is_first_least.result is below c.is_first_least.ensures)
+
+pub returns-in-Nothing : goal.returns-in-Nothing
+returns-in-Nothing = search rules depth 3
