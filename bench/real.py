@@ -4,7 +4,7 @@
     bench/real.py [--time] [PROGRAM ['SERVER ..']]
 
 PROGRAM and SERVER are those of beside.py: what is left out is the crate served_plainly, and the server in plain Rust. The texts are the grammars of
-../examples and of grammars, each by itself; all of them as one text, in which each name that a grammar defines ends in that grammar's own; and
+../examples and ../grammars, each by itself; all of them as one text, in which each name that a grammar defines ends in that grammar's own; and
 generated shapes of 1,000 rules. Questions and keystrokes are about names at random places, the same ones on each run; typing is that of
 keystrokes.py, where a figure is that of one edit to its findings, on average.
 
@@ -51,7 +51,7 @@ def made_own(name, text):
 
 def grammars():
     """The grammars of standards by their names."""
-    files = [*glob.glob(os.path.join(TOP, "examples", "*.abnf")), *glob.glob(os.path.join(TOP, "bench", "grammars", "*.abnf"))]
+    files = [*glob.glob(os.path.join(TOP, "examples", "*.abnf")), *glob.glob(os.path.join(TOP, "grammars", "*.abnf"))]
     texts = {}
     for path in sorted(files, key=os.path.basename):
         with open(path, encoding="utf-8", newline="") as file:

@@ -27,7 +27,7 @@ from typing import NamedTuple
 from xml.sax.saxutils import escape, quoteattr
 
 import sums
-from install import CANNOT, IN_SNIPPETS, PROGRAMS, WRONG_USE, filled, read, snippets, why
+from install import CANNOT, IN_SNIPPETS, PROGRAMS, WRONG_USE, filled, grammars, read, snippets, why
 from workspace import TOP, sum_of, text_of, version
 
 OUT = os.path.join(TOP, "out", "dist")
@@ -55,7 +55,9 @@ Description: language server for ABNF, and findings in grammars and drafts
  abnf_findings prints what is found in grammars, also in those of drafts in
  Markdown or RFCXML.
  .
- Files for editors are in /usr/share/abnf_ls/editors.
+ Files for editors are in /usr/share/abnf_ls/editors, and grammars of
+ standards, whose names abnf_findings can know, in
+ /usr/share/abnf_ls/grammars.
 """
 TYPES = """\
 <?xml version="1.0" encoding="utf-8"?>
@@ -192,9 +194,9 @@ def archive(files, at):
 
 def archive_files(name):
     """The files of the archive, whose folder has this name. Those for editors have no path filled in: the install does that."""
-    editors = [File(*it) for it in snippets()]
+    editors, known = [File(*it) for it in snippets()], [File(*it) for it in grammars()]
     install = File("install", read(TOP, "tools", "install.sh"), 0o755)
-    return under(name, [*programs(), *under("man", pages()), *under("editors", editors), listed_sums(), install])
+    return under(name, [*programs(), *under("man", pages()), *under("editors", editors), *under("grammars", known), listed_sums(), install])
 
 
 # ---- the Debian package
@@ -208,12 +210,12 @@ def c_library():
 
 def debian_files():
     """The files that the package puts in place, by their paths from the root."""
-    editors = [File(path, filled(it, "/usr/bin")) for path, it in snippets()]
+    editors, known = [File(path, filled(it, "/usr/bin")) for path, it in snippets()], [File(*it) for it in grammars()]
     packed = [File(f"{it.path}.gz", gzipped(it.data)) for it in pages()]
     return [
         *under("usr/bin", programs()),
         *under("usr/share/man/man1", packed),
-        *under("usr/share/abnf_ls", [*under("editors", editors), listed_sums()]),
+        *under("usr/share/abnf_ls", [*under("editors", editors), *under("grammars", known), listed_sums()]),
         *under(f"usr/share/doc/{DEBIAN}", [File("copyright", COPYRIGHT.encode())]),
     ]
 

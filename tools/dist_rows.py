@@ -195,6 +195,7 @@ def archive_cases(archive, checkout):
         with tarfile.open(fileobj=io.BytesIO(archive)) as tar:
             tar.extractall(folder)
         lies = {"install": "tools/install.sh", **{it: f"out/{it}" for it in PROGRAMS}}
+        lies |= {f"grammars/{it}": f"examples/{it}" for it in os.listdir(os.path.join(TOP, "examples"))}
         others = [it for it in sorted(files) if read(folder, FOLDER, it) != read(checkout.path, lies.get(it, it))]
         yield "files with other bytes than in the checkout", others, []
 

@@ -6,6 +6,7 @@
 runs a program that is built. Each row is a text and its lines without the name of the file; the severity in a line tells how the run ends.
 """
 import os
+import shutil
 import sys
 
 import refused_memory
@@ -29,6 +30,9 @@ The file - is standard input.
 """
 DEEP = "a = " + 65 * "("
 
+FOLDED = ", lines that are folded by \\ are not joined (RFC 8792)"
+OF_HTTP = ", lists by # are an extension of HTTP (RFC 9110, section 5.6.1)"
+
 ROWS = (
     # nothing is found: the core rules are there (RFC 5234 appendix B.1), in either case, and equal bounds and ends are not empty
     ("", ()),
@@ -44,6 +48,16 @@ ROWS = (
     ('a = 2 "x"', ("1:5: error: element expected [syntax]",)),
     ('a = "x""y"', ("1:8: error: blank expected [syntax]",)),
     ("a = (b", ("1:5: error: bracket not closed [syntax]",)),
+    # lists by `#` are HTTP's (RFC 9110 section 5.6.1), and a file may begin with a byte order mark
+    ('a = 1#b\nb = "x"', (f"1:5: error: element expected{OF_HTTP} [syntax]",)),
+    ('a = 1*2#b\nb = "x" #b', (f"1:5: error: element expected{OF_HTTP} [syntax]", f"2:9: error: bad character{OF_HTTP} [syntax]")),
+    ("a = 1 #b", ("1:5: error: element expected [syntax]",)),
+    ("# A title", ("1:1: error: rule name expected [syntax]",)),
+    ('\ufeffa = "x"\n\ufeffb = "y"', ("1:1: error: rule name expected, a byte order mark [syntax]", "2:1: error: rule name expected [syntax]")),
+    ("\uff11 = a", ("1:1: error: rule name expected [syntax]",)),
+    # lines that are folded (RFC 8792), and files that kramdown includes
+    ('a = "x" \\\n  "y"\nb = c', (f"1:9: error: bad character{FOLDED} [syntax]", "3:1: warning: rule b generates nothing [unproductive]", "3:5: error: undefined rule c [undefined]")),
+    ("{::include a.abnf}\n{: b", ("1:1: error: rule name expected, what kramdown includes is not read [syntax]", "2:1: error: rule name expected [syntax]")),
     # limits
     ("a = %x100000000", ("1:5: error: number too large [number-too-large]",)),
     (DEEP, ("1:69: error: brackets nested too deep [too-deep]",)),
@@ -142,8 +156,40 @@ DRAFT_ROWS = (
     ("```abnf-like\na = ?\n```\n", NO_GRAMMAR, ()),
     ("``` abnf `\na = ?\n```\n", NO_GRAMMAR, ()),
     ("``abnf\na = ?\n``\n", NO_GRAMMAR, ()),
+    # attribute lists that say ABNF, as kramdown has them: in the info string, before a block and behind it; that behind a block speaks of that
+    ("~~~ {.abnf}\na = ?\n~~~\n", ("2:5: error: bad character [syntax]",), ("2:1: a: not known",)),
+    ('```{: .x type="ABNF" #y}\na = ?\n```\n', ("2:5: error: bad character [syntax]",), ("2:1: a: not known",)),
+    (" {: .Language-Abnf}\n~~~\na = ?\n~~~\n~~~\nb = ?\n~~~\n", ("3:5: error: bad character [syntax]",), ("3:1: a: not known",)),
+    ('~~~ text\na = ?\n~~~\n{: type="abnf"}\n~~~\nb = ?\n~~~\n', ("2:5: error: bad character [syntax]",), ("2:1: a: not known",)),
+    ("~~~ {.abnfs}\na = ?\n~~~\n{.x} .abnf\n", NO_GRAMMAR, ()),
+    ("{.abnf}\n\n~~~\na = ?\n~~~\n\n{.abnf}", NO_GRAMMAR, ()),
+    # a block in a quote (CommonMark 0.31, section 5.1); a `>` in any other block is the grammar's
+    ("> text\n>\n> ~~~ abnf\n> a =\n>  ?\n> ~~~\n\n~~~ abnf\nb = ?\n~~~\n", ("5:4: error: bad character [syntax]", "9:5: error: bad character [syntax]"), ("4:3: a: not known", "9:1: b: not known")),
+    ("~~~ abnf\n> ~~~\n~~~\n", ("2:1: error: rule name expected [syntax]",), ()),
+    # comments (CommonMark 0.31, section 4.6), and what kramdown leaves out
+    ("<!--\n~~~ abnf\na = ?\n~~~\n-->\n", NO_GRAMMAR, ()),
+    ("<!-- a -->\n~~~ abnf\na = ?\n~~~\n<!-- b\nc --> d\n~~~ abnf\nb = ?\n~~~\n", ("3:5: error: bad character [syntax]", "8:5: error: bad character [syntax]"), ("3:1: a: not known", "8:1: b: not known")),
+    ("{::comment}\n~~~ abnf\na = ?\n~~~\n{:/comment}\n~~~ abnf\nb = ?\n~~~\n", ("7:5: error: bad character [syntax]",), ("7:1: b: not known",)),
     # a block without rules
     ("```abnf\n```\n", (), ()),
+    # an appendix that collects the grammar: what says the same as the first definition is no finding, with names in any case, and other
+    # blanks and comments
+    (
+        '```abnf\na = b "x" ; first\nb = %x41\n```\n~~~abnf\n  A=B\n    "x"\n  b = %x41 ; again\n~~~\n',
+        (),
+        ("2:1: a: shortest length 2: Ax", "3:1: b: shortest length 1: A"),
+    ),
+    # one that says something else: another text, and one token less or more
+    (
+        '```abnf\na = "x"\n```\n```abnf\n a = "X"\n a = "x"\n a = "x" "y"\n```\n',
+        (
+            "5:2: error: rule a differs from its definition at line 2 [differs]",
+            "7:2: error: rule a differs from its definition at line 2 [differs]",
+        ),
+        ("2:1: a: shortest length 1: x",),
+    ),
+    # what is added to a name repeats nothing, and a name of the text of a token is another one
+    ('```abnf\na =/ b\na = b\na =/ b\na = "b"\nb = "x"\n```\n', ("2:1: warning: no earlier definition of a [no-base]", "5:1: error: rule a differs from its definition at line 3 [differs]"), ("2:1: a: shortest length 1: x", "6:1: b: shortest length 1: x")),
 )
 
 # The same of drafts in RFCXML (RFC 7991 sections 2.5 and 2.48; XML 1.0, fifth edition). Of a draft at fault the fault alone is told.
@@ -172,6 +218,23 @@ XML_ROWS = (
         ("1:25: a: shortest length 1: x", "4:30: b: generates nothing"),
     ),
     ('\u00e9\U0001f600<artwork type="abnf">a = ?</artwork>', ("1:28: error: bad character [syntax]",), ("1:24: a: not known",)),
+    # definitions that come again
+    (
+        '<artwork type="abnf">a = "x"</artwork>\n<artwork type="abnf">a = &quot;x&quot;\na = &quot;x&quot; / "y"</artwork>',
+        ("3:1: error: rule a differs from its definition at line 1 [differs]",),
+        ("1:22: a: shortest length 1: x",),
+    ),
+    # names of spaces and hyphens, of which each is one character that no grammar has
+    (
+        '<artwork type="abnf">a = b&nbhy;c\nb =&nbsp;"x"\nc = "y" &zwsp;\nd = &wj;</artwork>',
+        (
+            "1:27: error: bad character [syntax]",
+            "2:4: error: bad character [syntax]",
+            "3:9: error: bad character [syntax]",
+            "4:5: error: bad character [syntax]",
+        ),
+        ("1:22: a: not known", "2:1: b: not known", "3:1: c: not known", "4:1: d: not known"),
+    ),
     # faults
     ('<rfc>\n<artwork type="abnf">\na = ?\n', ("2:1: error: block without an end tag [xml]",), None),
     ("<rfc><!-- a", ("1:6: error: comment without an end [xml]",), None),
@@ -248,6 +311,19 @@ WITH_ROWS = (
         ("4:3: a: generates nothing",),
     ),
     (("a.md", "text"), (("core.abnf", CORE),), NO_GRAMMAR, ()),
+    # definitions that come again: in a draft, and in a file that is a grammar
+    (
+        ("a.md", "```abnf\na = b\n```\n\n```abnf\na = b\na = c\n```\n"),
+        (("1.abnf", 'b = "x"\nc = "yy"'),),
+        ("7:1: error: rule a differs from its definition at line 2 [differs]",),
+        ("2:1: a: shortest length 1: x",),
+    ),
+    (
+        ("a.abnf", "a = b\na = b"),
+        (("1.abnf", 'b = "x"'),),
+        ("2:1: error: rule a is already defined [duplicate]",),
+        ("1:1: a: shortest length 1: x",),
+    ),
     (("a.abnf", 'a = "x"'), (("none.md", "```abnf\n```\n"),), (), ("1:1: a: shortest length 1: x",)),
     (("a.xml", "<rfc><!-- a"), (("core.abnf", CORE),), ("1:6: error: comment without an end [xml]",), None),
 )
@@ -328,6 +404,24 @@ def format_cases(program, files):
     yield "a format behind a file", outcome(program, None, [good, "--format", "abnf"]), (5, USAGE, b"")
 
 
+def installed_cases(program, files):
+    """Grammars that are installed with the program, by their short names."""
+    own = files.path(os.path.join("installed", "bin", "abnf_findings"))
+    there = files.path(os.path.join("installed", "share", "abnf_ls", "grammars"))
+    for folder in (os.path.dirname(own), there):
+        os.makedirs(folder)
+    shutil.copy(program, own)
+    with open(os.path.join(there, "rfc1.abnf"), "w", encoding="utf-8") as file:
+        file.write(CORE)
+    text = files.written("uses.abnf", 'a = OWS "x"')
+    yield "an installed grammar", outcome(own, None, ["--with", "rfc1", text]), (0, b"", b"")
+    unknown = ("1:1: warning: rule a generates nothing [unproductive]", "1:5: error: undefined rule OWS [undefined]")
+    yield "an installed grammar that isn't asked for", outcome(own, None, [text]), (1, b"", printed(text, unknown))
+    for name in ("rfc2", "rfc1.abnf", "../rfc1"):
+        yield f"no installed grammar, {name}", outcome(own, None, ["--with", name, text]), (2, f"cannot read {name}\n".encode(), b"")
+    yield "a program that isn't installed", outcome(program, None, ["--with", "rfc1", text]), (2, b"cannot read rfc1\n", b"")
+
+
 def with_cases(program, files):
     """Each file with those whose names are known, and those that can't be known."""
     for (name, text), others, found, told in WITH_ROWS:
@@ -372,8 +466,13 @@ def without_places(lines):
     return [line.split(b" ", 1)[1] for line in lines.splitlines()]
 
 
+def but_repeats(lines):
+    """The findings but those of definitions that repeat others, of which a draft says something else than a grammar."""
+    return [it for it in lines if not it.endswith((b" [duplicate]", b" [differs]"))]
+
+
 def grammar_cases(program, files):
-    """The grammar of each file, and that in it the same is found as in the file, but for places."""
+    """The grammar of each file, and that in it the same is found as in the file, but for places, and for definitions that repeat others."""
     for name, text, grammar in GRAMMAR_ROWS:
         what, file = f"the grammar of {text[:40]!r}", files.written(name, text)
         yield what, outcome(program, None, ["--grammar", file]), (0, b"", grammar.encode())
@@ -387,8 +486,9 @@ def grammar_cases(program, files):
                 continue
             yield what, (status, said), (0, b"")
             status, _, wrote = outcome(program, None, [files.written("grammar.abnf", grammar)])
-            wanted = without_places(printed(file, found))
-            yield f"findings in {what}", (status, without_places(wrote)), (status_of(found, False), wanted)
+            is_told, wanted = but_repeats(without_places(wrote)), but_repeats(without_places(printed(file, found)))
+            does_repeat = b" [duplicate]" in wrote
+            yield f"findings in {what}", (does_repeat or status, is_told), (does_repeat or status_of(found, False), wanted)
     none, good = files.path("none"), files.written("good.abnf", 'a = "x"')
     yield "a grammar, and no file", outcome(program, None, ["--grammar", none, good]), (2, f"cannot read {none}\n".encode(), b'a = "x"')
     for words in (["--grammar"], ["--grammar", "--rules", good], ["--strict", "--grammar", good], ["--grammar", "--grammar", good]):
@@ -534,7 +634,8 @@ def cases(program):
     yield from version_cases()
     with rows.files() as files:
         for some in (
-            row_cases, rule_cases, draft_cases, with_cases, grammar_cases, format_cases, argument_cases, bound_cases, file_cases, memory_cases,
+            *(row_cases, rule_cases, draft_cases, with_cases, installed_cases, grammar_cases, format_cases, argument_cases, bound_cases),
+            *(file_cases, memory_cases),
         ):
             yield from some(program, files)
 

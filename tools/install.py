@@ -1,5 +1,5 @@
 #!/usr/bin/env python3
-"""Puts the programs, their manual pages and the editors' snippets under a prefix, or takes them away. ./install calls this.
+"""Puts the programs, their manual pages, the editors' snippets and grammars under a prefix, or takes them away. ./install calls this.
 
 All files are first laid beside their places and then moved there, so what fails before changes nothing. A list of the files, and
 of the folders that were made for them, lies beside them: by it a second install knows what is its own, and an uninstall what to
@@ -57,6 +57,13 @@ def snippets():
             yield os.path.relpath(path, editors), read(path)
 
 
+def grammars():
+    """Each grammar whose names can be known by its short name, by the name of its file: its bytes."""
+    for folder in ("examples", "grammars"):
+        for name in sorted(it for it in os.listdir(os.path.join(TOP, folder)) if it.endswith(".abnf")):
+            yield name, read(TOP, folder, name)
+
+
 def filled(snippet, folder):
     """A file for an editor, with the folder in which the programs are to lie."""
     return snippet.replace(IN_SNIPPETS, quoted(folder))
@@ -69,6 +76,8 @@ def contents(prefix):
         yield os.path.join("share", "man", "man1", f"{name}.1"), read(TOP, "man", f"{name}.1"), 0o644
     for path, snippet in snippets():
         yield os.path.join(OWN, "editors", path), filled(snippet, os.path.join(prefix, "bin")), 0o644
+    for name, text in grammars():
+        yield os.path.join(OWN, "grammars", name), text, 0o644
 
 
 class Installed:

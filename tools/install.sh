@@ -1,5 +1,5 @@
 #!/bin/sh
-# Puts the programs, their manual pages and the editors' files of this folder under ~/.local, or PREFIX: ./install [--uninstall] [PREFIX].
+# Puts the programs, their manual pages, the editors' files and the grammars of this folder under ~/.local, or PREFIX: ./install [--uninstall] [PREFIX].
 #
 # It needs a POSIX shell and the usual commands alone. All files are first laid beside their places and then moved there, so what fails
 # before changes nothing. A list of the files, and of the folders that were made for them, lies beside them (share/abnf_ls/installed): by
@@ -26,8 +26,8 @@ usage() { stop 5 'usage: ./install [--uninstall] [PREFIX]'; }
 # ---- the files, and the list of those that are put in place
 
 places() { # of all files under the prefix, none of which has a blank in its path
-  (cd "$here" && find abnf_ls abnf_findings man editors -type f) |
-    sed -e 's#^man/#share/man/man1/#' -e 's#^editors/#share/abnf_ls/&#' -e 's#^abnf_#bin/&#' | sort
+  (cd "$here" && find abnf_ls abnf_findings man editors grammars -type f) |
+    sed -e 's#^man/#share/man/man1/#' -e 's#^editors/#share/abnf_ls/&#' -e 's#^grammars/#share/abnf_ls/&#' -e 's#^abnf_#bin/&#' | sort
 }
 listed() { # KIND: the lines of the list of a file or a folder
   [ ! -f "$prefix/$list" ] || grep "^$1 " "$prefix/$list" || :

@@ -43,11 +43,29 @@ FILES = (
     "share/abnf_ls/editors/vscode/extension.js",
     "share/abnf_ls/editors/vscode/language-configuration.json",
     "share/abnf_ls/editors/vscode/package.json",
+    "share/abnf_ls/grammars/rfc3261.abnf",
+    "share/abnf_ls/grammars/rfc3339.abnf",
+    "share/abnf_ls/grammars/rfc3501.abnf",
+    "share/abnf_ls/grammars/rfc3986.abnf",
+    "share/abnf_ls/grammars/rfc4512.abnf",
+    "share/abnf_ls/grammars/rfc5234.abnf",
+    "share/abnf_ls/grammars/rfc5321.abnf",
+    "share/abnf_ls/grammars/rfc5322.abnf",
+    "share/abnf_ls/grammars/rfc5545.abnf",
+    "share/abnf_ls/grammars/rfc5646.abnf",
+    "share/abnf_ls/grammars/rfc6265.abnf",
+    "share/abnf_ls/grammars/rfc6350.abnf",
+    "share/abnf_ls/grammars/rfc6749.abnf",
+    "share/abnf_ls/grammars/rfc7950.abnf",
+    "share/abnf_ls/grammars/rfc8259.abnf",
+    "share/abnf_ls/grammars/rfc8866.abnf",
+    "share/abnf_ls/grammars/rfc9110.abnf",
+    "share/abnf_ls/grammars/rfc9112.abnf",
     "share/abnf_ls/installed",
     "share/man/man1/abnf_findings.1",
     "share/man/man1/abnf_ls.1",
 )
-FOLDERS = ("", "bin", "share", "share/abnf_ls", "share/abnf_ls/editors", "share/abnf_ls/editors/vscode", "share/man", "share/man/man1")
+FOLDERS = ("", "bin", "share", "share/abnf_ls", "share/abnf_ls/editors", "share/abnf_ls/editors/vscode", "share/abnf_ls/grammars", "share/man", "share/man/man1")
 USAGE = "usage: ./install [--uninstall] [PREFIX]"
 NOT_PUT = "nothing was put in place"
 # The name of a prefix that means something in each language of the snippets.
@@ -156,7 +174,7 @@ def copied(programs, copy, more=()):
     for name in ("install", "build", "crates.txt", "tools/build.py", "tools/install.py", "tools/workspace.py", *more):
         os.makedirs(os.path.dirname(os.path.join(copy, name)), exist_ok=True)
         shutil.copy(os.path.join(TOP, name), os.path.join(copy, name))
-    for name in ("man", "editors"):
+    for name in ("man", "editors", "examples", "grammars"):
         shutil.copytree(os.path.join(TOP, name), os.path.join(copy, name))
     os.symlink(os.path.join(TOP, "crates"), os.path.join(copy, "crates"))
     os.mkdir(os.path.join(copy, "out"))
@@ -260,6 +278,10 @@ def content_cases(place, programs):
         page = os.path.join(prefix, "share", "man", "man1", f"{name}.1")
         yield f"the page of {name} as it is", (read(page), oct(os.stat(page).st_mode & 0o777)), (read(TOP, "man", f"{name}.1"), "0o644")
     folder, editors = os.path.join(prefix, "bin"), os.path.join(prefix, "share", "abnf_ls", "editors")
+    for path in (it for it in FILES if it.startswith("share/abnf_ls/grammars/")):
+        name = os.path.basename(path)
+        folder_of = next(it for it in ("examples", "grammars") if os.path.isfile(os.path.join(TOP, it, name)))
+        yield f"{name} as it is", read(prefix, path), read(TOP, folder_of, name)
     yield "the server in Kate's settings", command_of(read(editors, "kate-settings.json")), [os.path.join(folder, "abnf_ls")]
     for path in (it[len("share/abnf_ls/editors/") :] for it in FILES if it.startswith("share/abnf_ls/editors/")):
         snippet, template = read(editors, path), read(TOP, "editors", path)

@@ -6,7 +6,8 @@ It does the same with grammars beside others whose names are known.
 
 A grammar is cut before some of its rules. Each piece is indented by some blanks, stands in a fence of its own, which may be indented too, and
 has other text around it: words, and fences of other languages with rules in them. What is found in the draft must be what is found in the
-grammar, with and without --rules, each line moved as its piece was.
+grammar, with and without --rules, each line moved as its piece was. Some definitions come again at the end: one that says the same as the
+first must be no finding in the draft, and of one that says something else the line of the first must be told.
 
 Of random grammars one is told, and the names of the others are known, each indented by some blanks. What is found must be what is found in
 the one with just those blocks of the others behind it that have new names, up to the last line of the one.
@@ -16,8 +17,9 @@ import random
 import re
 import sys
 
+import plain_findings
 import rows
-from random_texts import random_text
+from random_texts import Reading, random_text
 from runs import outcome
 
 COUNT, SEED = 200, 1
@@ -26,12 +28,31 @@ OTHERS = ("```\nno = ?\n```", "~~~~ text\n```abnf\nno = ?\n```\n~~~~", "``` abnf
 # The name at the head of a block
 HEAD = re.compile(r"([A-Za-z][A-Za-z0-9-]*)(?:[ \t\n]|;.*\n)*=")
 PLACE = re.compile(r"g:(\d+):(\d+): (.*)", re.DOTALL)
+DEFINED_AGAIN = re.compile(r"error: rule (.*) is already defined \[duplicate\]")
 
 
 def grammar(dice):
-    """A random grammar whose first line has content, at the left."""
+    """A random grammar whose first line has content, at the left. Some of its blocks come again, some of them with another comment."""
     text = 'first = "x"\n' + random_text(dice)
-    return re.sub("\r\n?", "\n", text)
+    lines = re.sub("\r\n?", "\n", text).split("\n")
+    again = [block for block in blocks(lines) if dice.random() < 0.2]
+    return "\n".join([*lines, *(line + dice.choice(("", "", " ; again")) for block in again for line in block)])
+
+
+def words(items):
+    """What a block says: its tokens but for blanks and comments, names in small letters."""
+    return [(kind, text.lower() if kind == "name" else text) for kind, text, *_ in items]
+
+
+def repeats_in(lines):
+    """Of each line in which a name is defined again: the line of its first definition, and whether the two say the same."""
+    firsts, found = {}, {}
+    for items in Reading("\n".join(lines), "utf-32").items:
+        if plain_findings.has_head(items) and items[1][1] == "=":
+            first = firsts.setdefault(items[0][1].lower(), items)
+            if first is not items:
+                found[items[0][2]] = first[0][2], words(first) == words(items)
+    return found
 
 
 def is_content(line):
@@ -84,20 +105,34 @@ def moved_line(line, moved):
     return f"g:{place + 1}:{int(column) + by}: {rest}"
 
 
+def in_draft(lines, repeats, moved):
+    """The lines about a grammar, as they must be about the draft in which it is."""
+    for line in lines:
+        at, _, rest = PLACE.fullmatch(line).groups()
+        again = DEFINED_AGAIN.fullmatch(rest)
+        original, is_same = repeats[int(at) - 1] if again else (None, False)
+        if again and not is_same:
+            line = line.replace(rest, f"error: rule {again[1]} differs from its definition at line {moved[original][0] + 1} [differs]")
+        if not is_same:
+            yield moved_line(line, moved)
+
+
 def draft_cases(program, count, seed):
-    faults, lines_told = [], 0
+    faults, lines_told, copies = [], 0, 0
     for number in range(count):
         dice = random.Random(f"{seed} {number}")
         lines = grammar(dice).split("\n")
+        repeats = repeats_in(lines)
         draft, moved = draft_of(dice, lines)
         end = dice.choice(("\n", "\r\n", "\r"))
         for options in ([], ["--rules"]):
-            status, said, wanted = told(program, options, "\n".join(lines), "g")
+            _, said, alone = told(program, options, "\n".join(lines), "g")
+            wanted = [*in_draft(alone, repeats, moved)]
             found = told(program, [*options, "--format", "markdown"], end.join(draft), "g")
-            lines_told += len(wanted)
-            if found != (status, said, [moved_line(line, moved) for line in wanted]):
+            lines_told, copies = lines_told + len(wanted), copies + len(alone) - len(wanted)
+            if found != (int(any(": error: " in it for it in wanted) and not options), said, wanted):
                 faults.append((number, options, found[2][:3], wanted[:3]))
-    yield f"{count} grammars in drafts", (faults[:2], lines_told > count), ([], True), count
+    yield f"{count} grammars in drafts", (faults[:2], lines_told > count, copies > count / 10), ([], True, True), count
 
 
 def blocks(lines):

@@ -9,12 +9,16 @@ use findings_files::{
     Ending, FileFault, Format, Known, Outcome, Printed, Snapshot, Text, ending_of, fault_line,
     print_as, print_grammar_as, print_rules_as, read_text,
 };
+use std::fs::File;
 use std::io::{ErrorKind, Write};
 use std::process::ExitCode;
 use std::{env, fs, io};
 
 /// What `--version` prints. It names the logic by which the crates are proved, as `rt version` does.
 const VERSION: &str = "abnf_findings 0.1.0 (rattle-kit-13f logic dac8208d650f15bf)\n";
+
+/// Where grammars of standards are installed, from the folder above that of the program.
+const GRAMMARS: &str = "share/abnf_ls/grammars";
 
 /// The arguments, without the name of the program.
 fn words_of(rt: &HostRuntime) -> Result<Vec<Text>, Ending> {
@@ -62,9 +66,40 @@ fn tell_fault(rt: &HostRuntime, fault: FileFault, file: &str) -> Result<Outcome,
     Ok(Outcome::NotRead)
 }
 
+/// Whether a file may be named by a short name, as `rfc9110`.
+fn is_short(file: &str) -> bool {
+    file.bytes().all(|byte| byte.is_ascii_alphanumeric())
+}
+
+/// Opens a grammar that is installed with the program, by its short name.
+fn open_installed(rt: &HostRuntime, name: &str) -> io::Result<File> {
+    let program = env::current_exe(rt)?;
+    let Some(folder) = program.parent() else {
+        return Err(ErrorKind::NotFound.into());
+    };
+    let Some(prefix) = folder.parent() else {
+        return Err(ErrorKind::NotFound.into());
+    };
+    let grammars = prefix.join(rt.alloc(), GRAMMARS)?;
+    let file = format!(in rt.alloc(); "{name}.abnf")?;
+    let path = grammars.join(rt.alloc(), file.as_str())?;
+    fs::open(rt, &path)
+}
+
+/// The text of a file whose names are to be known: one that is there, or else one that is installed by this short name.
+fn known_text(rt: &HostRuntime, file: &str) -> Result<Snapshot, FileFault> {
+    match text_at(rt, file) {
+        Err(FileFault::CannotRead) if is_short(file) => match open_installed(rt, file) {
+            Ok(opened) => read_text(rt.alloc(), opened),
+            Err(error) => Err(FileFault::of(&error)),
+        },
+        read => read,
+    }
+}
+
 /// Makes the names of a file known. What it is written in its name says.
 fn add_known(rt: &HostRuntime, known: &mut Known, file: &str) -> Result<Printed, FileFault> {
-    let text = text_at(rt, file)?;
+    let text = known_text(rt, file)?;
     known.add(rt.alloc(), file, Format::of_file(file), &text)
 }
 

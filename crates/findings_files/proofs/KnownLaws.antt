@@ -6,8 +6,10 @@ use Rattle.origins.specs.Origins.{Sourced, characters, grammar_of}
 use Rattle.markdown_blocks.specs.Fences.{markdown_blocks}
 use Rattle.xml_blocks.specs.declared.fault.XmlFault.{XmlFault}
 use Rattle.xml_blocks.specs.Xml.{grammar_behind, xml_blocks}
+use Rattle.joined_grammars.specs.declared.repeats.Repeat.{Repeat}
 use Rattle.joined_grammars.specs.Joined.{IsJoined}
 use Rattle.joined_grammars.proofs.JoinLaws.{one_joined}
+use Rattle.joined_grammars.proofs.RepeatLaws.{one_repeats, some_repeats}
 use Rattle.findings_text.specs.declared.outcome.Outcome.{Outcome}
 use Rattle.findings_text.specs.declared.outcome.Outcome.TheVariants.{Clean, Errors, Warnings}
 use Rattle.findings_text.specs.declared.print.Printed.{Printed}
@@ -21,7 +23,7 @@ use Rattle.findings_files.specs.declared.format.Format.TheVariants.{Abnf, Markdo
 use Rattle.findings_files.specs.Drafts.{draft_position, no_grammar_line}
 use Rattle.findings_files.specs.Formats.{ArePrintedRulesAs, ArePrintedXmlRules, IsPrintedAs, IsPrintedXml, xml_fault_line}
 use Rattle.findings_files.specs.Grammars.{IsPrintedDraftGrammar, IsPrintedGrammarAs, IsPrintedXmlGrammar}
-use Rattle.findings_files.specs.Known.{ArePrintedJoinedRules, ArePrintedRulesBy, ArePrintedRulesWith, IsPrintedBy, IsPrintedDraftWith, IsPrintedJoined, IsPrintedWith, grammar_in}
+use Rattle.findings_files.specs.Known.{AreRepeatsAs, ArePrintedJoinedRules, ArePrintedRulesBy, ArePrintedRulesWith, IsPrintedBy, IsPrintedDraftWith, IsPrintedJoined, IsPrintedWith, grammar_in}
 use Rattle.findings_files.proofs.DraftLaws.{one_draft}
 
 -- two print-outs with the same lines and the same outcome
@@ -30,19 +32,32 @@ same a b lines outcome p q = (λ i. record { lines = (p.0 ∙ sym q.0) i; outcom
 
 -- ---- the findings
 
-one_by_join : (known : List (List ℕ)) (file draft : List ℕ) (grammar : List Sourced) (a b : Printed) → IsPrintedJoined known file draft grammar a → IsPrintedJoined known file draft grammar b → a ≡ b
-one_by_join known file draft grammar a b p q =
+some_repeats_as : (format : Format) (text : List ℕ) → length text < 2 ^ 62 → (repeats : List Repeat) × AreRepeatsAs format text repeats
+some_repeats_as Abnf text small = ([], refl)
+some_repeats_as Markdown text small = some_repeats text small
+some_repeats_as Xml text small = some_repeats text small
+
+one_repeats_as : (format : Format) (text : List ℕ) (a b : List Repeat) → AreRepeatsAs format text a → AreRepeatsAs format text b → a ≡ b
+one_repeats_as Abnf text a b p q = p ∙ sym q
+one_repeats_as Markdown text a b p q = one_repeats text a b p q
+one_repeats_as Xml text a b p q = one_repeats text a b p q
+
+one_by_join : (known : List (List ℕ)) (format : Format) (file draft : List ℕ) (grammar : List Sourced) (a b : Printed) → IsPrintedJoined known format file draft grammar a → IsPrintedJoined known format file draft grammar b → a ≡ b
+one_by_join known format file draft grammar a b p q =
     let told = characters grammar in
-    let text = one_joined told known p.0 q.0 p.1 q.1 in
-    one_in told (position_in_draft draft grammar q.0) file q.0 a b (subst (λ (t : List ℕ). IsPrintedIn told (position_in_draft draft grammar t) file t a) text p.2) q.2
+    let text = one_joined told known p.0 q.0 p.2 q.2 in
+    let repeats = one_repeats_as format q.0 p.1 q.1 (subst (λ (t : List ℕ). AreRepeatsAs format t p.1) text p.3) q.3 in
+    let there : IsPrintedIn told p.1 (position_in_draft draft grammar q.0) file q.0 a = subst (λ (t : List ℕ). IsPrintedIn told p.1 (position_in_draft draft grammar t) file t a) text p.4 in
+    one_in told q.1 (position_in_draft draft grammar q.0) file q.0 a b
+    (subst (λ (rs : List Repeat). IsPrintedIn told rs (position_in_draft draft grammar q.0) file q.0 a) repeats there) q.4
 
-one_draft_with : (known : List (List ℕ)) (file draft : List ℕ) (grammar : List Sourced) (a b : Printed) → IsPrintedDraftWith known file draft grammar a → IsPrintedDraftWith known file draft grammar b → a ≡ b
-one_draft_with known file draft [] a b p q = same a b (no_grammar_line file) Warnings p q
-one_draft_with known file draft (c ∷ cs) a b p q = one_by_join known file draft (c ∷ cs) a b p q
+one_draft_with : (known : List (List ℕ)) (format : Format) (file draft : List ℕ) (grammar : List Sourced) (a b : Printed) → IsPrintedDraftWith known format file draft grammar a → IsPrintedDraftWith known format file draft grammar b → a ≡ b
+one_draft_with known format file draft [] a b p q = same a b (no_grammar_line file) Warnings p q
+one_draft_with known format file draft (c ∷ cs) a b p q = one_by_join known format file draft (c ∷ cs) a b p q
 
-one_by : (known : List (List ℕ)) (file text : List ℕ) (r : Result (List Sourced) XmlFault) (a b : Printed) → IsPrintedBy known file text r a → IsPrintedBy known file text r b → a ≡ b
-one_by known file text (Ok grammar) a b p q = one_draft_with known file text grammar a b p q
-one_by known file text (Err fault) a b p q = same a b (xml_fault_line file text fault) Errors p q
+one_by : (known : List (List ℕ)) (format : Format) (file text : List ℕ) (r : Result (List Sourced) XmlFault) (a b : Printed) → IsPrintedBy known format file text r a → IsPrintedBy known format file text r b → a ≡ b
+one_by known format file text (Ok grammar) a b p q = one_draft_with known format file text grammar a b p q
+one_by known format file text (Err fault) a b p q = same a b (xml_fault_line file text fault) Errors p q
 
 one_xml : (file text : List ℕ) (r : Result (List Sourced) XmlFault) (a b : Printed) → IsPrintedXml file text r a → IsPrintedXml file text r b → a ≡ b
 one_xml file text (Ok grammar) a b p q = one_draft file text grammar a b p q
@@ -55,14 +70,15 @@ one_as Xml file text a b p q = one_xml file text (grammar_behind [] (xml_blocks 
 
 pub one_with : (known : List (List ℕ)) (format : Format) (file text : List ℕ) (a b : Printed) → IsPrintedWith known format file text a → IsPrintedWith known format file text b → a ≡ b
 one_with [] format file text a b p q = one_as format file text a b p q
-one_with (k ∷ known) format file text a b p q = one_by (k ∷ known) file text (grammar_in format text) a b p q
+one_with (k ∷ known) format file text a b p q = one_by (k ∷ known) format file text (grammar_in format text) a b p q
 
-pub some_with : (known : List (List ℕ)) (file draft : List ℕ) (grammar : List Sourced) (text : List ℕ) → IsJoined (characters grammar) known text → length text < 2 ^ 62
-    → (printed : Printed) × IsPrintedDraftWith known file draft grammar printed
-some_with known file draft [] text joined small = (record { lines = no_grammar_line file; outcome = Warnings }, (refl, refl))
-some_with known file draft (c ∷ cs) text joined small =
-    let printed = some_in (characters (c ∷ cs)) (position_in_draft draft (c ∷ cs) text) file text small in
-    (printed.0, (text, joined, printed.1))
+pub some_with : (known : List (List ℕ)) (format : Format) (file draft : List ℕ) (grammar : List Sourced) (text : List ℕ) → IsJoined (characters grammar) known text → length text < 2 ^ 62
+    → (printed : Printed) × IsPrintedDraftWith known format file draft grammar printed
+some_with known format file draft [] text joined small = (record { lines = no_grammar_line file; outcome = Warnings }, (refl, refl))
+some_with known format file draft (c ∷ cs) text joined small =
+    let repeats = some_repeats_as format text small in
+    let printed = some_in (characters (c ∷ cs)) repeats.0 (position_in_draft draft (c ∷ cs) text) file text small in
+    (printed.0, (text, repeats.0, joined, repeats.1, printed.1))
 
 -- ---- the rules
 

@@ -6,9 +6,11 @@ use Rattle.ls_text.specs.declared.position.Position.{Position}
 use Rattle.text_files.specs.declared.file.FileFault.{FileFault}
 use Rattle.text_files.specs.declared.file.FileFault.TheVariants.{CannotRead, Memory, NotText}
 use Rattle.origins.specs.Origins.{Sourced, characters}
+use Rattle.joined_grammars.specs.declared.repeats.Repeat.{Repeat}
+use Rattle.joined_grammars.specs.Repeats.{AreRepeats}
 use Rattle.findings_text.specs.declared.outcome.Outcome.TheVariants.{Warnings}
 use Rattle.findings_text.specs.declared.print.Printed.{Printed}
-use Rattle.findings_text.specs.Print.{IsPrintedFrom}
+use Rattle.findings_text.specs.Print.{IsPrintedFrom, Locator}
 use Rattle.findings_text.specs.Rules.{ArePrintedRulesFrom}
 use Rattle.findings_text.specs.Sources.{position_in_draft}
 
@@ -20,11 +22,15 @@ draft_position draft grammar at = position_in_draft draft grammar (characters gr
 abbrev pub no_grammar_line : List ℕ → List ℕ
 no_grammar_line file = file ++ (codes ":1:1: warning: no grammar in this draft [no-grammar]" ++ 10 ∷ [])
 
+-- This is printed of a text in which definitions may repeat others: one that says the same as the first of its name is no finding.
+abbrev pub IsPrintedRepeating : Locator → List ℕ → List ℕ → Printed → Type 0
+IsPrintedRepeating locate file text printed = (repeats : List Repeat) × AreRepeats text repeats × IsPrintedFrom repeats locate file text printed
+
 -- This is printed of a draft with this grammar: its findings, each where it stands in the draft, or, where it has no block of grammar,
 -- a warning.
 abbrev pub IsPrintedDraft : List ℕ → List ℕ → List Sourced → Printed → Type 0
 IsPrintedDraft file draft [] printed = (printed.lines ≡ no_grammar_line file) × (printed.outcome ≡ Warnings)
-IsPrintedDraft file draft (c ∷ cs) printed = IsPrintedFrom (draft_position draft (c ∷ cs)) file (characters (c ∷ cs)) printed
+IsPrintedDraft file draft (c ∷ cs) printed = IsPrintedRepeating (draft_position draft (c ∷ cs)) file (characters (c ∷ cs)) printed
 
 -- This is printed of the rules of a draft with this grammar, each where it is defined in the draft.
 abbrev pub ArePrintedDraftRules : List ℕ → List ℕ → List Sourced → List ℕ → Type 0

@@ -8,7 +8,9 @@ use Rattle.markdown_blocks.specs.Fences.{markdown_blocks}
 use Rattle.xml_blocks.specs.declared.fault.XmlFault.{XmlFault}
 use Rattle.xml_blocks.specs.declared.fault.XmlFault.TheVariants as x
 use Rattle.xml_blocks.specs.Xml.{grammar_behind, xml_blocks}
+use Rattle.joined_grammars.specs.declared.repeats.Repeat.{Repeat}
 use Rattle.joined_grammars.specs.Joined.{IsJoined}
+use Rattle.joined_grammars.specs.Repeats.{AreRepeats}
 use Rattle.findings_text.specs.declared.outcome.Outcome.TheVariants.{Clean, Warnings}
 use Rattle.findings_text.specs.declared.print.Printed.{Printed}
 use Rattle.findings_text.specs.Sources.{position_in_draft}
@@ -59,21 +61,29 @@ IsPrintedSource file (Err found) printed = ⊥
 
 -- ---- the findings
 
+-- The definitions that may be repeated in a file of this format: those of a draft. In a file that is a grammar each second
+-- definition is an error.
+abbrev pub AreRepeatsAs : Format → List ℕ → List Repeat → Type 0
+AreRepeatsAs Abnf text repeats = repeats ≡ []
+AreRepeatsAs Markdown text repeats = AreRepeats text repeats
+AreRepeatsAs Xml text repeats = AreRepeats text repeats
+
 -- This is printed of a grammar to which others are joined: the lines of the findings that stand in it, at their places in the
 -- file.
-abbrev pub IsPrintedJoined : List (List ℕ) → List ℕ → List ℕ → List Sourced → Printed → Type 0
-IsPrintedJoined known file draft grammar printed =
-    (text : List ℕ) × IsJoined (characters grammar) known text × IsPrintedIn (characters grammar) (position_in_draft draft grammar text) file text printed
+abbrev pub IsPrintedJoined : List (List ℕ) → Format → List ℕ → List ℕ → List Sourced → Printed → Type 0
+IsPrintedJoined known format file draft grammar printed =
+    (text : List ℕ) × (repeats : List Repeat) × IsJoined (characters grammar) known text × AreRepeatsAs format text repeats
+    × IsPrintedIn (characters grammar) repeats (position_in_draft draft grammar text) file text printed
 
 -- This is printed of a file with this grammar: the findings, or, where a draft has no block of grammar, a warning.
-abbrev pub IsPrintedDraftWith : List (List ℕ) → List ℕ → List ℕ → List Sourced → Printed → Type 0
-IsPrintedDraftWith known file draft [] printed = (printed.lines ≡ no_grammar_line file) × (printed.outcome ≡ Warnings)
-IsPrintedDraftWith known file draft (c ∷ cs) printed = IsPrintedJoined known file draft (c ∷ cs) printed
+abbrev pub IsPrintedDraftWith : List (List ℕ) → Format → List ℕ → List ℕ → List Sourced → Printed → Type 0
+IsPrintedDraftWith known format file draft [] printed = (printed.lines ≡ no_grammar_line file) × (printed.outcome ≡ Warnings)
+IsPrintedDraftWith known format file draft (c ∷ cs) printed = IsPrintedJoined known format file draft (c ∷ cs) printed
 
 -- This is printed of a file with this grammar or at fault, where other files are known.
-abbrev pub IsPrintedBy : List (List ℕ) → List ℕ → List ℕ → Result (List Sourced) XmlFault → Printed → Type 0
-IsPrintedBy known file text (Ok grammar) printed = IsPrintedDraftWith known file text grammar printed
-IsPrintedBy known file text (Err fault) printed = IsPrintedFault file text fault printed
+abbrev pub IsPrintedBy : List (List ℕ) → Format → List ℕ → List ℕ → Result (List Sourced) XmlFault → Printed → Type 0
+IsPrintedBy known format file text (Ok grammar) printed = IsPrintedDraftWith known format file text grammar printed
+IsPrintedBy known format file text (Err fault) printed = IsPrintedFault file text fault printed
 
 -- This is printed of a file of this format. Where no other file is known, it is what is printed of the file alone. Else it is
 -- the lines of those findings of the joined text that stand in the file's grammar, at their places in the file; of a draft
@@ -81,7 +91,7 @@ IsPrintedBy known file text (Err fault) printed = IsPrintedFault file text fault
 -- (`prints_are_unique`).
 abbrev pub IsPrintedWith : List (List ℕ) → Format → List ℕ → List ℕ → Printed → Type 0
 IsPrintedWith [] format file text printed = IsPrintedAs format file text printed
-IsPrintedWith (k ∷ known) format file text printed = IsPrintedBy (k ∷ known) file text (grammar_in format text) printed
+IsPrintedWith (k ∷ known) format file text printed = IsPrintedBy (k ∷ known) format file text (grammar_in format text) printed
 
 -- ---- the rules
 

@@ -3,9 +3,11 @@
 ghost use Rattle.std.specs.Prelude.{◌≡◌, IfErr, IfOk, string_bytes};
 ghost use Rattle.std.specs.Str.{chars};
 ghost use Rattle.origins.specs.Origins.{characters};
+ghost use Rattle.findings_text.specs.Sources.{position_in_draft};
 ghost use Rattle.findings_files.specs.Drafts as spec;
 
 use findings_text::{Outcome, Printed, Source, print_from, print_rules_from};
+use joined_grammars::Repeats;
 use ls_lists::Text;
 use ls_text::{Snapshot, TextFault};
 use origins::Gathered;
@@ -58,8 +60,24 @@ pub(crate) fn no_grammar_in(alloc: Global, file: &str) -> Result<Printed, FileFa
     }
 }
 
+/// What is printed of a draft in a file with this name, where this is what was gathered from it, and its text.
+fn print_text(
+    alloc: Global,
+    file: &str,
+    draft: &Snapshot,
+    grammar: &Gathered,
+    text: &Snapshot,
+) -> Result<Printed, Memory>
+    ensures { IfOk result (λ printed. spec.IsPrintedRepeating (position_in_draft draft.now grammar.now text.now) file.now text.now printed) }
+{
+    let repeats = Repeats::of(alloc, text)?;
+    let source = Source::Draft(draft, grammar, &repeats);
+    print_from(alloc, file, source, text)
+}
+
 /// What is printed of a draft in a file with this name, where this is the draft's grammar: each finding in a line, at the place where it
-/// begins in the draft. Lines and columns count from 1, and columns count characters.
+/// begins in the draft. Lines and columns count from 1, and columns count characters. A definition that says the same as the first of its
+/// name is no finding.
 ///
 /// # Errors
 ///
@@ -77,7 +95,7 @@ pub(crate) fn print_draft(
         None => no_grammar(alloc, file),
         Some(_) => {
             let text = text_of(alloc, grammar)?;
-            print_from(alloc, file, Source::Draft(draft, grammar), &text)
+            print_text(alloc, file, draft, grammar, &text)
         }
     };
     match printed {
@@ -102,7 +120,9 @@ pub(crate) fn print_draft_rules(
     ensures fault { IfErr result (λ fault. spec.IsRefused grammar.now fault) }
 {
     let text = text_of(alloc, grammar)?;
-    match print_rules_from(alloc, file, Source::Draft(draft, grammar), &text) {
+    let none = Repeats::none(alloc);
+    let source = Source::Draft(draft, grammar, &none);
+    match print_rules_from(alloc, file, source, &text) {
         Ok(lines) => Ok(lines),
         Err(_) => Err(FileFault::Memory),
     }

@@ -9,12 +9,12 @@ use crate::draft::{no_grammar_in, snapshot_of, text_of};
 use crate::format::{Format, clean, print_alone, print_rules_alone};
 use crate::grammar::grammar_in;
 use crate::xml::print_fault;
-use findings_text::{Printed, print_told, print_told_rules};
-use joined_grammars::joined;
+use findings_text::{Printed, Source, print_told, print_told_rules};
+use joined_grammars::{Repeats, joined};
 use ls_lists::{List, Text};
 use ls_text::Snapshot;
 use origins::Gathered;
-use std::alloc::Global;
+use std::alloc::{AllocError as Memory, Global};
 use std::marker::Model;
 use text_files::FileFault;
 use xml_blocks::XmlFault;
@@ -108,20 +108,38 @@ fn joined_text(alloc: Global, told: &Snapshot, others: &[Snapshot]) -> Result<Sn
     }
 }
 
+/// The definitions of a text that may be repeated, by the format of the file that it begins with.
+fn repeats_as(alloc: Global, format: Format, text: &Snapshot) -> Result<Repeats, FileFault>
+    ensures repeats { IfOk result (λ repeats. spec.AreRepeatsAs format text.now repeats) }
+    ensures fault { IfErr result (λ fault. fault ≡ FileFault.Memory) }
+{
+    let repeats: Result<Repeats, Memory> = match format {
+        Format::Abnf => Ok(Repeats::none(alloc)),
+        Format::Markdown | Format::Xml => Repeats::of(alloc, text),
+    };
+    match repeats {
+        Ok(repeats) => Ok(repeats),
+        Err(_) => Err(FileFault::Memory),
+    }
+}
+
 /// What is printed of a grammar that was gathered from a file, with others joined to it.
 fn print_gathered(
     alloc: Global,
     file: &str,
+    format: Format,
     draft: &Snapshot,
     grammar: &Gathered,
     others: &[Snapshot],
 ) -> Result<Printed, FileFault>
-    ensures printed { IfOk result (λ printed. spec.IsPrintedJoined others.now file.now draft.now grammar.now printed) }
+    ensures printed { IfOk result (λ printed. spec.IsPrintedJoined others.now format file.now draft.now grammar.now printed) }
     ensures fault { IfErr result (λ fault. spec.IsJoinRefused others.now grammar.now fault) }
 {
     let told = text_of(alloc, grammar)?;
     let text = joined_text(alloc, &told, others)?;
-    match print_told(alloc, file, draft, grammar, &told, &text) {
+    let repeats = repeats_as(alloc, format, &text)?;
+    let source = Source::Draft(draft, grammar, &repeats);
+    match print_told(alloc, file, source, &told, &text) {
         Ok(printed) => Ok(printed),
         Err(_) => Err(FileFault::Memory),
     }
@@ -131,17 +149,18 @@ fn print_gathered(
 fn print_draft_with(
     alloc: Global,
     file: &str,
+    format: Format,
     draft: &Snapshot,
     grammar: &Gathered,
     others: &[Snapshot],
 ) -> Result<Printed, FileFault>
-    ensures printed { IfOk result (λ printed. spec.IsPrintedDraftWith others.now file.now draft.now grammar.now printed) }
+    ensures printed { IfOk result (λ printed. spec.IsPrintedDraftWith others.now format file.now draft.now grammar.now printed) }
     ensures fault { IfErr result (λ fault. spec.IsJoinRefused others.now grammar.now fault) }
 {
     if grammar.origin_of(0).is_none() {
         return no_grammar_in(alloc, file);
     }
-    print_gathered(alloc, file, draft, grammar, others)
+    print_gathered(alloc, file, format, draft, grammar, others)
 }
 
 /// What is printed of a file of this format, to whose grammar others are joined.
@@ -152,11 +171,11 @@ fn print_joined(
     text: &Snapshot,
     others: &[Snapshot],
 ) -> Result<Printed, FileFault>
-    ensures printed { IfOk result (λ printed. spec.IsPrintedBy others.now file.now text.now (spec.grammar_in format text.now) printed) }
+    ensures printed { IfOk result (λ printed. spec.IsPrintedBy others.now format file.now text.now (spec.grammar_in format text.now) printed) }
     ensures fault { IfErr result (λ fault. (fault ≡ FileFault.Memory) ⊎ spec.IsRefusedBy others.now (spec.grammar_in format text.now) fault) }
 {
     match grammar_in(alloc, format, text) {
-        Ok(grammar) => print_draft_with(alloc, file, text, &grammar, others),
+        Ok(grammar) => print_draft_with(alloc, file, format, text, &grammar, others),
         Err(fault) => print_fault(alloc, file, text, fault),
     }
 }
@@ -205,7 +224,9 @@ fn gathered_rules(
 {
     let told = text_of(alloc, grammar)?;
     let text = joined_text(alloc, &told, others)?;
-    match print_told_rules(alloc, file, draft, grammar, &told, &text) {
+    let none = Repeats::none(alloc);
+    let source = Source::Draft(draft, grammar, &none);
+    match print_told_rules(alloc, file, source, &told, &text) {
         Ok(lines) => Ok(lines),
         Err(_) => Err(FileFault::Memory),
     }

@@ -24,11 +24,11 @@ pub fn prints_are_unique()
     ensures { (known : List (List ℕ)) (format : Format) (file text : List ℕ) (a b : Printed) → IsPrintedWith known format file text a → IsPrintedWith known format file text b → a ≡ b }
 {}
 
-/// For each file name and each draft there is a print-out, where the text that is joined of its grammar and the known ones has fewer than
-/// 2^62 characters.
+/// For each file name, format and draft there is a print-out, where the text that is joined of its grammar and the known ones has fewer
+/// than 2^62 characters.
 pub fn joined_prints_exist()
-    ensures { (known : List (List ℕ)) (file draft : List ℕ) (grammar : List Sourced) (text : List ℕ) → IsJoined (characters grammar) known text → length text < 2 ^ 62
-        → (printed : Printed) × IsPrintedDraftWith known file draft grammar printed }
+    ensures { (known : List (List ℕ)) (format : Format) (file draft : List ℕ) (grammar : List Sourced) (text : List ℕ) → IsJoined (characters grammar) known text → length text < 2 ^ 62
+        → (printed : Printed) × IsPrintedDraftWith known format file draft grammar printed }
 {}
 
 /// A file of each format has at most one print-out of its rules, whatever other files are known.

@@ -2,7 +2,6 @@
 use Rattle.std.proofs.Common.{◌≡◌, ◌∙◌, ◌<◌, ◌^◌, ℕ, List, length, refl, ap, sym, subst}
 use Rattle.std.specs.Prelude.{Result, Ok, Err, IfOk, flat_map}
 use Rattle.std.proofs.lemmas.List.Elements.{All-filter}
-use Rattle.origins.specs.Origins.{Sourced}
 use Rattle.abnf_names.specs.Places.{Named}
 use Rattle.abnf_names.specs.Rules.{Grammar, IsGrammar}
 use Rattle.abnf_names.proofs.Exist.{some_grammar}
@@ -10,12 +9,15 @@ use Rattle.abnf_names.proofs.OneGrammar.{one_grammar}
 use Rattle.abnf_lint.specs.declared.finding.Finding.{Finding}
 use Rattle.abnf_lint.proofs.Ascends.{rows_unique}
 use Rattle.abnf_productive.proofs.Exist.{some_findings}
+use Rattle.joined_grammars.specs.declared.repeats.Repeat.{Repeat}
 use Rattle.findings_text.specs.declared.print.Printed.{Printed}
+use Rattle.findings_text.specs.declared.source.Source.{Source}
+use Rattle.findings_text.specs.Copies.{without_copies}
 use Rattle.findings_text.specs.Hints.{compared}
 use Rattle.findings_text.specs.Outcomes.{outcome_of}
 use Rattle.findings_text.specs.Print.{Locator, finding_line}
 use Rattle.findings_text.specs.Rules.{AreRuleLines, heads}
-use Rattle.findings_text.specs.Sources.{position_in_draft}
+use Rattle.findings_text.specs.Sources.{located}
 use Rattle.findings_text.specs.Told.{ArePrintedRulesIn, AreToldWith, IsPrintedIn, stands_in, told_findings, told_heads}
 use Rattle.findings_text.proofs.HeadLaws.{heads_within}
 use Rattle.findings_text.proofs.PrintLaws.{one_known, some_known}
@@ -23,23 +25,26 @@ use Rattle.findings_text.proofs.RuleLaws.{one_lines, some_lines}
 
 -- ---- the findings
 
-abbrev printed_in : Locator → List ℕ → List ℕ → List (List ℕ) → List Finding → Printed
-printed_in locate file text names found = record { lines = flat_map (finding_line locate names file text) found; outcome = outcome_of found }
+abbrev printed_in : List Repeat → Locator → List ℕ → List ℕ → List (List ℕ) → List Finding → Printed
+printed_in repeats locate file text names found = record {
+  lines = flat_map (finding_line repeats locate names file text) (without_copies repeats found);
+  outcome = outcome_of (without_copies repeats found);
+}
 
-is_in : (told : List ℕ) (locate : Locator) (file text : List ℕ) (printed : Printed) (is : IsPrintedIn told locate file text printed) → printed ≡ printed_in locate file text is.names is.found
-is_in told locate file text printed is = (λ i. record { lines = is.lines_are i; outcome = is.outcome_is i })
+is_in : (told : List ℕ) (repeats : List Repeat) (locate : Locator) (file text : List ℕ) (printed : Printed) (is : IsPrintedIn told repeats locate file text printed) → printed ≡ printed_in repeats locate file text is.names is.found
+is_in told repeats locate file text printed is = (λ i. record { lines = is.lines_are i; outcome = is.outcome_is i })
 
 -- what is printed of the findings that stand at the front of a joined text is printed of it, if it is
-pub printed_told : {E : Type 0} (told : List ℕ) (locate : Locator) (file text : List ℕ) (found : List Finding) (names : List (List ℕ)) → AreToldWith told text found names
-    → (shown : List Finding) (known : List (List ℕ)) → shown ≡ found → known ≡ names → (r : Result Printed E)
-    → IfOk r (λ printed. printed.lines ≡ flat_map (finding_line locate known file text) shown) → IfOk r (λ printed. printed.outcome ≡ outcome_of shown)
-    → IfOk r (λ printed. IsPrintedIn told locate file text printed)
-printed_told told locate file text found names are shown known shown_is known_is (Err e) lines outcome = lines
-printed_told told locate file text found names are shown known shown_is known_is (Ok printed) lines outcome = record {
+pub printed_told : {E : Type 0} (told : List ℕ) (repeats : List Repeat) (locate : Locator) (file text : List ℕ) (found : List Finding) (names : List (List ℕ)) → AreToldWith told text found names
+    → (shown : List Finding) (known : List (List ℕ)) → shown ≡ without_copies repeats found → known ≡ names → (r : Result Printed E)
+    → IfOk r (λ printed. printed.lines ≡ flat_map (finding_line repeats locate known file text) shown) → IfOk r (λ printed. printed.outcome ≡ outcome_of shown)
+    → IfOk r (λ printed. IsPrintedIn told repeats locate file text printed)
+printed_told told repeats locate file text found names are shown known shown_is known_is (Err e) lines outcome = lines
+printed_told told repeats locate file text found names are shown known shown_is known_is (Ok printed) lines outcome = record {
   found = found;
   names = names;
   of_text = are;
-  lines_are = lines ∙ (λ i. flat_map (finding_line locate (known_is i) file text) (shown_is i));
+  lines_are = lines ∙ (λ i. flat_map (finding_line repeats locate (known_is i) file text) (shown_is i));
   outcome_is = outcome ∙ ap outcome_of shown_is;
 }
 
@@ -50,11 +55,11 @@ one_told_names : (told text : List ℕ) (a b : List Finding) (x y : List (List �
 one_told_names told text a b x y p q =
     p.names_are ∙ ((λ i. compared (one_told told text a b x y p q i) (one_known text p.known q.known p.are_known q.are_known i)) ∙ sym q.names_are)
 
-pub one_in : (told : List ℕ) (locate : Locator) (file text : List ℕ) (a b : Printed) → IsPrintedIn told locate file text a → IsPrintedIn told locate file text b → a ≡ b
-one_in told locate file text a b p q =
-    is_in told locate file text a p
-    ∙ ((λ i. printed_in locate file text (one_told_names told text p.found q.found p.names q.names p.of_text q.of_text i) (one_told told text p.found q.found p.names q.names p.of_text q.of_text i))
-    ∙ sym (is_in told locate file text b q))
+pub one_in : (told : List ℕ) (repeats : List Repeat) (locate : Locator) (file text : List ℕ) (a b : Printed) → IsPrintedIn told repeats locate file text a → IsPrintedIn told repeats locate file text b → a ≡ b
+one_in told repeats locate file text a b p q =
+    is_in told repeats locate file text a p
+    ∙ ((λ i. printed_in repeats locate file text (one_told_names told text p.found q.found p.names q.names p.of_text q.of_text i) (one_told told text p.found q.found p.names q.names p.of_text q.of_text i))
+    ∙ sym (is_in told repeats locate file text b q))
 
 some_told : (told text : List ℕ) → length text < 2 ^ 62 → (found : List Finding) × (names : List (List ℕ)) × AreToldWith told text found names
 some_told told text small =
@@ -63,23 +68,23 @@ some_told told text small =
     let found = told_findings told all.0 in
     (found, compared found known.0, record { all = all.0; of_text = all.1; found_are = refl; known = known.0; are_known = known.1; names_are = refl })
 
-pub some_in : (told : List ℕ) (locate : Locator) (file text : List ℕ) → length text < 2 ^ 62 → (printed : Printed) × IsPrintedIn told locate file text printed
-some_in told locate file text small =
+pub some_in : (told : List ℕ) (repeats : List Repeat) (locate : Locator) (file text : List ℕ) → length text < 2 ^ 62 → (printed : Printed) × IsPrintedIn told repeats locate file text printed
+some_in told repeats locate file text small =
     let front = some_told told text small in
-    (printed_in locate file text front.1 front.0, record { found = front.0; names = front.1; of_text = front.2; lines_are = refl; outcome_is = refl })
+    (printed_in repeats locate file text front.1 front.0, record { found = front.0; names = front.1; of_text = front.2; lines_are = refl; outcome_is = refl })
 
 -- ---- the rules
 
 -- the lines of the rules that stand at the front of a joined text, if there are any
-pub told_lines : {E : Type 0} (told draft file text : List ℕ) (gathered : List Sourced) (g : Grammar) → g.text ≡ text → IsGrammar g → (r : Result (List ℕ) E)
-    → IfOk r (λ lines. AreRuleLines (position_in_draft draft gathered g.text) file g (told_heads told (heads g.names g.places)) lines)
-    → IfOk r (λ lines. ArePrintedRulesIn told (position_in_draft draft gathered text) file text lines)
-told_lines told draft file text gathered g is right (Err e) are = are
-told_lines told draft file text gathered g is right (Ok lines) are = record {
+pub told_lines : {E : Type 0} (told : List ℕ) (source : Source) (file text : List ℕ) (g : Grammar) → g.text ≡ text → IsGrammar g → (r : Result (List ℕ) E)
+    → IfOk r (λ lines. AreRuleLines (located source g.text) file g (told_heads told (heads g.names g.places)) lines)
+    → IfOk r (λ lines. ArePrintedRulesIn told (located source text) file text lines)
+told_lines told source file text g is right (Err e) are = are
+told_lines told source file text g is right (Ok lines) are = record {
   grammar = g;
   of_text = is;
   right = right;
-  lines_are = subst (λ (t : List ℕ). AreRuleLines (position_in_draft draft gathered t) file g (told_heads told (heads g.names g.places)) lines) is are;
+  lines_are = subst (λ (t : List ℕ). AreRuleLines (located source t) file g (told_heads told (heads g.names g.places)) lines) is are;
 }
 
 pub one_rules_in : (told : List ℕ) (locate : Locator) (file text a b : List ℕ) → ArePrintedRulesIn told locate file text a → ArePrintedRulesIn told locate file text b → a ≡ b

@@ -1,11 +1,16 @@
--- What is said where a name stands for nothing: a known name that is near.
-use Rattle.std.specs.Prelude.{◌≡◌, ℕ, Bool, true, false, ◌&&◌, nat_le, ◌*◌, List, [], ◌++◌, Option, Some, None, codes, count_by, length, map, if◌then◌else◌}
+-- What is said behind messages: a known name that is near, and what may be meant by a fault of syntax.
+use Rattle.std.specs.Prelude.{◌≡◌, ℕ, Bool, true, false, ◌&&◌, ◌==◌, nat_le, ◌*◌, List, [], ◌++◌, Option, Some, None, codes, count_by, drop, length, map, option_map, slice_get, slice_index, if◌then◌else◌}
+use Rattle.std.specs.Option.{option_map_or}
+use Rattle.std.specs.Str.{encode_utf8_all}
+use Rattle.ls_text.specs.Lines.{lines}
+use Rattle.ls_text.specs.declared.position.Place.{Place}
+use Rattle.abnf_syntax.specs.declared.fault.SyntaxFault.TheVariants.{BadToken, ElementExpected, NoName}
 use Rattle.near_names.specs.Near.{nearest}
 use Rattle.abnf_parts.specs.Core.{core_rules}
 use Rattle.abnf_names.specs.Places.{Named}
 use Rattle.abnf_names.specs.Rules.{Grammar, IsGrammar}
 use Rattle.abnf_lint.specs.declared.finding.Code.{Code}
-use Rattle.abnf_lint.specs.declared.finding.Code.TheVariants.{Undefined}
+use Rattle.abnf_lint.specs.declared.finding.Code.TheVariants.{Syntax, Undefined}
 use Rattle.abnf_lint.specs.declared.finding.Finding.{Finding}
 use Rattle.abnf_lint.specs.Messages.{message_of}
 use Rattle.findings_text.specs.Heads.{heads}
@@ -60,3 +65,34 @@ hint_of known finding = if is_undefined finding then hint (nearest finding.name 
 -- the message of a finding, and what is said behind it
 abbrev pub message : List (List ℕ) → Finding → List ℕ
 message known finding = message_of finding.code finding.name ++ hint_of known finding
+
+-- ---- faults of syntax
+
+-- the bytes of a line, of which there are none behind the last
+abbrev pub line_at : List ℕ → ℕ → List ℕ
+line_at text at = option_map_or (λ line. line) (option_map encode_utf8_all (slice_get (lines text) at)) []
+
+-- what is said where a `#` stands in a line, by which HTTP has lists, or a `\`, which folds lines
+abbrev pub character_hint : List ℕ → ℕ → List ℕ
+character_hint line at =
+    if slice_index line at == 35 then codes ", lists by # are an extension of HTTP (RFC 9110, section 5.6.1)"
+    else (if slice_index line at == 92 then codes ", lines that are folded by \\ are not joined (RFC 8792)" else [])
+
+-- bytes begin with these three
+abbrev pub begin_with : List ℕ → ℕ → ℕ → ℕ → Bool
+begin_with bytes a b c = slice_index bytes 0 == a && slice_index bytes 1 == b && slice_index bytes 2 == c
+
+-- What is said where no name begins a block, at a place of this line: a text may begin with a byte order mark, U+FEFF in UTF-8, and
+-- kramdown includes files by `{::`.
+abbrev pub front_hint : List ℕ → Place → List ℕ
+front_hint line place =
+    if place.line == 0 && place.start == 0 && begin_with (drop place.start line) 0xEF 0xBB 0xBF then codes ", a byte order mark"
+    else (if begin_with (drop place.start line) 123 58 58 then codes ", what kramdown includes is not read" else [])
+
+-- What is said behind the message of a fault of syntax in a text: of a bad character, of one that stands behind a repeat without an
+-- element, and of what stands where a name should.
+abbrev pub fault_hint : List ℕ → Code → List ℕ
+fault_hint text (Syntax (BadToken place)) = character_hint (line_at text place.line) place.start
+fault_hint text (Syntax (ElementExpected place)) = character_hint (line_at text place.line) place.end
+fault_hint text (Syntax (NoName place)) = front_hint (line_at text place.line) place
+fault_hint text _ = []

@@ -1,17 +1,21 @@
 -- What is printed of the findings in a text: a line for each, in the form that compilers use.
-use Rattle.std.specs.Prelude.{◌≡◌, ℕ, ◌+◌, List, [], ◌∷◌, ◌++◌, codes, flat_map}
+use Rattle.std.specs.Prelude.{◌≡◌, ℕ, ◌+◌, List, [], ◌∷◌, ◌++◌, Option, Some, None, codes, flat_map}
+use Rattle.std.specs.Option.{option_map}
 use Rattle.std.specs.Fmt.{decimal}
 use Rattle.ls_text.specs.Lines.{units}
 use Rattle.ls_text.specs.Positions.{place_start, position_of}
 use Rattle.ls_text.specs.declared.position.Encoding.TheVariants.{Utf32}
+use Rattle.ls_text.specs.declared.position.Place.{Place}
 use Rattle.ls_text.specs.declared.position.Position.{Position}
 use Rattle.abnf_lint.specs.declared.finding.Finding.{Finding}
 use Rattle.abnf_lint.specs.declared.message.Severity.{Severity}
 use Rattle.abnf_lint.specs.declared.message.Severity.TheVariants.{Error, Warning}
 use Rattle.abnf_lint.specs.Messages.{code_text, severity_of}
 use Rattle.abnf_lint.specs.Rows.{AreRows}
+use Rattle.joined_grammars.specs.declared.repeats.Repeat.{Repeat}
 use Rattle.findings_text.specs.declared.print.Printed.{Printed}
-use Rattle.findings_text.specs.Hints.{AreKnown, compared, message}
+use Rattle.findings_text.specs.Copies.{original_of, without_copies}
+use Rattle.findings_text.specs.Hints.{AreKnown, compared, fault_hint, message}
 use Rattle.findings_text.specs.Outcomes.{outcome_of}
 
 -- how grave a finding is, in a word
@@ -19,9 +23,13 @@ abbrev pub severity_text : Severity → List ℕ
 severity_text Error = codes "error"
 severity_text Warning = codes "warning"
 
--- where a finding begins: its line, and the characters of that line before it
+-- where a place begins: its line, and the characters of that line before it
+abbrev pub position_at : List ℕ → Place → Position
+position_at text place = position_of (units Utf32) text (place_start text place)
+
+-- where a finding begins
 abbrev pub begin_of : List ℕ → Finding → Position
-begin_of text finding = position_of (units Utf32) text (place_start text finding.place)
+begin_of text finding = position_at text finding.place
 
 -- what is counted from 0, printed from 1 behind a colon
 abbrev pub counted_text : ℕ → List ℕ
@@ -31,20 +39,40 @@ counted_text n = codes ":" ++ decimal (n + 1)
 abbrev pub place_text : Position → List ℕ
 place_text at = counted_text at.line ++ counted_text at.character ++ codes ": "
 
+-- what is said of a rule that differs from its definition in this line, which is printed from 1
+abbrev pub differing : List ℕ → ℕ → List ℕ
+differing name line = codes "rule " ++ name ++ codes " differs from its definition at line " ++ decimal (line + 1)
+
+-- the message of a finding, with a hint behind it, or that its definition differs from the first, in this line
+abbrev pub message_at : List (List ℕ) → Option ℕ → List ℕ → Finding → List ℕ
+message_at known None hint finding = message known finding ++ hint
+message_at known (Some line) hint finding = differing finding.name line
+
+-- the code that is printed of it
+abbrev pub code_at : Option ℕ → Finding → List ℕ
+code_at None finding = code_text finding.code
+code_at (Some line) finding = codes "differs"
+
 -- `FILE:LINE:COLUMN: severity: message [code]`, and LF, of a finding that begins at this position, where its name is compared
--- with these. Line and column are printed from 1.
-abbrev pub line_of_finding : List (List ℕ) → List ℕ → Position → Finding → List ℕ
-line_of_finding known file at finding =
+-- with these, its definition may differ from the first, in a line, and a hint may be given. Line and column are printed from 1.
+abbrev pub line_of_finding : List (List ℕ) → List ℕ → Position → Option ℕ → List ℕ → Finding → List ℕ
+line_of_finding known file at original hint finding =
     file ++ place_text at ++ severity_text (severity_of finding.code) ++ codes ": "
-    ++ message known finding ++ codes " [" ++ code_text finding.code ++ (codes "]" ++ 10 ∷ [])
+    ++ message_at known original hint finding ++ codes " [" ++ code_at original finding ++ (codes "]" ++ 10 ∷ [])
 
 -- where in the file stands what has this position in the grammar's text; positions count characters
 abbrev pub Locator : Type 0
 Locator = Position → Position
 
+-- the line of the file in which the first definition begins, where the finding's differs from it
+abbrev pub original_line : List Repeat → Locator → List ℕ → Finding → Option ℕ
+original_line repeats locate text finding =
+    option_map (λ line. (locate (position_at text (record { line = line; start = 0; end = 0 }))).line) (original_of repeats finding)
+
 -- the line of a finding, at the place of the file where it begins
-abbrev pub finding_line : Locator → List (List ℕ) → List ℕ → List ℕ → Finding → List ℕ
-finding_line locate known file text finding = line_of_finding known file (locate (begin_of text finding)) finding
+abbrev pub finding_line : List Repeat → Locator → List (List ℕ) → List ℕ → List ℕ → Finding → List ℕ
+finding_line repeats locate known file text finding =
+    line_of_finding known file (locate (begin_of text finding)) (original_line repeats locate text finding) (fault_hint text finding.code) finding
 
 -- These are the findings of a text, and the names with which theirs are compared.
 pub record AreFoundWith (text : List ℕ) (found : List Finding) (names : List (List ℕ)) : Type 0 where
@@ -53,16 +81,16 @@ pub record AreFoundWith (text : List ℕ) (found : List Finding) (names : List (
   pub are_known : AreKnown text known
   pub names_are : names ≡ compared found known
 
--- This is printed of a grammar's text from a file with this name: the lines of its findings, in their order, and how the file
--- went by them.
-pub record IsPrintedFrom (locate : Locator) (file text : List ℕ) (printed : Printed) : Type 0 where
+-- This is printed of a grammar's text from a file with this name, where these definitions repeat others: the lines of its
+-- findings, in their order, but for definitions that say the same as the first, and how the file went by them.
+pub record IsPrintedFrom (repeats : List Repeat) (locate : Locator) (file text : List ℕ) (printed : Printed) : Type 0 where
   pub found : List Finding
   pub names : List (List ℕ)
   pub of_text : AreFoundWith text found names
-  pub lines_are : printed.lines ≡ flat_map (finding_line locate names file text) found
-  pub outcome_is : printed.outcome ≡ outcome_of found
+  pub lines_are : printed.lines ≡ flat_map (finding_line repeats locate names file text) (without_copies repeats found)
+  pub outcome_is : printed.outcome ≡ outcome_of (without_copies repeats found)
 
--- This is printed of a file with this name that is the grammar's text: the lines of its findings, in their order, and how the
--- file went by them. There is one such print-out (`printed_texts_exist`), and only one (`printed_texts_are_unique`).
+-- This is printed of a file with this name that is the grammar's text: the lines of all its findings, in their order, and how
+-- the file went by them. There is one such print-out (`printed_texts_exist`), and only one (`printed_texts_are_unique`).
 abbrev pub IsPrinted : List ℕ → List ℕ → Printed → Type 0
-IsPrinted file text printed = IsPrintedFrom (λ at. at) file text printed
+IsPrinted file text printed = IsPrintedFrom [] (λ at. at) file text printed

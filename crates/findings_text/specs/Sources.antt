@@ -1,11 +1,12 @@
 -- Where what stands in the text of a grammar stands in the file that it comes from.
-use Rattle.std.specs.Prelude.{ℕ, List, length, slice_get}
+use Rattle.std.specs.Prelude.{ℕ, List, [], length, slice_get}
 use Rattle.std.specs.Option.{option_map_or}
 use Rattle.ls_text.specs.Lines.{offset_of, units}
 use Rattle.ls_text.specs.Positions.{position_of}
 use Rattle.ls_text.specs.declared.position.Encoding.TheVariants.{Utf32}
 use Rattle.ls_text.specs.declared.position.Position.{Position}
 use Rattle.origins.specs.Origins.{Sourced}
+use Rattle.joined_grammars.specs.declared.repeats.Repeat.{Repeat}
 use Rattle.findings_text.specs.declared.source.Source.{Source}
 use Rattle.findings_text.specs.declared.source.Source.TheVariants.{Draft, File}
 use Rattle.findings_text.specs.Print.{Locator}
@@ -22,4 +23,9 @@ position_in_draft draft grammar text at =
 -- where what stands in the text of a source stands in the file: of a text that is the file at the same position
 abbrev pub located : Source → List ℕ → Locator
 located File text at = at
-located (Draft draft grammar) text at = position_in_draft draft.now grammar.now text at
+located (Draft draft grammar repeats) text at = position_in_draft draft.now grammar.now text at
+
+-- the definitions that repeat others: none in a text that is the file, where each of them is an error
+abbrev pub repeats_in : Source → List Repeat
+repeats_in File = []
+repeats_in (Draft draft grammar repeats) = repeats.now

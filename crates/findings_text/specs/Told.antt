@@ -7,7 +7,9 @@ use Rattle.abnf_names.specs.Places.{Named}
 use Rattle.abnf_names.specs.Rules.{Grammar, IsGrammar}
 use Rattle.abnf_lint.specs.declared.finding.Finding.{Finding}
 use Rattle.abnf_lint.specs.Rows.{AreRows}
+use Rattle.joined_grammars.specs.declared.repeats.Repeat.{Repeat}
 use Rattle.findings_text.specs.declared.print.Printed.{Printed}
+use Rattle.findings_text.specs.Copies.{without_copies}
 use Rattle.findings_text.specs.Hints.{AreKnown, compared}
 use Rattle.findings_text.specs.Outcomes.{outcome_of}
 use Rattle.findings_text.specs.Print.{Locator, finding_line}
@@ -34,14 +36,14 @@ pub record AreToldWith (told text : List ℕ) (found : List Finding) (names : Li
   pub are_known : AreKnown text known
   pub names_are : names ≡ compared found known
 
--- This is printed of the grammar at the front of a joined text: the lines of the findings that stand there, in their order,
--- and how the file went by them.
-pub record IsPrintedIn (told : List ℕ) (locate : Locator) (file text : List ℕ) (printed : Printed) : Type 0 where
+-- This is printed of the grammar at the front of a joined text, where these definitions repeat others: the lines of the
+-- findings that stand there, in their order, but for definitions that say the same as the first, and how the file went by them.
+pub record IsPrintedIn (told : List ℕ) (repeats : List Repeat) (locate : Locator) (file text : List ℕ) (printed : Printed) : Type 0 where
   pub found : List Finding
   pub names : List (List ℕ)
   pub of_text : AreToldWith told text found names
-  pub lines_are : printed.lines ≡ flat_map (finding_line locate names file text) found
-  pub outcome_is : printed.outcome ≡ outcome_of found
+  pub lines_are : printed.lines ≡ flat_map (finding_line repeats locate names file text) (without_copies repeats found)
+  pub outcome_is : printed.outcome ≡ outcome_of (without_copies repeats found)
 
 -- ---- the rules
 

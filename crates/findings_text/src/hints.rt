@@ -1,6 +1,6 @@
-//! What is said where a name stands for nothing.
+//! What is said behind messages: a known name that is near, and what may be meant by a fault of syntax.
 
-ghost use Rattle.std.specs.Prelude.{◌≡◌, ◌++◌, IfOk, codes, count_by, map, string_bytes};
+ghost use Rattle.std.specs.Prelude.{◌≡◌, ◌++◌, IfOk, codes, count_by, drop, map, slice_index, string_bytes};
 ghost use Rattle.std.specs.Option.{option_map};
 ghost use Rattle.near_names.specs.Near.{nearest};
 ghost use Rattle.findings_text.specs.Hints as spec;
@@ -9,7 +9,9 @@ ghost use Rattle.findings_text.specs.Rules.{head_at};
 use crate::rules::{Head, heads_of};
 use abnf_lint::{Code, Finding};
 use abnf_names::Grammar;
+use abnf_syntax::SyntaxFault;
 use ls_lists::List;
+use ls_text::{Place, Snapshot};
 use near_names::nearest;
 use std::alloc::{AllocError as Memory, Global};
 
@@ -149,4 +151,81 @@ pub(crate) fn message(alloc: Global, known: &[&str], finding: &Finding) -> Resul
         text.push_str(hint.as_str())?;
     }
     Ok(text)
+}
+
+/// A line of a text, empty behind the last.
+fn line_at(text: &Snapshot, at: usize) -> &str
+    ensures { result.now ≡ spec.line_at text.now at }
+{
+    match text.line(at) {
+        Some(line) => line,
+        None => "",
+    }
+}
+
+/// One of some bytes, and 0 behind their end.
+fn byte_at(bytes: &[u8], at: usize) -> u8
+    ensures { result ≡ slice_index bytes.now at }
+{
+    match bytes.get(at) {
+        Some(byte) => *byte,
+        None => 0,
+    }
+}
+
+/// The bytes of a line from a place on.
+fn bytes_from(line: &str, at: usize) -> &[u8]
+    ensures { result.now ≡ drop at line.now }
+{
+    let bytes = line.as_bytes();
+    if at < bytes.len() { &bytes[at..] } else { &[] }
+}
+
+/// What is said where a `#` or a `\` stands in a line.
+fn character_hint(line: &str, at: usize) -> &'static str
+    ensures { result.now ≡ spec.character_hint line.now at }
+{
+    match byte_at(line.as_bytes(), at) {
+        b'#' => ", lists by # are an extension of HTTP (RFC 9110, section 5.6.1)",
+        b'\\' => ", lines that are folded by \\ are not joined (RFC 8792)",
+        _ => "",
+    }
+}
+
+/// Whether these are first of some bytes.
+fn begin_with(bytes: &[u8], first: u8, second: u8, third: u8) -> bool
+    ensures { result ≡ spec.begin_with bytes.now first second third }
+{
+    byte_at(bytes, 0) == first && byte_at(bytes, 1) == second && byte_at(bytes, 2) == third
+}
+
+/// What is said where no name begins a block, in this line.
+fn front_hint(line: &str, place: Place) -> &'static str
+    ensures { result.now ≡ spec.front_hint line.now place }
+{
+    let bytes = bytes_from(line, place.start);
+    if place.line == 0 && place.start == 0 && begin_with(bytes, 0xEF, 0xBB, 0xBF) {
+        ", a byte order mark"
+    } else if begin_with(bytes, b'{', b':', b':') {
+        ", what kramdown includes is not read"
+    } else {
+        ""
+    }
+}
+
+/// What is said behind the message of a fault of syntax: that a `#` is HTTP's and a `\` folds lines, and that a text begins with a byte
+/// order mark or a block with what kramdown includes.
+pub(crate) fn fault_hint(text: &Snapshot, finding: &Finding) -> &'static str
+    ensures { result.now ≡ spec.fault_hint text.now finding.now.code }
+{
+    match finding.code {
+        Code::Syntax(SyntaxFault::BadToken(place)) => {
+            character_hint(line_at(text, place.line), place.start)
+        }
+        Code::Syntax(SyntaxFault::ElementExpected(place)) => {
+            character_hint(line_at(text, place.line), place.end)
+        }
+        Code::Syntax(SyntaxFault::NoName(place)) => front_hint(line_at(text, place.line), place),
+        _ => "",
+    }
 }

@@ -3,19 +3,18 @@
 ghost use Rattle.std.specs.Prelude.{◌≡◌, IfOk, flat_map, map, string_bytes};
 ghost use Rattle.findings_text.specs.Outcomes as outcomes;
 ghost use Rattle.findings_text.specs.Print.{AreFoundWith, IsPrinted, IsPrintedFrom, finding_line};
-ghost use Rattle.findings_text.specs.Sources.{located, position_in_draft};
+ghost use Rattle.findings_text.specs.Sources.{located, repeats_in};
 ghost use Rattle.findings_text.specs.Told as front;
 
 use crate::hints::compared;
 use crate::line::push_line;
 use crate::outcome::{Outcome, outcome_of};
-use crate::source::{Source, located};
+use crate::source::{Source, standing_of, without_copies};
 use abnf_lint::Finding;
 use abnf_names::Grammar;
 use abnf_productive::findings_in;
 use ls_lists::{List, Text};
 use ls_text::{Encoding, Ruler, Snapshot};
-use origins::Gathered;
 use std::alloc::{AllocError as Memory, Global};
 
 /// What is printed of a text, and how the file went.
@@ -47,13 +46,12 @@ fn lines_of(
     known: &[&str],
     found: &[Finding],
 ) -> Result<String, Memory>
-    ensures { IfOk result (λ lines. string_bytes lines ≡ flat_map (finding_line (located source.entry text.now) (map (λ name. name.now) known.now) file.now text.now) found.now) }
+    ensures { IfOk result (λ lines. string_bytes lines ≡ flat_map (finding_line (repeats_in source.entry) (located source.entry text.now) (map (λ name. name.now) known.now) file.now text.now) found.now) }
 {
     let mut ruler = Ruler::new(text, Encoding::Utf32);
     let mut lines = String::new(alloc);
     for finding in found {
-        let begin = ruler.range_of(&finding.place).start;
-        let at = located(source, text, begin);
+        let at = standing_of(source, text, &mut ruler, finding);
         push_line(&mut lines, alloc, file, at, known, finding)?;
     }
     Ok(lines)
@@ -68,7 +66,7 @@ fn print_found(
     known: &[&str],
     found: &[Finding],
 ) -> Result<Printed, Memory>
-    ensures lines { IfOk result (λ printed. printed.lines ≡ flat_map (finding_line (located source.entry text.now) (map (λ name. name.now) known.now) file.now text.now) found.now) }
+    ensures lines { IfOk result (λ printed. printed.lines ≡ flat_map (finding_line (repeats_in source.entry) (located source.entry text.now) (map (λ name. name.now) known.now) file.now text.now) found.now) }
     ensures outcome { IfOk result (λ printed. printed.outcome ≡ outcomes.outcome_of found.now) }
 {
     let lines = lines_of(alloc, file, source, text, known, found)?;
@@ -79,7 +77,8 @@ fn print_found(
 }
 
 /// What is printed of a grammar's text from a file with this name: each finding in a line, in the order of the text, at
-/// the place where it begins in the file. Lines and columns count from 1, and columns count characters.
+/// the place where it begins in the file. Lines and columns count from 1, and columns count characters. In a draft nothing
+/// is printed of a definition that says the same as the first of its name.
 ///
 /// Time goes by the length of the text and by its findings, of which n take n times the logarithm of n to order; in a
 /// draft each takes time by the characters of its lines. A name that stands for nothing is compared with each known one,
@@ -94,9 +93,10 @@ pub fn print_from(
     source: Source<'_>,
     text: &Snapshot,
 ) -> Result<Printed, Memory>
-    ensures { IfOk result (λ printed. IsPrintedFrom (located source.entry text.now) file.now text.now printed) }
+    ensures { IfOk result (λ printed. IsPrintedFrom (repeats_in source.entry) (located source.entry text.now) file.now text.now printed) }
 {
     let (found, known) = found_in(alloc, text)?;
+    let found = without_copies(source, found);
     print_found(
         alloc,
         file,
@@ -145,15 +145,14 @@ fn told_in<'t>(
 pub fn print_told(
     alloc: Global,
     file: &str,
-    draft: &Snapshot,
-    grammar: &Gathered,
+    source: Source<'_>,
     told: &Snapshot,
     text: &Snapshot,
 ) -> Result<Printed, Memory>
-    ensures { IfOk result (λ printed. front.IsPrintedIn told.now (position_in_draft draft.now grammar.now text.now) file.now text.now printed) }
+    ensures { IfOk result (λ printed. front.IsPrintedIn told.now (repeats_in source.entry) (located source.entry text.now) file.now text.now printed) }
 {
     let (found, known) = told_in(alloc, told, text)?;
-    let source = Source::Draft(draft, grammar);
+    let found = without_copies(source, found);
     print_found(
         alloc,
         file,

@@ -4,7 +4,7 @@ ghost use Rattle.std.specs.Prelude.{◌≡◌, ◌<◌, ℕ, All, IfOk, IfSome, 
 ghost use Rattle.abnf_cert.specs.Accepted.{IsAccepted};
 ghost use Rattle.abnf_names.specs.Places.{named_at};
 ghost use Rattle.findings_text.specs.Rules as spec;
-ghost use Rattle.findings_text.specs.Sources.{located, position_in_draft};
+ghost use Rattle.findings_text.specs.Sources.{located};
 ghost use Rattle.findings_text.specs.Told as front;
 
 use crate::rule_line::push_rule_line;
@@ -14,7 +14,6 @@ use abnf_least::{example, least};
 use abnf_names::{Grammar, RuleNo, Spot};
 use ls_lists::{List, Text};
 use ls_text::{Encoding, Ruler, Snapshot};
-use origins::Gathered;
 use std::alloc::{AllocError as Memory, Global};
 
 /// The first place that defines a rule, and the rule.
@@ -167,15 +166,13 @@ fn told_rules(
 pub fn print_told_rules(
     alloc: Global,
     file: &str,
-    draft: &Snapshot,
-    gathered: &Gathered,
+    source: Source<'_>,
     told: &Snapshot,
     text: &Snapshot,
 ) -> Result<Text, Memory>
-    ensures { IfOk result (λ lines. front.ArePrintedRulesIn told.now (position_in_draft draft.now gathered.now text.now) file.now text.now lines) }
+    ensures { IfOk result (λ lines. front.ArePrintedRulesIn told.now (located source.entry text.now) file.now text.now lines) }
 {
     let grammar = Grammar::of(alloc, text)?;
-    let source = Source::Draft(draft, gathered);
     let lines = told_rules(alloc, file, source, &grammar, told);
     drop(grammar);
     lines

@@ -31,7 +31,7 @@ IsWhole ls block = AreItems ls block.first block.end block.items × (0 < length 
 only_items : (ls : List Text) (blocks : List Block) → All (IsWhole ls) blocks → All (λ block. AreItems ls block.first block.end block.items) blocks
 only_items ls blocks whole = λ k d less. (whole k d less).0
 
-blocks_of : (text : List ℕ) → IsSmall text → (blocks : List Block) × AreBlocksOf text blocks
+pub blocks_of : (text : List ℕ) → IsSmall text → (blocks : List Block) × AreBlocksOf text blocks
 blocks_of text small =
     let found = some_blocks text small in
     (found.0, record { all = found.1; items = only_items (line_texts text) found.0 found.2 })

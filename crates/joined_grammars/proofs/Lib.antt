@@ -1,2 +1,4 @@
 pub mod LineLaws
 pub mod JoinLaws
+pub mod RepeatLaws
+pub mod WordLaws

@@ -1,12 +1,14 @@
 -- Laws of lines and blocks.
 use Rattle.std.proofs.Common.{◌≡◌, ℕ, zero, suc, ◌+◌, ◌-◌, ◌<◌, ◌≤◌, Bool, true, false, cond, List, [], ◌∷◌, ◌++◌, length, take, drop, get_or, refl, sym, ap, append_assoc, length-drop, ◌∙◌, arith}
-use Rattle.std.specs.Prelude.{Option, Some, None, nat_eq}
+use Rattle.std.specs.Prelude.{nat_eq}
 use Rattle.std.proofs.lemmas.List.{append-nil, at_drop_more, drop_all, take_all}
 use Rattle.ls_text.specs.Lines.{ends_line}
 use Rattle.origins.specs.Origins.{Sourced, SourcedBlock, aligned, grammar_of}
 use Rattle.markdown_blocks.specs.declared.fence.Fence.{Fence}
-use Rattle.markdown_blocks.specs.Fences.{Line, fenced_blocks, closes_fence, fence_content, ended_block, placed_lines_from, opening_fence, put_placed, without_end}
-use Rattle.markdown_blocks.specs.own.Reading.{line_len, reading_fence}
+use Rattle.markdown_blocks.specs.declared.reading.Reading.{Reading}
+use Rattle.markdown_blocks.specs.declared.reading.Reading.TheVariants.{Text, BehindBlock, BehindAttributes, Comment, Extension, Block}
+use Rattle.markdown_blocks.specs.Fences.{Line, behind_line, fenced_blocks, closes_fence, fence_content, ended_block, first_says, placed_lines_from, put_placed, says_abnf, with_word, without_end}
+use Rattle.markdown_blocks.specs.own.Reading.{line_len}
 
 -- ---- the first line of a text
 
@@ -53,36 +55,53 @@ lines_first at (c ∷ d ∷ t) lt = by_test (ends_line c (d ∷ t)) (lines_first
         ap (put_placed at c) more
         ∙ ap (λ n. (at, c ∷ take (line_len (d ∷ t)) (d ∷ t)) ∷ placed_lines_from n (drop (line_len (d ∷ t)) (d ∷ t))) (let e : suc at + line_len (d ∷ t) ≡ at + suc (line_len (d ∷ t)) = omega arith in e)
 
--- ---- a line behind an open fence
+-- ---- a line of a block
 
-pub blocks_closed : (end : ℕ) (fence : Fence) (content : List Sourced) (l : Line) (ls : List Line) → closes_fence fence (without_end l.1) ≡ true → fenced_blocks end (Some (fence, content)) (l ∷ ls) ≡ ended_block (fence, content) l.0 ++ fenced_blocks end None ls
+pub blocks_closed : (end : ℕ) (fence : Fence) (content : List Sourced) (l : Line) (ls : List Line) → closes_fence fence (without_end l.1) ≡ true
+    → fenced_blocks end (Block fence) content (l ∷ ls) ≡ ended_block (with_word (first_says ls) fence) content l.0 ++ fenced_blocks end BehindBlock [] ls
 unfolding fenced_blocks
 blocks_closed end fence content l ls e = rw e refl
 
-pub blocks_more : (end : ℕ) (fence : Fence) (content : List Sourced) (l : Line) (ls : List Line) → closes_fence fence (without_end l.1) ≡ false → fenced_blocks end (Some (fence, content)) (l ∷ ls) ≡ fenced_blocks end (Some (fence, content ++ fence_content fence l)) ls
+pub blocks_more : (end : ℕ) (fence : Fence) (content : List Sourced) (l : Line) (ls : List Line) → closes_fence fence (without_end l.1) ≡ false
+    → fenced_blocks end (Block fence) content (l ∷ ls) ≡ fenced_blocks end (Block fence) (content ++ fence_content fence l) ls
 unfolding fenced_blocks
 blocks_more end fence content l ls e = rw e refl
 
--- the content of a block that isn't ABNF doesn't matter
-pub blocks_other : (end : ℕ) (fence : Fence) (ls : List Line) (content other : List Sourced) → fence.is_abnf ≡ false → fenced_blocks end (Some (fence, content)) ls ≡ fenced_blocks end (Some (fence, other)) ls
-unfolding fenced_blocks
-blocks_other end fence [] content other e = rw e refl
-blocks_other end fence (l ∷ ls) content other e =
-    by_test (closes_fence fence (without_end l.1)) (blocks_other end fence ls (content ++ fence_content fence l) (other ++ fence_content fence l) e)
-  where
-    by_test : (b : Bool) → fenced_blocks end (Some (fence, content ++ fence_content fence l)) ls ≡ fenced_blocks end (Some (fence, other ++ fence_content fence l)) ls → cond b (ended_block (fence, content) l.0 ++ fenced_blocks end None ls) (fenced_blocks end (Some (fence, content ++ fence_content fence l)) ls) ≡ cond b (ended_block (fence, other) l.0 ++ fenced_blocks end None ls) (fenced_blocks end (Some (fence, other ++ fence_content fence l)) ls)
-    by_test true more = rw e refl
-    by_test false more = more
-
 -- ---- what was read so far
+
+-- no block is open
+abbrev pub IsOutside : Reading → Type 0
+IsOutside (Block fence) = ⊥
+IsOutside _ = Unit {0}
+
+pub outside : (reading : Reading) → ((fence : Fence) → reading ≡ Block fence → ⊥) → IsOutside reading
+outside Text none = tt
+outside BehindBlock none = tt
+outside BehindAttributes none = tt
+outside Comment none = tt
+outside Extension none = tt
+outside (Block fence) none = absurd (none fence refl)
+
+-- the next line, of which the text behind a line has the characters
+pub next_says : (at : ℕ) (t : List ℕ) → first_says (placed_lines_from at t) ≡ says_abnf (without_end (take (line_len t) t))
+unfolding line_len placed_lines_from
+next_says at [] = refl
+next_says at (c ∷ t) = ap first_says (lines_first at (c ∷ t) (omega arith))
 
 pub grammar_of_append : (bs cs : List SourcedBlock) → grammar_of (bs ++ cs) ≡ grammar_of bs ++ grammar_of cs
 grammar_of_append [] cs = refl
 grammar_of_append (b ∷ bs) cs = ap (λ g. aligned b ++ g) (grammar_of_append bs cs) ∙ sym (append_assoc (aligned b) (grammar_of bs) (grammar_of cs))
 
-pub blocks_outside : (end : ℕ) (content : List Sourced) (l : Line) (ls : List Line) → fenced_blocks end (reading_fence (opening_fence (without_end l.1)) []) ls ≡ fenced_blocks end (reading_fence None content) (l ∷ ls)
-unfolding fenced_blocks
-blocks_outside end content l ls = refl
+-- a line that isn't in a block
+module _ (end : ℕ) (content : List Sourced) (l : Line) (ls : List Line) where
+  pub text_line : (reading : Reading) → IsOutside reading → fenced_blocks end (behind_line reading (without_end l.1)) [] ls ≡ fenced_blocks end reading content (l ∷ ls)
+  unfolding fenced_blocks
+  text_line Text o = refl
+  text_line BehindBlock o = refl
+  text_line BehindAttributes o = refl
+  text_line Comment o = refl
+  text_line Extension o = refl
+  text_line (Block fence) o = absurd o
 
 pub lines_split : (at n : ℕ) (t line behind : List ℕ) → 0 < length t → n ≡ line_len t → line ≡ take n t → behind ≡ drop n t → length line ≡ n → (at, line) ∷ placed_lines_from (at + length line) behind ≡ placed_lines_from at t
 lines_split at n t line behind some n_is line_is behind_is len =
@@ -96,18 +115,26 @@ module _ (grammar : List Sourced) (end at : ℕ) (block : List Sourced) (rest : 
   lines_none [] e = refl
   lines_none (c ∷ t) e = absurd (omega (arith, e))
 
-  pub end_open : (f : Option Fence) (fence : Fence) {whole : List Sourced} → f ≡ Some fence → grammar ++ grammar_of (fenced_blocks end (reading_fence f block) (placed_lines_from at rest)) ≡ whole → grammar ++ grammar_of (ended_block (fence, block) at) ≡ whole
+  pub end_open : (reading : Reading) (fence : Fence) {whole : List Sourced} → reading ≡ Block fence → grammar ++ grammar_of (fenced_blocks end reading block (placed_lines_from at rest)) ≡ whole → grammar ++ grammar_of (ended_block fence block at) ≡ whole
   unfolding fenced_blocks
-  end_open f fence is was =
-      (λ i. grammar ++ grammar_of (ended_block (fence, block) ((let e : at ≡ end = omega (arith, none, left) in e) i)))
-      ∙ (λ i. grammar ++ grammar_of (fenced_blocks end (reading_fence (sym is i) block) (sym (lines_none rest none) i)))
+  end_open reading fence is was =
+      (λ i. grammar ++ grammar_of (ended_block fence block ((let e : at ≡ end = omega (arith, none, left) in e) i)))
+      ∙ (λ i. grammar ++ grammar_of (fenced_blocks end (sym is i) block (sym (lines_none rest none) i)))
       ∙ was
 
-  pub end_outside : (f : Option Fence) {whole : List Sourced} → f ≡ None → grammar ++ grammar_of (fenced_blocks end (reading_fence f block) (placed_lines_from at rest)) ≡ whole → grammar ≡ whole
+  none_open : (reading : Reading) → IsOutside reading → [] ≡ fenced_blocks end reading block []
   unfolding fenced_blocks
-  end_outside f is was =
+  none_open Text o = refl
+  none_open BehindBlock o = refl
+  none_open BehindAttributes o = refl
+  none_open Comment o = refl
+  none_open Extension o = refl
+  none_open (Block fence) o = absurd o
+
+  pub end_outside : (reading : Reading) {whole : List Sourced} → IsOutside reading → grammar ++ grammar_of (fenced_blocks end reading block (placed_lines_from at rest)) ≡ whole → grammar ≡ whole
+  end_outside reading o was =
       sym (append-nil grammar)
-      ∙ (λ i. grammar ++ grammar_of (fenced_blocks end (reading_fence (sym is i) block) (sym (lines_none rest none) i)))
+      ∙ ap (λ bs. grammar ++ grammar_of bs) (none_open reading o ∙ ap (fenced_blocks end reading block) (sym (lines_none rest none)))
       ∙ was
 
 pub positive : (n : ℕ) → nat_eq n 0 ≡ false → 0 < n

@@ -1,1 +1,2 @@
 pub mod FenceLaws
+pub mod AttributeLaws

@@ -1,27 +1,23 @@
 //! The fences of code blocks.
 
-ghost use Rattle.std.specs.Prelude.{◌≡◌, Some, None};
-ghost use Rattle.markdown_blocks.specs.Fences.{closes_fence, fence_of, is_abnf, is_abnf_word, is_letter, may_open, opening_fence, without_blanks};
+ghost use Rattle.std.specs.Prelude.{◌≡◌, ◌&&◌, Some, None, nat_le};
+ghost use Rattle.markdown_blocks.specs.Fences.{closes_fence, fence_of, fence_with, is_abnf, is_abnf_word, is_letter, may_open, opening_fence, with_word};
 
-use crate::line::{are_blank, blanks, first_word, marks};
+use crate::attributes::says_abnf;
+use crate::line::{are_blank, first_word, margin, marks, without_blanks};
 
 // A fence that opens a block.
 #[derive(Clone, Copy)]
 pub struct Fence {
-    // How many blanks stand before it.
+    // How many characters stand before it.
     pub indent: usize,
+    // Whether these have a `>`, and so the block stands in a quote.
+    pub quoted: bool,
     // The character that it is made of, and how many times.
     pub mark: char,
     pub count: usize,
     // Whether the block is ABNF.
     pub is_abnf: bool,
-}
-
-// A line without its indentation.
-fn without_blanks(line: &[char]) -> &[char]
-    ensures { result.now ≡ without_blanks line.now }
-{
-    &line[blanks(line)..]
 }
 
 // Whether a character is a letter, by its small and its capital form.
@@ -44,11 +40,11 @@ fn is_abnf_word(word: &[char]) -> bool
         && is_letter(*f, 'f', 'F')
 }
 
-// Whether the first word of an info string is `abnf`.
+// Whether the first word of an info string is `abnf`, or the string is an attribute list that says so.
 fn is_abnf(info: &[char]) -> bool
     ensures { result ≡ is_abnf info.now }
 {
-    is_abnf_word(first_word(without_blanks(info)))
+    is_abnf_word(first_word(without_blanks(info))) || says_abnf(info)
 }
 
 // Whether marks before an info string may open a block.
@@ -58,39 +54,67 @@ fn may_open(mark: char, info: &[char]) -> bool
     mark == '~' || (mark == '`' && !info.contains(&'`'))
 }
 
-// The fence of a line without its indentation, if it is one.
-fn fence_of(indent: usize, mark: char, line: &[char]) -> Option<Fence>
-    ensures { result ≡ fence_of indent mark line.now }
+// Whether so many marks before an info string begin a block.
+fn begin_block(mark: char, count: usize, info: &[char]) -> bool
+    ensures { result ≡ (nat_le 3 count && may_open mark info.now) }
 {
-    let count = marks(mark, line);
-    let info = &line[count..];
-    if count < 3 || !may_open(mark, info) {
-        return None;
-    }
-    Some(Fence {
-        indent,
+    count >= 3 && may_open(mark, info)
+}
+
+// The fence of so many marks, by its margin and its info string.
+fn fence_with(margin: &[char], mark: char, count: usize, info: &[char]) -> Fence
+    ensures { result ≡ fence_with margin.now mark count info.now }
+{
+    Fence {
+        indent: margin.len(),
+        quoted: margin.contains(&'>'),
         mark,
         count,
         is_abnf: is_abnf(info),
-    })
+    }
+}
+
+// The fence of a line without its margin, if it is one.
+fn fence_of(margin: &[char], mark: char, line: &[char]) -> Option<Fence>
+    ensures { result ≡ fence_of margin.now mark line.now }
+{
+    let count = marks(mark, line);
+    let info = &line[count..];
+    if begin_block(mark, count, info) {
+        Some(fence_with(margin, mark, count, info))
+    } else {
+        None
+    }
 }
 
 // The fence that a line opens.
 pub fn opening(line: &[char]) -> Option<Fence>
     ensures { result ≡ opening_fence line.now }
 {
-    let indent = blanks(line);
-    let rest = &line[indent..];
+    let (margin, rest) = line.split_at(margin(true, line));
     let mark = *rest.first()?;
-    fence_of(indent, mark, rest)
+    fence_of(margin, mark, rest)
 }
 
 impl Fence {
+    // The same fence of a block that is ABNF if it was, or if this says so.
+    pub fn with_word(self, says: bool) -> Fence
+        ensures { result ≡ with_word says self }
+    {
+        Fence {
+            indent: self.indent,
+            quoted: self.quoted,
+            mark: self.mark,
+            count: self.count,
+            is_abnf: self.is_abnf || says,
+        }
+    }
+
     // Whether a line closes the block.
     pub fn closes(self, line: &[char]) -> bool
         ensures { result ≡ closes_fence self line.now }
     {
-        let rest = without_blanks(line);
+        let rest = &line[margin(self.quoted, line)..];
         let count = marks(self.mark, rest);
         count >= self.count && are_blank(&rest[count..])
     }

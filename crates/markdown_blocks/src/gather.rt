@@ -3,13 +3,15 @@
 //! A draft is read as a list of characters, four bytes each, since a snapshot doesn't show which line end a line has. So it takes five
 //! times its size more while it is read.
 
-ghost use Rattle.std.specs.Prelude.{◌≡◌, ℕ, ◌+◌, ◌<◌, ◌^◌, List, ◌∷◌, ◌++◌, IfOk, OnOk, length};
+ghost use Rattle.std.specs.Prelude.{◌≡◌, ℕ, ◌+◌, ◌<◌, ◌^◌, List, ◌∷◌, ◌++◌, IfOk, OnOk, length, take};
 ghost use Rattle.origins.specs.Origins.{from, grammar_of};
-ghost use Rattle.markdown_blocks.specs.Fences.{Line, fenced_blocks, fence_content, ended_block, markdown_blocks};
-ghost use Rattle.markdown_blocks.specs.own.Reading.{reading_fence};
+ghost use Rattle.markdown_blocks.specs.Fences.{Line, fenced_blocks, fence_content, ended_block, first_says, markdown_blocks, says_abnf, without_end};
+ghost use Rattle.markdown_blocks.specs.own.Reading.{line_len};
 
-use crate::fence::{Fence, opening};
-use crate::line::{blanks, line_len, without_end};
+use crate::attributes::says_abnf;
+use crate::fence::Fence;
+use crate::line::{line_len, margin, without_end};
+use crate::reading::Reading;
 use ls_text::Snapshot;
 use origins::Gathered;
 use std::alloc::{AllocError, Global};
@@ -30,7 +32,7 @@ fn put_line(block: &mut Gathered, fence: Fence, line: &[char], at: usize) -> Res
     requires { at + length line.now < 2 ^ 64 }
     ensures { OnOk result (block.new ≡ block.old ++ fence_content fence (at, line.now)) }
 {
-    let gone = fence.indent.min(blanks(line));
+    let gone = fence.indent.min(margin(fence.quoted, line));
     put_row(block, &line[gone..], at + gone)
 }
 
@@ -41,7 +43,7 @@ fn end_block(
     fence: Fence,
     end: usize,
 ) -> Result<(), AllocError>
-    ensures { OnOk result (grammar.new ≡ grammar.old ++ grammar_of (ended_block (fence, block.now) end)) }
+    ensures { OnOk result (grammar.new ≡ grammar.old ++ grammar_of (ended_block fence block.now end)) }
 {
     if fence.is_abnf {
         grammar.add_block(block, end)?;
@@ -49,30 +51,55 @@ fn end_block(
     Ok(())
 }
 
-// Reads a line outside of blocks, or behind an open fence, and returns the fence that is open then.
+// Whether the first line of a text is an attribute list that says ABNF.
+fn first_says(text: &[char]) -> bool
+    ensures { result ≡ says_abnf (without_end (take (line_len text.now) text.now)) }
+{
+    says_abnf(without_end(&text[..line_len(text)]))
+}
+
+// Reads a line of a block, before the rest of the text, and returns what is read then.
+fn read_in_block(
+    grammar: &mut Gathered,
+    block: &mut Gathered,
+    fence: Fence,
+    line: &[char],
+    at: usize,
+    behind: &[char],
+) -> Result<Reading, AllocError>
+    requires { at + length line.now < 2 ^ 64 }
+    ensures { IfOk result (λ next. (end : ℕ) (ls : List Line) → first_says ls ≡ says_abnf (without_end (take (line_len behind.now) behind.now))
+        → grammar.new ++ grammar_of (fenced_blocks end next block.new ls) ≡ grammar.old ++ grammar_of (fenced_blocks end (Reading.Block fence) block.old ((at, line.now) ∷ ls))) }
+{
+    if fence.closes(without_end(line)) {
+        end_block(grammar, block, fence.with_word(first_says(behind)), at)?;
+        block.clear();
+        return Ok(Reading::BehindBlock);
+    }
+    put_line(block, fence, line, at)?;
+    Ok(Reading::Block(fence))
+}
+
+// Reads a line before the rest of the text, and returns what is read then.
 fn read_line(
     grammar: &mut Gathered,
     block: &mut Gathered,
-    fence: Option<Fence>,
+    reading: Reading,
     line: &[char],
     at: usize,
-) -> Result<Option<Fence>, AllocError>
+    behind: &[char],
+) -> Result<Reading, AllocError>
     requires { at + length line.now < 2 ^ 64 }
-    ensures { IfOk result (λ next. (end : ℕ) (ls : List Line) → grammar.new ++ grammar_of (fenced_blocks end (reading_fence next block.new) ls) ≡ grammar.old ++ grammar_of (fenced_blocks end (reading_fence fence block.old) ((at, line.now) ∷ ls))) }
+    ensures { IfOk result (λ next. (end : ℕ) (ls : List Line) → first_says ls ≡ says_abnf (without_end (take (line_len behind.now) behind.now))
+        → grammar.new ++ grammar_of (fenced_blocks end next block.new ls) ≡ grammar.old ++ grammar_of (fenced_blocks end reading block.old ((at, line.now) ∷ ls))) }
 {
-    let text = without_end(line);
-    let Some(open) = fence else {
-        block.clear();
-        return Ok(opening(text));
-    };
-    if open.closes(text) {
-        end_block(grammar, block, open, at)?;
-        return Ok(None);
+    match reading {
+        Reading::Block(fence) => read_in_block(grammar, block, fence, line, at, behind),
+        _ => {
+            block.clear();
+            Ok(reading.behind_line(without_end(line)))
+        }
     }
-    if open.is_abnf {
-        put_line(block, open, line, at)?;
-    }
-    Ok(fence)
 }
 
 // Gathers the grammar of a text.
@@ -81,17 +108,17 @@ fn gather(alloc: Global, text: &[char]) -> Result<Gathered, AllocError>
 {
     let mut grammar = Gathered::new(alloc);
     let mut block = Gathered::new(alloc);
-    let mut fence: Option<Fence> = None;
+    let mut reading = Reading::Text;
     let mut rest = text;
     let mut at = 0;
     'lines: while !rest.is_empty() {
         let (line, behind) = rest.split_at(line_len(rest));
-        fence = read_line(&mut grammar, &mut block, fence, line, at)?;
+        reading = read_line(&mut grammar, &mut block, reading, line, at, behind)?;
         at += line.len();
         rest = behind;
     }
-    if let Some(open) = fence {
-        end_block(&mut grammar, &block, open, at)?;
+    if let Reading::Block(fence) = reading {
+        end_block(&mut grammar, &block, fence, at)?;
     }
     Ok(grammar)
 }

@@ -4,7 +4,7 @@ ghost use Rattle.std.specs.Prelude.{◌≡◌, ◌≤◌, length, not};
 ghost use Rattle.std.specs.List.{list_all, prefix_len, take_while};
 ghost use Rattle.ls_text.specs.Lines.{ends_line};
 ghost use Rattle.origins.specs.Origins.{is_blank_char, is_break};
-ghost use Rattle.markdown_blocks.specs.Fences.{blank_count, marks, without_end};
+ghost use Rattle.markdown_blocks.specs.Fences.{is_margin, margin, marks, without_blanks, without_end};
 ghost use Rattle.markdown_blocks.specs.own.Reading.{line_len};
 
 use origins::{is_blank, is_break};
@@ -35,12 +35,26 @@ pub fn are_blank(text: &[char]) -> bool
     text.iter().all(|c| is_blank(*c))
 }
 
-// How many blanks a line begins with.
-pub fn blanks(line: &[char]) -> usize
-    ensures count { result ≡ blank_count line.now }
+// Whether a character is of the margin of a line: a blank, and in a quote a `>` too.
+fn is_margin(quoted: bool, c: char) -> bool
+    ensures { result ≡ is_margin quoted c }
+{
+    is_blank(c) || (quoted && c == '>')
+}
+
+// How many such characters a line begins with.
+pub fn margin(quoted: bool, line: &[char]) -> usize
+    ensures count { result ≡ margin quoted line.now }
     ensures within { result ≤ length line.now }
 {
-    line.iter().take_while(|c| is_blank(**c)).count()
+    line.iter().take_while(|c| is_margin(quoted, **c)).count()
+}
+
+// A line without its indentation.
+pub fn without_blanks(line: &[char]) -> &[char]
+    ensures { result.now ≡ without_blanks line.now }
+{
+    &line[margin(false, line)..]
 }
 
 // How many of these characters a line begins with.

@@ -46,7 +46,7 @@ const GRAMMARS: &[Row] = &[
 const DRAFTS: &[File] = &[
     (
         Format::Markdown,
-        "# A title\n\n```abnf\n  a = b\n   / nope\n```\ntext\n~~~abnf\nd = ?\na = \"x\"\n~~~\n",
+        "# A title\n\n```abnf\n  a = b\n   / nope\n```\ntext\n~~~abnf\nd = ?\na =/ \"x\"\n~~~\n",
     ),
     (
         Format::Xml,

@@ -16,6 +16,8 @@ mod joins;
 #[cfg(test)]
 mod near;
 #[cfg(test)]
+mod repeats;
+#[cfg(test)]
 mod texts;
 #[cfg(test)]
 mod with_files;

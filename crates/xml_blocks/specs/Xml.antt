@@ -148,15 +148,24 @@ numbered_value base front t = if is_digit (slice_index (drop front t) 0) base th
 abbrev pub by_number : List ℕ → Option (ℕ × ℕ)
 by_number t = if begins (35 ∷ 120 ∷ []) t then numbered_value 16 2 t else (if begins (35 ∷ []) t then numbered_value 10 1 t else None)
 
+-- The same of a name that drafts have for a space (U+00A0) or a hyphen (U+2011) at which no line ends, for no space (U+200B), and for
+-- a place at which no line ends (U+2060): `nbsp;`, `nbhy;`, `zwsp;` and `wj;`. No grammar has such a character.
+abbrev pub by_name : List ℕ → Option (ℕ × ℕ)
+by_name t =
+    if begins (110 ∷ 98 ∷ 115 ∷ 112 ∷ 59 ∷ []) t then Some (0xA0, 5)
+    else (if begins (110 ∷ 98 ∷ 104 ∷ 121 ∷ 59 ∷ []) t then Some (0x2011, 5)
+    else (if begins (122 ∷ 119 ∷ 115 ∷ 112 ∷ 59 ∷ []) t then Some (0x200B, 5)
+    else (if begins (119 ∷ 106 ∷ 59 ∷ []) t then Some (0x2060, 3) else by_number t)))
+
 -- The reference that stands here without its `&`: its character, and how many characters it has. By name there are `&lt;`, `&gt;`,
--- `&amp;`, `&quot;` and `&apos;`.
+-- `&amp;`, `&quot;` and `&apos;` (XML section 4.6), and those of drafts.
 abbrev pub reference : List ℕ → Option (ℕ × ℕ)
 reference t =
     if begins (108 ∷ 116 ∷ 59 ∷ []) t then Some (60, 3)
     else (if begins (103 ∷ 116 ∷ 59 ∷ []) t then Some (62, 3)
     else (if begins (97 ∷ 109 ∷ 112 ∷ 59 ∷ []) t then Some (38, 4)
     else (if begins (113 ∷ 117 ∷ 111 ∷ 116 ∷ 59 ∷ []) t then Some (34, 5)
-    else (if begins (97 ∷ 112 ∷ 111 ∷ 115 ∷ 59 ∷ []) t then Some (39, 5) else by_number t))))
+    else (if begins (97 ∷ 112 ∷ 111 ∷ 115 ∷ 59 ∷ []) t then Some (39, 5) else by_name t))))
 
 -- ---- pieces of a draft: each has a first character and so many more
 

@@ -90,6 +90,24 @@ fn by_number(text: &str) -> Option<(char, usize)>
     }
 }
 
+// The same of one of the names that drafts have for spaces and a hyphen at which no line ends, or for none at which one may.
+fn by_name(text: &str) -> Option<(char, usize)>
+    requires { length (chars text.now) < 2 ^ 63 }
+    ensures { result ≡ spec.by_name (chars text.now) }
+{
+    if begins(text, &['n', 'b', 's', 'p', ';']) {
+        Some(('\u{A0}', 5))
+    } else if begins(text, &['n', 'b', 'h', 'y', ';']) {
+        Some(('\u{2011}', 5))
+    } else if begins(text, &['z', 'w', 's', 'p', ';']) {
+        Some(('\u{200B}', 5))
+    } else if begins(text, &['w', 'j', ';']) {
+        Some(('\u{2060}', 3))
+    } else {
+        by_number(text)
+    }
+}
+
 // The reference that stands here without its `&`: its character, and how many characters it has.
 pub fn reference(text: &str) -> Option<(char, usize)>
     requires { length (chars text.now) < 2 ^ 63 }
@@ -106,6 +124,6 @@ pub fn reference(text: &str) -> Option<(char, usize)>
     } else if begins(text, &['a', 'p', 'o', 's', ';']) {
         Some(('\'', 5))
     } else {
-        by_number(text)
+        by_name(text)
     }
 }

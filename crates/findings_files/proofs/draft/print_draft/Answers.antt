@@ -1,9 +1,8 @@
 use Rattle.std.proofs.Common.{◌≡◌, ◌∙◌, IfOk, List, ℕ, subst, sym}
 use Rattle.findings_text.specs.declared.outcome.Outcome.TheVariants.{Warnings}
 use Rattle.findings_text.specs.declared.print.Printed.{Printed}
-use Rattle.findings_text.specs.Print.{IsPrintedFrom}
 use Rattle.findings_text.specs.Sources.{position_in_draft}
-use Rattle.findings_files.specs.Drafts.{no_grammar_line}
+use Rattle.findings_files.specs.Drafts.{IsPrintedRepeating, no_grammar_line}
 use Rattle.findings_files.proofs.DraftLaws.{if_none, if_some}
 use Rattle.findings_files.proofs.draft.print_draft.Goals as goal
 use Rattle.findings_files.proofs.draft.print_draft.Goals.{in-None, in-Some+in_ok-text-in-Some}
@@ -17,6 +16,6 @@ returns-in-Ok-clause-printed c =
       | in-None w ↦ if_none file draft grammar c.in-Ok.printed (sym w.in-None.is ∙ c.origin_of.ensures)
           (subst (λ r. IfOk r (λ (p : Printed). (p.lines ≡ no_grammar_line file) × (p.outcome ≡ Warnings))) (sym w.printed-is ∙ c.in-Ok.is) w.no_grammar-printed.ensures)
       | in-Some+in_ok-text-in-Some w ↦ if_some file draft grammar c.in-Ok.printed w.in-Some.field-0 (sym w.in-Some.is ∙ c.origin_of.ensures)
-          (subst (λ (text : List ℕ). IsPrintedFrom (position_in_draft draft grammar text) file text c.in-Ok.printed) w.in_ok-text-in-Some.ensures.text
-          (subst (λ r. IfOk r (λ (p : Printed). IsPrintedFrom (position_in_draft draft grammar w.in_ok-text-in-Some.text) file w.in_ok-text-in-Some.text p)) (sym w.printed-is ∙ c.in-Ok.is) w.print_from-printed.ensures))
+          (subst (λ (text : List ℕ). IsPrintedRepeating (position_in_draft draft grammar text) file text c.in-Ok.printed) w.in_ok-text-in-Some.ensures.text
+          (subst (λ r. IfOk r (λ (p : Printed). IsPrintedRepeating (position_in_draft draft grammar w.in_ok-text-in-Some.text) file w.in_ok-text-in-Some.text p)) (sym w.printed-is ∙ c.in-Ok.is) w.print_text-printed.ensures))
     ]

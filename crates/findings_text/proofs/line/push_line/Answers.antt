@@ -6,9 +6,9 @@ use Rattle.findings_text.proofs.line.push_line.Goals as goal
 
 pub returns : goal.returns
 returns c =
-    line_grown (map (λ name. name.now) c.args.known.now) c.args.file.now c.args.finding.now c.args.at
-    (string_bytes c.args.lines.now) c.as_str.result.now c.severity_text.result.now c.as_str-2.result.now c.text.result.now
-    (c.as_str.ensures.value ∙ c.in_ok-place.ensures) (c.severity_text.ensures ∙ ap severity_text c.severity.ensures) (c.as_str-2.ensures.value ∙ c.in_ok-message.ensures) c.text.ensures
+    line_grown (map (λ name. name.now) c.args.known.now) c.args.file.now c.args.finding.now c.args.at.begin c.args.at.original c.args.at.hint.now
+    (string_bytes c.args.lines.now) c.as_str.result.now c.severity_text.result.now c.as_str-2.result.now c.code_at.result.now
+    (c.as_str.ensures.value ∙ c.in_ok-place.ensures) (c.severity_text.ensures ∙ ap severity_text c.severity.ensures) (c.as_str-2.ensures.value ∙ c.in_ok-message.ensures) c.code_at.ensures
     (string_bytes c.push_str.new.self) (string_bytes c.push_str-2.new.self) (string_bytes c.push_str-3.new.self) (string_bytes c.push_str-4.new.self)
     (string_bytes c.push_str-5.new.self) (string_bytes c.push_str-6.new.self) (string_bytes c.push_str-7.new.self) (string_bytes c.push_str-8.new.self)
     c.in_ok-push_str.ensures.bytes c.in_ok-push_str-2.ensures.bytes c.in_ok-push_str-3.ensures.bytes c.in_ok-push_str-4.ensures.bytes
