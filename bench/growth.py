@@ -1,11 +1,11 @@
 #!/usr/bin/env python3
 """Looks for texts that cost more than in proportion to their size, or much more than the server in plain Rust takes.
 
-    bench/growth.py [--times] [--instructions] [--questions] [--only=NAME] [PROGRAM ['SERVER ..']]
+    bench/growth.py [--times] [--instructions] [--questions] [--only=NAME] [--share=N] [PROGRAM ['SERVER ..']]
 
 PROGRAM and SERVER are those of beside.py: what is left out is the crate served_plainly, and the server in plain Rust. Each text has a form that
 strains one part of the server (forms.py), and is made in two sizes, one a quarter of the other. There are three tables, of which the words choose
-some. With --only the forms alone are measured whose name has that.
+some. With --only the forms alone are measured whose name has that. With --share the larger size is that part of a form's own: with 5 a fifth.
 
 --times: the dearest of the edits that are typed into each form, to its findings. The figures are the milliseconds of processor time at the smaller
 size and at the larger one, the least of some rounds, and how often the one goes into the other; behind it stand the most bytes of memory that the
@@ -13,18 +13,19 @@ server took for a byte of the texts; and then the same of the other server. The 
 for the edit and at the size where that is most.
 
 --instructions: the millions of instructions that the program takes for these edits, on average, at both sizes. They are counted by valgrind where it
-is installed, on as many processors as this is let run on. Some 4 times at the larger size says that the work is in proportion, 16 that it goes with
-the square.
+is installed, on as many processors as this is let run on; else their milliseconds of processor time stand there, one after the other. Some 4 times at
+the larger size says that the work is in proportion, 16 that it goes with the square.
 
 --questions: the milliseconds of each question at the larger size, and how often that of the smaller goes into them. Times are the lesser of two runs,
 which end with the answer; the opening ends with its findings. Behind them stand the most bytes of memory that the server took for a byte of the text.
 
-It ends nonzero where an edit takes more than GROWTH times the instructions at the larger size (or the time, where they can't be counted), or more
-than BESIDE times the processor time of the other server.
+It ends nonzero where an edit takes more than GROWTH times the instructions at the larger size (twice as often the time, where they can't be counted),
+or more than BESIDE times the processor time of the other server.
 """
 import concurrent.futures
 import os
 import shutil
+import statistics
 import sys
 import tempfile
 
@@ -41,12 +42,18 @@ GROWTH, BESIDE = 5, 3
 LEAST = 1e-4
 TABLES = ("--times", "--instructions", "--questions")
 ONLY = "--only="
+SHARE = "--share="
+
+
+def words_behind(option):
+    """What stands behind an option, as often as it is given."""
+    return [word.removeprefix(option) for word in sys.argv[1:] if word.startswith(option)]
 
 
 def chosen_forms():
     """The forms that are measured."""
-    words = [word.removeprefix(ONLY) for word in sys.argv[1:] if word.startswith(ONLY)]
-    return [form for form in FORMS if all(word in form.name for word in words)]
+    share = int([*words_behind(SHARE), "1"][0])
+    return [it._replace(count=it.count // share) for it in FORMS if all(word in it.name for word in words_behind(ONLY))]
 
 
 def made(form):
@@ -95,8 +102,6 @@ def compare_times():
             print(f"{form.name:<36} {said(ours)}   {said(others)} {ratio:8.2f}", flush=True)
             if ratio > BESIDE:
                 beyond.append(f"{form.name}: {ratio:.1f} times the processor time of the other server")
-            if not shutil.which("valgrind") and grown(ours) > GROWTH:
-                beyond.append(f"{form.name}: {grown(ours):.1f} times the processor time")
     return beyond
 
 
@@ -113,23 +118,27 @@ def said(costs):
 
 
 def counted(form):
-    """The instructions of a notice, on average, at both sizes."""
+    """The millions of instructions of a notice, on average, at both sizes."""
     sizes = [(b"".join([INITIALIZE, *begun(texts)]), messages(notices)) for texts, notices in made(form)]
-    return [count_one([PROGRAM], begin, b"".join(given), len(given)) for begin, given in sizes]
+    return [count_one([PROGRAM], begin, b"".join(given), len(given)) / 1e6 for begin, given in sizes]
+
+
+def timed(form):
+    """The milliseconds of processor time of a notice, on average, at both sizes."""
+    return [1e3 * statistics.mean(cost([PROGRAM], *size)[0]) for size in made(form)]
 
 
 def compare_instructions():
-    """Prints the instructions of what is typed into each form. Gives what is beyond a bound."""
-    if not shutil.which("valgrind"):
-        print("valgrind isn't installed: no instructions are counted")
-        return []
+    """Prints the instructions of what is typed into each form, or the time where they can't be counted. Gives what is beyond a bound."""
     beyond, forms = [], chosen_forms()
-    print(f"{'millions of instructions of an edit':<36} {'smaller':>10} {'larger':>10}")
-    with concurrent.futures.ThreadPoolExecutor(len(os.sched_getaffinity(0))) as pool:
-        for form, (small, large) in zip(forms, pool.map(counted, forms)):
-            print(f"{form.name:<36} {small / 1e6:10.3f} {large / 1e6:10.3f} ({large / small:4.1f})", flush=True)
-            if large > GROWTH * small:
-                beyond.append(f"{form.name}: {large / small:.1f} times the instructions")
+    are_counted = bool(shutil.which("valgrind"))
+    what, bound, of = ("millions of instructions", GROWTH, counted) if are_counted else ("milliseconds", 2 * GROWTH, timed)
+    print(f"{f'{what} of an edit':<36} {'smaller':>10} {'larger':>10}")
+    with concurrent.futures.ThreadPoolExecutor(len(os.sched_getaffinity(0)) if are_counted else 1) as pool:
+        for form, (small, large) in zip(forms, pool.map(of, forms)):
+            print(f"{form.name:<36} {small:10.3f} {large:10.3f} ({large / small:4.1f})", flush=True)
+            if large > bound * small:
+                beyond.append(f"{form.name}: {large / small:.1f} times the {what}")
     return beyond
 
 

@@ -170,8 +170,13 @@ DRAFT_ROWS = (
     ("<!--\n~~~ abnf\na = ?\n~~~\n-->\n", NO_GRAMMAR, ()),
     ("<!-- a -->\n~~~ abnf\na = ?\n~~~\n<!-- b\nc --> d\n~~~ abnf\nb = ?\n~~~\n", ("3:5: error: bad character [syntax]", "8:5: error: bad character [syntax]"), ("3:1: a: not known", "8:1: b: not known")),
     ("{::comment}\n~~~ abnf\na = ?\n~~~\n{:/comment}\n~~~ abnf\nb = ?\n~~~\n", ("7:5: error: bad character [syntax]",), ("7:1: b: not known",)),
-    # a block without rules
-    ("```abnf\n```\n", (), ()),
+    # empty blocks, each where its closing fence stands, or where the draft ends
+    ("```abnf\n```\n", ("2:1: warning: empty block of grammar [not-read]",), ()),
+    (
+        "text\n\n~~~ {.abnf}\n \t\n ~~~\n```abnf\na = ?\n```\n```\n```\n```abnf\n\n",
+        ("5:1: warning: empty block of grammar [not-read]", "7:5: error: bad character [syntax]", "13:1: warning: empty block of grammar [not-read]"),
+        ("7:1: a: not known",),
+    ),
     # an appendix that collects the grammar: what says the same as the first definition is no finding, with names in any case, and other
     # blanks and comments
     (
@@ -214,10 +219,27 @@ XML_ROWS = (
     # two blocks, of which the second uses a name of the first; other types, an empty element, and `>` in quotes
     (
         '<sourcecode type="abnf">a = "x"</sourcecode>\n<sourcecode type="xml">b = ?</sourcecode>\n<artwork type="abnf"/>\n<artwork alt=">" type="abnf">b = a c</artwork>',
-        ("4:30: warning: rule b generates nothing [unproductive]", "4:36: error: undefined rule c [undefined]"),
+        ("3:1: warning: empty block of grammar [not-read]", "4:30: warning: rule b generates nothing [unproductive]", "4:36: error: undefined rule c [undefined]"),
         ("1:25: a: shortest length 1: x", "4:30: b: generates nothing"),
     ),
     ('\u00e9\U0001f600<artwork type="abnf">a = ?</artwork>', ("1:28: error: bad character [syntax]",), ("1:24: a: not known",)),
+    # blocks that can't be read: their text is in another file (RFC 7991 sections 2.5.8 and 2.48.4; XInclude 1.0), or there is none
+    (
+        '<artwork type="abnf"/>\n<sourcecode name="src=" type="abnf" src = \'a.abnf\'/>\n<sourcecode src="a.abnf"/>',
+        (*NO_GRAMMAR, "1:1: warning: empty block of grammar [not-read]", "2:1: warning: grammar in another file [not-read]"),
+        (),
+    ),
+    (
+        '<artwork type="abnf">a = ?</artwork>\n<sourcecode type="abnf">\n <xi:include href="b.abnf"/></sourcecode>\n<artwork type="abnf"> <!-- c --></artwork><artwork type="abnf">d = ?</artwork>',
+        (
+            "1:26: error: bad character [syntax]",
+            "3:2: warning: grammar in another file [not-read]",
+            "4:1: warning: empty block of grammar [not-read]",
+            "4:68: error: bad character [syntax]",
+        ),
+        ("1:22: a: not known", "4:64: d: not known"),
+    ),
+    ('<artwork type="abnf" src="a.abnf">a = "x"</artwork>', ("1:1: warning: grammar in another file [not-read]",), ("1:35: a: shortest length 1: x",)),
     # definitions that come again
     (
         '<artwork type="abnf">a = "x"</artwork>\n<artwork type="abnf">a = &quot;x&quot;\na = &quot;x&quot; / "y"</artwork>',
@@ -324,7 +346,16 @@ WITH_ROWS = (
         ("2:1: error: rule a is already defined [duplicate]",),
         ("1:1: a: shortest length 1: x",),
     ),
-    (("a.abnf", 'a = "x"'), (("none.md", "```abnf\n```\n"),), (), ("1:1: a: shortest length 1: x",)),
+    (("a.abnf", 'a = "x"'), (("none.md", "```abnf\n; none\n```\n"),), (), ("1:1: a: shortest length 1: x",)),
+    # what can't be read of a draft
+    (("a.md", "```abnf\n```\n"), (("core.abnf", CORE),), ("2:1: warning: empty block of grammar [not-read]",), ()),
+    (
+        ("a.xml", '<artwork type="abnf"/>\n<artwork type="abnf">a = OWS "x" nope</artwork>'),
+        (("core.abnf", CORE),),
+        ("1:1: warning: empty block of grammar [not-read]", "2:22: warning: rule a generates nothing [unproductive]", "2:34: error: undefined rule nope [undefined]"),
+        ("2:22: a: generates nothing",),
+    ),
+    (("a.xml", '<artwork src="b" type="abnf"/>'), (("core.abnf", CORE),), (*NO_GRAMMAR, "1:1: warning: grammar in another file [not-read]"), ()),
     (("a.xml", "<rfc><!-- a"), (("core.abnf", CORE),), ("1:6: error: comment without an end [xml]",), None),
 )
 
@@ -419,6 +450,9 @@ def installed_cases(program, files):
     yield "an installed grammar that isn't asked for", outcome(own, None, [text]), (1, b"", printed(text, unknown))
     for name in ("rfc2", "rfc1.abnf", "../rfc1"):
         yield f"no installed grammar, {name}", outcome(own, None, ["--with", name, text]), (2, f"cannot read {name}\n".encode(), b"")
+    here = os.path.join(files.folder, "here")
+    os.makedirs(os.path.join(here, "rfc1"))
+    yield "a folder of this name, and no such file", outcome(own, None, ["--with", "rfc1", text], folder=here), (2, b"cannot read rfc1\n", b"")
     yield "a program that isn't installed", outcome(program, None, ["--with", "rfc1", text]), (2, b"cannot read rfc1\n", b"")
 
 
@@ -446,6 +480,14 @@ def with_cases(program, files):
     yield "a file of --with that has no grammar", outcome(program, None, ["--with", empty, "--with", core, core]), (0, b"", warned)
     yield "strict, one that has none", outcome(program, None, ["--strict", "--with", empty, core]), (1, b"", warned)
     yield "one that has none, beside an error", outcome(program, None, ["--with", empty, bad]), (1, b"", warned + is_bad)
+    none_read, apart = files.written("none_read.md", "```abnf\n```\n"), files.written("apart.xml", '<artwork type="abnf" src="a"/>')
+    warnings = (
+        printed(none_read, ("2:1: warning: empty block of grammar [not-read]",)),
+        printed(apart, (*NO_GRAMMAR, "1:1: warning: grammar in another file [not-read]")),
+    )
+    words = ["--with", none_read, "--with", apart, core]
+    yield "files of --with that can't be read whole", outcome(program, None, words), (0, b"", b"".join(warnings))
+    yield "strict, files that can't", outcome(program, None, ["--strict", *words]), (1, b"", b"".join(warnings))
     yield "rules beside one that has none", outcome(program, None, ["--rules", "--with", empty, core])[::2], (0, printed(core, ("1:1: OWS: shortest length 0: ", "2:1: RWS: shortest length 1:  ")))
     unread = outcome(program, None, ["--with", empty, "--with", none, core])
     yield "one that has none, and one that can't be read", unread, (2, f"cannot read {none}\n".encode(), warned)
@@ -481,10 +523,11 @@ def grammar_cases(program, files):
         for text, found, told in drafts:
             what, file = f"the grammar of the draft {text[:40]!r}", files.written(f"draft.{ending}", text)
             status, said, grammar = outcome(program, None, ["--grammar", file])
-            if found == NO_GRAMMAR or told is None:
-                yield what, (status, said, grammar), (status_of(found, False), b"", printed(file, found))
+            if found[:1] == NO_GRAMMAR or told is None:
+                yield what, (status, said, grammar), (status_of(found, False), b"", printed(file, found[:1]))
                 continue
             yield what, (status, said), (0, b"")
+            found = [it for it in found if not it.endswith(" [not-read]")]
             status, _, wrote = outcome(program, None, [files.written("grammar.abnf", grammar)])
             is_told, wanted = but_repeats(without_places(wrote)), but_repeats(without_places(printed(file, found)))
             does_repeat = b" [duplicate]" in wrote
@@ -596,6 +639,9 @@ def memory_cases(program, files):
         files.written("doubtful.xml", '<artwork type="abnf">a =/ "x"</artwork>'),
         files.written("bad.xml", "<artwork type='abnf'>a = &lt;p&gt; ?</artwork>"),
     ]
+    unread = [files.written("empty.xml", '<artwork type="abnf"/>'), files.written("else.xml", '<artwork type="abnf" src="a">b = ?</artwork>')]
+    empty = printed(unread[0], (*NO_GRAMMAR, "1:1: warning: empty block of grammar [not-read]"))
+    elsewhere = printed(unread[1], ("1:1: warning: grammar in another file [not-read]", "1:34: error: bad character [syntax]"))
     core = files.written("core.abnf", CORE)
     known = ["--with", core, "--with", drafts[1]]
     uses = [files.written("uses.abnf", "c = OWS a"), files.written("uses.md", '```abnf\nc = RWS "x" ?\n```')]
@@ -613,6 +659,7 @@ def memory_cases(program, files):
         ("drafts", [], drafts, 1, "2:1: warning: no earlier definition of a [no-base]", "2:9: error: bad character [syntax]"),
         ("rules of drafts", ["--rules"], drafts, 0, "2:1: a: shortest length 1: x", "2:3: a: not known"),
         ("drafts in XML", [], pages, 1, "1:22: warning: no earlier definition of a [no-base]", "1:36: error: bad character [syntax]"),
+        ("what can't be read", [], unread, 1, empty, elsewhere),
         ("uses of others", known, [doubtful, uses[1]], 1, "1:1: warning: no earlier definition of a [no-base]", "2:13: error: bad character [syntax]"),
         ("rules with others", ["--rules", *known], uses, 0, "1:1: c: not known", "2:1: c: not known"),
         ("grammars", ["--grammar"], [doubtful, drafts[1]], 0, b'a =/ "x"', b"a = b ?\n"),

@@ -25,7 +25,9 @@ import dist_rows
 import encoding_rows
 import failing_devices
 import findings_rows
+import grown_edits
 import install_rows
+import kept_rows
 import random_drafts
 import random_texts
 import refused_commands
@@ -158,6 +160,7 @@ TOOLS = {
         ("failing_devices", failing_devices.cases),
         ("shaken_threads", shaken_threads.cases),
         ("replayed_typing", replayed_typing.cases),
+        ("kept_rows", kept_rows.cases),
     ),
     "served_plainly": (
         ("session_rows", functools.partial(session_cases, session_rows)),
@@ -168,6 +171,7 @@ TOOLS = {
         ("failing_devices", failing_devices.plain_cases),
         ("random_texts", random_texts.cases),
         ("replayed_typing", replayed_typing.plain_cases),
+        ("kept_rows", kept_rows.plain_cases),
     ),
     "refused_memory": (("refused_memory", refused_memory.cases),),
     "abnf_findings": (("findings_rows", findings_rows.cases), ("random_drafts", random_drafts.cases)),
@@ -193,6 +197,8 @@ def all_cases():
                 continue
             for tool, some in tools:
                 yield from ((program, tool, case) for case in cases_of(some, path))
+    if os.path.isfile(rows.PLAIN):
+        yield from (("served_plainly", "grown_edits", case) for case in cases_of(grown_edits.cases, rows.PLAIN))
     if os.path.isfile(rows.SERVER) and os.path.isfile(rows.FINDINGS):
         for what, tool in (("install", install_rows), ("dist", dist_rows)):
             yield from ((what, tool.__name__, case) for case in cases_of(tool.cases, rows.SERVER, rows.FINDINGS))

@@ -1,6 +1,6 @@
 #!/usr/bin/env python3
-"""Puts random grammars into drafts in Markdown, and compares what `abnf_findings` finds in a draft with what it finds in its grammar.
-It does the same with grammars beside others whose names are known.
+"""Puts random grammars into drafts in Markdown and in RFCXML, and compares what `abnf_findings` finds in a draft with what it finds in its
+grammar. It does the same with grammars beside others whose names are known.
 
     tools/random_drafts.py [PROGRAM [COUNT [SEED]]]
 
@@ -8,6 +8,9 @@ A grammar is cut before some of its rules. Each piece is indented by some blanks
 has other text around it: words, and fences of other languages with rules in them. What is found in the draft must be what is found in the
 grammar, with and without --rules, each line moved as its piece was. Some definitions come again at the end: one that says the same as the
 first must be no finding in the draft, and of one that says something else the line of the first must be told.
+
+Between the fences stand some that are empty. In RFCXML each piece stands in a CDATA section of an element, and between these stand elements
+that are empty, or have their text in another file. Each of them must be a warning, before what is found behind it.
 
 Of random grammars one is told, and the names of the others are known, each indented by some blanks. What is found must be what is found in
 the one with just those blocks of the others behind it that have new names, up to the last line of the one.
@@ -79,17 +82,22 @@ def around(dice):
 
 
 def draft_of(dice, lines):
-    """The lines of a draft, and of each line of the grammar where it stands there: its line, and by how much it is moved."""
-    draft, moved = [], []
+    """The lines of a draft, of each line of the grammar where it stands there, as its line and by how much it is moved, and the warnings of
+    blocks that are empty."""
+    draft, moved, warnings = [], [], []
     for piece in pieces(dice, lines):
         draft += around(dice)
+        if dice.random() < 0.2:
+            draft += [dice.choice(("~~~ abnf", "> ~~~ abnf", "  ~~~{.abnf}")), *dice.choice(([], [""], [" \t", ""]))]
+            warnings.append(f"g:{len(draft) + 1}:1: warning: empty block of grammar [not-read]")
+            draft.append(f"{dice.choice(('', '  '))}~~~")
         fence, outer, inner = fence_around(dice, piece), " " * dice.choice((0, 0, 2, 5)), " " * dice.choice((0, 0, 3, 8))
         draft.append(f"{outer}{fence}{dice.choice(('', ' '))}{dice.choice(('abnf', 'ABNF', 'Abnf rules'))}")
         for line in piece:
             moved.append((len(draft), len(outer) + len(inner)))
             draft.append(outer + inner + line)
         draft.append(dice.choice(("", outer, "   ")) + fence + dice.choice(("", " ", fence[0])))
-    return [*draft, *around(dice)], moved
+    return [*draft, *around(dice)], moved, warnings
 
 
 def told(program, options, text, name):
@@ -123,16 +131,76 @@ def draft_cases(program, count, seed):
         dice = random.Random(f"{seed} {number}")
         lines = grammar(dice).split("\n")
         repeats = repeats_in(lines)
-        draft, moved = draft_of(dice, lines)
+        draft, moved, warnings = draft_of(dice, lines)
         end = dice.choice(("\n", "\r\n", "\r"))
         for options in ([], ["--rules"]):
             _, said, alone = told(program, options, "\n".join(lines), "g")
-            wanted = [*in_draft(alone, repeats, moved)]
+            kept = [*in_draft(alone, repeats, moved)]
+            wanted = sorted([*kept, *([] if options else warnings)], key=place_of)
             found = told(program, [*options, "--format", "markdown"], end.join(draft), "g")
-            lines_told, copies = lines_told + len(wanted), copies + len(alone) - len(wanted)
+            lines_told, copies = lines_told + len(kept), copies + len(alone) - len(kept)
             if found != (int(any(": error: " in it for it in wanted) and not options), said, wanted):
                 faults.append((number, options, found[2][:3], wanted[:3]))
     yield f"{count} grammars in drafts", (faults[:2], lines_told > count, copies > count / 10), ([], True, True), count
+
+
+def unread(dice):
+    """An element whose text is in another file or that has none, as one line, with where its warning stands in it and what that says."""
+    name, quote = dice.choice(("sourcecode", "artwork")), dice.choice("\"'")
+    kind, other = f"type={quote}{dice.choice(('abnf', 'ABNF'))}{quote}", f"alt={quote}src=>{quote}"
+    source, blank = f"src{dice.choice(('', ' '))}={quote}a.abnf{quote}", dice.choice(("", " ", "<!-- no = ? -->", "<![CDATA[ ]]>", "&#9;"))
+    attributes = [kind, *dice.choice(([], [other]))]
+    dice.shuffle(attributes)
+    front = f"<{name} {' '.join(attributes)}"
+    text, at, says = dice.choice((
+        (f"{front}/>", 1, "empty block of grammar"),
+        (f"{front}>{blank}</{name}>", 1, "empty block of grammar"),
+        (f"{front} {source}/>", 1, "grammar in another file"),
+        (f"{front} {source}>{blank}</{name}>", 1, "grammar in another file"),
+        (f"{front}>{blank}<xi:include href='a'/></{name}>", len(front) + len(blank) + 2, "grammar in another file"),
+        (f"<{name} {other} {source}/>", 0, ""),
+    ))
+    return text, at, says
+
+
+def page_of(dice, lines):
+    """The lines of a draft in RFCXML, of each line of the grammar where it stands there, and the warnings of what can't be read."""
+    page, moved, warnings = [dice.choice(("<rfc>", "\u00e9<!-- no = ? -->"))], [], []
+    for piece in pieces(dice, lines):
+        for _ in range(dice.choice((0, 0, 1, 2))):
+            text, at, says = unread(dice)
+            before = dice.choice(("", "<t>\u4e2d</t>"))
+            if says:
+                warnings.append(f"g:{len(page) + 1}:{len(before) + at}: warning: {says} [not-read]")
+            page.append(before + text)
+        inner = " " * dice.choice((0, 0, 3, 8))
+        page.append('<artwork type="abnf"><![CDATA[')
+        for line in piece:
+            moved.append((len(page), len(inner)))
+            page.append(inner + line)
+        page.append("]]></artwork>")
+    return page, moved, warnings
+
+
+def place_of(line):
+    return tuple(int(it) for it in PLACE.fullmatch(line).groups()[:2])
+
+
+def page_cases(program, count, seed):
+    faults, lines_told, unread_told = [], 0, 0
+    for number in range(count):
+        dice = random.Random(f"page {seed} {number}")
+        lines = [line.replace("]]>", "] ]>") for line in grammar(dice).split("\n")]
+        repeats = repeats_in(lines)
+        page, moved, warnings = page_of(dice, lines)
+        for options in ([], ["--rules"]):
+            _, said, alone = told(program, options, "\n".join(lines), "g")
+            wanted = sorted([*in_draft(alone, repeats, moved), *([] if options else warnings)], key=place_of)
+            found = told(program, [*options, "--format", "xml"], "\n".join(page), "g")
+            lines_told, unread_told = lines_told + len(wanted), unread_told + len(wanted) * bool(warnings)
+            if found != (int(any(": error: " in it for it in wanted) and not options), said, wanted):
+                faults.append((number, options, found[2][:3], wanted[:3]))
+    yield f"{count} grammars in RFCXML", (faults[:2], lines_told > count, unread_told > count), ([], True, True), count
 
 
 def blocks(lines):
@@ -185,12 +253,13 @@ def known_cases(program, count, seed):
 
 def cases(program):
     yield from draft_cases(program, COUNT, SEED)
+    yield from page_cases(program, COUNT, SEED)
     yield from known_cases(program, COUNT, SEED)
 
 
 def main(words):
     program, count, seed = [*words, *[rows.FINDINGS, COUNT, SEED][len(words) :]]
-    return rows.report(itertools.chain(draft_cases(program, int(count), seed), known_cases(program, int(count), seed)))
+    return rows.report(itertools.chain(*(it(program, int(count), seed) for it in (draft_cases, page_cases, known_cases))))
 
 
 if __name__ == "__main__":

@@ -45,9 +45,9 @@ def stopped(process):
     return HUNG
 
 
-def outcome(program, given, arguments=(), stdin=subprocess.PIPE, stdout=subprocess.PIPE, env=None, seconds=SECONDS):
+def outcome(program, given, arguments=(), stdin=subprocess.PIPE, stdout=subprocess.PIPE, env=None, seconds=SECONDS, folder=None):
     """The status of a run, its standard error and its standard output."""
-    ran = subprocess.Popen([program, *arguments], stdin=stdin, stdout=stdout, stderr=subprocess.PIPE, env=env)
+    ran = subprocess.Popen([program, *arguments], stdin=stdin, stdout=stdout, stderr=subprocess.PIPE, env=env, cwd=folder)
     try:
         wrote, said = ran.communicate(given, timeout=seconds_left(seconds))
         return ran.returncode, said, wrote or b""

@@ -86,14 +86,24 @@ fn open_installed(rt: &HostRuntime, name: &str) -> io::Result<File> {
     fs::open(rt, &path)
 }
 
-/// The text of a file whose names are to be known: one that is there, or else one that is installed by this short name.
+/// Opens a file whose names are to be known: one that is there, or else one that is installed by this short name.
+fn open_known(rt: &HostRuntime, file: &str) -> io::Result<File> {
+    match fs::open(rt, file) {
+        Err(error) if error.kind() == ErrorKind::NotFound && is_short(file) => {
+            open_installed(rt, file)
+        }
+        opened => opened,
+    }
+}
+
+/// The text of a file whose names are to be known.
 fn known_text(rt: &HostRuntime, file: &str) -> Result<Snapshot, FileFault> {
-    match text_at(rt, file) {
-        Err(FileFault::CannotRead) if is_short(file) => match open_installed(rt, file) {
-            Ok(opened) => read_text(rt.alloc(), opened),
-            Err(error) => Err(FileFault::of(&error)),
-        },
-        read => read,
+    if file == "-" {
+        return text_at(rt, file);
+    }
+    match open_known(rt, file) {
+        Ok(opened) => read_text(rt.alloc(), opened),
+        Err(error) => Err(FileFault::of(&error)),
     }
 }
 

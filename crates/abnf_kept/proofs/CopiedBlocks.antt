@@ -1,8 +1,8 @@
 -- Blocks that say what blocks of another text say: what is known of those is kept once more for these.
-use Rattle.std.proofs.Common.{◌≡◌, ◌∙◌, ℕ, zero, suc, ◌+◌, ◌<◌, ◌≤◌, Bool, false, List, [], ◌∷◌, ◌++◌, length, map, Option, Some, None, refl, sym, ap, subst, append_assoc, arith}
+use Rattle.std.proofs.Common.{◌≡◌, ◌∙◌, ℕ, zero, suc, ◌+◌, ◌<◌, ◌≤◌, Bool, false, List, [], ◌∷◌, ◌++◌, length, map, take, Option, Some, None, refl, sym, ap, subst, append_assoc, arith}
 use Rattle.std.specs.Prelude.{◌||◌, IfSome, IsSomeAnd, is_some, slice_get}
 use Rattle.std.specs.List.{flat_map}
-use Rattle.std.proofs.lemmas.List.{map-append}
+use Rattle.std.proofs.lemmas.List.{length-append, map-append, take_all, take_at}
 use Rattle.abnf_token.specs.Classes.{Text}
 use Rattle.abnf_syntax.specs.declared.block.Block as source
 use Rattle.abnf_syntax.specs.declared.fault.SyntaxFault.{SyntaxFault}
@@ -23,7 +23,7 @@ use Rattle.abnf_outcome.specs.declared.digest.BlockDigest.{BlockDigest}
 use Rattle.abnf_outcome.specs.declared.word.Word.{Word}
 use Rattle.abnf_outcome.specs.KeptBlocks.{AreEachKept, AreKept, IsKept, IsKeptOf, at_lines}
 use Rattle.abnf_outcome.specs.Stored.{IsStored, Stored}
-use Rattle.abnf_kept.specs.own.Reads.{IsLike}
+use Rattle.abnf_kept.specs.own.Reads.{HasBlocks, IsLike}
 use Rattle.abnf_kept.specs.own.Walks.{SayTheSame}
 use Rattle.abnf_kept.proofs.FindLaws as kept
 use Rattle.abnf_kept.proofs.FollowedBlocks.{within_join}
@@ -95,6 +95,46 @@ record KnownAt (ls : List Text) (now : Stored) (block : BlockDigest) : Type 0 wh
   is_block : IsBlock ls at.0 at.1
   within : IsWithin ls at said
   is_kept : IsKept now.table now.words block at said
+
+-- the first that are kept are those of the text before
+pub first_blocks : (ls : List Text) (start given : Stored) (kept : List BlockDigest) (count : ℕ) → start ≡ given → IsKeptOf ls given → kept ≡ start.kept → count ≡ length start.kept → HasBlocks ls count kept
+first_blocks ls start given kept count same h are count_is =
+    let is : AreKept start h.bounds h.blocks = subst (λ (s : Stored). AreKept s h.bounds h.blocks) (sym same) h.kept in
+    let all : take count kept ≡ start.kept = ap (take count) are ∙ take_all count start.kept (omega (arith, count_is)) in
+    record {
+      table = start.table;
+      words = start.words;
+      bounds = h.bounds;
+      blocks = h.blocks;
+      within = omega (arith, count_is, ap length are);
+      all = h.all;
+      each = subst (λ (ks : List BlockDigest). AreEachKept start.table start.words ks h.bounds h.blocks) (sym all) is;
+    }
+
+pub more_blocks : (ls others : List Text) (from to first : ℕ) (start now : Stored) (kept : List BlockDigest) (count : ℕ) → IsKeptOf ls start → HasRead others from to start first now → kept ≡ now.kept
+    → count ≡ length start.kept → HasBlocks ls count kept
+more_blocks ls others from to first start now kept count h r are count_is =
+    let halves =
+    kept_halves now.table now.words now.kept h.bounds (map bounds r.done) h.blocks r.blocks (within_length ls h.bounds h.blocks h.each) (r.kept h.bounds h.blocks h.kept)
+    in
+    let long : length halves.front ≡ count =
+    omega (
+      arith,
+      count_is,
+      (kept_length start.table start.words start.kept h.bounds h.blocks h.kept).0,
+      (kept_length now.table now.words halves.front h.bounds h.blocks halves.fronts).0,
+    )
+    in
+    let all : take count kept ≡ halves.front = ap (take count) (are ∙ halves.are) ∙ take_at halves.front halves.back count long in
+    record {
+      table = now.table;
+      words = now.words;
+      bounds = h.bounds;
+      blocks = h.blocks;
+      within = omega (arith, long, ap length (are ∙ halves.are), length-append halves.front halves.back);
+      all = h.all;
+      each = subst (λ (ks : List BlockDigest). AreEachKept now.table now.words ks h.bounds h.blocks) (sym all) halves.fronts;
+    }
 
 module _ (ls others : List Text) (from to : ℕ) (start now : Stored) (first end at upto : ℕ) (h : IsKeptOf ls start) (count : upto ≤ length start.kept)
     (r : HasRead others from to start first now) (like : IsLike ls upto now.kept others first end at) where
@@ -174,3 +214,7 @@ module _ (ls others : List Text) (from to : ℕ) (start now : Stored) (first end
 pub some_both : {X : Type 0} (P Q : X → Type 0) (o : Option X) → IfSome o P → IsSomeAnd o Q → (x : X) × P x × Q x
 some_both P Q (Some x) p q = (x, p, q)
 some_both P Q None p q = absurd q
+
+pub some_of : {X : Type 0} (P Q : X → Type 0) (o : Option X) → IfSome o P → ((x : X) → P x → Q x) → IfSome o Q
+some_of P Q (Some x) p f = f x p
+some_of P Q None p f = tt

@@ -1,33 +1,23 @@
 -- What is found in one text tells what is found in another.
-use Rattle.std.proofs.Common.{◌≡◌, ℕ, ◌+◌, ◌^◌, ◌<◌, ◌≤◌, Bool, true, false, List, [], ◌∷◌, length, map, sym, subst, arith}
-use Rattle.std.specs.Prelude.{if◌then◌else◌}
-use Rattle.ls_text.specs.Lines.{ends_line, line_ends}
+use Rattle.std.proofs.Common.{◌≡◌, ℕ, ◌^◌, ◌<◌, List, length, map, sym, subst}
 use Rattle.abnf_token.specs.Classes.{Text}
 use Rattle.abnf_syntax.specs.Blocks.{line_texts}
-use Rattle.abnf_syntax.proofs.BlockLaws.{count_lines}
+use Rattle.abnf_syntax.proofs.Exist.{text_has_tokens}
 use Rattle.abnf_lint.specs.declared.finding.Finding.{Finding}
 use Rattle.abnf_lint.specs.Rows.{AreRows}
 use Rattle.abnf_digests.specs.Moved.{moved_finding}
 use Rattle.abnf_digests.specs.Replaced.{AreReplaced}
 use Rattle.abnf_digests.proofs.FindingsMove.{findings_moved}
 use Rattle.abnf_kept.specs.declared.difference.Difference.{Difference}
+use Rattle.abnf_kept.specs.own.Parts.{HasTokens}
 use Rattle.abnf_kept.specs.own.Moves.{AreFoundOutside}
 use Rattle.abnf_kept.specs.own.Walks.{SayTheSame}
 use Rattle.abnf_kept.proofs.MoveLaws.{none_found}
 
--- ---- a text has few lines
+-- ---- each line has tokens
 
-one_more : (n m : ℕ) (b : Bool) → n ≤ m → (if b then 1 else 0) + n ≤ 1 + m
-one_more n m true h = omega (arith, h)
-one_more n m false h = omega (arith, h)
-
-few_ends : (text : List ℕ) → line_ends text ≤ length text
-unfolding line_ends
-few_ends [] = omega arith
-few_ends (c ∷ text) = omega (arith, one_more (line_ends text) (length text) (ends_line c text) (few_ends text))
-
-pub few_lines : (text : List ℕ) (ls : List Text) → ls ≡ line_texts text → length text < 2 ^ 62 → length ls < 2 ^ 63
-few_lines text ls e small = subst (λ (x : List Text). length x < 2 ^ 63) (sym e) (omega (arith, count_lines text, few_ends text, small))
+pub texts_have_tokens : (text : List ℕ) (ls : List Text) → ls ≡ line_texts text → length text < 2 ^ 62 → HasTokens ls
+texts_have_tokens text ls e small = subst HasTokens (sym e) (text_has_tokens text small)
 
 -- ---- findings that move
 

@@ -87,10 +87,10 @@ module _ (ls others : List Text) (front old new : ℕ) (r : AreReplaced ls other
 -- ---- where they are kept
 
 -- A test that the first so many items of a list pass, and no others: the place up to which it is passed.
-record IsPoint {X : Type 0} (p : X → Bool) (xs : List X) (at : ℕ) : Type 0 where
-  within : at ≤ length xs
-  low : (k : ℕ) (d : X) → k < at → p (get_or xs k d) ≡ true
-  high : (k : ℕ) (d : X) → at ≤ k → k < length xs → p (get_or xs k d) ≡ false
+pub record IsPoint {X : Type 0} (p : X → Bool) (xs : List X) (at : ℕ) : Type 0 where
+  pub within : at ≤ length xs
+  pub low : (k : ℕ) (d : X) → k < at → p (get_or xs k d) ≡ true
+  pub high : (k : ℕ) (d : X) → at ≤ k → k < length xs → p (get_or xs k d) ≡ false
 
 module _ {X : Type 0} (p : X → Bool) where
   point_parts : (xs : List X) (at : ℕ) → IsPoint p xs at → IsPartitionedBy p xs
@@ -195,7 +195,7 @@ module _ (ls others : List Text) (front old new : ℕ) (r : AreReplaced ls other
 
   -- ---- what is kept of the other text's blocks
 
-  module _ (each : AreWithin ls bounds blocks) (small : length others < 2 ^ 63) (s after : Stored) (kept : AreKept s bounds blocks) (added : AddsBetween others front new s after)
+  module _ (each : AreWithin ls bounds blocks) (small : length others < 2 ^ 32) (s after : Stored) (kept : AreKept s bounds blocks) (added : AddsBetween others front new s after)
       (from to come : ℕ) (from_is : from ≡ length p.before) (to_is : to ≡ length p.before + length p.gone) (come_is : come ≡ length after.kept - length s.kept) where
     abbrev Both : Type 0
     Both = KeptHalves after.table after.words after.kept bounds added.bounds blocks added.blocks
@@ -298,7 +298,7 @@ Tells line lent found =
     IsPartitionedBy (begins_early line) lent → IsPartitionPoint (λ y. begins_early line y ≡ true) (λ y. begins_early line y ≡ false) lent found
 
 pub can_follow : (ls others : List Text) (front old new : ℕ) (s given after : Stored) (lent later : List BlockDigest) (from to : ℕ) → AreReplaced ls others front old new
-    → length others < 2 ^ 63 → s ≡ given → IsKeptOf ls given → AddsBetween others front new s after → lent ≡ s.kept → later ≡ after.kept → from ≤ length lent → to ≤ length lent
+    → length others < 2 ^ 32 → s ≡ given → IsKeptOf ls given → AddsBetween others front new s after → lent ≡ s.kept → later ≡ after.kept → from ≤ length lent → to ≤ length lent
     → Tells front lent from → Tells old lent to → CanFollow others old new after from to (length later - length lent)
 can_follow ls others front old new s given after lent later from to r small same h added lent_is later_is from_within to_within tells_from tells_to =
     let kept : AreKept s h.bounds h.blocks = subst (λ (x : Stored). AreKept x h.bounds h.blocks) (sym same) h.kept in

@@ -113,7 +113,7 @@ module _ (table : List Name) (words : List Word) where
 
   -- ---- blocks that move
 
-  pub can_move : (ls others : List Text) (old new from there : ℕ) (ks : List BlockDigest) (bs cs : List (ℕ × ℕ)) (xs : List Block) → length others < 2 ^ 63 → AreBlocks ls from bs
+  pub can_move : (ls others : List Text) (old new from there : ℕ) (ks : List BlockDigest) (bs cs : List (ℕ × ℕ)) (xs : List Block) → length others < 2 ^ 32 → AreBlocks ls from bs
       → AreBlocks others there cs → AreMoved old new bs cs → AreKeptHere ks bs xs → All (CanMove old new) ks
   can_move ls others old new from there [] bs cs xs small h g m kept = All-nil (CanMove old new)
   can_move ls others old new from there (k ∷ ks) [] cs xs small h g m kept = absurd kept

@@ -3,8 +3,10 @@ pub mod WalkLaws
 pub mod MoveLaws
 pub mod FollowLaws
 pub mod SameBlocks
+pub mod AlikeLaws
 pub mod KeptLists
 pub mod FollowedBlocks
+pub mod BeforeLaws
 pub mod ReadLaws
 pub mod FindLaws
 pub mod CopiedBlocks

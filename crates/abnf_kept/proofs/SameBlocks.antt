@@ -52,25 +52,25 @@ said_by items (inr fault) = (Err fault.0, fault.1)
 -- ---- tokens
 
 -- a token of the line with this number
-abbrev numbered : ℕ → Token → Token
+abbrev pub numbered : ℕ → Token → Token
 numbered line t = record { kind = t.kind; text = t.text; line = line; start = t.start; in_line = t.in_line }
 
-tokens_numbered : (line there start : ℕ) (left : Text) (ts : List Token) → TokensOf line start left ts → TokensOf there start left (map (numbered there) ts)
+pub tokens_numbered : (line there start : ℕ) (left : Text) (ts : List Token) → TokensOf line start left ts → TokensOf there start left (map (numbered there) ts)
 tokens_numbered line there start left [] h = h
 tokens_numbered line there start left (t ∷ ts) h =
     (record { next = h.0.next; line = refl; start = h.0.start }, tokens_numbered line there (start + length t.text.now) (drop (length t.text.now) left) ts h.1)
 
 module _ (ls others : List Text) where
-  abbrev AreLike : ℕ → ℕ → ℕ → Type 0
+  abbrev pub AreLike : ℕ → ℕ → ℕ → Type 0
   AreLike at there count = (n : ℕ) → n < count → slice_index_or ls (at + n) [] ≡ slice_index_or others (there + n) []
 
-  first_like : (at there count : ℕ) → AreLike at there (suc count) → slice_index_or ls at [] ≡ slice_index_or others there []
+  pub first_like : (at there count : ℕ) → AreLike at there (suc count) → slice_index_or ls at [] ≡ slice_index_or others there []
   first_like at there count same =
       let here : at ≡ at + 0 = omega arith in
       let beyond : there + 0 ≡ there = omega arith in
       ap (λ n. slice_index_or ls n []) here ∙ (same 0 (omega arith) ∙ ap (λ n. slice_index_or others n []) beyond)
 
-  rest_like : (at there count : ℕ) → AreLike at there (suc count) → AreLike (suc at) (suc there) count
+  pub rest_like : (at there count : ℕ) → AreLike at there (suc count) → AreLike (suc at) (suc there) count
   rest_like at there count same n less =
       let here : suc at + n ≡ at + suc n = omega arith in
       let beyond : there + suc n ≡ suc there + n = omega arith in

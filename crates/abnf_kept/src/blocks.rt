@@ -1,16 +1,17 @@
 //! The blocks of a text, as they are kept.
 
-ghost use Rattle.std.specs.Prelude.{◌≡◌, ◌≤◌, ◌<◌, ◌^◌, ℕ, List, [], None, IfOk, IfSome, IsSomeAnd, OnOk, length, true};
+ghost use Rattle.std.specs.Prelude.{◌≡◌, ◌≤◌, ◌<◌, ◌^◌, ℕ, List, [], None, IfOk, IfSome, OnOk, length, true};
 ghost use Rattle.abnf_syntax.specs.Blocks.{IsSeam, line_texts};
 ghost use Rattle.abnf_lint.specs.Rows.{AreRows};
 ghost use Rattle.abnf_digests.specs.Replaced.{AreReplaced};
 ghost use Rattle.abnf_outcome.specs.KeptBlocks.{IsKeptOf};
 ghost use Rattle.abnf_outcome.specs.Outcomes.{IsOutcome};
+ghost use Rattle.abnf_kept.specs.own.Parts.{HasTokens, IsPart};
 ghost use Rattle.abnf_kept.specs.own.Reads.{AddsBetween, FindsIn};
 ghost use Rattle.abnf_kept.specs.own.Reads as spec;
 
-use crate::difference::Difference;
-use crate::walk::say_the_same;
+use crate::before::{Before, like, next_block};
+use crate::difference::Change;
 use abnf_lint::Finding;
 use abnf_names::section_of;
 use abnf_outcome::{BlockDigest, Digests, Outcome};
@@ -27,8 +28,8 @@ const NEW_NAMES: usize = 1024;
 /// How many words may be left behind beside as many as were read with all blocks.
 const LEFT_WORDS: usize = 1024;
 
-/// So many blocks before and behind a place are compared with one that may be the block there.
-const REACH: usize = 2;
+/// Of more lines blocks aren't moved: their numbers have 32 bits.
+const MOST_LINES: usize = 0xFFFF_FFFF;
 
 /// What is kept of the blocks of a text. Contracts see it as digests have it.
 #[derive(Drop)]
@@ -64,61 +65,6 @@ fn has_room(digests: &Digests, items: &[Item<'_>], most: usize) -> Result<bool, 
     Ok(true)
 }
 
-/// The text before: the lines whose blocks are kept, most of which may stand in the next one too, and how many names there may be then.
-#[derive(Clone, Copy)]
-struct Before<'k, 's> {
-    sheet: &'k Sheet<'s>,
-    /// The places of the blocks that may come again: from one up to another.
-    from: usize,
-    to: usize,
-    most_names: usize,
-}
-
-impl<'k, 's> Before<'k, 's> {
-    /// Which of the blocks that are kept says what these lines say, and has no findings of its own: one of a few about a place.
-    fn like(
-        &self,
-        blocks: &[BlockDigest],
-        about: usize,
-        sheet: &Sheet,
-        first: usize,
-        end: usize,
-    ) -> Option<usize>
-        requires { first ≤ end }
-        ensures { IfSome result (spec.IsLike self.now.sheet.now self.now.to blocks.now sheet.now first end) }
-    {
-        let to = self.to.min(blocks.len()).min(about.saturating_add(REACH));
-        for at in about.saturating_sub(REACH)..to {
-            let block = blocks[at];
-            if !block.has_own
-                && block.first <= block.behind
-                && say_the_same(self.sheet, block.first, block.behind, sheet, first, end)
-            {
-                return Some(at);
-            }
-        }
-        None
-    }
-}
-
-/// Which block of the text before says what these lines say, if there is such a text.
-fn like(
-    before: &Option<Before>,
-    blocks: &[BlockDigest],
-    about: usize,
-    sheet: &Sheet,
-    first: usize,
-    end: usize,
-) -> Option<usize>
-    requires { first ≤ end }
-    ensures { IfSome result (λ at. IsSomeAnd before.now (λ b. spec.IsLike b.sheet.now b.to blocks.now sheet.now first end at)) }
-{
-    match before {
-        Some(before) => before.like(blocks, about, sheet, first, end),
-        None => None,
-    }
-}
-
 /// Whether a block's names have room, if there is a bound for them.
 fn is_room_for(
     digests: &Digests,
@@ -146,7 +92,7 @@ fn read(
 ) -> Result<bool, AllocError>
     requires order { from ≤ to }
     requires seams { IsSeam sheet.now from × IsSeam sheet.now to }
-    requires before { IfSome before (λ b. IsKeptOf b.sheet.now digests.old × (b.to ≤ length digests.old.kept)) }
+    requires before { IfSome before (λ b. IsKeptOf b.sheet.now digests.old × spec.IsBefore sheet.now b × (b.to ≤ b.count) × (b.count ≡ length digests.old.kept)) }
     ensures added { IfOk result (λ are_all. are_all ≡ true → AddsBetween sheet.now from to digests.old digests.new) }
     ensures unbounded { before.entry ≡ None → IfOk result (λ are_all. are_all ≡ true) }
 {
@@ -156,9 +102,9 @@ fn read(
         Some(before) => before.from,
         None => 0,
     };
-    let mut first = sheet.next_block(from, to);
+    let mut first = next_block(&before, digests.blocks(), sheet, from, to);
     'blocks: while first < to {
-        let end = sheet.next_block(first + 1, to);
+        let end = next_block(&before, digests.blocks(), sheet, first + 1, to);
         if let Some(at) = like(&before, digests.blocks(), about, sheet, first, end) {
             digests.push_again(at, first, end)?;
             about = at.saturating_add(1);
@@ -206,7 +152,7 @@ impl KeptBlocks {
     }
 
     /// What is to be kept of the blocks of another text, which differs in a part alone. Only the part's blocks are read, unless too many
-    /// words are left behind, or too many names are new.
+    /// words are left behind, or too many names are new, or there are more lines than 32 bits number.
     ///
     /// # Errors
     ///
@@ -216,11 +162,12 @@ impl KeptBlocks {
         alloc: Global,
         ours: &Sheet,
         theirs: &Sheet,
-        part: &Difference,
+        change: &Change,
     ) -> Result<KeptBlocks, AllocError>
         requires kept { IsKeptOf ours.now self }
-        requires replaced { AreReplaced ours.now theirs.now part.now.front part.now.old part.now.new }
-        requires small { length theirs.now < 2 ^ 63 }
+        requires replaced { AreReplaced ours.now theirs.now change.now.blocks.front change.now.blocks.old change.now.blocks.new }
+        requires lines { IsPart ours.now theirs.now change.now.lines }
+        requires tokens { HasTokens ours.now }
         ensures { IfOk result (λ blocks. IsKeptOf theirs.now blocks) }
     {
         let KeptBlocks {
@@ -228,15 +175,18 @@ impl KeptBlocks {
             most_names,
             most_words,
         } = self;
-        if digests.word_count() > most_words {
+        if digests.word_count() > most_words || theirs.count() > MOST_LINES {
             return KeptBlocks::of(alloc, theirs);
         }
+        let part = change.blocks;
         let blocks = digests.blocks();
         let count = blocks.len();
-        let from = blocks.partition_point(|block| block.first < part.front);
-        let to = blocks.partition_point(|block| block.first < part.old);
+        let from = blocks.partition_point(|block| (block.first as usize) < part.front);
+        let to = blocks.partition_point(|block| (block.first as usize) < part.old);
         let before = Before {
             sheet: ours,
+            lines: change.lines,
+            count,
             from,
             to,
             most_names,
@@ -275,7 +225,12 @@ impl KeptBlocks {
         ensures { OnOk result (FindsIn sheet.now self.now outcome.now at found.old found.new) }
     {
         let kept = self.digests.blocks()[at];
-        let block = Block::of(List::new(alloc), sheet, kept.first, kept.behind)?;
+        let block = Block::of(
+            List::new(alloc),
+            sheet,
+            kept.first as usize,
+            kept.behind as usize,
+        )?;
         let section = section_of(alloc, block)?;
         self.digests.push_found(alloc, outcome, at, &section, found)
     }

@@ -7,8 +7,7 @@ ghost use Rattle.abnf_lint.specs.Rows.{AreRows};
 ghost use Rattle.abnf_outcome.specs.KeptBlocks.{IsKeptOf};
 
 use crate::blocks::KeptBlocks;
-use crate::difference::Difference;
-use crate::walk::say_the_same;
+use crate::difference::Change;
 use abnf_lint::Finding;
 use abnf_syntax::{Sheet, Top};
 use ls_lists::List;
@@ -102,12 +101,15 @@ impl Diagnosed {
         let ours = Sheet::with_top(&before, top);
         let theirs = ours.followed(&snapshot);
         let top = theirs.top();
-        let Some(part) = Difference::between(&ours, &theirs, blocks.blocks()) else {
+        let Some(change) = Change::between(&ours, &theirs, blocks.blocks()) else {
             return Diagnosed::of(alloc, snapshot);
         };
+        let part = change.blocks;
         let moves = part.is_clean(findings.as_slice())
-            && say_the_same(&ours, part.front, part.old, &theirs, part.front, part.new);
-        let blocks = blocks.followed(alloc, &ours, &theirs, &part)?;
+            && change
+                .lines
+                .say_the_same(&ours, part.front, part.old, &theirs, part.front, part.new);
+        let blocks = blocks.followed(alloc, &ours, &theirs, &change)?;
         if moves {
             return Ok(Diagnosed {
                 findings: part.moved(findings),

@@ -19,6 +19,15 @@ pub struct Difference {
     pub new: usize,
 }
 
+/// How two texts differ.
+#[derive(Clone, Copy)]
+pub struct Change {
+    /// The lines that differ: those before and behind them are the same.
+    pub lines: Difference,
+    /// These with lines before and behind them, up to places over which no block goes in either text.
+    pub blocks: Difference,
+}
+
 /// How many lines at the front of both texts are the same.
 fn same_front(ours: &Sheet, theirs: &Sheet) -> usize
     ensures { spec.IsFront ours.now theirs.now result }
@@ -63,11 +72,11 @@ fn are_seams(ours: &Sheet, at: usize, theirs: &Sheet, there: usize) -> bool
 fn start_before(blocks: &[BlockDigest], line: usize) -> usize
     ensures { result ≤ line }
 {
-    let count = blocks.partition_point(|block| block.first <= line);
+    let count = blocks.partition_point(|block| block.first as usize <= line);
     if count == 0 {
         0
     } else {
-        blocks[count - 1].first.min(line)
+        (blocks[count - 1].first as usize).min(line)
     }
 }
 
@@ -76,9 +85,9 @@ fn start_behind(blocks: &[BlockDigest], line: usize, count: usize) -> usize
     requires { line ≤ count }
     ensures { (line ≤ result) × (result ≤ count) }
 {
-    let place = blocks.partition_point(|block| block.first < line);
+    let place = blocks.partition_point(|block| (block.first as usize) < line);
     match blocks.get(place) {
-        Some(block) => block.first.max(line).min(count),
+        Some(block) => (block.first as usize).max(line).min(count),
         None => count,
     }
 }
@@ -133,19 +142,20 @@ fn to_seams(ours: &Sheet, theirs: &Sheet, blocks: &[BlockDigest], part: Differen
     }
 }
 
-impl Difference {
-    /// The part in which two texts differ, between places over which no block goes in either of them; it is short where these are the blocks
-    /// of our lines. There is none where the indents of their blocks differ.
-    pub fn between(ours: &Sheet, theirs: &Sheet, blocks: &[BlockDigest]) -> Option<Difference>
-        ensures some { IfSome result (λ part. AreReplaced ours.now theirs.now part.front part.old part.new) }
+impl Change {
+    /// How two texts differ; the lines up to whole blocks are few where these are the blocks of our lines. It isn't said where the indents of
+    /// their blocks differ.
+    pub fn between(ours: &Sheet, theirs: &Sheet, kept: &[BlockDigest]) -> Option<Change>
+        ensures blocks { IfSome result (λ change. AreReplaced ours.now theirs.now change.blocks.front change.blocks.old change.blocks.new) }
+        ensures lines { IfSome result (λ change. spec.IsPart ours.now theirs.now change.lines) }
         ensures none { IfNone result (base_indent ours.now ≢ base_indent theirs.now) }
     {
         if ours.base() != theirs.base() {
             return None;
         }
-        let part = up_to_back(ours, theirs, same_front(ours, theirs));
-        let part = from_seams(ours, theirs, blocks, part);
-        let part = to_seams(ours, theirs, blocks, part);
-        Some(part)
+        let lines = up_to_back(ours, theirs, same_front(ours, theirs));
+        let blocks = from_seams(ours, theirs, kept, lines);
+        let blocks = to_seams(ours, theirs, kept, blocks);
+        Some(Change { lines, blocks })
     }
 }

@@ -6,6 +6,8 @@
 //! beside them only those in which something may be found, as the digests of all blocks say.
 #![tactic(auto)]
 
+mod alike;
+mod before;
 mod blocks;
 mod diagnosed;
 mod difference;

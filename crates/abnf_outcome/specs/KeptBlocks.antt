@@ -46,11 +46,11 @@ at_lines first behind kept = record { head = kept.head; start = kept.start; end 
 
 -- ---- the last blocks in place of others
 
--- The block begins no earlier than the line `old`, and its lines have numbers below 2^64 where that line is the line `new`.
+-- The block begins no earlier than the line `old`, and its lines have numbers below 2^32 where that line is the line `new`.
 pub record CanMove (old new : ℕ) (kept : BlockDigest) : Type 0 where
   pub first : old ≤ kept.first
   pub behind : kept.first ≤ kept.behind
-  pub small : (kept.behind - old) + new < 2 ^ 64
+  pub small : (kept.behind - old) + new < 2 ^ 32
 
 -- what is kept of the same block where the line `old` is the line `new`
 abbrev pub moved_block : ℕ → ℕ → BlockDigest → BlockDigest

@@ -3,7 +3,7 @@
 /// The head of a block: the number of its name in a table, and whether `=/` follows it.
 #[derive(Clone, Copy)]
 pub struct HeadNumber {
-    pub name: usize,
+    pub name: u32,
     pub adds: bool,
 }
 
@@ -12,11 +12,11 @@ pub struct HeadNumber {
 #[derive(Clone, Copy)]
 pub struct BlockDigest {
     pub head: Option<HeadNumber>,
-    pub start: usize,
-    pub end: usize,
+    pub start: u32,
+    pub end: u32,
     /// The block's first line.
-    pub first: usize,
+    pub first: u32,
     /// The line behind its last one.
-    pub behind: usize,
+    pub behind: u32,
     pub has_own: bool,
 }

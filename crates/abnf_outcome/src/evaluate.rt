@@ -64,9 +64,9 @@ fn value_of(word: Word, marks: &[bool], stack: &mut Vec<bool>) -> bool
 {
     match word {
         Word::Something | Word::Opaque => true,
-        Word::Name(number) => is_marked(marks, number),
-        Word::All(count) => take_all(stack, count),
-        Word::Any(count) => take_any(stack, count),
+        Word::Name(number) => is_marked(marks, number as usize),
+        Word::All(count) => take_all(stack, count as usize),
+        Word::Any(count) => take_any(stack, count as usize),
         Word::Optional => {
             stack.pop();
             true

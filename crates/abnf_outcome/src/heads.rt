@@ -35,8 +35,8 @@ fn role_in(head: Option<HeadNumber>, seen: &[bool], based: &[bool]) -> HeadRole
 {
     match head {
         Some(head) => {
-            let is_seen = is_marked(seen, head.name);
-            let has_base = is_marked(based, head.name);
+            let is_seen = is_marked(seen, head.name as usize);
+            let has_base = is_marked(based, head.name as usize);
             HeadRole {
                 is_duplicate: !head.adds && has_base,
                 has_no_base: head.adds && !has_base,
@@ -56,7 +56,7 @@ pub(crate) fn see(head: Option<HeadNumber>, seen: &mut [bool])
     ensures { seen.new ≡ spec.seen_with head seen.old }
 {
     if let Some(head) = head {
-        mark(seen, head.name);
+        mark(seen, head.name as usize);
     }
 }
 
@@ -66,7 +66,7 @@ fn base(head: Option<HeadNumber>, based: &mut [bool])
 {
     if let Some(head) = head {
         if !head.adds {
-            mark(based, head.name);
+            mark(based, head.name as usize);
         }
     }
 }

@@ -20,6 +20,7 @@ mod evaluate;
 mod found_in;
 mod heads;
 mod laws;
+mod narrow;
 mod outcome;
 mod own;
 mod pending;

@@ -46,7 +46,7 @@ fn is_idle(head: Option<HeadNumber>, held: &[bool], led: &[bool]) -> bool
     ensures { result ≡ spec.is_idle held.now led.now head }
 {
     match head {
-        Some(head) => !is_marked(held, head.name) && !is_marked(led, head.name),
+        Some(head) => !is_marked(held, head.name as usize) && !is_marked(led, head.name as usize),
         None => false,
     }
 }

@@ -22,6 +22,7 @@ const LARGE: usize = 256;
 /// Adds a block to the users of the name that a word is.
 fn add_user(block: usize, word: Word, users: &mut [List<usize>]) -> Result<(), AllocError> {
     if let Word::Name(number) = word {
+        let number = number as usize;
         if number < users.len() {
             users[number].push(block)?;
         }
@@ -39,7 +40,7 @@ fn add_users(block: usize, words: &[Word], users: &mut [List<usize>]) -> Result<
 
 /// The words of a block that isn't large.
 fn words_at<'w>(words: &'w [Word], block: BlockDigest) -> &'w [Word] {
-    match words.get(block.start..block.end) {
+    match words.get(block.start as usize..block.end as usize) {
         Some(words) => { if words.len() < LARGE { words } else { &[] } }
         None => &[],
     }
@@ -113,7 +114,7 @@ fn visit_at(
         return Ok(None);
     };
     if visit(way, words, *block, *role, marks, stack)? {
-        Ok(Some(head.name))
+        Ok(Some(head.name as usize))
     } else {
         Ok(None)
     }

@@ -22,7 +22,7 @@ fn is_strange(word: Word, strange: &[bool]) -> bool
     ensures { result ≡ is_marked_name (mark_at strange.now) word }
 {
     match word {
-        Word::Name(number) => is_marked(strange, number),
+        Word::Name(number) => is_marked(strange, number as usize),
         _ => false,
     }
 }
@@ -39,7 +39,7 @@ pub(crate) fn uses_strange(words: &[Word], block: BlockDigest, strange: &[bool])
     ensures { block.start ≤ block.end → block.end ≤ length words.now
         → result ≡ list_any (is_marked_name (mark_at strange.now)) (slice_range words.now block.start block.end) }
 {
-    match words.get(block.start..block.end) {
+    match words.get(block.start as usize..block.end as usize) {
         Some(words) => one_is_strange(words, strange),
         None => true,
     }

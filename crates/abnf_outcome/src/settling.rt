@@ -100,7 +100,7 @@ fn is_unmarked(head: Option<HeadNumber>, marks: &[bool]) -> bool
     ensures { result ≡ spec.is_unmarked marks.now head }
 {
     match head {
-        Some(head) => !is_marked(marks, head.name),
+        Some(head) => !is_marked(marks, head.name as usize),
         None => false,
     }
 }

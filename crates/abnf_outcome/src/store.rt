@@ -19,6 +19,7 @@ ghost use Rattle.abnf_names.specs.Sections.{IsSaidBy};
 ghost use Rattle.abnf_outcome.specs.Sections.{IsBlockOf};
 
 use crate::digest::{BlockDigest, HeadNumber};
+use crate::narrow::narrow;
 use crate::own::has_own_findings;
 use crate::table::NameTable;
 use crate::word::{Word, push_words};
@@ -40,7 +41,7 @@ fn head_number<'t>(
         Some(head) => {
             let name = names.number_of(Folded(head.name.text))?;
             Ok(Some(HeadNumber {
-                name,
+                name: narrow(name)?,
                 adds: head.adds,
             }))
         }
@@ -133,7 +134,8 @@ impl Digests {
     ///
     /// # Errors
     ///
-    /// Where an allocation is refused. Then no more is known of what is kept.
+    /// Where an allocation is refused, or a number of a name, of parts, of words or of a line needs more than 32 bits. Then no more is known
+    /// of what is kept.
     pub fn push<'t>(
         &mut self,
         alloc: Global,
@@ -143,15 +145,17 @@ impl Digests {
         ensures { OnOk result ((block : said.Block) → IsBlockOf section.now block → AddsBlock (bounds section.now.block) block self.old self.new) }
     {
         let head = head_number(&mut self.names, &section.block)?;
-        let start = self.words.len();
+        let start = narrow(self.words.len())?;
         push_said(alloc, spare, &mut self.names, section, &mut self.words)?;
-        let end = self.words.len();
+        let end = narrow(self.words.len())?;
+        let first = narrow(section.block.first)?;
+        let behind = narrow(section.block.end)?;
         self.blocks.push(BlockDigest {
             head,
             start,
             end,
-            first: section.block.first,
-            behind: section.block.end,
+            first,
+            behind,
             has_own: has_own_findings(section),
         })?;
         Ok(())
@@ -161,7 +165,7 @@ impl Digests {
     ///
     /// # Errors
     ///
-    /// Where an allocation is refused. Then nothing has changed.
+    /// Where an allocation is refused, or the number of a line needs more than 32 bits. Then nothing has changed.
     pub fn push_again(&mut self, at: usize, first: usize, behind: usize) -> Result<(), AllocError>
         requires { at < length self.old.kept }
         ensures ok { OnOk result ((block : BlockDigest) → slice_get self.old.kept at ≡ Some block →
@@ -169,6 +173,7 @@ impl Digests {
         ensures err { OnErr result (self.new ≡ self.old) }
     {
         let block = self.blocks[at];
+        let (first, behind) = (narrow(first)?, narrow(behind)?);
         self.blocks.push(BlockDigest {
             head: block.head,
             start: block.start,
@@ -219,8 +224,8 @@ fn move_lines(blocks: &mut [BlockDigest], old: usize, new: usize)
     ensures { blocks.new ≡ map (moved_block old new) blocks.old }
 {
     for block in blocks.iter_mut() {
-        block.first = block.first - old + new;
-        block.behind = block.behind - old + new;
+        block.first = (block.first as usize - old + new) as u32;
+        block.behind = (block.behind as usize - old + new) as u32;
     }
 }
 

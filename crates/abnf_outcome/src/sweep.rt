@@ -31,7 +31,7 @@ fn is_leading(word: Word, marks: &[bool]) -> bool
     ensures { result ≡ spec.is_leading_word (mark_at marks.now) word }
 {
     match word {
-        Word::Name(number) => is_marked(marks, number),
+        Word::Name(number) => is_marked(marks, number as usize),
         Word::Opaque => true,
         _ => false,
     }
@@ -70,16 +70,17 @@ pub(crate) fn visit(
     let Some(head) = block.head else {
         return Ok(false);
     };
-    if role.is_duplicate || head.name >= marks.len() || is_marked(marks, head.name) {
+    let name = head.name as usize;
+    if role.is_duplicate || name >= marks.len() || is_marked(marks, name) {
         return Ok(false);
     }
-    let Some(gists) = words.get(block.start..block.end) else {
+    let Some(gists) = words.get(block.start as usize..block.end as usize) else {
         return Ok(false);
     };
     if !says(way, gists, marks, stack)? {
         return Ok(false);
     }
-    mark(marks, head.name);
+    mark(marks, name);
     Ok(true)
 }
 

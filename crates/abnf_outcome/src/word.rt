@@ -11,6 +11,7 @@ ghost use Rattle.abnf_digests.specs.Gists.{gist, is_above};
 ghost use Rattle.abnf_outcome.specs.Words.{repeat_words, words_of};
 ghost use Rattle.abnf_outcome.specs.own.Adding.{AddsWords};
 
+use crate::narrow::narrow;
 use crate::table::NameTable;
 use abnf_parts::{range_of, repeat_bounds};
 use abnf_syntax::{Element, MAX_NESTING, Repetition, Rule};
@@ -26,11 +27,11 @@ pub enum Word {
     /// Something of which nothing is known. It holds.
     Opaque,
     /// The name with this number.
-    Name(usize),
+    Name(u32),
     /// Each of so many parts before.
-    All(usize),
+    All(u32),
     /// One of so many parts before. Of none, nothing holds.
-    Any(usize),
+    Any(u32),
     /// The part before, which need not hold: a repetition whose minimum is 0.
     Optional,
     /// The part before, where nothing helps: a repetition whose minimum is above its maximum.
@@ -86,7 +87,7 @@ fn push_inside<'t>(
     }
     push_concatenations(names, room - 1, alternation, words)?;
     if alternation.len() != 1 {
-        words.push(Word::Any(alternation.len()))?;
+        words.push(Word::Any(narrow(alternation.len())?))?;
     }
     Ok(())
 }
@@ -119,7 +120,7 @@ fn push_concatenation<'t>(
 {
     push_repetitions(names, room, concatenation, words)?;
     if concatenation.len() != 1 {
-        words.push(Word::All(concatenation.len()))?;
+        words.push(Word::All(narrow(concatenation.len())?))?;
     }
     Ok(())
 }
@@ -172,7 +173,7 @@ fn push_element<'t>(
     match element {
         Element::Name(token) => {
             let number = names.number_of(Folded(token.text))?;
-            words.push(Word::Name(number))?;
+            words.push(Word::Name(narrow(number)?))?;
             Ok(())
         }
         Element::Quoted(_) => {
@@ -200,7 +201,7 @@ fn push_element<'t>(
 ///
 /// # Errors
 ///
-/// Where an allocation is refused. What was pushed before stays.
+/// Where an allocation is refused, or a number of a name or of parts needs more than 32 bits. What was pushed before stays.
 pub(crate) fn push_words<'t>(
     names: &mut NameTable,
     rule: &Rule<'t>,

@@ -3,6 +3,7 @@ use Rattle.std.proofs.Common.{◌≡◌, ◌∙◌, ◌<◌, ◌^◌, ℕ, List,
 use Rattle.std.specs.Prelude.{Result, Ok, Err}
 use Rattle.std.specs.Str.{encode_utf8_all}
 use Rattle.origins.specs.Origins.{Sourced, characters, grammar_of}
+use Rattle.origins.specs.declared.unread.Unread.{Unread}
 use Rattle.markdown_blocks.specs.Fences.{markdown_blocks}
 use Rattle.xml_blocks.specs.declared.fault.XmlFault.{XmlFault}
 use Rattle.xml_blocks.specs.Xml.{grammar_behind, xml_blocks}
@@ -15,13 +16,14 @@ use Rattle.findings_text.specs.declared.outcome.Outcome.TheVariants.{Clean, Erro
 use Rattle.findings_text.specs.declared.print.Printed.{Printed}
 use Rattle.findings_text.specs.Sources.{position_in_draft}
 use Rattle.findings_text.specs.Told.{ArePrintedRulesIn, IsPrintedIn}
+use Rattle.findings_text.specs.Unread.{asides_of}
 use Rattle.findings_text.proofs.PrintLaws.{one_print}
 use Rattle.findings_text.proofs.RuleLaws.{one_rules_from}
 use Rattle.findings_text.proofs.ToldLaws.{one_in, one_rules_in, some_in, some_rules_in}
 use Rattle.findings_files.specs.declared.format.Format.{Format}
 use Rattle.findings_files.specs.declared.format.Format.TheVariants.{Abnf, Markdown, Xml}
-use Rattle.findings_files.specs.Drafts.{draft_position, no_grammar_line}
-use Rattle.findings_files.specs.Formats.{ArePrintedRulesAs, ArePrintedXmlRules, IsPrintedAs, IsPrintedXml, xml_fault_line}
+use Rattle.findings_files.specs.Drafts.{draft_position, no_grammar_line, no_grammar_lines}
+use Rattle.findings_files.specs.Formats.{ArePrintedRulesAs, ArePrintedXmlRules, IsPrintedAs, IsPrintedXml, unread_in, xml_fault_line}
 use Rattle.findings_files.specs.Grammars.{IsPrintedDraftGrammar, IsPrintedGrammarAs, IsPrintedXmlGrammar}
 use Rattle.findings_files.specs.Known.{AreRepeatsAs, ArePrintedJoinedRules, ArePrintedRulesBy, ArePrintedRulesWith, IsPrintedBy, IsPrintedDraftWith, IsPrintedJoined, IsPrintedWith, grammar_in}
 use Rattle.findings_files.proofs.DraftLaws.{one_draft}
@@ -42,42 +44,42 @@ one_repeats_as Abnf text a b p q = p ∙ sym q
 one_repeats_as Markdown text a b p q = one_repeats text a b p q
 one_repeats_as Xml text a b p q = one_repeats text a b p q
 
-one_by_join : (known : List (List ℕ)) (format : Format) (file draft : List ℕ) (grammar : List Sourced) (a b : Printed) → IsPrintedJoined known format file draft grammar a → IsPrintedJoined known format file draft grammar b → a ≡ b
-one_by_join known format file draft grammar a b p q =
+one_by_join : (known : List (List ℕ)) (format : Format) (file draft : List ℕ) (unread : List Unread) (grammar : List Sourced) (a b : Printed) → IsPrintedJoined known format file draft unread grammar a → IsPrintedJoined known format file draft unread grammar b → a ≡ b
+one_by_join known format file draft unread grammar a b p q =
     let told = characters grammar in
     let text = one_joined told known p.0 q.0 p.2 q.2 in
     let repeats = one_repeats_as format q.0 p.1 q.1 (subst (λ (t : List ℕ). AreRepeatsAs format t p.1) text p.3) q.3 in
-    let there : IsPrintedIn told p.1 (position_in_draft draft grammar q.0) file q.0 a = subst (λ (t : List ℕ). IsPrintedIn told p.1 (position_in_draft draft grammar t) file t a) text p.4 in
-    one_in told q.1 (position_in_draft draft grammar q.0) file q.0 a b
-    (subst (λ (rs : List Repeat). IsPrintedIn told rs (position_in_draft draft grammar q.0) file q.0 a) repeats there) q.4
+    let there : IsPrintedIn told (asides_of draft unread) p.1 (position_in_draft draft grammar q.0) file q.0 a = subst (λ (t : List ℕ). IsPrintedIn told (asides_of draft unread) p.1 (position_in_draft draft grammar t) file t a) text p.4 in
+    one_in told (asides_of draft unread) q.1 (position_in_draft draft grammar q.0) file q.0 a b
+    (subst (λ (rs : List Repeat). IsPrintedIn told (asides_of draft unread) rs (position_in_draft draft grammar q.0) file q.0 a) repeats there) q.4
 
-one_draft_with : (known : List (List ℕ)) (format : Format) (file draft : List ℕ) (grammar : List Sourced) (a b : Printed) → IsPrintedDraftWith known format file draft grammar a → IsPrintedDraftWith known format file draft grammar b → a ≡ b
-one_draft_with known format file draft [] a b p q = same a b (no_grammar_line file) Warnings p q
-one_draft_with known format file draft (c ∷ cs) a b p q = one_by_join known format file draft (c ∷ cs) a b p q
+one_draft_with : (known : List (List ℕ)) (format : Format) (file draft : List ℕ) (unread : List Unread) (grammar : List Sourced) (a b : Printed) → IsPrintedDraftWith known format file draft unread grammar a → IsPrintedDraftWith known format file draft unread grammar b → a ≡ b
+one_draft_with known format file draft unread [] a b p q = same a b (no_grammar_lines file draft unread) Warnings p q
+one_draft_with known format file draft unread (c ∷ cs) a b p q = one_by_join known format file draft unread (c ∷ cs) a b p q
 
 one_by : (known : List (List ℕ)) (format : Format) (file text : List ℕ) (r : Result (List Sourced) XmlFault) (a b : Printed) → IsPrintedBy known format file text r a → IsPrintedBy known format file text r b → a ≡ b
-one_by known format file text (Ok grammar) a b p q = one_draft_with known format file text grammar a b p q
+one_by known format file text (Ok grammar) a b p q = one_draft_with known format file text (unread_in format text) grammar a b p q
 one_by known format file text (Err fault) a b p q = same a b (xml_fault_line file text fault) Errors p q
 
 one_xml : (file text : List ℕ) (r : Result (List Sourced) XmlFault) (a b : Printed) → IsPrintedXml file text r a → IsPrintedXml file text r b → a ≡ b
-one_xml file text (Ok grammar) a b p q = one_draft file text grammar a b p q
+one_xml file text (Ok grammar) a b p q = one_draft file text (unread_in Xml text) grammar a b p q
 one_xml file text (Err fault) a b p q = same a b (xml_fault_line file text fault) Errors p q
 
 one_as : (format : Format) (file text : List ℕ) (a b : Printed) → IsPrintedAs format file text a → IsPrintedAs format file text b → a ≡ b
 one_as Abnf file text a b p q = one_print file text a b p q
-one_as Markdown file text a b p q = one_draft file text (grammar_of (markdown_blocks text)) a b p q
+one_as Markdown file text a b p q = one_draft file text (unread_in Markdown text) (grammar_of (markdown_blocks text)) a b p q
 one_as Xml file text a b p q = one_xml file text (grammar_behind [] (xml_blocks text)) a b p q
 
 pub one_with : (known : List (List ℕ)) (format : Format) (file text : List ℕ) (a b : Printed) → IsPrintedWith known format file text a → IsPrintedWith known format file text b → a ≡ b
 one_with [] format file text a b p q = one_as format file text a b p q
 one_with (k ∷ known) format file text a b p q = one_by (k ∷ known) format file text (grammar_in format text) a b p q
 
-pub some_with : (known : List (List ℕ)) (format : Format) (file draft : List ℕ) (grammar : List Sourced) (text : List ℕ) → IsJoined (characters grammar) known text → length text < 2 ^ 62
-    → (printed : Printed) × IsPrintedDraftWith known format file draft grammar printed
-some_with known format file draft [] text joined small = (record { lines = no_grammar_line file; outcome = Warnings }, (refl, refl))
-some_with known format file draft (c ∷ cs) text joined small =
+pub some_with : (known : List (List ℕ)) (format : Format) (file draft : List ℕ) (unread : List Unread) (grammar : List Sourced) (text : List ℕ) → IsJoined (characters grammar) known text → length text < 2 ^ 62
+    → (printed : Printed) × IsPrintedDraftWith known format file draft unread grammar printed
+some_with known format file draft unread [] text joined small = (record { lines = no_grammar_lines file draft unread; outcome = Warnings }, (refl, refl))
+some_with known format file draft unread (c ∷ cs) text joined small =
     let repeats = some_repeats_as format text small in
-    let printed = some_in (characters (c ∷ cs)) repeats.0 (position_in_draft draft (c ∷ cs) text) file text small in
+    let printed = some_in (characters (c ∷ cs)) (asides_of draft unread) repeats.0 (position_in_draft draft (c ∷ cs) text) file text small in
     (printed.0, (text, repeats.0, joined, repeats.1, printed.1))
 
 -- ---- the rules

@@ -6,6 +6,7 @@ use Rattle.ls_text.specs.declared.position.Position.{Position}
 use Rattle.text_files.specs.declared.file.FileFault.{FileFault}
 use Rattle.text_files.specs.declared.file.FileFault.TheVariants.{CannotRead, Memory, NotText}
 use Rattle.origins.specs.Origins.{Sourced, characters}
+use Rattle.origins.specs.declared.unread.Unread.{Unread}
 use Rattle.joined_grammars.specs.declared.repeats.Repeat.{Repeat}
 use Rattle.joined_grammars.specs.Repeats.{AreRepeats}
 use Rattle.findings_text.specs.declared.outcome.Outcome.TheVariants.{Warnings}
@@ -13,6 +14,7 @@ use Rattle.findings_text.specs.declared.print.Printed.{Printed}
 use Rattle.findings_text.specs.Print.{IsPrintedFrom, Locator}
 use Rattle.findings_text.specs.Rules.{ArePrintedRulesFrom}
 use Rattle.findings_text.specs.Sources.{position_in_draft}
+use Rattle.findings_text.specs.Unread.{Asides, asides_of, unread_lines}
 
 -- where in a draft stands what has this position in its grammar; positions count characters
 abbrev pub draft_position : List ℕ → List Sourced → Position → Position
@@ -22,15 +24,22 @@ draft_position draft grammar at = position_in_draft draft grammar (characters gr
 abbrev pub no_grammar_line : List ℕ → List ℕ
 no_grammar_line file = file ++ (codes ":1:1: warning: no grammar in this draft [no-grammar]" ++ 10 ∷ [])
 
--- This is printed of a text in which definitions may repeat others: one that says the same as the first of its name is no finding.
-abbrev pub IsPrintedRepeating : Locator → List ℕ → List ℕ → Printed → Type 0
-IsPrintedRepeating locate file text printed = (repeats : List Repeat) × AreRepeats text repeats × IsPrintedFrom repeats locate file text printed
+-- the lines of a draft with no block of grammar, of which this can't be read
+abbrev pub no_grammar_lines : List ℕ → List ℕ → List Unread → List ℕ
+no_grammar_lines file draft unread = no_grammar_line file ++ unread_lines file (asides_of draft unread).0 unread
 
--- This is printed of a draft with this grammar: its findings, each where it stands in the draft, or, where it has no block of grammar,
--- a warning.
-abbrev pub IsPrintedDraft : List ℕ → List ℕ → List Sourced → Printed → Type 0
-IsPrintedDraft file draft [] printed = (printed.lines ≡ no_grammar_line file) × (printed.outcome ≡ Warnings)
-IsPrintedDraft file draft (c ∷ cs) printed = IsPrintedRepeating (draft_position draft (c ∷ cs)) file (characters (c ∷ cs)) printed
+-- This is printed of a text of whose file this can't be read, and in which definitions may repeat others: one that says the same as
+-- the first of its name is no finding.
+abbrev pub IsPrintedRepeating : Asides → Locator → List ℕ → List ℕ → Printed → Type 0
+IsPrintedRepeating asides locate file text printed =
+    (repeats : List Repeat) × AreRepeats text repeats × IsPrintedFrom asides repeats locate file text printed
+
+-- This is printed of a draft with this grammar, of which this can't be read: its findings, each where it stands in the draft, or,
+-- where it has no block of grammar, a warning; and a warning for each that can't be read, in the order of the draft.
+abbrev pub IsPrintedDraft : List ℕ → List ℕ → List Unread → List Sourced → Printed → Type 0
+IsPrintedDraft file draft unread [] printed = (printed.lines ≡ no_grammar_lines file draft unread) × (printed.outcome ≡ Warnings)
+IsPrintedDraft file draft unread (c ∷ cs) printed =
+    IsPrintedRepeating (asides_of draft unread) (draft_position draft (c ∷ cs)) file (characters (c ∷ cs)) printed
 
 -- This is printed of the rules of a draft with this grammar, each where it is defined in the draft.
 abbrev pub ArePrintedDraftRules : List ℕ → List ℕ → List Sourced → List ℕ → Type 0

@@ -6,15 +6,19 @@ use Rattle.ls_text.specs.Lines.{units}
 use Rattle.ls_text.specs.Positions.{position_of}
 use Rattle.ls_text.specs.declared.position.Encoding.TheVariants.{Utf32}
 use Rattle.origins.specs.Origins.{Sourced, grammar_of}
+use Rattle.origins.specs.declared.unread.Unread.{Unread}
 use Rattle.markdown_blocks.specs.Fences.{markdown_blocks}
+use Rattle.markdown_blocks.specs.Unread as m
 use Rattle.text_files.specs.declared.file.FileFault.{FileFault}
 use Rattle.text_files.specs.declared.file.FileFault.TheVariants.{Memory}
 use Rattle.xml_blocks.specs.declared.fault.XmlFault.{XmlFault}
 use Rattle.xml_blocks.specs.declared.fault.XmlFault.TheVariants as x
+use Rattle.xml_blocks.specs.Unread as xml
 use Rattle.xml_blocks.specs.Xml.{grammar_behind, xml_blocks}
 use Rattle.findings_text.specs.declared.outcome.Outcome.TheVariants.{Clean, Errors}
 use Rattle.findings_text.specs.declared.print.Printed.{Printed}
-use Rattle.findings_text.specs.Print.{IsPrinted, place_text}
+use Rattle.findings_text.specs.Places.{place_text}
+use Rattle.findings_text.specs.Print.{IsPrinted}
 use Rattle.findings_text.specs.Rules.{ArePrintedRules}
 use Rattle.findings_files.specs.declared.format.Format.{Format}
 use Rattle.findings_files.specs.declared.format.Format.TheVariants.{Abnf, Markdown, Xml}
@@ -38,6 +42,12 @@ abbrev pub format_named : List ℕ → Option Format
 format_named name =
     if bytes_eq name (codes "abnf") then Some Abnf
     else (if bytes_eq name (codes "markdown") then Some Markdown else (if bytes_eq name (codes "xml") then Some Xml else None))
+
+-- what can't be read of a file of this format
+abbrev pub unread_in : Format → List ℕ → List Unread
+unread_in Abnf text = []
+unread_in Markdown text = m.unread_blocks text
+unread_in Xml text = xml.unread_blocks text
 
 -- where a fault of a draft in XML stands, in characters
 abbrev pub fault_offset : XmlFault → ℕ
@@ -68,13 +78,13 @@ IsPrintedFault file text fault printed = (printed.lines ≡ xml_fault_line file 
 
 -- This is printed of a draft in XML, of which this is gathered.
 abbrev pub IsPrintedXml : List ℕ → List ℕ → Result (List Sourced) XmlFault → Printed → Type 0
-IsPrintedXml file text (Ok grammar) printed = IsPrintedDraft file text grammar printed
+IsPrintedXml file text (Ok grammar) printed = IsPrintedDraft file text (unread_in Xml text) grammar printed
 IsPrintedXml file text (Err fault) printed = IsPrintedFault file text fault printed
 
 -- This is printed of a file of this format, where no other file is known.
 abbrev pub IsPrintedAs : Format → List ℕ → List ℕ → Printed → Type 0
 IsPrintedAs Abnf file text printed = IsPrinted file text printed
-IsPrintedAs Markdown file text printed = IsPrintedDraft file text (grammar_of (markdown_blocks text)) printed
+IsPrintedAs Markdown file text printed = IsPrintedDraft file text (unread_in Markdown text) (grammar_of (markdown_blocks text)) printed
 IsPrintedAs Xml file text printed = IsPrintedXml file text (grammar_behind [] (xml_blocks text)) printed
 
 -- This is printed of the rules of a draft in XML, of which this is gathered.

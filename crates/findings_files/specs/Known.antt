@@ -4,6 +4,7 @@ use Rattle.std.specs.Prelude.{◌≡◌, ◌⊎◌, ℕ, List, [], ◌∷◌, �
 use Rattle.text_files.specs.declared.file.FileFault.{FileFault}
 use Rattle.text_files.specs.declared.file.FileFault.TheVariants.{CannotRead, Memory, NotText}
 use Rattle.origins.specs.Origins.{Sourced, aligned, characters, from, grammar_of}
+use Rattle.origins.specs.declared.unread.Unread.{Unread}
 use Rattle.markdown_blocks.specs.Fences.{markdown_blocks}
 use Rattle.xml_blocks.specs.declared.fault.XmlFault.{XmlFault}
 use Rattle.xml_blocks.specs.declared.fault.XmlFault.TheVariants as x
@@ -15,10 +16,11 @@ use Rattle.findings_text.specs.declared.outcome.Outcome.TheVariants.{Clean, Warn
 use Rattle.findings_text.specs.declared.print.Printed.{Printed}
 use Rattle.findings_text.specs.Sources.{position_in_draft}
 use Rattle.findings_text.specs.Told.{ArePrintedRulesIn, IsPrintedIn}
+use Rattle.findings_text.specs.Unread.{asides_of, outcome_with, unread_lines}
 use Rattle.findings_files.specs.declared.format.Format.{Format}
 use Rattle.findings_files.specs.declared.format.Format.TheVariants.{Abnf, Markdown, Xml}
-use Rattle.findings_files.specs.Drafts.{IsTextRefused, no_grammar_line}
-use Rattle.findings_files.specs.Formats.{ArePrintedRulesAs, IsPrintedAs, IsPrintedFault, IsRefusedAs}
+use Rattle.findings_files.specs.Drafts.{IsTextRefused, no_grammar_lines}
+use Rattle.findings_files.specs.Formats.{ArePrintedRulesAs, IsPrintedAs, IsPrintedFault, IsRefusedAs, unread_in}
 
 -- a whole text as one block of grammar, left aligned, with a line end more
 abbrev pub whole : List ℕ → List Sourced
@@ -49,15 +51,17 @@ IsNotAdded (Err found) NotText = Unit {0}
 IsNotAdded (Err found) Memory = Unit {0}
 IsNotAdded (Err found) CannotRead = ⊥
 
--- What is printed of a file whose names are known, with this grammar: nothing, or, of a draft without a block of grammar, a warning.
-abbrev pub printed_source : List ℕ → List Sourced → Printed
-printed_source file [] = record { lines = no_grammar_line file; outcome = Warnings }
-printed_source file (c ∷ cs) = record { lines = []; outcome = Clean }
+-- What is printed of a file whose names are known, with this grammar, of which this can't be read: of a draft without a block of grammar
+-- a warning, and a warning for each that can't be read.
+abbrev pub printed_source : List ℕ → List ℕ → List Unread → List Sourced → Printed
+printed_source file draft unread [] = record { lines = no_grammar_lines file draft unread; outcome = Warnings }
+printed_source file draft unread (c ∷ cs) =
+    record { lines = unread_lines file (asides_of draft unread).0 unread; outcome = outcome_with unread [] }
 
--- This is printed of a file whose names are known, of which this is gathered; of one at fault nothing is.
-abbrev pub IsPrintedSource : List ℕ → Result (List Sourced) XmlFault → Printed → Type 0
-IsPrintedSource file (Ok grammar) printed = printed ≡ printed_source file grammar
-IsPrintedSource file (Err found) printed = ⊥
+-- This is printed of a file of this format whose names are known, of which this is gathered; of one at fault nothing is.
+abbrev pub IsPrintedSource : Format → List ℕ → List ℕ → Result (List Sourced) XmlFault → Printed → Type 0
+IsPrintedSource format file text (Ok grammar) printed = printed ≡ printed_source file text (unread_in format text) grammar
+IsPrintedSource format file text (Err found) printed = ⊥
 
 -- ---- the findings
 
@@ -69,20 +73,22 @@ AreRepeatsAs Markdown text repeats = AreRepeats text repeats
 AreRepeatsAs Xml text repeats = AreRepeats text repeats
 
 -- This is printed of a grammar to which others are joined: the lines of the findings that stand in it, at their places in the
--- file.
-abbrev pub IsPrintedJoined : List (List ℕ) → Format → List ℕ → List ℕ → List Sourced → Printed → Type 0
-IsPrintedJoined known format file draft grammar printed =
+-- file, of which this can't be read.
+abbrev pub IsPrintedJoined : List (List ℕ) → Format → List ℕ → List ℕ → List Unread → List Sourced → Printed → Type 0
+IsPrintedJoined known format file draft unread grammar printed =
     (text : List ℕ) × (repeats : List Repeat) × IsJoined (characters grammar) known text × AreRepeatsAs format text repeats
-    × IsPrintedIn (characters grammar) repeats (position_in_draft draft grammar text) file text printed
+    × IsPrintedIn (characters grammar) (asides_of draft unread) repeats (position_in_draft draft grammar text) file text printed
 
--- This is printed of a file with this grammar: the findings, or, where a draft has no block of grammar, a warning.
-abbrev pub IsPrintedDraftWith : List (List ℕ) → Format → List ℕ → List ℕ → List Sourced → Printed → Type 0
-IsPrintedDraftWith known format file draft [] printed = (printed.lines ≡ no_grammar_line file) × (printed.outcome ≡ Warnings)
-IsPrintedDraftWith known format file draft (c ∷ cs) printed = IsPrintedJoined known format file draft (c ∷ cs) printed
+-- This is printed of a file with this grammar, of which this can't be read: the findings, or, where a draft has no block of grammar, a
+-- warning; and a warning for each that can't be read.
+abbrev pub IsPrintedDraftWith : List (List ℕ) → Format → List ℕ → List ℕ → List Unread → List Sourced → Printed → Type 0
+IsPrintedDraftWith known format file draft unread [] printed =
+    (printed.lines ≡ no_grammar_lines file draft unread) × (printed.outcome ≡ Warnings)
+IsPrintedDraftWith known format file draft unread (c ∷ cs) printed = IsPrintedJoined known format file draft unread (c ∷ cs) printed
 
 -- This is printed of a file with this grammar or at fault, where other files are known.
 abbrev pub IsPrintedBy : List (List ℕ) → Format → List ℕ → List ℕ → Result (List Sourced) XmlFault → Printed → Type 0
-IsPrintedBy known format file text (Ok grammar) printed = IsPrintedDraftWith known format file text grammar printed
+IsPrintedBy known format file text (Ok grammar) printed = IsPrintedDraftWith known format file text (unread_in format text) grammar printed
 IsPrintedBy known format file text (Err fault) printed = IsPrintedFault file text fault printed
 
 -- This is printed of a file of this format. Where no other file is known, it is what is printed of the file alone. Else it is

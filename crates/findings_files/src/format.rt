@@ -3,6 +3,7 @@
 ghost use Rattle.std.specs.Prelude.{◌≡◌, IfErr, IfOk};
 ghost use Rattle.origins.specs.Origins.{grammar_of};
 ghost use Rattle.markdown_blocks.specs.Fences.{markdown_blocks};
+ghost use Rattle.markdown_blocks.specs.Unread.{unread_blocks};
 ghost use Rattle.findings_files.specs.Formats as spec;
 
 use crate::draft::{print_draft, print_draft_rules};
@@ -11,7 +12,7 @@ use findings_text::{Outcome, Printed, print_findings, print_rules};
 use ls_lists::Text;
 use ls_text::Snapshot;
 use markdown_blocks::gather_markdown;
-use origins::Gathered;
+use origins::{Gathered, Unread};
 use std::alloc::Global;
 use text_files::FileFault;
 
@@ -69,6 +70,17 @@ pub(crate) fn markdown_grammar(alloc: Global, draft: &Snapshot) -> Result<Gather
     }
 }
 
+/// What can't be read of a draft in Markdown.
+pub(crate) fn markdown_unread(alloc: Global, draft: &Snapshot) -> Result<Vec<Unread>, FileFault>
+    ensures unread { IfOk result (λ unread. unread.items ≡ unread_blocks draft.now) }
+    ensures fault { IfErr result (λ fault. fault ≡ FileFault.Memory) }
+{
+    match markdown_blocks::unread_blocks(alloc, draft) {
+        Ok(unread) => Ok(unread),
+        Err(_) => Err(FileFault::Memory),
+    }
+}
+
 /// What is printed of a file with this name and this format: each finding in a line, in the order of the file. Lines and
 /// columns count from 1, and columns count characters. Of a draft in XML that is at fault the fault alone is reported.
 ///
@@ -91,7 +103,8 @@ pub(crate) fn print_alone(
         },
         Format::Markdown => {
             let grammar = markdown_grammar(alloc, text)?;
-            print_draft(alloc, file, text, &grammar)
+            let unread = markdown_unread(alloc, text)?;
+            print_draft(alloc, file, text, unread.as_slice(), &grammar)
         }
         Format::Xml => print_xml(alloc, file, text),
     }

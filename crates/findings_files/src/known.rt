@@ -3,17 +3,19 @@
 ghost use Rattle.std.specs.Prelude.{◌≡◌, ◌⊎◌, ℕ, List as Listed, [], IfErr, IfOk, OnErr, OnOk};
 ghost use Rattle.joined_grammars.specs.Joined.{IsJoined};
 ghost use Rattle.findings_files.specs.Drafts.{IsTextRefused};
+ghost use Rattle.findings_files.specs.Formats.{unread_in};
+ghost use Rattle.findings_text.specs.Unread.{asides_of, outcome_with, unread_lines};
 ghost use Rattle.findings_files.specs.Known as spec;
 
-use crate::draft::{no_grammar_in, snapshot_of, text_of};
-use crate::format::{Format, clean, print_alone, print_rules_alone};
+use crate::draft::{print_without, snapshot_of, text_of, warned};
+use crate::format::{Format, clean, markdown_unread, print_alone, print_rules_alone};
 use crate::grammar::grammar_in;
-use crate::xml::print_fault;
-use findings_text::{Printed, Source, print_told, print_told_rules};
+use crate::xml::{print_fault, xml_unread};
+use findings_text::{Printed, Source, print_told, print_told_rules, print_unread};
 use joined_grammars::{Repeats, joined};
 use ls_lists::{List, Text};
 use ls_text::Snapshot;
-use origins::Gathered;
+use origins::{Gathered, Unread};
 use std::alloc::{AllocError as Memory, Global};
 use std::marker::Model;
 use text_files::FileFault;
@@ -46,8 +48,8 @@ impl Known {
     }
 
     /// Adds the grammar of a file with this name and this format, left aligned, behind those that are known. What is
-    /// printed of the file itself is nothing, or, of a draft without a grammar, a warning. Time goes by the length of the
-    /// file, in bytes.
+    /// printed of the file itself are warnings: that it is a draft without a grammar, and of each block of it that can't be
+    /// read. Time goes by the length of the file, in bytes.
     ///
     /// # Errors
     ///
@@ -61,7 +63,7 @@ impl Known {
         text: &Snapshot,
     ) -> Result<Printed, FileFault>
         ensures added { OnOk result (spec.IsAdded (spec.grammar_in format text.now) self.old self.new) }
-        ensures printed { IfOk result (λ printed. spec.IsPrintedSource file.now (spec.grammar_in format text.now) printed) }
+        ensures printed { IfOk result (λ printed. spec.IsPrintedSource format file.now text.now (spec.grammar_in format text.now) printed) }
         ensures fault { IfErr result (λ fault. (fault ≡ FileFault.Memory) ⊎ spec.IsNotAdded (spec.grammar_in format text.now) fault) }
         ensures same { OnErr result (self.new ≡ self.old) }
     {
@@ -70,7 +72,8 @@ impl Known {
             Err(XmlFault::Memory) => return Err(FileFault::Memory),
             Err(_) => return Err(FileFault::NotText),
         };
-        let printed = print_source(alloc, file, &grammar)?;
+        let unread = unread_in(alloc, format, text)?;
+        let printed = print_source(alloc, file, text, unread.as_slice(), &grammar)?;
         let text = text_of(alloc, &grammar)?;
         match self.grammars.push(text) {
             Ok(()) => Ok(printed),
@@ -86,14 +89,39 @@ impl Known {
     }
 }
 
-/// What is printed of a file whose names are known, with this grammar.
-fn print_source(alloc: Global, file: &str, grammar: &Gathered) -> Result<Printed, FileFault>
-    ensures printed { IfOk result (λ printed. printed ≡ spec.printed_source file.now grammar.now) }
+/// The lines of what can't be read of a file, and how it went by them.
+fn print_unread_of(
+    alloc: Global,
+    file: &str,
+    draft: &Snapshot,
+    unread: &[Unread],
+) -> Result<Printed, FileFault>
+    ensures printed { IfOk result (λ printed. (printed.lines ≡ unread_lines file.now (asides_of draft.now unread.now).0 unread.now) × (printed.outcome ≡ outcome_with unread.now [])) }
+    ensures fault { IfErr result (λ fault. fault ≡ FileFault.Memory) }
+{
+    let Ok(lines) = print_unread(alloc, file, draft, unread) else {
+        return Err(FileFault::Memory);
+    };
+    Ok(match unread {
+        [] => clean(Text::new(lines)),
+        _ => warned(lines),
+    })
+}
+
+/// What is printed of a file whose names are known, with this grammar, where this can't be read.
+fn print_source(
+    alloc: Global,
+    file: &str,
+    draft: &Snapshot,
+    unread: &[Unread],
+    grammar: &Gathered,
+) -> Result<Printed, FileFault>
+    ensures printed { IfOk result (λ printed. printed ≡ spec.printed_source file.now draft.now unread.now grammar.now) }
     ensures fault { IfErr result (λ fault. fault ≡ FileFault.Memory) }
 {
     match grammar.origin_of(0) {
-        None => no_grammar_in(alloc, file),
-        Some(_) => Ok(clean(Text::new(String::new(alloc)))),
+        None => print_without(alloc, file, draft, unread),
+        Some(_) => print_unread_of(alloc, file, draft, unread),
     }
 }
 
@@ -123,44 +151,58 @@ fn repeats_as(alloc: Global, format: Format, text: &Snapshot) -> Result<Repeats,
     }
 }
 
-/// What is printed of a grammar that was gathered from a file, with others joined to it.
+/// What can't be read of a file of this format.
+fn unread_in(alloc: Global, format: Format, text: &Snapshot) -> Result<Vec<Unread>, FileFault>
+    ensures unread { IfOk result (λ unread. unread.items ≡ unread_in format text.now) }
+    ensures fault { IfErr result (λ fault. fault ≡ FileFault.Memory) }
+{
+    match format {
+        Format::Abnf => Ok(Vec::new(alloc)),
+        Format::Markdown => markdown_unread(alloc, text),
+        Format::Xml => xml_unread(alloc, text),
+    }
+}
+
+/// What is printed of a grammar that was gathered from a file of which this can't be read, with others joined to it.
 fn print_gathered(
     alloc: Global,
     file: &str,
     format: Format,
     draft: &Snapshot,
+    unread: &[Unread],
     grammar: &Gathered,
     others: &[Snapshot],
 ) -> Result<Printed, FileFault>
-    ensures printed { IfOk result (λ printed. spec.IsPrintedJoined others.now format file.now draft.now grammar.now printed) }
+    ensures printed { IfOk result (λ printed. spec.IsPrintedJoined others.now format file.now draft.now unread.now grammar.now printed) }
     ensures fault { IfErr result (λ fault. spec.IsJoinRefused others.now grammar.now fault) }
 {
     let told = text_of(alloc, grammar)?;
     let text = joined_text(alloc, &told, others)?;
     let repeats = repeats_as(alloc, format, &text)?;
-    let source = Source::Draft(draft, grammar, &repeats);
+    let source = Source::Draft(draft, grammar, &repeats, unread);
     match print_told(alloc, file, source, &told, &text) {
         Ok(printed) => Ok(printed),
         Err(_) => Err(FileFault::Memory),
     }
 }
 
-/// What is printed of a file with this grammar, to which others are joined.
+/// What is printed of a file with this grammar, to which others are joined, where this can't be read.
 fn print_draft_with(
     alloc: Global,
     file: &str,
     format: Format,
     draft: &Snapshot,
+    unread: &[Unread],
     grammar: &Gathered,
     others: &[Snapshot],
 ) -> Result<Printed, FileFault>
-    ensures printed { IfOk result (λ printed. spec.IsPrintedDraftWith others.now format file.now draft.now grammar.now printed) }
+    ensures printed { IfOk result (λ printed. spec.IsPrintedDraftWith others.now format file.now draft.now unread.now grammar.now printed) }
     ensures fault { IfErr result (λ fault. spec.IsJoinRefused others.now grammar.now fault) }
 {
     if grammar.origin_of(0).is_none() {
-        return no_grammar_in(alloc, file);
+        return print_without(alloc, file, draft, unread);
     }
-    print_gathered(alloc, file, format, draft, grammar, others)
+    print_gathered(alloc, file, format, draft, unread, grammar, others)
 }
 
 /// What is printed of a file of this format, to whose grammar others are joined.
@@ -175,15 +217,26 @@ fn print_joined(
     ensures fault { IfErr result (λ fault. (fault ≡ FileFault.Memory) ⊎ spec.IsRefusedBy others.now (spec.grammar_in format text.now) fault) }
 {
     match grammar_in(alloc, format, text) {
-        Ok(grammar) => print_draft_with(alloc, file, format, text, &grammar, others),
+        Ok(grammar) => {
+            let unread = unread_in(alloc, format, text)?;
+            print_draft_with(
+                alloc,
+                file,
+                format,
+                text,
+                unread.as_slice(),
+                &grammar,
+                others,
+            )
+        }
         Err(fault) => print_fault(alloc, file, text, fault),
     }
 }
 
 /// What is printed of a file with this name and this format, where the names of other files are known: each finding in a
 /// line, in the order of the file, at the place where it begins in the file. Lines and columns count from 1, and columns
-/// count characters. Of a draft it goes by the grammar in its blocks. Where it has no grammar that is a warning alone,
-/// and of a draft in XML that is at fault the fault alone is reported.
+/// count characters. Of a draft it goes by the grammar in its blocks. Where it has no grammar that is a warning, as is
+/// each block that can't be read. Of a draft in XML that is at fault the fault alone is reported.
 ///
 /// Rules of the other files whose names the file doesn't define are joined to its grammar, those of an earlier file
 /// first; nothing is reported of them. Names that stand for nothing are compared with those of the joined grammar, the
@@ -225,7 +278,7 @@ fn gathered_rules(
     let told = text_of(alloc, grammar)?;
     let text = joined_text(alloc, &told, others)?;
     let none = Repeats::none(alloc);
-    let source = Source::Draft(draft, grammar, &none);
+    let source = Source::Draft(draft, grammar, &none, &[]);
     match print_told_rules(alloc, file, source, &told, &text) {
         Ok(lines) => Ok(lines),
         Err(_) => Err(FileFault::Memory),

@@ -2,6 +2,7 @@
 
 ghost use Rattle.std.specs.Prelude.{◌≡◌, ◌⊎◌, [], Err, IfErr, IfOk};
 ghost use Rattle.xml_blocks.specs.declared.fault.XmlFault.TheVariants.{Memory as MemoryFault};
+ghost use Rattle.xml_blocks.specs.Unread.{unread_blocks};
 ghost use Rattle.xml_blocks.specs.Xml.{IsGathered, grammar_behind, xml_blocks};
 ghost use Rattle.findings_files.specs.Formats as spec;
 
@@ -9,7 +10,7 @@ use crate::draft::{print_draft, print_draft_rules};
 use findings_text::{Outcome, Printed, place_text};
 use ls_lists::Text;
 use ls_text::{Encoding, Snapshot};
-use origins::Gathered;
+use origins::{Gathered, Unread};
 use std::alloc::{AllocError as Memory, Global};
 use text_files::FileFault;
 use xml_blocks::{XmlFault, gather_xml};
@@ -81,13 +82,30 @@ pub(crate) fn gathered(alloc: Global, draft: &Snapshot) -> Result<Gathered, XmlF
     gather_xml(alloc, text.as_str())
 }
 
+/// What can't be read of a draft.
+pub(crate) fn xml_unread(alloc: Global, draft: &Snapshot) -> Result<Vec<Unread>, FileFault>
+    ensures unread { IfOk result (λ unread. unread.items ≡ unread_blocks draft.now) }
+    ensures fault { IfErr result (λ fault. fault ≡ FileFault.Memory) }
+{
+    let Ok(text) = draft.to_text() else {
+        return Err(FileFault::Memory);
+    };
+    match xml_blocks::unread_blocks(alloc, text.as_str()) {
+        Ok(unread) => Ok(unread),
+        Err(_) => Err(FileFault::Memory),
+    }
+}
+
 /// What is printed of a draft in a file with this name: its fault, or else what is found in its grammar.
 pub(crate) fn print_xml(alloc: Global, file: &str, draft: &Snapshot) -> Result<Printed, FileFault>
     ensures printed { IfOk result (λ printed. spec.IsPrintedXml file.now draft.now (grammar_behind [] (xml_blocks draft.now)) printed) }
     ensures fault { IfErr result (λ f. (f ≡ FileFault.Memory) ⊎ spec.IsRefusedXml (grammar_behind [] (xml_blocks draft.now)) f) }
 {
     match gathered(alloc, draft) {
-        Ok(grammar) => print_draft(alloc, file, draft, &grammar),
+        Ok(grammar) => {
+            let unread = xml_unread(alloc, draft)?;
+            print_draft(alloc, file, draft, unread.as_slice(), &grammar)
+        }
         Err(fault) => print_fault(alloc, file, draft, fault),
     }
 }

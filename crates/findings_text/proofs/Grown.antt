@@ -8,6 +8,8 @@ use Rattle.abnf_names.specs.Places.{Named}
 use Rattle.findings_text.specs.Print.{code_at, line_of_finding, message_at, place_text, severity_text}
 use Rattle.abnf_least.specs.declared.shortest.Shortest.{Shortest}
 use Rattle.findings_text.specs.Rules.{known_text, rule_line_at}
+use Rattle.findings_text.specs.Unread.{lack_line, lack_text}
+use Rattle.origins.specs.declared.unread.Lack.{Lack}
 
 -- what has grown by some, and then by more
 more : (old some part was now : List ℕ) → was ≡ old ++ some → now ≡ was ++ part → now ≡ old ++ (some ++ part)
@@ -52,3 +54,16 @@ pub rule_line_grown : (file : List ℕ) (head : Named) (shown : Shortest) (begin
 rule_line_grown file head shown begin old p k is_p is_k s1 s2 s3 s4 s5 s6 e1 e2 e3 e4 e5 e6 =
     six old file p head.text (codes ": ") k (10 ∷ []) s1 s2 s3 s4 s5 s6 e1 e2 e3 e4 e5 e6
     ∙ (λ i. old ++ (file ++ is_p i ++ head.text ++ codes ": " ++ is_k i ++ 10 ∷ []))
+
+-- the line of what can't be read, appended part by part
+pub lack_line_grown : (file : List ℕ) (begin : Position) (lack : Lack)
+    → (old p w : List ℕ) → p ≡ place_text begin → w ≡ lack_text lack
+    → (s1 s2 s3 s4 s5 : List ℕ)
+    → s1 ≡ old ++ file → s2 ≡ s1 ++ p → s3 ≡ s2 ++ codes "warning: " → s4 ≡ s3 ++ w → s5 ≡ s4 ++ (codes " [not-read]" ++ 10 ∷ [])
+    → s5 ≡ old ++ lack_line file begin lack
+lack_line_grown file begin lack old p w is_p is_w s1 s2 s3 s4 s5 e1 e2 e3 e4 e5 =
+    more old (file ++ p ++ codes "warning: " ++ w) (codes " [not-read]" ++ 10 ∷ []) s4 s5
+    (more old (file ++ p ++ codes "warning: ") w s3 s4
+    (more old (file ++ p) (codes "warning: ") s2 s3
+    (more old file p s1 s2 e1 e2) e3) e4) e5
+    ∙ (λ i. old ++ (file ++ is_p i ++ codes "warning: " ++ is_w i ++ (codes " [not-read]" ++ 10 ∷ [])))

@@ -4,3 +4,4 @@ pub mod HeadLaws
 pub mod RuleLines
 pub mod RuleLaws
 pub mod ToldLaws
+pub mod UnreadLaws

@@ -1,5 +1,6 @@
 -- What is said behind messages: a known name that is near, and what may be meant by a fault of syntax.
-use Rattle.std.specs.Prelude.{◌≡◌, ℕ, Bool, true, false, ◌&&◌, ◌==◌, nat_le, ◌*◌, List, [], ◌++◌, Option, Some, None, codes, count_by, drop, length, map, option_map, slice_get, slice_index, if◌then◌else◌}
+use Rattle.std.specs.Prelude.{◌≡◌, ℕ, Bool, true, false, ◌&&◌, ◌==◌, nat_eq, nat_le, ◌*◌, List, [], ◌∷◌, ◌++◌, Option, Some, None, codes, count_by, drop, length, map, option_map, slice_get, slice_index, if◌then◌else◌}
+use Rattle.std.specs.List.{starts_with}
 use Rattle.std.specs.Option.{option_map_or}
 use Rattle.std.specs.Str.{encode_utf8_all}
 use Rattle.ls_text.specs.Lines.{lines}
@@ -78,16 +79,16 @@ character_hint line at =
     if slice_index line at == 35 then codes ", lists by # are an extension of HTTP (RFC 9110, section 5.6.1)"
     else (if slice_index line at == 92 then codes ", lines that are folded by \\ are not joined (RFC 8792)" else [])
 
--- bytes begin with these three
-abbrev pub begin_with : List ℕ → ℕ → ℕ → ℕ → Bool
-begin_with bytes a b c = slice_index bytes 0 == a && slice_index bytes 1 == b && slice_index bytes 2 == c
+-- U+FEFF in UTF-8
+abbrev pub byte_order_mark : List ℕ
+byte_order_mark = 0xEF ∷ 0xBB ∷ 0xBF ∷ []
 
--- What is said where no name begins a block, at a place of this line: a text may begin with a byte order mark, U+FEFF in UTF-8, and
--- kramdown includes files by `{::`.
+-- What is said where no name begins a block, at a place of this line: a text may begin with a byte order mark, and kramdown
+-- includes files by `{::`.
 abbrev pub front_hint : List ℕ → Place → List ℕ
 front_hint line place =
-    if place.line == 0 && place.start == 0 && begin_with (drop place.start line) 0xEF 0xBB 0xBF then codes ", a byte order mark"
-    else (if begin_with (drop place.start line) 123 58 58 then codes ", what kramdown includes is not read" else [])
+    if place.line == 0 && place.start == 0 && starts_with nat_eq line byte_order_mark then codes ", a byte order mark"
+    else (if starts_with nat_eq (drop place.start line) (codes "{::") then codes ", what kramdown includes is not read" else [])
 
 -- What is said behind the message of a fault of syntax in a text: of a bad character, of one that stands behind a repeat without an
 -- element, and of what stands where a name should.

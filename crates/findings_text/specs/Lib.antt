@@ -2,7 +2,9 @@ pub mod Outcomes
 pub mod Copies
 pub mod Heads
 pub mod Hints
+pub mod Places
 pub mod Print
 pub mod Rules
 pub mod Sources
 pub mod Told
+pub mod Unread

@@ -1,5 +1,5 @@
 -- What is printed of the findings in a text: a line for each, in the form that compilers use.
-use Rattle.std.specs.Prelude.{◌≡◌, ℕ, ◌+◌, List, [], ◌∷◌, ◌++◌, Option, Some, None, codes, flat_map}
+use Rattle.std.specs.Prelude.{◌≡◌, ℕ, ◌+◌, List, [], ◌∷◌, ◌++◌, Option, Some, None, codes}
 use Rattle.std.specs.Option.{option_map}
 use Rattle.std.specs.Fmt.{decimal}
 use Rattle.ls_text.specs.Lines.{units}
@@ -16,7 +16,8 @@ use Rattle.joined_grammars.specs.declared.repeats.Repeat.{Repeat}
 use Rattle.findings_text.specs.declared.print.Printed.{Printed}
 use Rattle.findings_text.specs.Copies.{original_of, without_copies}
 use Rattle.findings_text.specs.Hints.{AreKnown, compared, fault_hint, message}
-use Rattle.findings_text.specs.Outcomes.{outcome_of}
+use Rattle.findings_text.specs.Unread.{Asides, merged, no_asides, outcome_with}
+pub use Rattle.findings_text.specs.Places.{counted_text, place_text}
 
 -- how grave a finding is, in a word
 abbrev pub severity_text : Severity → List ℕ
@@ -30,14 +31,6 @@ position_at text place = position_of (units Utf32) text (place_start text place)
 -- where a finding begins
 abbrev pub begin_of : List ℕ → Finding → Position
 begin_of text finding = position_at text finding.place
-
--- what is counted from 0, printed from 1 behind a colon
-abbrev pub counted_text : ℕ → List ℕ
-counted_text n = codes ":" ++ decimal (n + 1)
-
--- the line and the column of a position, printed from 1, each behind a colon
-abbrev pub place_text : Position → List ℕ
-place_text at = counted_text at.line ++ counted_text at.character ++ codes ": "
 
 -- what is said of a rule that differs from its definition in this line, which is printed from 1
 abbrev pub differing : List ℕ → ℕ → List ℕ
@@ -81,16 +74,22 @@ pub record AreFoundWith (text : List ℕ) (found : List Finding) (names : List (
   pub are_known : AreKnown text known
   pub names_are : names ≡ compared found known
 
--- This is printed of a grammar's text from a file with this name, where these definitions repeat others: the lines of its
--- findings, in their order, but for definitions that say the same as the first, and how the file went by them.
-pub record IsPrintedFrom (repeats : List Repeat) (locate : Locator) (file text : List ℕ) (printed : Printed) : Type 0 where
+-- the lines of findings in a grammar's text from a file with this name, among those of what can't be read of the file
+abbrev pub shown_lines : Asides → List Repeat → Locator → List (List ℕ) → List ℕ → List ℕ → List Finding → List ℕ
+shown_lines asides repeats locate names file text shown =
+    merged file asides.0 (λ finding. locate (begin_of text finding)) (finding_line repeats locate names file text) asides.1 shown
+
+-- This is printed of a grammar's text from a file with this name, of which this can't be read, and where these definitions repeat
+-- others: the lines of its findings, in their order, but for definitions that say the same as the first, among them those of what
+-- can't be read, and how the file went by them.
+pub record IsPrintedFrom (asides : Asides) (repeats : List Repeat) (locate : Locator) (file text : List ℕ) (printed : Printed) : Type 0 where
   pub found : List Finding
   pub names : List (List ℕ)
   pub of_text : AreFoundWith text found names
-  pub lines_are : printed.lines ≡ flat_map (finding_line repeats locate names file text) (without_copies repeats found)
-  pub outcome_is : printed.outcome ≡ outcome_of (without_copies repeats found)
+  pub lines_are : printed.lines ≡ shown_lines asides repeats locate names file text (without_copies repeats found)
+  pub outcome_is : printed.outcome ≡ outcome_with asides.1 (without_copies repeats found)
 
 -- This is printed of a file with this name that is the grammar's text: the lines of all its findings, in their order, and how
 -- the file went by them. There is one such print-out (`printed_texts_exist`), and only one (`printed_texts_are_unique`).
 abbrev pub IsPrinted : List ℕ → List ℕ → Printed → Type 0
-IsPrinted file text printed = IsPrintedFrom [] (λ at. at) file text printed
+IsPrinted file text printed = IsPrintedFrom no_asides [] (λ at. at) file text printed

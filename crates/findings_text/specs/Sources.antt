@@ -10,6 +10,7 @@ use Rattle.joined_grammars.specs.declared.repeats.Repeat.{Repeat}
 use Rattle.findings_text.specs.declared.source.Source.{Source}
 use Rattle.findings_text.specs.declared.source.Source.TheVariants.{Draft, File}
 use Rattle.findings_text.specs.Print.{Locator}
+use Rattle.findings_text.specs.Unread.{Asides, asides_of, no_asides}
 
 -- the offset in a draft of what has this offset in its grammar; past the grammar's end it is the draft's end
 abbrev pub draft_origin : List ℕ → List Sourced → ℕ → ℕ
@@ -23,9 +24,14 @@ position_in_draft draft grammar text at =
 -- where what stands in the text of a source stands in the file: of a text that is the file at the same position
 abbrev pub located : Source → List ℕ → Locator
 located File text at = at
-located (Draft draft grammar repeats) text at = position_in_draft draft.now grammar.now text at
+located (Draft draft grammar repeats unread) text at = position_in_draft draft.now grammar.now text at
 
 -- the definitions that repeat others: none in a text that is the file, where each of them is an error
 abbrev pub repeats_in : Source → List Repeat
 repeats_in File = []
-repeats_in (Draft draft grammar repeats) = repeats.now
+repeats_in (Draft draft grammar repeats unread) = repeats.now
+
+-- what can't be read of the file: nothing of a text that is the file
+abbrev pub asides_in : Source → Asides
+asides_in File = no_asides
+asides_in (Draft draft grammar repeats unread) = asides_of draft.now unread.now

@@ -1,6 +1,6 @@
 -- What is printed of a grammar at the front of a text, to which rules of others are joined behind it: nothing is printed of
 -- these.
-use Rattle.std.specs.Prelude.{◌≡◌, ℕ, Bool, nat_lt, List, filter, flat_map}
+use Rattle.std.specs.Prelude.{◌≡◌, ℕ, Bool, nat_lt, List, filter}
 use Rattle.ls_text.specs.Lines.{line_ends}
 use Rattle.ls_text.specs.declared.position.Place.{Place}
 use Rattle.abnf_names.specs.Places.{Named}
@@ -11,9 +11,9 @@ use Rattle.joined_grammars.specs.declared.repeats.Repeat.{Repeat}
 use Rattle.findings_text.specs.declared.print.Printed.{Printed}
 use Rattle.findings_text.specs.Copies.{without_copies}
 use Rattle.findings_text.specs.Hints.{AreKnown, compared}
-use Rattle.findings_text.specs.Outcomes.{outcome_of}
-use Rattle.findings_text.specs.Print.{Locator, finding_line}
+use Rattle.findings_text.specs.Print.{Locator, shown_lines}
 use Rattle.findings_text.specs.Rules.{AreRuleLines, heads}
+use Rattle.findings_text.specs.Unread.{Asides, outcome_with}
 
 -- The place stands in the grammar at the front of a joined text: its line is one of those that end there. A grammar that was
 -- gathered ends in a line end, so it has as many lines of the joined text as it has line ends, and nothing that is found in
@@ -36,14 +36,15 @@ pub record AreToldWith (told text : List ℕ) (found : List Finding) (names : Li
   pub are_known : AreKnown text known
   pub names_are : names ≡ compared found known
 
--- This is printed of the grammar at the front of a joined text, where these definitions repeat others: the lines of the
--- findings that stand there, in their order, but for definitions that say the same as the first, and how the file went by them.
-pub record IsPrintedIn (told : List ℕ) (repeats : List Repeat) (locate : Locator) (file text : List ℕ) (printed : Printed) : Type 0 where
+-- This is printed of the grammar at the front of a joined text, of whose file this can't be read, and where these definitions repeat
+-- others: the lines of the findings that stand there, in their order, but for definitions that say the same as the first, among
+-- them those of what can't be read, and how the file went by them.
+pub record IsPrintedIn (told : List ℕ) (asides : Asides) (repeats : List Repeat) (locate : Locator) (file text : List ℕ) (printed : Printed) : Type 0 where
   pub found : List Finding
   pub names : List (List ℕ)
   pub of_text : AreToldWith told text found names
-  pub lines_are : printed.lines ≡ flat_map (finding_line repeats locate names file text) (without_copies repeats found)
-  pub outcome_is : printed.outcome ≡ outcome_of (without_copies repeats found)
+  pub lines_are : printed.lines ≡ shown_lines asides repeats locate names file text (without_copies repeats found)
+  pub outcome_is : printed.outcome ≡ outcome_with asides.1 (without_copies repeats found)
 
 -- ---- the rules
 

@@ -1,6 +1,6 @@
 //! What is said behind messages: a known name that is near, and what may be meant by a fault of syntax.
 
-ghost use Rattle.std.specs.Prelude.{◌≡◌, ◌++◌, IfOk, codes, count_by, drop, map, slice_index, string_bytes};
+ghost use Rattle.std.specs.Prelude.{◌≡◌, ◌++◌, IfOk, codes, count_by, drop, map, string_bytes};
 ghost use Rattle.std.specs.Option.{option_map};
 ghost use Rattle.near_names.specs.Near.{nearest};
 ghost use Rattle.findings_text.specs.Hints as spec;
@@ -163,16 +163,6 @@ fn line_at(text: &Snapshot, at: usize) -> &str
     }
 }
 
-/// One of some bytes, and 0 behind their end.
-fn byte_at(bytes: &[u8], at: usize) -> u8
-    ensures { result ≡ slice_index bytes.now at }
-{
-    match bytes.get(at) {
-        Some(byte) => *byte,
-        None => 0,
-    }
-}
-
 /// The bytes of a line from a place on.
 fn bytes_from(line: &str, at: usize) -> &[u8]
     ensures { result.now ≡ drop at line.now }
@@ -185,18 +175,11 @@ fn bytes_from(line: &str, at: usize) -> &[u8]
 fn character_hint(line: &str, at: usize) -> &'static str
     ensures { result.now ≡ spec.character_hint line.now at }
 {
-    match byte_at(line.as_bytes(), at) {
-        b'#' => ", lists by # are an extension of HTTP (RFC 9110, section 5.6.1)",
-        b'\\' => ", lines that are folded by \\ are not joined (RFC 8792)",
+    match line.as_bytes().get(at) {
+        Some(b'#') => ", lists by # are an extension of HTTP (RFC 9110, section 5.6.1)",
+        Some(b'\\') => ", lines that are folded by \\ are not joined (RFC 8792)",
         _ => "",
     }
-}
-
-/// Whether these are first of some bytes.
-fn begin_with(bytes: &[u8], first: u8, second: u8, third: u8) -> bool
-    ensures { result ≡ spec.begin_with bytes.now first second third }
-{
-    byte_at(bytes, 0) == first && byte_at(bytes, 1) == second && byte_at(bytes, 2) == third
 }
 
 /// What is said where no name begins a block, in this line.
@@ -204,9 +187,9 @@ fn front_hint(line: &str, place: Place) -> &'static str
     ensures { result.now ≡ spec.front_hint line.now place }
 {
     let bytes = bytes_from(line, place.start);
-    if place.line == 0 && place.start == 0 && begin_with(bytes, 0xEF, 0xBB, 0xBF) {
+    if place.line == 0 && place.start == 0 && bytes.starts_with(b"\xEF\xBB\xBF") {
         ", a byte order mark"
-    } else if begin_with(bytes, b'{', b':', b':') {
+    } else if bytes.starts_with(b"{::") {
         ", what kramdown includes is not read"
     } else {
         ""

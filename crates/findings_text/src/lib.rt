@@ -3,8 +3,9 @@
 //! [`print_findings`] gives the lines of a text, which are defined in specs/Print, and says how the text went by an
 //! [`Outcome`]. [`print_rules`] gives a line for each rule instead, as specs/Rules has it. [`print_from`] and
 //! [`print_rules_from`] do so of a text that comes from a [`Source`], at the places of its file. [`print_told`] and
-//! [`print_told_rules`] print what stands in a grammar at the front of its text, as specs/Told has it. Behind a name that
-//! stands for nothing a known name is printed which is near, as specs/Hints has it.
+//! [`print_told_rules`] print what stands in a grammar at the front of its text, as specs/Told has it. Among the lines
+//! stand those of what can't be read of a draft, as specs/Unread has it. Behind a name that stands for nothing a known name
+//! is printed which is near, as specs/Hints has it.
 #![tactic(auto)]
 
 mod hints;
@@ -15,6 +16,7 @@ mod print;
 mod rule_line;
 mod rules;
 mod source;
+mod unread;
 
 pub use laws::{
     heads_are_first, printed_rules_are_unique, printed_rules_exist, printed_texts_are_unique,
@@ -27,3 +29,4 @@ pub use outcome::Outcome;
 pub use print::{Printed, print_findings, print_from, print_told};
 pub use rules::{print_rules, print_rules_from, print_told_rules};
 pub use source::Source;
+pub use unread::print_unread;

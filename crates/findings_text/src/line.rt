@@ -1,7 +1,6 @@
 //! The line of a finding.
 
-ghost use Rattle.std.specs.Prelude.{◌≡◌, ◌+◌, ◌++◌, IfOk, OnOk, map, string_bytes};
-ghost use Rattle.std.specs.Fmt.{decimal};
+ghost use Rattle.std.specs.Prelude.{◌≡◌, ◌++◌, IfOk, OnOk, map, string_bytes};
 ghost use Rattle.findings_text.specs.Hints.{message};
 ghost use Rattle.findings_text.specs.Print.{code_at, counted_text, differing, line_of_finding, message_at, place_text, severity_text};
 
@@ -44,19 +43,12 @@ pub fn place_text(alloc: Global, at: Position) -> Result<String, Memory>
     Ok(text)
 }
 
-/// What is counted from 0, printed from 1.
-fn number_text(alloc: Global, before: u32) -> Result<String, Memory>
-    ensures { IfOk result (λ text. string_bytes text ≡ decimal (before + 1)) }
-{
-    let number = u64::from(before) + 1;
-    format!(in alloc; "{number}")
-}
-
 /// What is said of a rule that differs from its definition in this line, from 0.
 fn differing(alloc: Global, name: &str, original: u32) -> Result<String, Memory>
     ensures { IfOk result (λ text. string_bytes text ≡ differing name.now original) }
 {
-    let number = number_text(alloc, original)?;
+    let number = u64::from(original) + 1;
+    let number = format!(in alloc; "{number}")?;
     let mut text = String::from_str(alloc, "rule ")?;
     text.push_str(name)?;
     text.push_str(" differs from its definition at line ")?;

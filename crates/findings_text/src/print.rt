@@ -1,15 +1,16 @@
 //! What is printed of a text.
 
-ghost use Rattle.std.specs.Prelude.{◌≡◌, IfOk, flat_map, map, string_bytes};
-ghost use Rattle.findings_text.specs.Outcomes as outcomes;
-ghost use Rattle.findings_text.specs.Print.{AreFoundWith, IsPrinted, IsPrintedFrom, finding_line};
-ghost use Rattle.findings_text.specs.Sources.{located, repeats_in};
+ghost use Rattle.std.specs.Prelude.{◌≡◌, IfOk, map, string_bytes};
+ghost use Rattle.findings_text.specs.Print.{AreFoundWith, IsPrinted, IsPrintedFrom, shown_lines};
+ghost use Rattle.findings_text.specs.Sources.{asides_in, located, repeats_in};
 ghost use Rattle.findings_text.specs.Told as front;
+ghost use Rattle.findings_text.specs.Unread.{outcome_with};
 
 use crate::hints::compared;
 use crate::line::push_line;
-use crate::outcome::{Outcome, outcome_of};
+use crate::outcome::Outcome;
 use crate::source::{Source, standing_of, without_copies};
+use crate::unread::{outcome_with, push_ahead, push_unread, unread_in};
 use abnf_lint::Finding;
 use abnf_names::Grammar;
 use abnf_productive::findings_in;
@@ -37,7 +38,7 @@ fn found_in<'t>(alloc: Global, text: &'t Snapshot) -> Result<(List<Finding>, Lis
     Ok((found, known))
 }
 
-/// The lines of findings in a grammar's text.
+/// The lines of findings in a grammar's text, among those of what can't be read of its file.
 fn lines_of(
     alloc: Global,
     file: &str,
@@ -46,18 +47,21 @@ fn lines_of(
     known: &[&str],
     found: &[Finding],
 ) -> Result<String, Memory>
-    ensures { IfOk result (λ lines. string_bytes lines ≡ flat_map (finding_line (repeats_in source.entry) (located source.entry text.now) (map (λ name. name.now) known.now) file.now text.now) found.now) }
+    ensures { IfOk result (λ lines. string_bytes lines ≡ shown_lines (asides_in source.entry) (repeats_in source.entry) (located source.entry text.now) (map (λ name. name.now) known.now) file.now text.now found.now) }
 {
     let mut ruler = Ruler::new(text, Encoding::Utf32);
     let mut lines = String::new(alloc);
+    let mut left = unread_in(source);
     for finding in found {
         let at = standing_of(source, text, &mut ruler, finding);
+        left = push_ahead(&mut lines, alloc, file, source, at.begin, left)?;
         push_line(&mut lines, alloc, file, at, known, finding)?;
     }
+    push_unread(&mut lines, alloc, file, source, left)?;
     Ok(lines)
 }
 
-/// The lines of findings in a grammar's text, and how its file went by them.
+/// The lines of findings in a grammar's text, among those of what can't be read of its file, and how the file went by them.
 fn print_found(
     alloc: Global,
     file: &str,
@@ -66,19 +70,20 @@ fn print_found(
     known: &[&str],
     found: &[Finding],
 ) -> Result<Printed, Memory>
-    ensures lines { IfOk result (λ printed. printed.lines ≡ flat_map (finding_line (repeats_in source.entry) (located source.entry text.now) (map (λ name. name.now) known.now) file.now text.now) found.now) }
-    ensures outcome { IfOk result (λ printed. printed.outcome ≡ outcomes.outcome_of found.now) }
+    ensures lines { IfOk result (λ printed. printed.lines ≡ shown_lines (asides_in source.entry) (repeats_in source.entry) (located source.entry text.now) (map (λ name. name.now) known.now) file.now text.now found.now) }
+    ensures outcome { IfOk result (λ printed. printed.outcome ≡ outcome_with (asides_in source.entry).1 found.now) }
 {
     let lines = lines_of(alloc, file, source, text, known, found)?;
     Ok(Printed {
         lines: Text::new(lines),
-        outcome: outcome_of(found),
+        outcome: outcome_with(unread_in(source), found),
     })
 }
 
 /// What is printed of a grammar's text from a file with this name: each finding in a line, in the order of the text, at
 /// the place where it begins in the file. Lines and columns count from 1, and columns count characters. In a draft nothing
-/// is printed of a definition that says the same as the first of its name.
+/// is printed of a definition that says the same as the first of its name, and what can't be read of it has a line too,
+/// a warning, before those of findings that begin behind it.
 ///
 /// Time goes by the length of the text and by its findings, of which n take n times the logarithm of n to order; in a
 /// draft each takes time by the characters of its lines. A name that stands for nothing is compared with each known one,
@@ -93,7 +98,7 @@ pub fn print_from(
     source: Source<'_>,
     text: &Snapshot,
 ) -> Result<Printed, Memory>
-    ensures { IfOk result (λ printed. IsPrintedFrom (repeats_in source.entry) (located source.entry text.now) file.now text.now printed) }
+    ensures { IfOk result (λ printed. IsPrintedFrom (asides_in source.entry) (repeats_in source.entry) (located source.entry text.now) file.now text.now printed) }
 {
     let (found, known) = found_in(alloc, text)?;
     let found = without_copies(source, found);
@@ -149,7 +154,7 @@ pub fn print_told(
     told: &Snapshot,
     text: &Snapshot,
 ) -> Result<Printed, Memory>
-    ensures { IfOk result (λ printed. front.IsPrintedIn told.now (repeats_in source.entry) (located source.entry text.now) file.now text.now printed) }
+    ensures { IfOk result (λ printed. front.IsPrintedIn told.now (asides_in source.entry) (repeats_in source.entry) (located source.entry text.now) file.now text.now printed) }
 {
     let (found, known) = told_in(alloc, told, text)?;
     let found = without_copies(source, found);

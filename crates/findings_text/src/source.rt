@@ -1,4 +1,4 @@
-//! Where the text of a grammar comes from, and which definitions it repeats.
+//! Where the text of a grammar comes from, which definitions it repeats, and what of its file can't be read.
 
 ghost use Rattle.std.specs.Prelude.{◌≡◌};
 ghost use Rattle.ls_text.specs.declared.position.Encoding.TheVariants.{Utf32};
@@ -12,15 +12,16 @@ use abnf_lint::{Code, Finding};
 use joined_grammars::{Repeat, Repeats};
 use ls_lists::List;
 use ls_text::{Encoding, Place, Position, Ruler, Snapshot};
-use origins::Gathered;
+use origins::{Gathered, Unread};
 
 /// Where the text of a grammar comes from.
 #[derive(Clone, Copy)]
 pub enum Source<'a> {
     /// It is that of the file.
     File,
-    /// It begins with what was gathered from a draft, in which these definitions repeat others.
-    Draft(&'a Snapshot, &'a Gathered, &'a Repeats),
+    /// It begins with what was gathered from a draft, in which these definitions repeat others, and of which this can't be read, in
+    /// the draft's order.
+    Draft(&'a Snapshot, &'a Gathered, &'a Repeats, &'a [Unread]),
 }
 
 /// Where in a draft stands what has this position in a text that begins with the draft's grammar. Positions count characters.
@@ -45,7 +46,7 @@ pub(crate) fn located(source: Source<'_>, text: &Snapshot, at: Position) -> Posi
 {
     match source {
         Source::File => at,
-        Source::Draft(draft, grammar, _) => position_in_draft(draft, grammar, text, at),
+        Source::Draft(draft, grammar, _, _) => position_in_draft(draft, grammar, text, at),
     }
 }
 
@@ -55,7 +56,7 @@ fn repeat_at(source: Source<'_>, line: usize) -> Option<Repeat>
 {
     match source {
         Source::File => None,
-        Source::Draft(_, _, repeats) => repeats.at(line),
+        Source::Draft(_, _, repeats, _) => repeats.at(line),
     }
 }
 

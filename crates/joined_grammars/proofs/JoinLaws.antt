@@ -81,6 +81,30 @@ joined_all told all i blocks old now less are names text joined = record {
   is = joined.text ∙ ap (λ t. t ++ joined.behind) text;
 }
 
+-- ---- what is made of the blocks of a text doesn't depend on where the text of an item lies
+
+abbrev HasItems : List Text → Block → Type 0
+HasItems ls block = AreItems ls block.first block.end block.items
+
+-- these are made of blocks by their lines and bare items
+abbrev pub IsOfBare : {X : Type 0} → (Block → X) → Type 0
+IsOfBare {X} made = (b c : Block) → bounds b ≡ bounds c → map bare b.items ≡ map bare c.items → made b ≡ made c
+
+same_each : {X : Type 0} (made : Block → X) → IsOfBare made → (ls : List Text) (bs cs : List Block) → map bounds bs ≡ map bounds cs → All (HasItems ls) bs → All (HasItems ls) cs → map made bs ≡ map made cs
+same_each made of ls [] [] e p q = refl
+same_each made of ls [] (c ∷ cs) e p q = cc
+same_each made of ls (b ∷ bs) [] e p q = cc
+same_each made of ls (b ∷ bs) (c ∷ cs) e p q =
+    let at : bounds b ≡ bounds c = cc in
+    let rest : map bounds bs ≡ map bounds cs = cc in
+    let of_c : AreItems ls b.first b.end c.items = subst (λ (p : ℕ × ℕ). AreItems ls p.0 p.1 c.items) (sym at) (All-head (HasItems ls) c cs q) in
+    let items = same_items ls b.first b.end b.items c.items (All-head (HasItems ls) b bs p) of_c in
+    (λ i. of b c at items i ∷ same_each made of ls bs cs rest (All-tail (HasItems ls) b bs p) (All-tail (HasItems ls) c cs q) i)
+
+pub same_made : {X : Type 0} (made : Block → X) → IsOfBare made → (text : List ℕ) (bs cs : List Block) → AreBlocksOf text bs → AreBlocksOf text cs → map made bs ≡ map made cs
+same_made made of text bs cs p q =
+    same_each made of (line_texts text) bs cs (one_list (line_texts text) 0 (map bounds bs) (map bounds cs) p.all q.all) p.items q.items
+
 -- ---- and only one: all that counts of a block are its lines, and the name of its head
 
 record Named : Type 0 where
@@ -101,22 +125,8 @@ same_name : (xs ys : List Item) → map bare xs ≡ map bare ys → name_in (hea
 same_name xs ys e =
     sym (name_bare (head_of xs)) ∙ (ap name_in (sym (head_bare xs)) ∙ (ap (λ items. name_in (head_of items)) e ∙ (ap name_in (head_bare ys) ∙ name_bare (head_of ys))))
 
-abbrev HasItems : List Text → Block → Type 0
-HasItems ls block = AreItems ls block.first block.end block.items
-
-same_each : (ls : List Text) (bs cs : List Block) → map bounds bs ≡ map bounds cs → All (HasItems ls) bs → All (HasItems ls) cs → map named bs ≡ map named cs
-same_each ls [] [] e p q = refl
-same_each ls [] (c ∷ cs) e p q = cc
-same_each ls (b ∷ bs) [] e p q = cc
-same_each ls (b ∷ bs) (c ∷ cs) e p q =
-    let at : bounds b ≡ bounds c = cc in
-    let rest : map bounds bs ≡ map bounds cs = cc in
-    let of_c : AreItems ls b.first b.end c.items = subst (λ (p : ℕ × ℕ). AreItems ls p.0 p.1 c.items) (sym at) (All-head (HasItems ls) c cs q) in
-    let items = same_items ls b.first b.end b.items c.items (All-head (HasItems ls) b bs p) of_c in
-    (λ i. record { bounds = at i; name = same_name b.items c.items items i } ∷ same_each ls bs cs rest (All-tail (HasItems ls) b bs p) (All-tail (HasItems ls) c cs q) i)
-
 same_named : (text : List ℕ) (bs cs : List Block) → AreBlocksOf text bs → AreBlocksOf text cs → map named bs ≡ map named cs
-same_named text bs cs p q = same_each (line_texts text) bs cs (one_list (line_texts text) 0 (map bounds bs) (map bounds cs) p.all q.all) p.items q.items
+same_named text = same_made named (λ b c at items i. record { bounds = at i; name = same_name b.items c.items items i }) text
 
 -- what is made of blocks, by what counts of them
 abbrev heads_by : List Name → List Named → List Name

@@ -5,7 +5,7 @@ use Rattle.std.specs.Option.{is_some, option_and_then, option_map_or, option_or}
 use Rattle.std.specs.List.{list_any}
 use Rattle.std.specs.List.Sorted.{IsNonDecreasingBy, IsPartitionPoint}
 use Rattle.std.proofs.lemmas.List.{map-append}
-use Rattle.std.proofs.lemmas.List.Elements.{All-head, All-push, All-tail}
+use Rattle.std.proofs.lemmas.List.Elements.{All-push}
 use Rattle.std.proofs.lemmas.Bool.{cases_lt, ltb-false, ltb-true, ne_eqb}
 use Rattle.std.proofs.lemmas.List.Folds.{find-append, find_at}
 use Rattle.std.proofs.lemmas.List.Sums.{position_or_len_is}
@@ -14,18 +14,17 @@ use Rattle.abnf_token.specs.Classes.{Text}
 use Rattle.abnf_syntax.specs.declared.block.Block.{Block}
 use Rattle.abnf_syntax.specs.declared.block.Head.{Head}
 use Rattle.abnf_syntax.specs.declared.item.Item.{Item}
-use Rattle.abnf_syntax.specs.Blocks.{AreBlocks, line_texts}
+use Rattle.abnf_syntax.specs.Blocks.{AreBlocks, HasBlock}
 use Rattle.abnf_syntax.specs.Bounds.{bounds}
 use Rattle.abnf_syntax.specs.Heads.{head_of}
-use Rattle.abnf_syntax.specs.Items.{AreItems}
-use Rattle.abnf_syntax.proofs.Bare.{bare, bare_head, head_bare, one_list, same_items}
+use Rattle.abnf_syntax.proofs.Bare.{bare, bare_head, head_bare}
 use Rattle.abnf_syntax.proofs.Cons.{cons_same}
 use Rattle.abnf_parts.specs.Names.{Name, rule_number, with_name}
 use Rattle.abnf_parts.proofs.NameLaws.{position_any, position_cons, same_is, with_new, with_there}
 use Rattle.joined_grammars.specs.declared.repeats.Repeat.{Repeat}
 use Rattle.joined_grammars.specs.Repeats.{AreRepeats, Definition, defines, definition, name_defined, repeat, repeat_of, repeats_behind, word_of}
 use Rattle.joined_grammars.specs.own.Firsts.{AreFirsts, AreTablesWith, definition_at, definitions, with_place}
-use Rattle.joined_grammars.proofs.JoinLaws.{blocks_of}
+use Rattle.joined_grammars.proofs.JoinLaws.{blocks_of, same_made}
 
 -- ---- the table of the first definitions
 
@@ -318,23 +317,16 @@ words_bare (x ∷ xs) = ap (λ ws. word_of x ∷ ws) (words_bare xs)
 same_said : (xs ys : List Item) → map bare xs ≡ map bare ys → map word_of xs ≡ map word_of ys
 same_said xs ys e = sym (words_bare xs) ∙ (ap (map word_of) e ∙ words_bare ys)
 
-abbrev HasItems : List Text → Block → Type 0
-HasItems ls block = AreItems ls block.first block.end block.items
-
-same_each : (ls : List Text) (bs cs : List Block) → map bounds bs ≡ map bounds cs → All (HasItems ls) bs → All (HasItems ls) cs → map definition bs ≡ map definition cs
-same_each ls [] [] e p q = refl
-same_each ls [] (c ∷ cs) e p q = cc
-same_each ls (b ∷ bs) [] e p q = cc
-same_each ls (b ∷ bs) (c ∷ cs) e p q =
-    let at : bounds b ≡ bounds c = cc in
-    let rest : map bounds bs ≡ map bounds cs = cc in
-    let of_c : AreItems ls b.first b.end c.items = subst (λ (p : ℕ × ℕ). AreItems ls p.0 p.1 c.items) (sym at) (All-head (HasItems ls) c cs q) in
-    let items = same_items ls b.first b.end b.items c.items (All-head (HasItems ls) b bs p) of_c in
-    (λ i. record { line = (at i).0; name = same_name b.items c.items items i; words = same_said b.items c.items items i }
-    ∷ same_each ls bs cs rest (All-tail (HasItems ls) b bs p) (All-tail (HasItems ls) c cs q) i)
+same_definition : (b c : Block) → bounds b ≡ bounds c → map bare b.items ≡ map bare c.items → definition b ≡ definition c
+same_definition b c at items = λ i. record { line = (at i).0; name = same_name b.items c.items items i; words = same_said b.items c.items items i }
 
 pub one_repeats : (text : List ℕ) (a b : List Repeat) → AreRepeats text a → AreRepeats text b → a ≡ b
 one_repeats text a b p q =
-    let ls = line_texts text in
-    let bounds_are = one_list ls 0 (map bounds p.blocks) (map bounds q.blocks) p.are_blocks.all q.are_blocks.all in
-    p.are ∙ (ap (repeats_behind []) (same_each ls p.blocks q.blocks bounds_are p.are_blocks.items q.are_blocks.items) ∙ sym q.are)
+    p.are ∙ (ap (repeats_behind []) (same_made definition same_definition text p.blocks q.blocks p.are_blocks q.are_blocks) ∙ sym q.are)
+
+-- ---- where memory is asked for
+
+-- of the blocks of a text one begins
+pub some_begins : (ls : List Text) (from : ℕ) (bs : List (ℕ × ℕ)) → AreBlocks ls from bs → 0 < length bs → HasBlock ls
+some_begins ls from [] are some = absurd (omega (arith, some))
+some_begins ls from (b ∷ bs) are some = (b.0, are.2.begins)

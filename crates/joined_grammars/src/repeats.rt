@@ -1,6 +1,6 @@
 //! The definitions that a text repeats.
 
-ghost use Rattle.std.specs.Prelude.{◌≡◌, ◌<◌, ◌++◌, ◌∷◌, List as Listed, [], All, IfOk, OnOk, length, map, option_map, slice_get};
+ghost use Rattle.std.specs.Prelude.{◌≡◌, ◌<◌, ◌++◌, ◌∷◌, List as Listed, [], All, IfOk, OnErr, OnOk, length, map, option_map, slice_get};
 ghost use Rattle.std.specs.Option.{option_and_then};
 ghost use Rattle.std.specs.List.Sorted.{IsNonDecreasingBy};
 ghost use Rattle.abnf_parts.specs.Names.{folded_text, rule_number};
@@ -117,7 +117,8 @@ fn push_repeat<'t>(
 
 /// How blocks repeat those before them.
 fn repeats_among(alloc: Global, seed: u64, blocks: &[Block<'_>]) -> Result<List<Repeat>, Memory>
-    ensures { IfOk result (λ found. found ≡ spec.repeats_behind [] (map spec.definition blocks.now)) }
+    ensures found { IfOk result (λ found. found ≡ spec.repeats_behind [] (map spec.definition blocks.now)) }
+    ensures memory { OnErr result (0 < length blocks.now) }
 {
     let mut names = Names::new(alloc, seed);
     let mut firsts = List::new(alloc);
@@ -129,6 +130,7 @@ fn repeats_among(alloc: Global, seed: u64, blocks: &[Block<'_>]) -> Result<List<
 }
 
 impl Repeats {
+    ghost use Rattle.abnf_syntax.specs.Blocks.{HasBlock, line_texts};
     ghost use Rattle.joined_grammars.specs.Repeats as spec;
 
     /// None. It takes no memory.
@@ -144,9 +146,10 @@ impl Repeats {
     ///
     /// # Errors
     ///
-    /// Where an allocation is refused.
+    /// Where an allocation is refused. A text without blocks needs no memory.
     pub fn of(alloc: Global, text: &Snapshot) -> Result<Repeats, Memory>
-        ensures { IfOk result (λ found. spec.AreRepeats text.now found) }
+        ensures found { IfOk result (λ found. spec.AreRepeats text.now found) }
+        ensures memory { OnErr result (HasBlock (line_texts text.now)) }
     {
         let seed = Sheet::of(text).seed();
         let blocks = blocks(alloc, text)?;

@@ -56,6 +56,7 @@ fn told(
 {
     let mut ruler = Ruler::new(snapshot, encoding);
     let mut diagnostics = List::new(alloc);
+    diagnostics.reserve(found.len())?;
     for finding in found {
         diagnostics.push(diagnostic(alloc, &mut ruler, finding)?)?;
     }

@@ -1,5 +1,6 @@
 -- What a client's event does at a desk, whichever it is.
-use Rattle.std.specs.Prelude.{◌≡◌, ℕ, List, Option, Some, false}
+use Rattle.std.specs.Prelude.{◌≡◌, ℕ, List, Option, Some, None, false}
+use Rattle.std.specs.Option.{option_map}
 use Rattle.std.specs.Str.{chars, encode_utf8_all}
 use Rattle.ls_text.specs.Edits.{is_too_large}
 use Rattle.ls_machine.specs.Client.{entry_of}
@@ -37,6 +38,11 @@ entered_at s (Say body) = Said body
 abbrev pub IsTextOf : ClientEvent → List ℕ → Type 0
 IsTextOf (DidOpen uri label text encoding) made = (made ≡ chars text) × (is_too_large made ≡ false)
 IsTextOf event made = Unit {0}
+
+-- the text that the event closes, as its document has it; none where it closes none, or no document of its uri is open
+abbrev pub text_closed_by : State → ClientEvent → Option (List ℕ)
+text_closed_by s (DidClose uri) = option_map (λ d. d.text) (document_of uri s.documents)
+text_closed_by s event = None
 
 -- Nothing stood against the event, the journal has its entry at its end, and the answer is the one that stands in the entry.
 pub record Admits (event : ClientEvent) (answer : ClientAnswer) (old new : Seen) : Type 0 where

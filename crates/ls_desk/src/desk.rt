@@ -16,6 +16,7 @@ ghost use Rattle.ls_machine.specs.Counts.{first, no_events};
 ghost use Rattle.ls_machine.specs.Same.{is_for};
 ghost use Rattle.ls_desk.specs.Stands.{Enters, Sends, IsSound, StandsAt, counts_of, failures, fresh, state_of, used};
 ghost use Rattle.ls_desk.specs.Faults.{Accepts, open_fault, open_shared_fault, sized_open_fault, Refuses, end_fault, is_full, finish_fault, request_fault, take_fault, give_back_fault, cancel_fault, full_fault, kept_of, IsFirstCause, IsJobOf, Takes};
+ghost use Rattle.ls_desk.specs.Door.{text_closed_by};
 ghost use Rattle.ls_desk.specs.own.Puts.{next_of};
 
 use crate::history::History;
@@ -31,7 +32,8 @@ use crate::texts::{Next, snapshot_of_text};
 use ls_answers::{Ask, Done, Job};
 use ls_lists::{List, Text};
 use ls_machine::{
-    Boxed, Counts, DeskFault, Event, Kept, Out, SharedSnapshot, State, Waiting, find, state_of,
+    Boxed, ClientEvent, Counts, DeskFault, Event, Kept, Out, SharedSnapshot, State, Waiting, find,
+    state_of,
 };
 use ls_rpc::Id;
 use ls_text::{Edit, Encoding, MAX_BYTES};
@@ -268,6 +270,25 @@ impl Desk {
         self.present.close(&uri);
         self.history.enter(state, Event::Closed { uri });
         Ok(())
+    }
+
+    /// The text that a client's event closes, as its document has it now: another owner of it. `None` where the event closes none, or no
+    /// document of its uri is open.
+    ///
+    /// # Errors
+    ///
+    /// Where an allocation is refused.
+    pub fn text_closed_by(&self, event: &ClientEvent) -> Result<Option<SharedSnapshot>, AllocError>
+        ensures text { IfOk result (λ text. text ≡ text_closed_by (state_of self.now) event.now) }
+        ensures memory { OnErr result (is_some (text_closed_by (state_of self.now) event.now) ≡ true) }
+    {
+        let ClientEvent::DidClose(uri) = event else {
+            return Ok(None);
+        };
+        match find::document_of(self.present.documents.as_slice(), uri) {
+            Some(document) => Ok(Some(document.text.again()?)),
+            None => Ok(None),
+        }
     }
 
     /// Where the job stands that was run there and how many replies it leaves, or the refusal that comes first.

@@ -20,21 +20,22 @@ const PART: usize = 65_536;
 const LONGEST: usize = 1_048_576;
 
 /// Lets a few events go from the end, and from time to time the room behind them.
-fn let_go(alloc: Global, past: &mut Vec<Event>)
+fn let_go(past: &mut Vec<Event>)
     ensures { IsPrefix past.new.items past.old.items }
 {
     past.truncate(past.len().saturating_sub(AT_ONCE));
-    give_room_back(alloc, past);
+    give_room_back(past);
 }
 
 /// Gives the room behind events back: all of it where none is left, and else from time to time.
-fn give_room_back(alloc: Global, past: &mut Vec<Event>)
-    ensures { past.new.items ≡ past.old.items }
+pub fn give_room_back(events: &mut Vec<Event>)
+    ensures { events.new.items ≡ events.old.items }
 {
-    if past.is_empty() {
-        *past = Vec::new(alloc);
-    } else if past.capacity() - past.len() >= PART {
-        past.shrink_to_fit();
+    if events.is_empty() {
+        let alloc = *events.allocator();
+        *events = Vec::new(alloc);
+    } else if events.capacity() - events.len() >= PART {
+        events.shrink_to_fit();
     }
 }
 
@@ -155,7 +156,7 @@ impl Journal {
         ensures room { self.new.room ≡ self.old.room }
         ensures ended { IsPrefix self.new.ended self.old.ended }
     {
-        let_go(self.alloc, &mut self.past);
+        let_go(&mut self.past);
     }
 
     /// What is left of the journal before, which has none from now on. Takes no memory.

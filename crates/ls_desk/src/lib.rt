@@ -29,6 +29,7 @@ mod room;
 mod texts;
 
 pub use desk::Desk;
+pub use journal::give_room_back;
 pub use ls_machine::{
     Boxed, Counts, DeskFault, Document, Entry, Event, Kept, Out, Request, SharedSnapshot, State,
     Waiting,

@@ -17,4 +17,4 @@ mod writer;
 pub use fault::FrameFault;
 pub use framer::Framer;
 pub use laws::{streams_are_unique, streams_exist};
-pub use writer::write_frame;
+pub use writer::{frame_around, write_frame};

@@ -1,13 +1,20 @@
 //! What the session's steps do at the desk.
-ghost use Rattle.std.specs.Prelude.{IfOk};
+ghost use Rattle.std.specs.Prelude.{◌≡◌, [], IfNone, IfOk, IfSome, Option, Some};
+ghost use Rattle.std.specs.Arc.{arc_value};
+ghost use Rattle.abnf_kept.specs.Known.{Known};
+ghost use Rattle.abnf_kept.specs.Recent.{IsTaken};
+ghost use Rattle.ls_answers.specs.Asks.{IsToNoName};
+ghost use Rattle.ls_answers.specs.declared.answer.Answer.TheVariants.{Refused};
+ghost use Rattle.ls_answers.specs.declared.answer.RenameFault.TheVariants.{NotAName};
 ghost use Rattle.ls_desk.specs.Stands.{IsSound};
 ghost use Rattle.ls_steps.specs.Runs.{finishes, meets, refused};
 ghost use Rattle.ls_steps.specs.own.Leaves.{IsLeft};
 ghost use Rattle.ls_machine.specs.Client.{IsAllowed};
 
-use ls_answers::Done;
-use ls_desk::{Desk, DeskFault};
+use ls_answers::{Done, Job, Recent, run, run_keeping};
+use ls_desk::{Desk, DeskFault, SharedSnapshot};
 use ls_lists::List;
+use ls_machine::ClientAnswer;
 use ls_rpc::Id;
 use ls_session::{ClientEvent, refusal_to};
 use std::alloc::{AllocError as Memory, Global};
@@ -30,21 +37,59 @@ fn tell(alloc: Global, desk: &mut Desk, asker: Option<Id>, fault: DeskFault) -> 
     }
 }
 
-/// Does what an event of the client asks for, and gives whether the session is full. A refused request is answered by its error.
+/// A document was closed that had this text: what is kept of it goes, which is the text that is nearest to it, if one is near. Where the
+/// text isn't known all that is kept goes.
+fn let_go(recent: &mut Recent, text: &Option<SharedSnapshot>)
+    ensures near { IfSome text.now (λ _. (taken : Option Known) × IsTaken recent.old taken recent.new) }
+    ensures all { IfNone text.now (recent.new ≡ []) }
+{
+    match text {
+        Some(text) => drop(recent.lend(text.get())),
+        None => *recent = Recent::new(),
+    }
+}
+
+/// Does what an event of the client asks for, and gives whether the session is full. A refused request is answered by its error. Of a
+/// document that is closed nothing is kept: where its text isn't known, as where it grew too large, of no document.
 ///
 /// # Errors
 ///
 /// Where an allocation is refused.
-pub fn meet(alloc: Global, desk: &mut Desk, event: ClientEvent) -> Result<bool, Memory>
+pub fn meet(
+    alloc: Global,
+    desk: &mut Desk,
+    recent: &mut Recent,
+    event: ClientEvent,
+) -> Result<bool, Memory>
     requires { IsAllowed event }
     ensures left { IfOk result (λ full. IsLeft (meets desk.old event) full desk.old desk.new) }
     ensures sound { IsSound desk.old → IsSound desk.new }
 {
     let asker = event.asker()?;
+    let text = desk.text_closed_by(&event).unwrap_or(None);
     match desk.enter(event, None) {
+        Ok(ClientAnswer::Closed) => {
+            let_go(recent, &text);
+            Ok(false)
+        }
         Ok(_) => Ok(false),
         Err(DeskFault::Memory) => Err(Memory),
         Err(fault) => tell(alloc, desk, asker, fault),
+    }
+}
+
+/// Runs a job. What is found in its text is kept, unless the job waits no longer: its document may be closed.
+pub fn run_job(alloc: Global, desk: &Desk, recent: &mut Recent, job: Job) -> Done
+    ensures ticket { result.ticket ≡ job.ticket }
+    ensures text { result.text ≡ arc_value job.snapshot }
+    ensures encoding { result.encoding ≡ job.encoding }
+    ensures ask { result.ask ≡ job.ask }
+    ensures not_a_name { IsToNoName job.ask → result.answer ≡ Some (Refused NotAName) }
+{
+    if desk.wanted(job.ticket) {
+        run_keeping(alloc, recent, job)
+    } else {
+        run(alloc, job)
     }
 }
 

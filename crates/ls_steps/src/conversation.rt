@@ -6,8 +6,8 @@ ghost use Rattle.ls_steps.specs.Plain.{has_run_all};
 ghost use Rattle.ls_desk.specs.Stands.{IsSound};
 ghost use Rattle.ls_steps.specs.Runs.{Steps, begun, break_off, bytes_in, counts_at, finish_job, hear, is_filled, send, state_at, take_job};
 
-use crate::at_desk::{finish, meet};
-use ls_answers::{Job, Recent, run_keeping};
+use crate::at_desk::{finish, meet, run_job};
+use ls_answers::{Job, Recent};
 use ls_desk::{Desk, DeskFault, Out};
 use ls_frame::FrameFault;
 use ls_session::{Session, Status, Turn, framed};
@@ -127,7 +127,7 @@ impl Conversation {
             Turn::Nothing => {}
             Turn::Exit(status) => self.status = Some(status),
             Turn::Event(event) => {
-                if meet(self.alloc, &mut self.desk, event)? {
+                if meet(self.alloc, &mut self.desk, &mut self.recent, event)? {
                     self.status = Some(Status::Full);
                 }
             }
@@ -189,10 +189,8 @@ impl Conversation {
             return Ok(());
         }
         let job = self.held.remove(at);
-        if finish(
-            &mut self.desk,
-            run_keeping(self.alloc, &mut self.recent, job),
-        )? {
+        let done = run_job(self.alloc, &self.desk, &mut self.recent, job);
+        if finish(&mut self.desk, done)? {
             self.status = Some(Status::Full);
         }
         Ok(())

@@ -13,9 +13,10 @@ ghost use Rattle.ls_machine.specs.Client.{IsAllowed};
 
 use crate::behind::{Behind, SeatFault};
 use crate::crew::{are_all, seats_of};
+use crate::lately::Lately;
 use crate::ledgers::{Blanks, Crew, OfClient, OfFinished, OfHeard, OfReturned, OfSent, OfTook};
 use crate::seats::{ClientSeat, WorkerSeat, WriterSeat};
-use ls_answers::{Done, Job, Recent};
+use ls_answers::{Done, Job};
 use ls_desk::{Desk, DeskFault, Kept, Out};
 use ls_history::{Front, HistoryBook, Stop};
 use ls_machine::{ClientAnswer, ClientEvent};
@@ -38,7 +39,7 @@ pub struct Board<C: Crew> {
     /// Something behind the lock has changed.
     changed: Condvar,
     /// The texts that were diagnosed last, behind a lock of their own. No other one is taken while it is held.
-    pub(crate) recent: Mutex<Recent>,
+    pub(crate) lately: Mutex<Lately>,
     ghost all: { workers ≡ C.workers },
 }
 
@@ -110,7 +111,7 @@ impl<C: Crew> Board<C> {
             book,
             behind: Mutex::new(behind),
             changed: Condvar::new(),
-            recent: Mutex::new(Recent::new()),
+            lately: Mutex::new(Lately::new()),
         };
         Ok((board, client, writer, seats))
     }
@@ -122,7 +123,8 @@ impl<C: Crew> Board<C> {
     /// that is opened: the desk shares that text with the note.
     ///
     /// Whatever it answers, the event and its answer or its refusal are the next, and the only new ones, of the client in the history that
-    /// the seat has seen then. It waits for the lock alone.
+    /// the seat has seen then. It waits for the lock alone, and once a document is closed for that of the texts that were diagnosed last: what
+    /// is kept of the document is let go, and all that is kept where its text isn't known, as where it grew too large.
     ///
     /// # Errors
     ///
@@ -145,11 +147,15 @@ impl<C: Crew> Board<C> {
         let Ok(note) = seat.told.prepare_note(&event) else {
             return self.behind.lock(rt).refuse(rt, &self.book, seat, &event);
         };
-        let result = self
-            .behind
-            .lock(rt)
-            .client(rt, &self.book, seat, event, note);
+        let mut behind = self.behind.lock(rt);
+        let text = behind.desk.text_closed_by(&event).unwrap_or(None);
+        let result = behind.client(rt, &self.book, seat, event, note);
+        drop(behind);
         self.changed.notify_all();
+        if let Ok(ClientAnswer::Closed) = result {
+            let gone = self.lately.lock(rt).let_go(&text);
+            drop(gone);
+        }
         result
     }
 

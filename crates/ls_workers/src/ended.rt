@@ -5,13 +5,10 @@ ghost use Rattle.ls_workers.specs.Seats.{AreSame};
 
 use crate::agree::{client_event, same_events};
 use crate::same::same_event;
-use ls_desk::Event;
+use ls_desk::{Event, give_room_back};
 
 /// How many events of a journal are compared at once, and go.
 const AT_ONCE: usize = 16;
-
-/// For how many events room is given back at once.
-const PART: usize = 65_536;
 
 /// A journal that a checkpoint ended, and the client's events until then, as its seat listed them. What was compared of both has gone, from
 /// the end.
@@ -19,15 +16,6 @@ const PART: usize = 65_536;
 pub struct Ended {
     pub list: Vec<Event>,
     pub journal: Vec<Event>,
-}
-
-/// Gives the room behind a list back from time to time.
-fn give_room_back(events: &mut Vec<Event>)
-    ensures { events.new.items ≡ events.old.items }
-{
-    if events.capacity() - events.len() >= PART {
-        events.shrink_to_fit();
-    }
 }
 
 impl Ended {

@@ -35,6 +35,7 @@ mod board;
 mod calls;
 mod crew;
 mod ended;
+mod lately;
 mod laws;
 mod ledgers;
 mod notes;

@@ -1,7 +1,9 @@
 //! What a worker does.
-ghost use Rattle.std.specs.Prelude.{◌≡◌, IfNone, IfSome, true};
+ghost use Rattle.std.specs.Prelude.{◌≡◌, IfNone, IfSome, false, true};
 ghost use Rattle.std.specs.Arc.{arc_value};
-ghost use Rattle.ls_workers.specs.Jobs.{HasNoJob, IsNotHeld};
+ghost use mathlib.Core.List.{IsPrefix};
+ghost use Rattle.ls_machine.specs.Machine.{waits};
+ghost use Rattle.ls_workers.specs.Jobs.{HasNoJob, IsNotHeld, led_by};
 ghost use Rattle.ls_workers.specs.Refusals.{ends_work, may_refuse_run};
 
 use crate::board::Board;
@@ -9,6 +11,7 @@ use crate::ledgers::Crew;
 use crate::seats::WorkerSeat;
 use ls_answers::{Ask, Done, Job, run, run_keeping};
 use ls_desk::DeskFault;
+use ls_history::Front;
 use std::alloc::Global;
 use std::sync::Wait;
 
@@ -27,20 +30,37 @@ fn ended_by(fault: DeskFault) -> Option<DeskFault>
     (fault != DeskFault::UnknownTicket).then_some(fault)
 }
 
-/// Runs a job. What is found in a text is found with the help of a text near to it, if all workers together have diagnosed one lately: that
-/// is taken out meanwhile, and the job's own is kept then. No lock is held while the job runs.
-fn run_with_others<C: Crew, R: Wait>(rt: &R, alloc: Global, board: &Board<C>, job: Job) -> Done
-    ensures ticket { result.ticket ≡ job.ticket }
-    ensures text { result.text ≡ arc_value job.snapshot }
-    ensures encoding { result.encoding ≡ job.encoding }
-    ensures ask { result.ask ≡ job.ask }
+/// Runs a job if it is still wanted. What is found in a text is found with the help of a text near to it, if all workers together have
+/// diagnosed one lately: that is lent meanwhile, and the job's own is kept then. No lock is held while the job runs.
+///
+/// The text is lent before it is asked whether the job is wanted. So a document that is closed later is counted in what is lent, and one
+/// that was closed earlier has no job that is wanted: in either case nothing is kept of it.
+fn run_wanted<C: Crew, R: Wait>(
+    rt: &R,
+    alloc: Global,
+    board: &Board<C>,
+    seen: &mut Front<C>,
+    job: Job,
+) -> Option<Done>
+    ensures ticket { IfSome result (λ done. done.ticket ≡ job.ticket) }
+    ensures text { IfSome result (λ done. done.text ≡ arc_value job.snapshot) }
+    ensures encoding { IfSome result (λ done. done.encoding ≡ job.encoding) }
+    ensures ask { IfSome result (λ done. done.ask ≡ job.ask) }
+    ensures none { IfNone result (waits job.ticket (led_by seen.new).state.waiting ≡ false) }
+    ensures follows { IsPrefix seen.old seen.new }
 {
     let Ask::Diagnose = &job.ask else {
-        return run(alloc, job);
+        let wanted = board.wanted(rt, seen, job.ticket);
+        return if wanted { Some(run(alloc, job)) } else { None };
     };
-    let mut recent = board.recent.lock(rt).lend(&job.snapshot);
-    let done = run_keeping(alloc, &mut recent, job);
-    board.recent.lock(rt).take_back(recent);
+    let mut lent = board.lately.lock(rt).lend(&job.snapshot);
+    let wanted = board.wanted(rt, seen, job.ticket);
+    let done = if wanted {
+        Some(run_keeping(alloc, &mut lent.texts, job))
+    } else {
+        None
+    };
+    board.lately.lock(rt).take_back(lent);
     done
 }
 
@@ -60,10 +80,9 @@ fn run_one<C: Crew, R: Wait, G: Gate>(
     ensures done { IfNone result (IsNotHeld job.ticket seat.new.front) }
 {
     gate.pass(rt, job.ticket);
-    if !board.wanted(rt, &mut seat.front, job.ticket) {
+    let Some(done) = run_wanted(rt, alloc, board, &mut seat.front, job) else {
         return None;
-    }
-    let done = run_with_others(rt, alloc, board, job);
+    };
     let Err((fault, _)) = board.finish(rt, seat, done) else {
         seat.front.legal();
         return None;

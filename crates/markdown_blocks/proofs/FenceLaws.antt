@@ -8,7 +8,8 @@ use Rattle.markdown_blocks.specs.declared.fence.Fence.{Fence}
 use Rattle.markdown_blocks.specs.declared.reading.Reading.{Reading}
 use Rattle.markdown_blocks.specs.declared.reading.Reading.TheVariants.{Text, BehindBlock, BehindAttributes, Comment, Extension, Block}
 use Rattle.markdown_blocks.specs.Fences.{Line, behind_line, fenced_blocks, closes_fence, fence_content, ended_block, first_says, placed_lines_from, put_placed, says_abnf, with_word, without_end}
-use Rattle.markdown_blocks.specs.own.Reading.{line_len}
+use Rattle.markdown_blocks.specs.own.Reading.{Finds, finds_of, joined, line_len}
+use Rattle.markdown_blocks.specs.Unread.{empty_block, empty_blocks}
 
 -- ---- the first line of a text
 
@@ -88,9 +89,23 @@ unfolding line_len placed_lines_from
 next_says at [] = refl
 next_says at (c ∷ t) = ap first_says (lines_first at (c ∷ t) (omega arith))
 
-pub grammar_of_append : (bs cs : List SourcedBlock) → grammar_of (bs ++ cs) ≡ grammar_of bs ++ grammar_of cs
+grammar_of_append : (bs cs : List SourcedBlock) → grammar_of (bs ++ cs) ≡ grammar_of bs ++ grammar_of cs
 grammar_of_append [] cs = refl
 grammar_of_append (b ∷ bs) cs = ap (λ g. aligned b ++ g) (grammar_of_append bs cs) ∙ sym (append_assoc (aligned b) (grammar_of bs) (grammar_of cs))
+
+empty_blocks_append : (bs cs : List SourcedBlock) → empty_blocks (bs ++ cs) ≡ empty_blocks bs ++ empty_blocks cs
+empty_blocks_append [] cs = refl
+empty_blocks_append (b ∷ bs) cs = ap (λ g. empty_block b ++ g) (empty_blocks_append bs cs) ∙ sym (append_assoc (empty_block b) (empty_blocks bs) (empty_blocks cs))
+
+-- what is found in blocks and then in others
+pub finds_append : (bs cs : List SourcedBlock) → finds_of (bs ++ cs) ≡ joined (finds_of bs) (finds_of cs)
+finds_append bs cs = (λ i. (grammar_of_append bs cs i, empty_blocks_append bs cs i))
+
+pub joined_assoc : (a b c : Finds) → joined (joined a b) c ≡ joined a (joined b c)
+joined_assoc a b c = (λ i. (append_assoc a.0 b.0 c.0 i, append_assoc a.1 b.1 c.1 i))
+
+joined_none : (a : Finds) → a ≡ joined a (finds_of [])
+joined_none a = (λ i. (sym (append-nil a.0) i, sym (append-nil a.1) i))
 
 -- a line that isn't in a block
 module _ (end : ℕ) (content : List Sourced) (l : Line) (ls : List Line) where
@@ -109,17 +124,17 @@ lines_split at n t line behind some n_is line_is behind_is len =
     ∙ ap (λ m. (at, take m t) ∷ placed_lines_from (at + m) (drop m t)) n_is
     ∙ sym (lines_first at t some)
 
-module _ (grammar : List Sourced) (end at : ℕ) (block : List Sourced) (rest : List ℕ) (none : length rest ≡ 0) (left : at + length rest ≡ end) where
+module _ (found : Finds) (end at : ℕ) (block : List Sourced) (rest : List ℕ) (none : length rest ≡ 0) (left : at + length rest ≡ end) where
   lines_none : (t : List ℕ) → length t ≡ 0 → placed_lines_from at t ≡ []
   unfolding placed_lines_from
   lines_none [] e = refl
   lines_none (c ∷ t) e = absurd (omega (arith, e))
 
-  pub end_open : (reading : Reading) (fence : Fence) {whole : List Sourced} → reading ≡ Block fence → grammar ++ grammar_of (fenced_blocks end reading block (placed_lines_from at rest)) ≡ whole → grammar ++ grammar_of (ended_block fence block at) ≡ whole
+  pub end_open : (reading : Reading) (fence : Fence) {whole : Finds} → reading ≡ Block fence → joined found (finds_of (fenced_blocks end reading block (placed_lines_from at rest))) ≡ whole → joined found (finds_of (ended_block fence block at)) ≡ whole
   unfolding fenced_blocks
   end_open reading fence is was =
-      (λ i. grammar ++ grammar_of (ended_block fence block ((let e : at ≡ end = omega (arith, none, left) in e) i)))
-      ∙ (λ i. grammar ++ grammar_of (fenced_blocks end (sym is i) block (sym (lines_none rest none) i)))
+      (λ i. joined found (finds_of (ended_block fence block ((let e : at ≡ end = omega (arith, none, left) in e) i))))
+      ∙ (λ i. joined found (finds_of (fenced_blocks end (sym is i) block (sym (lines_none rest none) i))))
       ∙ was
 
   none_open : (reading : Reading) → IsOutside reading → [] ≡ fenced_blocks end reading block []
@@ -131,10 +146,10 @@ module _ (grammar : List Sourced) (end at : ℕ) (block : List Sourced) (rest : 
   none_open Extension o = refl
   none_open (Block fence) o = absurd o
 
-  pub end_outside : (reading : Reading) {whole : List Sourced} → IsOutside reading → grammar ++ grammar_of (fenced_blocks end reading block (placed_lines_from at rest)) ≡ whole → grammar ≡ whole
+  pub end_outside : (reading : Reading) {whole : Finds} → IsOutside reading → joined found (finds_of (fenced_blocks end reading block (placed_lines_from at rest))) ≡ whole → found ≡ whole
   end_outside reading o was =
-      sym (append-nil grammar)
-      ∙ ap (λ bs. grammar ++ grammar_of bs) (none_open reading o ∙ ap (fenced_blocks end reading block) (sym (lines_none rest none)))
+      joined_none found
+      ∙ ap (λ bs. joined found (finds_of bs)) (none_open reading o ∙ ap (fenced_blocks end reading block) (sym (lines_none rest none)))
       ∙ was
 
 pub positive : (n : ℕ) → nat_eq n 0 ≡ false → 0 < n

@@ -1,2 +1,3 @@
 pub mod Fences
+pub mod Unread
 pub mod own

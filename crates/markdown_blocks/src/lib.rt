@@ -7,8 +7,9 @@
 
 mod attributes;
 mod fence;
+mod found;
 mod gather;
 mod line;
 mod reading;
 
-pub use gather::gather_markdown;
+pub use gather::{gather_markdown, unread_blocks};

@@ -100,6 +100,59 @@ fn of_lines(rt: HostRuntime) -> Result<(), Fail> {
 }
 
 #[test]
+fn in_a_block_of_lines(rt: HostRuntime) -> Result<(), Fail> {
+    let alloc = rt.alloc();
+    let text = "; c\n\na = \"x\"\n \"y\"\n \"z\"\nb = c ?\n";
+    let found = "5:6-5:7 1 syntax bad character\n";
+    let comment = "; c\n\na = \"x\"\n \"y\" ; c\n \"z\"\nb = c ?\n";
+    assert!(rt; goes_over(alloc, text, comment, found)?);
+    assert!(rt; goes_over(alloc, comment, text, found)?);
+    assert!(rt;
+        goes_over(
+            alloc,
+            text,
+            "; c\n\na = \"x\" ; c\n \"y\"\n \"z\"\nb = c ?\n",
+            found
+        )?
+    );
+    // Lines come and go inside the block, and before it.
+    let below = "6:6-6:7 1 syntax bad character\n";
+    let longer = "; c\n\na = \"x\"\n \"y\"\n; c\n \"z\"\nb = c ?\n";
+    assert!(rt; goes_over(alloc, text, longer, below)?);
+    assert!(rt; goes_over(alloc, longer, text, found)?);
+    assert!(rt;
+        goes_over(
+            alloc,
+            text,
+            "; c\n\n\na = \"x\"\n \"y\"\n \"z\"\nb = c ?\n",
+            below
+        )?
+    );
+    assert!(rt;
+        goes_over(
+            alloc,
+            text,
+            "\na = \"x\"\n\n \"y\"\n \"z\"\nb = c ?\n",
+            found
+        )?
+    );
+    // A line inside the block begins another one, and goes on with it again.
+    let parted = "; c\n\na = \"x\"\nd = \"y\"\n \"z\"\nb = c ?\n";
+    assert!(rt; goes_over(alloc, text, parted, found)?);
+    assert!(rt; goes_over(alloc, parted, text, found)?);
+    // A name in a line of the block is another one.
+    assert!(rt;
+        goes_over(
+            alloc,
+            text,
+            "; c\n\na = \"x\"\n d\n \"z\"\nb = c ?\n",
+            "2:0-2:1 2 unproductive rule a generates nothing\n3:1-3:2 1 undefined undefined rule d\n5:6-5:7 1 syntax bad character\n"
+        )?
+    );
+    Ok(())
+}
+
+#[test]
 fn of_other_items(rt: HostRuntime) -> Result<(), Fail> {
     let alloc = rt.alloc();
     assert!(rt;

@@ -10,6 +10,8 @@ mod calls;
 #[cfg(test)]
 mod checkpoints;
 #[cfg(test)]
+mod closings;
+#[cfg(test)]
 mod desk;
 #[cfg(test)]
 mod ends;

@@ -113,6 +113,28 @@ const FOUND: &[Row] = &[
         "f:4:1: warning: rule a generates nothing [unproductive]\n\
          f:4:9: error: undefined rule nope [undefined]\n",
     ),
+    // blocks that can't be read, among the findings
+    (
+        (
+            Format::Xml,
+            "<artwork type=\"abnf\"/>\n<artwork type=\"abnf\">a = OWS ?</artwork>\n<artwork type=\"abnf\" src=\"b\"/>",
+        ),
+        &[(Format::Abnf, CORE)],
+        "f:1:1: warning: empty block of grammar [not-read]\n\
+         f:2:30: error: bad character [syntax]\n\
+         f:3:1: warning: grammar in another file [not-read]\n",
+    ),
+    (
+        (Format::Markdown, "```abnf\n```\n"),
+        &[],
+        "f:2:1: warning: empty block of grammar [not-read]\n",
+    ),
+    (
+        (Format::Xml, "<artwork src=\"a\" type=\"abnf\"/>"),
+        &[],
+        "f:1:1: warning: no grammar in this draft [no-grammar]\n\
+         f:1:1: warning: grammar in another file [not-read]\n",
+    ),
     // a draft without a grammar, and one that is at fault
     (
         (Format::Markdown, "# A title\n"),
@@ -225,7 +247,7 @@ fn knows_names(rt: HostRuntime) -> Result<(), FileFault> {
 
 #[test]
 fn tells_what_is_found(rt: HostRuntime) -> Result<(), FileFault> {
-    assert!(rt; FOUND.len() >= 10);
+    assert!(rt; FOUND.len() >= 13);
     for (file, files, lines) in FOUND {
         let found = printed(rt.alloc(), *file, files)?;
         assert!(rt; found.lines.as_str() == *lines, "{}", file.1);
@@ -293,13 +315,33 @@ fn warns_of_known_drafts_without_a_grammar(rt: HostRuntime) -> Result<(), FileFa
         assert!(rt; found.outcome == Outcome::Warnings);
     }
     for file in [
-        (Format::Markdown, "```abnf\n```\n"),
+        (Format::Markdown, "```abnf\n; a\n```\n"),
         (Format::Abnf, ""),
         (Format::Abnf, "a = ?"),
     ] {
         let found = added(rt.alloc(), file)?;
         assert!(rt; found.lines.as_str() == "");
         assert!(rt; found.outcome == Outcome::Clean);
+    }
+    Ok(())
+}
+
+#[test]
+fn warns_of_known_drafts_that_are_not_read(rt: HostRuntime) -> Result<(), FileFault> {
+    for (file, lines) in [
+        (
+            (Format::Markdown, "```abnf\n```\n```abnf\na = b\n```\n"),
+            "k:2:1: warning: empty block of grammar [not-read]\n",
+        ),
+        (
+            (Format::Xml, "<artwork src=\"a\" type=\"abnf\"/>"),
+            "k:1:1: warning: no grammar in this draft [no-grammar]\n\
+             k:1:1: warning: grammar in another file [not-read]\n",
+        ),
+    ] {
+        let found = added(rt.alloc(), file)?;
+        assert!(rt; found.lines.as_str() == lines, "{lines}");
+        assert!(rt; found.outcome == Outcome::Warnings, "{lines}");
     }
     Ok(())
 }

@@ -14,6 +14,8 @@ mod bodies;
 #[cfg(test)]
 mod by_steps;
 #[cfg(test)]
+mod closings;
+#[cfg(test)]
 mod devices;
 #[cfg(test)]
 mod endings;

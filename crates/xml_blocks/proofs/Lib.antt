@@ -1,1 +1,2 @@
 pub mod XmlLaws
+pub mod UnreadLaws

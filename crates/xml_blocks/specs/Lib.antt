@@ -1,2 +1,3 @@
 pub mod Xml
+pub mod Unread
 pub mod own

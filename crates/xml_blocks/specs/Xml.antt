@@ -101,12 +101,15 @@ name_len Artwork = 7
 abbrev pub is_named : Element → List ℕ → Bool
 is_named element t = begins (element_name element) t && is_space (slice_index t (name_len element))
 
--- the element `sourcecode` or `artwork` that a tag without its `<` begins, if its `type` is `abnf`, and it isn't empty
-abbrev pub opening_element : List ℕ → Option Element
-opening_element t =
-    if not (is_empty_element t) && has_abnf_type None t then
-    (if is_named Sourcecode t then Some Sourcecode else (if is_named Artwork t then Some Artwork else None))
+-- the element `sourcecode` or `artwork` of a tag without its `<`, if its `type` is `abnf`, be it empty or not
+abbrev pub block_element : List ℕ → Option Element
+block_element t =
+    if has_abnf_type None t then (if is_named Sourcecode t then Some Sourcecode else (if is_named Artwork t then Some Artwork else None))
     else None
+
+-- the element that a tag without its `<` begins, if it is a block of ABNF and isn't empty
+abbrev pub opening_element : List ℕ → Option Element
+opening_element t = if is_empty_element t then None else block_element t
 
 -- the tag without its `<` is the end tag of this element
 abbrev pub is_end : Element → List ℕ → Bool
@@ -149,7 +152,8 @@ abbrev pub by_number : List ℕ → Option (ℕ × ℕ)
 by_number t = if begins (35 ∷ 120 ∷ []) t then numbered_value 16 2 t else (if begins (35 ∷ []) t then numbered_value 10 1 t else None)
 
 -- The same of a name that drafts have for a space (U+00A0) or a hyphen (U+2011) at which no line ends, for no space (U+200B), and for
--- a place at which no line ends (U+2060): `nbsp;`, `nbhy;`, `zwsp;` and `wj;`. No grammar has such a character.
+-- a place at which no line ends (U+2060): `nbsp;`, `nbhy;`, `zwsp;` and `wj;`. No token of ABNF has such a character, but comments and
+-- prose may.
 abbrev pub by_name : List ℕ → Option (ℕ × ℕ)
 by_name t =
     if begins (110 ∷ 98 ∷ 115 ∷ 112 ∷ 59 ∷ []) t then Some (0xA0, 5)

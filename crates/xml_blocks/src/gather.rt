@@ -14,7 +14,7 @@ use origins::Gathered;
 use std::alloc::{AllocError, Global};
 
 // No text that fits into memory has such an offset.
-const NO_OFFSET: usize = 0x8000_0000_0000_0000;
+pub const NO_OFFSET: usize = 0x8000_0000_0000_0000;
 
 // A block that is open.
 #[derive(Clone, Copy)]
@@ -42,7 +42,7 @@ fn put_piece(block: &mut Gathered, kind: Kind, text: &str, at: usize) -> Result<
 }
 
 // What a section has between `<![CDATA[` and `]]>`, by what it has behind its `<`.
-fn section_text(text: &str) -> &str
+pub fn section_text(text: &str) -> &str
     ensures { chars result.now ≡ spec.section_text (chars text.now) }
 {
     before(behind(text, 8), char_count(text).saturating_sub(11))
@@ -60,7 +60,7 @@ fn opened_by(kind: Kind, text: &str, at: usize) -> Option<Open>
 }
 
 // Whether a piece is the end tag of an element.
-fn ends(element: Element, kind: Kind, text: &str) -> bool
+pub fn ends(element: Element, kind: Kind, text: &str) -> bool
     ensures { result ≡ spec.ends element kind (chars text.now) }
 {
     match kind {

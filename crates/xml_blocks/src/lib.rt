@@ -10,6 +10,8 @@ mod piece;
 mod reference;
 mod tag;
 mod text;
+mod unread;
 
 pub use fault::XmlFault;
 pub use gather::gather_xml;
+pub use unread::unread_blocks;

@@ -55,7 +55,7 @@ impl Element {
 }
 
 // The quote that is open behind a character.
-fn open_quote(quote: Option<char>, c: char) -> Option<char>
+pub fn open_quote(quote: Option<char>, c: char) -> Option<char>
     ensures { result ≡ spec.open_quote quote c }
 {
     match quote {
@@ -163,17 +163,17 @@ fn has_abnf_type(tag: &str) -> bool
 }
 
 // Whether a tag ends in `/>`.
-fn is_empty_element(tag: &str) -> bool
+pub fn is_empty_element(tag: &str) -> bool
     ensures { result ≡ spec.is_empty_element (chars tag.now) }
 {
     char_at(tag, char_count(tag).saturating_sub(2)) == '/'
 }
 
-// The element that a tag without its `<` begins, if its content is ABNF.
-pub fn opening(tag: &str) -> Option<Element>
-    ensures { result ≡ spec.opening_element (chars tag.now) }
+// The element of a tag without its `<` that is a block of ABNF, empty or not.
+pub fn block_element(tag: &str) -> Option<Element>
+    ensures { result ≡ spec.block_element (chars tag.now) }
 {
-    if is_empty_element(tag) || !has_abnf_type(tag) {
+    if !has_abnf_type(tag) {
         None
     } else if Element::Sourcecode.is_named(tag) {
         Some(Element::Sourcecode)
@@ -181,5 +181,16 @@ pub fn opening(tag: &str) -> Option<Element>
         Some(Element::Artwork)
     } else {
         None
+    }
+}
+
+// The element that a tag without its `<` begins, if its content is ABNF.
+pub fn opening(tag: &str) -> Option<Element>
+    ensures { result ≡ spec.opening_element (chars tag.now) }
+{
+    if is_empty_element(tag) {
+        None
+    } else {
+        block_element(tag)
     }
 }

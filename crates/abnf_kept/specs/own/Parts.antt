@@ -1,7 +1,13 @@
 -- Lines that two texts have alike, at their fronts and at their backs.
 use Rattle.std.specs.Prelude.{◌≡◌, ℕ, ◌+◌, ◌<◌, ◌≤◌, List, [], length, slice_index_or}
+use Rattle.abnf_token.specs.declared.token.Token.{Token}
 use Rattle.abnf_token.specs.Classes.{Text}
+use Rattle.abnf_token.specs.Tokens.{TokensOf}
 use Rattle.abnf_kept.specs.declared.difference.Difference.{Difference}
+
+-- Each line has tokens.
+abbrev pub HasTokens : List Text → Type 0
+HasTokens ls = (at : ℕ) → (ts : List Token) × TokensOf at 0 (slice_index_or ls at []) ts
 
 -- a line, or the place behind the last one
 abbrev pub IsWithin : List Text → ℕ → Type 0

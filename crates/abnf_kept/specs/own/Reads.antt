@@ -1,7 +1,8 @@
 -- Blocks of some lines that are read, and what is found in one of them.
-use Rattle.std.specs.Prelude.{◌≡◌, ◌<◌, ◌++◌, ℕ, List, Some, false, length, slice_get}
+use Rattle.std.specs.Prelude.{◌≡◌, ◌<◌, ◌≤◌, ◌++◌, ℕ, List, Some, false, length, slice_get, take}
 use Rattle.abnf_token.specs.Classes.{Text}
-use Rattle.abnf_syntax.specs.Blocks.{AreBlocksUpTo, AreBlocks}
+use Rattle.abnf_syntax.specs.Blocks.{AreBlocksUpTo, AreBlocks, base_indent}
+use Rattle.abnf_parts.specs.Names.{Name}
 use Rattle.abnf_names.specs.Said.{Block, AreWithin}
 use Rattle.abnf_names.specs.Shown.{fault_shown}
 use Rattle.abnf_lint.specs.declared.finding.Finding.{Finding}
@@ -9,9 +10,12 @@ use Rattle.abnf_outcome.specs.declared.outcome.Outcome.{Outcome}
 use Rattle.abnf_outcome.specs.declared.digest.BlockDigest.{BlockDigest}
 use Rattle.abnf_outcome.specs.declared.found_in.BlockTold.{BlockTold}
 use Rattle.abnf_outcome.specs.Found.{found_by}
-use Rattle.abnf_outcome.specs.KeptBlocks.{AreKept}
+use Rattle.abnf_outcome.specs.declared.word.Word.{Word}
+use Rattle.abnf_outcome.specs.KeptBlocks.{AreEachKept, AreKept}
 use Rattle.abnf_outcome.specs.Outcomes.{told_in}
 use Rattle.abnf_outcome.specs.Stored.{Stored}
+use Rattle.abnf_kept.specs.declared.before.Before.{Before}
+use Rattle.abnf_kept.specs.own.Parts.{HasTokens, IsPart}
 use Rattle.abnf_kept.specs.own.Walks.{SayTheSame}
 
 -- The blocks of the lines from one place up to another are kept, behind the others.
@@ -21,6 +25,22 @@ pub record AddsBetween (ls : List Text) (from to : ℕ) (old new : Stored) : Typ
   pub all : AreBlocksUpTo ls from to bounds
   pub each : AreWithin ls bounds blocks
   pub kept : (bs : List (ℕ × ℕ)) (others : List Block) → AreKept old bs others → AreKept new (bs ++ bounds) (others ++ blocks)
+
+-- The other text differs from the text before in these lines alone, and the indent of the blocks is the same.
+pub record IsBefore (others : List Text) (b : Before) : Type 0 where
+  pub part : IsPart b.sheet.now others b.lines
+  pub base : base_indent b.sheet.now ≡ base_indent others
+  pub tokens : HasTokens b.sheet.now
+
+-- The first so many of what is kept are kept of the blocks of these lines, all of them and in order.
+pub record HasBlocks (ls : List Text) (count : ℕ) (kept : List BlockDigest) : Type 0 where
+  pub table : List Name
+  pub words : List Word
+  pub bounds : List (ℕ × ℕ)
+  pub blocks : List Block
+  pub within : count ≤ length kept
+  pub all : AreBlocks ls 0 bounds
+  pub each : AreEachKept table words (take count kept) bounds blocks
 
 -- The block of which this is kept at a place says what some lines of another text say, and has no findings of its own.
 pub record IsLike (ls : List Text) (to : ℕ) (kept : List BlockDigest) (others : List Text) (first end at : ℕ) : Type 0 where

@@ -4,4 +4,5 @@
 
 mod gathered;
 mod markdown;
+mod unread;
 mod xml;

@@ -1,14 +1,40 @@
-use Rattle.std.proofs.Common.{◌≡◌, ◌+◌, ◌≤◌, ℕ, List, arith, length, subst, sym}
+use Rattle.std.proofs.Common.{◌≡◌, ◌+◌, ◌≤◌, ℕ, List, arith, length, refl, subst, sym}
+use Rattle.abnf_token.specs.Classes.{Text}
 use Rattle.abnf_syntax.specs.Blocks.{IsNextBlock}
 use Rattle.abnf_syntax.specs.Items.{AreItems}
 use Rattle.abnf_syntax.proofs.BlockLaws.{block_at}
 use Rattle.abnf_outcome.specs.declared.digest.BlockDigest.{BlockDigest}
 use Rattle.abnf_outcome.specs.KeptBlocks.{IsKeptOf}
-use Rattle.abnf_kept.specs.declared.blocks.Before.{Before}
-use Rattle.abnf_kept.specs.own.Reads.{IsLike}
-use Rattle.abnf_kept.proofs.CopiedBlocks.{copied_more, some_both}
+use Rattle.abnf_outcome.specs.Stored.{Stored}
+use Rattle.abnf_kept.specs.declared.before.Before.{Before}
+use Rattle.abnf_kept.specs.own.Reads.{HasBlocks, IsBefore, IsLike}
+use Rattle.abnf_kept.proofs.CopiedBlocks.{copied_more, first_blocks, more_blocks, some_both, some_of}
 use Rattle.abnf_kept.proofs.ReadLaws.{HasRead, none_read, read_more, all_read}
 use Rattle.abnf_kept.proofs.blocks.read.Goals as goal
+
+-- what is asked of the text before
+abbrev Given : List Text → Stored → Before → Type 0
+Given others s b = IsKeptOf b.sheet.now s × IsBefore others b × (b.to ≤ b.count) × (b.count ≡ length s.kept)
+
+pub next_block-first-requires-clause-before : goal.next_block-first-requires-clause-before
+next_block-first-requires-clause-before c =
+    let others = c.args.sheet.now in
+    let start = c.args.digests.now in
+    some_of (Given others start) (λ (b : Before). IsBefore others b × HasBlocks b.sheet.now b.count c.blocks-3.result.now) c.args.before c.requires.before
+    (λ b g. (g.1, first_blocks b.sheet.now start start c.blocks-3.result.now b.count refl g.0 c.blocks-3.ensures g.3))
+
+pub next_block-end-requires-clause-before : goal.next_block-end-requires-clause-before
+next_block-end-requires-clause-before c =
+    let others = c.args.sheet.now in
+    let start = c.args.digests.now in
+    some_of (Given others start) (λ (b : Before). IsBefore others b × HasBlocks b.sheet.now b.count c.blocks-in-blocks-2.result.now) c.args.before c.requires.before
+    (λ b g. (
+      g.1,
+      more_blocks b.sheet.now others c.args.from c.args.to c.blocks-2.first start c.blocks-2.digests c.blocks-in-blocks-2.result.now b.count g.0 c.blocks-2.invariant c.blocks-in-blocks-2.ensures g.3,
+    ))
+
+pub like-requires-clause-before : goal.like-requires-clause-before
+like-requires-clause-before c = some_of (Given c.args.sheet.now c.args.digests.now) (IsBefore c.args.sheet.now) c.args.before c.requires.before (λ b g. g.1)
 
 pub blocks-2-init : goal.blocks-2-init
 blocks-2-init c = none_read c.args.sheet.now c.args.from c.args.to c.args.digests.now c.next_block-first.result c.next_block-first.ensures
@@ -24,14 +50,14 @@ blocks-2-preserved-in_ok-push_again c =
     let end = c.next_block-end.result in
     let at = c.in-Some-like.at in
     let both =
-    some_both (λ (b : Before). IsKeptOf b.sheet.now c.args.digests.now × (b.to ≤ length c.args.digests.now.kept))
-    (λ (b : Before). IsLike b.sheet.now b.to c.blocks-in-blocks-2.result.now others first end at) c.args.before c.requires.before c.in-Some-like.ensures
+    some_both (Given c.args.sheet.now c.args.digests.now)
+    (λ (b : Before). IsLike b.sheet.now b.to c.blocks-in-blocks-2-2.result.now others first end at) c.args.before c.requires.before c.in-Some-like.ensures
     in
     let before = both.0 in
     let like : IsLike before.sheet.now before.to c.blocks-2.digests.kept others first end at =
-    subst (λ (ks : List BlockDigest). IsLike before.sheet.now before.to ks others first end at) c.blocks-in-blocks-2.ensures both.2
+    subst (λ (ks : List BlockDigest). IsLike before.sheet.now before.to ks others first end at) c.blocks-in-blocks-2-2.ensures both.2
     in
-    copied_more before.sheet.now others c.args.from c.args.to c.args.digests.now c.blocks-2.digests first end at before.to both.1.0 both.1.1 c.blocks-2.invariant like
+    copied_more before.sheet.now others c.args.from c.args.to c.args.digests.now c.blocks-2.digests first end at before.to both.1.0 (omega (arith, both.1.2, both.1.3)) c.blocks-2.invariant like
     c.blocks-2-test.true c.requires.seams.1 c.next_block-end.ensures c.push_again.new.self c.in_ok-push_again.ensures.ok
 
 pub blocks-2-preserved : goal.blocks-2-preserved

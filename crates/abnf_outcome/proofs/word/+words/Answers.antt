@@ -1,4 +1,4 @@
-use Rattle.std.proofs.Common.{◌-◌, [], ◌∷◌, ◌∙◌, sym, subst}
+use Rattle.std.proofs.Common.{◌-◌, [], ◌∷◌, ◌++◌, ◌∙◌, ap, sym, subst}
 use Rattle.abnf_parts.specs.Part.{alt, seq}
 use Rattle.abnf_parts.specs.Tree.{concatenation_part, element_part, repetition_part, tree_inside}
 use Rattle.abnf_parts.proofs.Pushing.{inside_is, on_ok}
@@ -6,6 +6,7 @@ use Rattle.abnf_syntax.specs.declared.tree.Element.{out-Element}
 use Rattle.abnf_syntax.specs.declared.tree.Repetition.{out-Repetition}
 use Rattle.abnf_digests.specs.Digests.{no_number}
 use Rattle.abnf_digests.specs.Gists.{gist}
+use Rattle.abnf_outcome.specs.declared.word.Word.TheVariants as w
 use Rattle.abnf_outcome.specs.own.Adding.{AddsWords}
 use Rattle.abnf_outcome.proofs.Pushing.{adds_alt, adds_more, adds_one, adds_repeat, adds_seq}
 use Rattle.abnf_outcome.proofs.word.+words.Goals as goal
@@ -13,7 +14,8 @@ use Rattle.abnf_outcome.proofs.word.+words.Goals as goal
 pub push_concatenation-returns-in_ok-push : goal.push_concatenation-returns-in_ok-push
 push_concatenation-returns-in_ok-push t c =
     adds_seq (repetition_part no_number (tree_inside no_number c.args.room)) c.args.concatenation.now c.args.names.now c.push_repetitions.new.names
-    c.args.words.now.items c.push_repetitions.new.words.items c.push.new.self.items c.in_ok-push_repetitions.ensures c.if-concatenation-ne1.true c.in_ok-push.ensures.items
+    c.args.words.now.items c.push_repetitions.new.words.items c.push.new.self.items c.in_ok-push_repetitions.ensures c.if-concatenation-ne1.true
+    (c.in_ok-push.ensures.items ∙ ap (λ n. c.push_repetitions.new.words.items ++ w.All n ∷ []) c.in_ok-narrow.ensures)
 
 pub push_concatenation-returns-else-concatenation-ne1 : goal.push_concatenation-returns-else-concatenation-ne1
 push_concatenation-returns-else-concatenation-ne1 t c =
@@ -33,7 +35,7 @@ push_inside-returns-in_ok-push-2 t c =
     rw (inside_is no_number c.args.room c.args.alternation.now c.if-room-eq0.false)
     (adds_alt (concatenation_part no_number (tree_inside no_number (c.args.room - 1))) c.args.alternation.now c.args.names.now c.push_concatenations.new.names
     c.args.words.now.items c.push_concatenations.new.words.items c.push-then-alternation-ne1.new.self.items c.in_ok-push_concatenations.ensures
-    c.if-alternation-ne1.true c.in_ok-push-2.ensures.items)
+    c.if-alternation-ne1.true (c.in_ok-push-2.ensures.items ∙ ap (λ n. c.push_concatenations.new.words.items ++ w.Any n ∷ []) c.in_ok-narrow.ensures))
 
 pub push_inside-returns-else-alternation-ne1 : goal.push_inside-returns-else-alternation-ne1
 push_inside-returns-else-alternation-ne1 t c =

@@ -6,7 +6,7 @@ use Rattle.ls_answers.specs.Diagnostics.{diagnostic_of}
 use Rattle.ls_answers.proofs.diagnostics.told.Goals as goal
 
 pub loop-finding-init : goal.loop-finding-init
-loop-finding-init c = record { text = c.new-ruler.ensures; told = c.new-diagnostics.ensures }
+loop-finding-init c = record { text = c.new-ruler.ensures; told = c.reserve.ensures ∙ c.new-diagnostics.ensures }
 
 pub loop-finding-preserved : goal.loop-finding-preserved
 loop-finding-preserved c =

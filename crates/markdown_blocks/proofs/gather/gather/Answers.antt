@@ -1,7 +1,7 @@
-use Rattle.std.proofs.Common.{◌≡◌, ◌+◌, ◌<◌, ◌++◌, length, ap, sym, ◌∙◌, arith}
+use Rattle.std.proofs.Common.{◌≡◌, ◌+◌, ◌<◌, length, ap, sym, ◌∙◌, arith}
 use Rattle.std.proofs.lemmas.Bool.{eqb-true}
-use Rattle.origins.specs.Origins.{grammar_of}
 use Rattle.markdown_blocks.specs.Fences.{fenced_blocks, placed_lines_from}
+use Rattle.markdown_blocks.specs.own.Reading.{finds_of, joined}
 use Rattle.markdown_blocks.proofs.FenceLaws.{end_open, end_outside, line_len_le, line_len_some, lines_split, next_says, outside, positive}
 use Rattle.markdown_blocks.proofs.gather.gather.Goals as goal
 use Rattle.markdown_blocks.proofs.gather.gather.Goals.{in-Block+in_ok-end_block, in_default}
@@ -21,7 +21,7 @@ lines-preserved c =
       left = omega (arith, c.lines.invariant.left, c.split_at.ensures.front_len, c.split_at.ensures.back_len);
       so_far = c.in_ok-reading.ensures (length c.args.text.now) (placed_lines_from (c.lines.at + length c.split_at.result.0.now) c.split_at.result.1.now)
           (next_says (c.lines.at + length c.split_at.result.0.now) c.split_at.result.1.now)
-          ∙ ap (λ ls. c.lines.grammar ++ grammar_of (fenced_blocks (length c.args.text.now) c.lines.reading c.lines.block ls)) (lines_split c.lines.at c.line_len.result c.lines.rest.now c.split_at.result.0.now c.split_at.result.1.now some c.line_len.ensures c.split_at.ensures.front c.split_at.ensures.back c.split_at.ensures.front_len)
+          ∙ ap (λ ls. joined c.lines.found (finds_of (fenced_blocks (length c.args.text.now) c.lines.reading c.lines.block ls))) (lines_split c.lines.at c.line_len.result c.lines.rest.now c.split_at.result.0.now c.split_at.result.1.now some c.line_len.ensures c.split_at.ensures.front c.split_at.ensures.back c.split_at.ensures.front_len)
           ∙ c.lines.invariant.so_far;
     }
 
@@ -29,6 +29,6 @@ pub returns : goal.returns
 returns c =
     let none : length c.lines.rest.now ≡ 0 = eqb-true (length c.lines.rest.now) 0 (sym c.is_empty.ensures ∙ c.lines-test.false) in
     elim c.match-reading.branch [
-      | in-Block+in_ok-end_block w ↦ w.grammar-is ∙ w.in_ok-end_block.ensures ∙ end_open c.lines.grammar (length c.args.text.now) c.lines.at c.lines.block c.lines.rest.now none c.lines.invariant.left c.lines.reading w.in-Block.fence w.in-Block.is c.lines.invariant.so_far
-      | in_default w ↦ w.grammar-is ∙ end_outside c.lines.grammar (length c.args.text.now) c.lines.at c.lines.block c.lines.rest.now none c.lines.invariant.left c.lines.reading (outside c.lines.reading w.in_default.not-Block) c.lines.invariant.so_far
+      | in-Block+in_ok-end_block w ↦ w.found-is ∙ w.in_ok-end_block.ensures ∙ end_open c.lines.found (length c.args.text.now) c.lines.at c.lines.block c.lines.rest.now none c.lines.invariant.left c.lines.reading w.in-Block.fence w.in-Block.is c.lines.invariant.so_far
+      | in_default w ↦ w.found-is ∙ end_outside c.lines.found (length c.args.text.now) c.lines.at c.lines.block c.lines.rest.now none c.lines.invariant.left c.lines.reading (outside c.lines.reading w.in_default.not-Block) c.lines.invariant.so_far
     ]

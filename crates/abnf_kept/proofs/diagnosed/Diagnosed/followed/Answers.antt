@@ -4,12 +4,15 @@ use Rattle.abnf_token.specs.Classes.{Text}
 use Rattle.abnf_syntax.specs.Blocks.{IsTop, line_texts}
 use Rattle.abnf_lint.specs.Rows.{AreRows}
 use Rattle.abnf_outcome.specs.KeptBlocks.{IsKeptOf}
-use Rattle.abnf_kept.proofs.FollowLaws.{few_lines, rows_moved}
+use Rattle.abnf_kept.proofs.FollowLaws.{rows_moved, texts_have_tokens}
 use Rattle.abnf_kept.proofs.diagnosed.Diagnosed.followed.Goals as goal
 use Rattle.abnf_kept.proofs.diagnosed.Diagnosed.followed.Goals.{else-is_clean, then-is_clean}
 
-pub followed-requires-clause-small : goal.followed-requires-clause-small
-followed-requires-clause-small c = few_lines c.deref-2.result.now c.followed-theirs.result c.followed-theirs.ensures.lines c.followed-theirs.ensures.small
+pub followed-requires-clause-tokens : goal.followed-requires-clause-tokens
+followed-requires-clause-tokens c = texts_have_tokens c.deref.result.now c.with_top-ours.result c.with_top-ours.ensures.lines c.with_top-ours.ensures.small
+
+pub say_the_same-moves-requires-clause-tokens : goal.say_the_same-moves-requires-clause-tokens
+say_the_same-moves-requires-clause-tokens c = texts_have_tokens c.deref.result.now c.with_top-ours.result c.with_top-ours.ensures.lines c.with_top-ours.ensures.small
 
 pub invariant_of-result : goal.invariant_of-result
 invariant_of-result c =
@@ -22,7 +25,7 @@ invariant_of-result c =
     let rows : AreRows other c.moved.result =
     elim c.if-is_clean.branch [
       | then-is_clean w ↦
-          rows_moved text other c.with_top-ours.result c.followed-theirs.result c.self.inside.findings c.as_slice.result.now c.moved.result c.in-Some.part ours theirs small there c.in-Some.ensures.some
+          rows_moved text other c.with_top-ours.result c.followed-theirs.result c.self.inside.findings c.as_slice.result.now c.moved.result c.in-Some.change.blocks ours theirs small there c.in-Some.ensures.blocks
           c.as_slice.ensures (c.is_clean.ensures w.if-is_clean.true) (w.say_the_same-moves.ensures (sym w.moves-is ∙ c.if-moves.true)) c.moved.ensures c.self.invariant.0
       | else-is_clean w ↦ absurd (cc (w.moves-is, c.if-moves.true))
     ]

@@ -1,4 +1,4 @@
-use Rattle.std.proofs.Common.{◌∙◌, refl, subst}
+use Rattle.std.proofs.Common.{◌∙◌, subst}
 use Rattle.abnf_outcome.specs.KeptBlocks.{AddsBlock}
 use Rattle.abnf_outcome.specs.Stored.{StandsFor, Stored}
 use Rattle.abnf_outcome.proofs.Storing.{head_is, is_said, one_more, own_is}
@@ -15,9 +15,9 @@ returns c = λ block of.
     _ (section.block.first, section.block.end) block c.in_ok-head.ensures.later (record {
       head = subst (λ head. StandsFor mid c.in_ok-head.head head) (head_is section block of) c.in_ok-head.ensures.head;
       added = c.in_ok-push_said.ensures block.said (is_said section block of);
-      begins = c.len-start.ensures ∙ digests.words.ok.0;
-      ends = c.len-end.ensures ∙ c.push_said.new.words.ok.0;
-      first = refl;
-      behind = refl;
+      begins = c.in_ok-start.ensures ∙ (c.len.ensures ∙ digests.words.ok.0);
+      ends = c.in_ok-end.ensures ∙ (c.len-2.ensures ∙ c.push_said.new.words.ok.0);
+      first = c.in_ok-first.ensures;
+      behind = c.in_ok-behind.ensures;
       own = c.has_own_findings.ensures ∙ own_is section block of;
     }) c.in_ok-push.ensures.items)

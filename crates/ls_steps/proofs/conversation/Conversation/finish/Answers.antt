@@ -8,14 +8,14 @@ use Rattle.ls_steps.proofs.conversation.Conversation.finish.Goals.{then-is_full-
 pub returns-then-branch : goal.returns-then-branch
 returns-then-branch c =
     finished_as c.args.self.now c.self.inside.session c.self.inside.desk c.finish.new.desk c.self.inside.held.items c.remove-job.new.self.items c.self.inside.status c.args.at c.remove-job.result
-    c.run_keeping.result c.in_ok-finish.field-0 true c.is_full.result c.self.view_is c.is_full.ensures c.if-is_full.false (omega arith) c.remove-job.ensures.value c.remove-job.ensures.items
-    c.run_keeping.ensures.ticket c.run_keeping.ensures.text c.run_keeping.ensures.encoding c.run_keeping.ensures.ask (λ none. ap is_some (c.run_keeping.ensures.not_a_name none)) c.if-branch.true c.in_ok-finish.ensures.left
+    c.run_job-done.result c.in_ok-finish.field-0 true c.is_full.result c.self.view_is c.is_full.ensures c.if-is_full.false (omega arith) c.remove-job.ensures.value c.remove-job.ensures.items
+    c.run_job-done.ensures.ticket c.run_job-done.ensures.text c.run_job-done.ensures.encoding c.run_job-done.ensures.ask (λ none. ap is_some (c.run_job-done.ensures.not_a_name none)) c.if-branch.true c.in_ok-finish.ensures.left
 
 pub returns-else-branch : goal.returns-else-branch
 returns-else-branch c =
     finished_as c.args.self.now c.self.inside.session c.self.inside.desk c.finish.new.desk c.self.inside.held.items c.remove-job.new.self.items c.self.inside.status c.args.at c.remove-job.result
-    c.run_keeping.result c.in_ok-finish.field-0 false c.is_full.result c.self.view_is c.is_full.ensures c.if-is_full.false (omega arith) c.remove-job.ensures.value c.remove-job.ensures.items
-    c.run_keeping.ensures.ticket c.run_keeping.ensures.text c.run_keeping.ensures.encoding c.run_keeping.ensures.ask (λ none. ap is_some (c.run_keeping.ensures.not_a_name none)) c.if-branch.false c.in_ok-finish.ensures.left
+    c.run_job-done.result c.in_ok-finish.field-0 false c.is_full.result c.self.view_is c.is_full.ensures c.if-is_full.false (omega arith) c.remove-job.ensures.value c.remove-job.ensures.items
+    c.run_job-done.ensures.ticket c.run_job-done.ensures.text c.run_job-done.ensures.encoding c.run_job-done.ensures.ask (λ none. ap is_some (c.run_job-done.ensures.not_a_name none)) c.if-branch.false c.in_ok-finish.ensures.left
 
 pub returns-then-is_full : goal.returns-then-is_full
 returns-then-is_full c =

@@ -1,5 +1,5 @@
 use Rattle.std.proofs.Common.{rules}
-use Rattle.xml_blocks.proofs.tag.opening.Goals as goal
+use Rattle.xml_blocks.proofs.tag.block_element.Goals as goal
 
 pub returns-then-is_named : goal.returns-then-is_named
 returns-then-is_named = search rules depth 3
