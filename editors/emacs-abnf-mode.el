@@ -25,3 +25,11 @@
               imenu-auto-rescan t
               indent-tabs-mode nil))
 (add-to-list 'auto-mode-alist '("\\.abnf\\'" . abnf-mode))
+(defconst abnf-draft-hooks '(markdown-mode-hook markdown-ts-mode-hook nxml-mode-hook)
+  "The hooks of the modes in which drafts are written.")
+(defun abnf-is-draft ()
+  "Whether this buffer's file is named draft-*, or has the word abnf."
+  (and buffer-file-name
+       (or (string-prefix-p "draft-" (file-name-nondirectory buffer-file-name))
+           (let ((case-fold-search t))
+             (save-excursion (goto-char (point-min)) (search-forward "abnf" nil t))))))

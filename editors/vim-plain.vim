@@ -3,6 +3,8 @@ vim9script
 #   source ~/.local/share/abnf_ls/editors/vim-plain.vim
 # Faults are marked as you type, and said behind their line. gd goes from a name to its definition, grr lists its places, grn renames it, K
 # shows what its rule generates at the shortest, gra inserts that as a comment, gO lists the rules. :AbnfRestart starts the server anew.
+# All that is there in drafts too: files that end in .md, .mkd, .markdown or .xml, and are named draft-* or have the word abnf when they are
+# opened.
 const program = "/path/to/abnf_ls/out/abnf_ls"
 
 var job: job
@@ -40,7 +42,8 @@ enddef
 
 def Start()
   job = job_start([program], {in_mode: 'lsp', out_mode: 'lsp', err_mode: 'nl', out_cb: Told, err_cb: Warned})
-  Asked('initialize', {processId: getpid(), rootUri: null, capabilities: {general: {positionEncodings: ['utf-8']}}})
+  const capabilities = {general: {positionEncodings: ['utf-8']}}
+  Asked('initialize', {processId: getpid(), rootUri: null, capabilities: capabilities, initializationOptions: {drafts: true}})
   Notify('initialized', {})
 enddef
 
@@ -66,7 +69,8 @@ def Open(buffer: number)
   setbufvar(buffer, 'abnf_uri', uri)
   setbufvar(buffer, 'abnf_version', version)
   documents[uri] = buffer
-  Notify('textDocument/didOpen', {textDocument: {uri: uri, languageId: 'abnf', version: version, text: Text(buffer)}})
+  const language = buffer->getbufvar('abnf_language')
+  Notify('textDocument/didOpen', {textDocument: {uri: uri, languageId: language, version: version, text: Text(buffer)}})
 enddef
 
 # Sends the text as it is now.
@@ -157,7 +161,8 @@ def Apply(edit: any)
 enddef
 
 def Rename()
-  const name = input('New name: ', expand('<cword>'))
+  const at = col('.')
+  const name = input('New name: ', matchstr(getline('.'), $'\v%(\a[a-zA-Z0-9-]*)?%{at}c[a-zA-Z0-9-]*'))
   if name != ''
     Apply(Asked('textDocument/rename', Here()->extend({newName: name})))
   endif
@@ -182,14 +187,15 @@ def Restart()
   endfor
 enddef
 
-def Edit()
+def Edit(language: string)
   if &encoding != 'utf-8'
     echomsg 'abnf_ls needs "set encoding=utf-8" in the vimrc'
     return
   endif
-  setlocal commentstring=;%s comments=:;
-  # A rename proposes the word under the cursor: the whole name.
-  setlocal iskeyword+=-
+  b:abnf_language = language
+  if language == 'abnf'
+    setlocal commentstring=;%s comments=:; iskeyword+=-
+  endif
   nnoremap <buffer> gd <ScriptCmd>ShowPlaces('textDocument/definition', {})<CR>
   nnoremap <buffer> grr <ScriptCmd>ShowPlaces('textDocument/references', {context: {includeDeclaration: true}})<CR>
   nnoremap <buffer> grn <ScriptCmd>Rename()<CR>
@@ -205,6 +211,12 @@ def Edit()
   Open(bufnr())
 enddef
 
+def EditDraft(language: string)
+  if expand('%:t') =~ '^draft-' || search('\cabnf', 'nw') > 0
+    Edit(language)
+  endif
+enddef
+
 prop_type_add('abnf_error', {highlight: 'SpellBad'})
 prop_type_add('abnf_warning', {highlight: 'SpellCap'})
 prop_type_add('abnf_said', {highlight: 'WarningMsg'})
@@ -212,6 +224,8 @@ command! AbnfRestart Restart()
 augroup abnf_ls
   autocmd!
   autocmd BufRead,BufNewFile *.abnf setfiletype abnf
-  autocmd FileType abnf Edit()
+  autocmd FileType abnf Edit('abnf')
+  autocmd BufRead,BufNewFile *.md,*.mkd,*.markdown EditDraft('markdown')
+  autocmd BufRead,BufNewFile *.xml EditDraft('xml')
   autocmd VimLeavePre * Stop()
 augroup END

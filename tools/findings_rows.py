@@ -170,6 +170,7 @@ DRAFT_ROWS = (
     ("<!--\n~~~ abnf\na = ?\n~~~\n-->\n", NO_GRAMMAR, ()),
     ("<!-- a -->\n~~~ abnf\na = ?\n~~~\n<!-- b\nc --> d\n~~~ abnf\nb = ?\n~~~\n", ("3:5: error: bad character [syntax]", "8:5: error: bad character [syntax]"), ("3:1: a: not known", "8:1: b: not known")),
     ("{::comment}\n~~~ abnf\na = ?\n~~~\n{:/comment}\n~~~ abnf\nb = ?\n~~~\n", ("7:5: error: bad character [syntax]",), ("7:1: b: not known",)),
+    ("{::comment} b {:/comment}\n~~~ abnf\na = ?\n~~~\n", ("3:5: error: bad character [syntax]",), ("3:1: a: not known",)),
     # empty blocks, each where its closing fence stands, or where the draft ends
     ("```abnf\n```\n", ("2:1: warning: empty block of grammar [not-read]",), ()),
     (

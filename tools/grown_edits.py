@@ -5,7 +5,7 @@
 
 PROGRAM is that of the crate served_plainly. The forms are those of bench/forms.py, and bench/growth.py counts the instructions of an edit in two
 texts of each, one four times as long as the other: some hundreds of rules, or thousands of lines. It has a bound for how often the one goes into
-the other. A keystroke that reads more than it must at each size is within the bound: that kept state is used at all shows kept_rows.py.
+the other. A keystroke that reads more than it must at each size is within the bound: kept_rows.py shows that kept state is used at all.
 """
 import os
 import re
@@ -17,7 +17,7 @@ from workspace import TOP
 
 TOOL = os.path.join(TOP, "bench", "growth.py")
 SHARE = 100
-# Growth is told at the end of a line: how often what the smaller text takes goes into what the larger one takes.
+# Growth is printed at the end of a line: how often what the smaller text takes goes into what the larger one takes.
 FORM = re.compile(r"(?m)^(\S.*\S) +[\d.]+ +[\d.]+ \( *[\d.]+\)$")
 BEYOND = "beyond a bound: "
 

@@ -22,6 +22,7 @@ import command_rows
 import counts
 import cut_pipes
 import dist_rows
+import draft_sessions
 import encoding_rows
 import failing_devices
 import findings_rows
@@ -160,6 +161,7 @@ TOOLS = {
         ("failing_devices", failing_devices.cases),
         ("shaken_threads", shaken_threads.cases),
         ("replayed_typing", replayed_typing.cases),
+        ("draft_sessions", draft_sessions.cases),
         ("kept_rows", kept_rows.cases),
     ),
     "served_plainly": (

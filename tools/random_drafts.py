@@ -7,7 +7,7 @@ grammar. It does the same with grammars beside others whose names are known.
 A grammar is cut before some of its rules. Each piece is indented by some blanks, stands in a fence of its own, which may be indented too, and
 has other text around it: words, and fences of other languages with rules in them. What is found in the draft must be what is found in the
 grammar, with and without --rules, each line moved as its piece was. Some definitions come again at the end: one that says the same as the
-first must be no finding in the draft, and of one that says something else the line of the first must be told.
+first must be no finding in the draft, and of one that says something else the line of the first must be printed.
 
 Between the fences stand some that are empty. In RFCXML each piece stands in a CDATA section of an element, and between these stand elements
 that are empty, or have their text in another file. Each of them must be a warning, before what is found behind it.
@@ -126,7 +126,7 @@ def in_draft(lines, repeats, moved):
 
 
 def draft_cases(program, count, seed):
-    faults, lines_told, copies = [], 0, 0
+    faults, lines_printed, copies = [], 0, 0
     for number in range(count):
         dice = random.Random(f"{seed} {number}")
         lines = grammar(dice).split("\n")
@@ -138,10 +138,10 @@ def draft_cases(program, count, seed):
             kept = [*in_draft(alone, repeats, moved)]
             wanted = sorted([*kept, *([] if options else warnings)], key=place_of)
             found = told(program, [*options, "--format", "markdown"], end.join(draft), "g")
-            lines_told, copies = lines_told + len(kept), copies + len(alone) - len(kept)
+            lines_printed, copies = lines_printed + len(kept), copies + len(alone) - len(kept)
             if found != (int(any(": error: " in it for it in wanted) and not options), said, wanted):
                 faults.append((number, options, found[2][:3], wanted[:3]))
-    yield f"{count} grammars in drafts", (faults[:2], lines_told > count, copies > count / 10), ([], True, True), count
+    yield f"{count} grammars in drafts", (faults[:2], lines_printed > count, copies > count / 10), ([], True, True), count
 
 
 def unread(dice):
@@ -187,7 +187,7 @@ def place_of(line):
 
 
 def page_cases(program, count, seed):
-    faults, lines_told, unread_told = [], 0, 0
+    faults, lines_printed, unread_printed = [], 0, 0
     for number in range(count):
         dice = random.Random(f"page {seed} {number}")
         lines = [line.replace("]]>", "] ]>") for line in grammar(dice).split("\n")]
@@ -197,10 +197,10 @@ def page_cases(program, count, seed):
             _, said, alone = told(program, options, "\n".join(lines), "g")
             wanted = sorted([*in_draft(alone, repeats, moved), *([] if options else warnings)], key=place_of)
             found = told(program, [*options, "--format", "xml"], "\n".join(page), "g")
-            lines_told, unread_told = lines_told + len(wanted), unread_told + len(wanted) * bool(warnings)
+            lines_printed, unread_printed = lines_printed + len(wanted), unread_printed + len(wanted) * bool(warnings)
             if found != (int(any(": error: " in it for it in wanted) and not options), said, wanted):
                 faults.append((number, options, found[2][:3], wanted[:3]))
-    yield f"{count} grammars in RFCXML", (faults[:2], lines_told > count, unread_told > count), ([], True, True), count
+    yield f"{count} grammars in RFCXML", (faults[:2], lines_printed > count, unread_printed > count), ([], True, True), count
 
 
 def blocks(lines):
@@ -231,7 +231,7 @@ def indented(dice, lines):
 
 
 def known_cases(program, count, seed):
-    faults, lines_told, lines_joined = [], 0, 0
+    faults, lines_printed, lines_joined = [], 0, 0
     with rows.files() as files:
         for number in range(count):
             dice = random.Random(f"known {seed} {number}")
@@ -245,10 +245,10 @@ def known_cases(program, count, seed):
                 moves = [(at, by) for at in range(len(whole))]
                 moved = [moved_line(line, moves) for line in told(program, options, "\n".join(whole), "g")[2]]
                 wanted = [line for line in moved if int(PLACE.fullmatch(line)[1]) <= len(lines)]
-                lines_told += len(wanted)
+                lines_printed += len(wanted)
                 if found != (int(any(": error: " in it for it in wanted) and not options), b"", wanted):
                     faults.append((number, options, found, wanted[:3]))
-    yield f"{count} grammars with known files", (faults[:2], lines_told > count, lines_joined > count), ([], True, True), count
+    yield f"{count} grammars with known files", (faults[:2], lines_printed > count, lines_joined > count), ([], True, True), count
 
 
 def cases(program):

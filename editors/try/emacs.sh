@@ -2,7 +2,7 @@
 # Runs a real Emacs (28 with the package eglot, or 29 and later) in batch mode against the language server, by the set-up that
 # editors/emacs-eglot.el gives: opens a grammar, asks for its outline, a definition and a hover, and for what eldoc is given of that to
 # show, looks at its diagnostics, goes through the references of a name, renames it and back, takes the code action, asks for the
-# semantic tokens, edits, asks again, opens a CRLF file and one with characters of one to four bytes before names, and shuts down. It
+# semantic tokens, edits, asks again, opens a CRLF file, one with characters of one to four bytes before names and a draft, and shuts down. It
 # does so with what this Emacs offers of itself, and then with positions that count characters (utf-32) offered alone.
 # Usage: emacs.sh PROGRAM. EMACS names the editor (emacs if left out). Status 0: all right, 1: a wrong answer, 2: it could not be tried.
 # Of the snippet the program's path is another, and eglot-ensure is left out: it waits for a command, and none comes in batch mode.
@@ -19,9 +19,10 @@ export TRY_FOLDER=$folder HOME=$folder LC_ALL=C.UTF-8
 printf '; a gr\303\244mmar \360\237\230\200\n\ngreeting = hello SP name ; \360\237\230\200\nhello    = "hi" / "hello"\nNAME     = 1*ALPHA\nname    =/ "\360\237\230\200"/hello/name\n' > "$folder/a.abnf"
 sed 's/$/\r/' "$folder/a.abnf" > "$folder/dos.abnf"
 printf 'a = <\303\251\342\202\254\360\237\230\200> / b / nope ; \360\237\230\200 \303\251\nb = "x"\n' > "$folder/wide.abnf"
+printf '%s\n' '<rfc><artwork type="abnf">' 'a = &lt;😀&gt; nope' 'b = id-right' 'id-right = "hi"' '</artwork></rfc>' > "$folder/draft.xml"
 
 ln -s -- "$program" "$folder/the program"
-sed -e "s#/path/to/abnf_ls/out/abnf_ls#$folder/the program#" -e '/eglot-ensure/d' "$editors/emacs-eglot.el" > "$folder/set-up.el"
+sed -e "s#/path/to/abnf_ls/out/abnf_ls#$folder/the program#" -e 's/eglot-ensure/ignore/' "$editors/emacs-eglot.el" > "$folder/set-up.el"
 cp -- "$editors/emacs-abnf-mode.el" "$folder/"
 
 cat > "$folder/try.el" <<'EL'
@@ -217,6 +218,18 @@ Each turn asks anew, and by force, so that it doesn't matter when eglot hands on
       (let ((whole (text)))
         (is "a rename there" (renamed 1 "b" "bee") (with whole " b " " bee " "^b" "bee")))
       (is "references there" (references 2 "bee") '((1 . 12) (2 . 0)))
+      (set-buffer-modified-p nil)
+      (eglot-shutdown (eglot-current-server))
+      (start "draft.xml")
+      (is "what positions count in a draft" (encoding) (if (equal offered "") (encoding) offered))
+      (is "outline of it" (outline) '((2 . "a") (3 . "b") (4 . "id-right")))
+      (is "a diagnostic in it" (diagnostics '(2 "undefined" "undefined rule nope")) '((2 "undefined" "undefined rule nope")))
+      (is "its column, in characters from 0" (progn (goto-char (flymake-diagnostic-beg (car (flymake-diagnostics)))) (- (point) (line-beginning-position))) 14)
+      (is "hover in it" (hover 3 "id-right") "shortest length 2\nexample hi")
+      (is "what is shown of that" (shown 3 "id-right") '("shortest length 2\nexample hi"))
+      (is "the name that a rename proposes" (thing-at-point 'symbol t) "id-right")
+      (let ((whole (text)))
+        (is "a rename in it" (renamed 3 "right" "id-left") (with whole "id-right" "id-left")))
       (set-buffer-modified-p nil)
       (eglot-shutdown (eglot-current-server)))
   (error (cl-incf failed) (princ (format "FAIL %S\n" err))))

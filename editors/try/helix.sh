@@ -1,7 +1,7 @@
 #!/usr/bin/env bash
 # Runs a real Helix in a terminal of tmux against the language server, by the set-up that editors/helix-languages.toml gives: opens a
 # grammar, looks at its diagnostic, asks for a hover, goes to a definition, renames a name, takes the code action, lists references and
-# the outline, starts the server anew, asks again, and ends. What Helix shows is read from the terminal, what it writes from the file.
+# the outline, starts the server anew, asks again, does so in a draft, and ends. What Helix shows is read from the terminal, what it writes from the file.
 # Usage: helix.sh PROGRAM. HX names the editor (hx if left out). Status 0: all right, 1: a wrong answer, 2: it could not be tried.
 # The snippet is taken as it stands, but for the path of the program. The keys are those of Helix 25. Escape is sent by itself: with a key
 # close behind it a terminal has another key.
@@ -34,4 +34,9 @@ go 1 1; keys Space s; shows "the outline" 'greeting' 'salutation' 'NAME' 'id-rig
 if log=$(grep -h -E 'helix_lsp[^ ]* \[(ERROR|WARN)\]' "$XDG_CACHE_HOME/helix/helix.log" 2>/dev/null); then is "the log" "$log" ""; fi
 keys Escape; keys ':lsp-restart' Enter; sleep 1
 go 5 1; keys Space k; shows "a hover after a restart" 'example hi'
-keys Escape; finish ':q!' Enter
+keys Escape; draft; keys ':o ~/draft-d.md' Enter
+go 4 5; shows "a diagnostic in a draft" 'undefined rule nope'
+go 6 1; keys Space k; shows "a hover there" 'shortest length 2' 'example hi'
+go 5 5; keys Space r; keys C-u; keys -l id-left; keys Enter
+keys Escape; writes "a rename there" "$folder/renamed_draft" ':w' Enter
+keys Escape; finish ':qa!' Enter

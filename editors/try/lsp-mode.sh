@@ -2,7 +2,7 @@
 # Runs a real Emacs with the package lsp-mode in a terminal of tmux against the language server, by the set-up that
 # editors/emacs-lsp-mode.el gives: opens a grammar, looks at its diagnostic, asks for a hover, goes to a definition, lists references and
 # the outline, renames a name, looks at the new name that is proposed for one with a hyphen, takes the code action, starts the server
-# anew, asks again, and ends.
+# anew, asks again, does so in a draft, for which it needs the package markdown-mode, and ends.
 # Usage: lsp-mode.sh PROGRAM. EMACS names the editor (emacs if left out). Status 0: all right, 1: a wrong answer, 2: it could not be
 # tried. The snippet is taken as it stands, but for the path of the program.
 set -euo pipefail
@@ -41,4 +41,10 @@ sed 's/^salutation/; example hi\n&/' "$folder/renamed" > "$folder/with_example"
 writes "the text with the example" "$folder/with_example" C-x C-s
 old=$(server); ask lsp-workspace-restart; is_new "$old"
 go 5 1; go 3 12; shows "a hover after it" 'shortest length 2' 'example hi'
+draft; keys C-x C-f; keys C-a C-k; keys -l "$file"; keys Enter; shows "the server in a draft" 'LSP[abnf_ls' 'Markdown'
+run '(mapcar (function flymake-diagnostic-text) (flymake-diagnostics))'; shows "a diagnostic there" 'undefined rule nope'
+go 6 2; shows "a hover there" 'shortest length 2' 'example hi'
+go 5 8; ask lsp-rename; shows "the whole name is proposed there" 'Rename id-right to: id-right'
+keys C-a; keys C-k; keys -l id-left; keys Enter
+writes "a rename there" "$folder/renamed_draft" C-x C-s
 finish C-x C-c

@@ -2,7 +2,7 @@
 # Runs a real Neovim (0.7 or later) headless against the language server, by the set-up that editors/neovim.lua gives, and from 0.11 on
 # by that of editors/neovim-0.11.lua too: opens a grammar, asks for its outline, a definition and a hover, looks at its diagnostics, edits,
 # asks again, reloads, goes through the references of a name, renames it and back, takes the code action, asks for the semantic tokens,
-# opens a CRLF file and one with characters of one to four bytes before names, and ends. It does so with what this Neovim offers of
+# opens a CRLF file, one with characters of one to four bytes before names and a draft of each kind, and ends. It does so with what this Neovim offers of
 # itself, and then with each of the three encodings of positions offered alone. Usage: neovim.sh PROGRAM. NVIM names the editor (nvim if
 # left out). Status 0: all right, 1: a wrong answer, 2: it could not be tried. A snippet is taken as it stands, but for the path of the
 # program.
@@ -40,6 +40,9 @@ if "$nvim" --headless -u NONE -c 'lua vim.cmd(vim.lsp.config and "qall!" or "cqu
 printf '; a gr\303\244mmar \360\237\230\200\n\ngreeting = hello SP name ; \360\237\230\200\nhello    = "hi" / "hello"\nNAME     = 1*ALPHA\nname    =/ "\360\237\230\200"/hello/name\n' > "$folder/a.abnf"
 sed 's/$/\r/' "$folder/a.abnf" > "$folder/dos.abnf"
 printf 'a = <\303\251\342\202\254\360\237\230\200> / b / nope ; \360\237\230\200 \303\251\nb = "x"\n' > "$folder/wide.abnf"
+printf '%s\n' '# Of id-right' '' '~~~ abnf' 'a = <é😀> nope' 'b = id-right' 'id-right = "hi"' '~~~' > "$folder/draft.md"
+printf '%s\n' '<rfc><artwork type="abnf">' 'a = &lt;b&gt; nope' 'id-right = "hi"' '</artwork></rfc>' > "$folder/draft.xml"
+printf '%s\n' '# No grammar' 'a = nope' > "$folder/other.md"
 
 cat > "$folder/try.lua" <<'LUA'
 local failed = 0
@@ -114,6 +117,15 @@ local function renamed(row, word, new)
   vim.lsp.buf.rename(new)
   vim.wait(3000, function() return text() ~= before end, 10)
   return text()
+end
+local function proposed(row, word)
+  go(row, word)
+  local name, input = "nothing", vim.ui.input
+  vim.ui.input = function(options) name = options.default end
+  vim.cmd("normal grn")
+  vim.wait(3000, function() return name ~= "nothing" end, 10)
+  vim.ui.input = input
+  return name
 end
 local function refused(row, word, new)
   go(row, word)
@@ -233,6 +245,28 @@ local ok, err = pcall(function()
   local wide = text():gsub(" b ", " bee "):gsub("\nb", "\nbee")
   is("a rename there", renamed(1, "b", "bee"), wide)
   is("references there", references(2, "bee"), "1:19 2:1")
+  vim.cmd("edit! " .. vim.fn.fnameescape(vim.env.TRY_FOLDER .. "/draft.md"))
+  is("attached to a draft", tostring(ready()), "true")
+  vim.wait(3000, function() return #vim.diagnostic.get(0) == 1 end, 10)
+  is("a diagnostic in a draft", diagnostics(), "3:13-17 1 undefined undefined rule nope")
+  is("hover in a draft", hover(6, "id-right"), "shortest length 2\nexample hi")
+  is("outline of a draft", outline(), "a@3 b@4 id-right@5")
+  is("references in a draft", references(5, "id-right"), "5:5 6:1")
+  is("the name that a rename proposes", proposed(5, "right"), "id-right")
+  is("a word of prose", vim.fn.matchstr("id-right", [[\k*]]), vim.fn.has("nvim-0.8") == 1 and "id" or "id-right")
+  local draft = text()
+  is("a rename in a draft", renamed(5, "right", "id-left"), (draft:gsub("= id%-right", "= id-left"):gsub("\nid%-right", "\nid-left")))
+  vim.cmd("edit! " .. vim.fn.fnameescape(vim.env.TRY_FOLDER .. "/draft.xml"))
+  is("attached to a draft in RFCXML", tostring(ready()), "true")
+  vim.wait(3000, function() return #vim.diagnostic.get(0) == 1 end, 10)
+  is("a diagnostic there", diagnostics(), "1:14-18 1 undefined undefined rule nope")
+  is("hover there", hover(3, "id-right"), "shortest length 2\nexample hi")
+  vim.cmd("edit! " .. vim.fn.fnameescape(vim.env.TRY_FOLDER .. "/other.md"))
+  is("attached to another file", tostring(ready()), "true")
+  is("outline of another file", outline(), "")
+  is("its diagnostics", diagnostics(), "")
+  is("its keys", vim.fn.maparg("gd", "n"), "")
+  is("servers for all files", tostring(vim.tbl_count(clients())), "1")
 end)
 if not ok then failed = failed + 1 io.stdout:write("FAIL " .. tostring(err) .. "\n") end
 -- a crash of the server, or a complaint of it, stands in the editor's log

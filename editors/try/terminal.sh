@@ -26,6 +26,11 @@ drafts() { # in place of the grammar: in Markdown, with findings in lines 4 to 6
   printf '%s\n' '<rfc><artwork type="abnf">' 'a = "x" / nope' '</artwork></rfc>' > "$folder/draft-b.xml"
   printf '%s\n' '# A draft' 'a = nope' > "$folder/draft-c.md"
 }
+draft() { # in place of the grammar: in Markdown, with a finding in line 4, and a name in lines 5 and 6 that prose has too
+  file=$folder/draft-d.md
+  printf '%s\n' '# A draft of id-right' '' '~~~ abnf' 'a = nope' 'b = id-right' 'id-right = "hi"' '~~~' > "$file"
+  sed '4,$s/id-right/id-left/' "$file" > "$folder/renamed_draft"
+}
 snippet() { # FILE: as it is installed, with the program's path in it
   sed "s#/path/to/abnf_ls/out/abnf_[a-z]*#$folder/the program#" "$editors/$1"
 }

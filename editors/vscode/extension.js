@@ -1,4 +1,5 @@
-// VS Code: starts the language server for ABNF grammars. README says how an extension is made of this folder, and what of it was tried.
+// VS Code: starts the language server for ABNF grammars, and for drafts. EDITORS says how an extension is made of this folder, and what was
+// tried of it.
 // F12 goes from a name to its definition, Shift+F12 lists its places, F2 renames it, Ctrl+. inserts the shortest example of its rule,
 // Ctrl+Shift+O shows the outline; the pointer on a name shows what its rule generates at the shortest. The setting abnf_ls.path is the
 // server's path; a folder can't say it, so the server also runs in one that isn't trusted.
@@ -13,7 +14,9 @@ async function start() {
   await stop().catch(() => {}); // (the client itself has told that, and its server is ended all the same)
   // A command and no transport: with a transport the client would add an argument, as --stdio, which the server refuses.
   const server = { command: vscode.workspace.getConfiguration("abnf_ls").get("path") };
-  client = new LanguageClient("abnf_ls", "abnf_ls", server, { documentSelector: [{ language: "abnf" }] });
+  // (beside others for Markdown and XML: where it finds no block of ABNF it says nothing)
+  const documentSelector = ["abnf", "markdown", "xml"].map((language) => ({ language }));
+  client = new LanguageClient("abnf_ls", "abnf_ls", server, { documentSelector, initializationOptions: { drafts: true } });
   try {
     await client.start();
   } catch (fault) {

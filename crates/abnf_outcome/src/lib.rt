@@ -20,7 +20,6 @@ mod evaluate;
 mod found_in;
 mod heads;
 mod laws;
-mod narrow;
 mod outcome;
 mod own;
 mod pending;

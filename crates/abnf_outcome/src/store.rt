@@ -19,13 +19,13 @@ ghost use Rattle.abnf_names.specs.Sections.{IsSaidBy};
 ghost use Rattle.abnf_outcome.specs.Sections.{IsBlockOf};
 
 use crate::digest::{BlockDigest, HeadNumber};
-use crate::narrow::narrow;
 use crate::own::has_own_findings;
 use crate::table::NameTable;
 use crate::word::{Word, push_words};
 use abnf_names::{Section, rule_of};
 use abnf_syntax::{Block, Spare};
 use abnf_token::Folded;
+use ls_lists::narrow;
 use std::alloc::{AllocError, Global};
 use std::marker::Model;
 

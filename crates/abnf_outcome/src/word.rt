@@ -11,12 +11,11 @@ ghost use Rattle.abnf_digests.specs.Gists.{gist, is_above};
 ghost use Rattle.abnf_outcome.specs.Words.{repeat_words, words_of};
 ghost use Rattle.abnf_outcome.specs.own.Adding.{AddsWords};
 
-use crate::narrow::narrow;
 use crate::table::NameTable;
 use abnf_parts::{range_of, repeat_bounds};
 use abnf_syntax::{Element, MAX_NESTING, Repetition, Rule};
 use abnf_token::{Folded, Token};
-use ls_lists::List;
+use ls_lists::{List, narrow};
 use std::alloc::AllocError;
 
 /// A word of a gist. Each operation stands behind what it is of.

@@ -7,12 +7,13 @@ use Rattle.std.proofs.Math.Utf8.{scalars}
 use Rattle.std.proofs.lemmas.Bool.Decides.{nat_tests}
 use Rattle.std.proofs.lemmas.List.Elements.{All-head, All-tail}
 use Rattle.std.proofs.lemmas.Str.{len_utf8_bounds}
-use Rattle.ls_text.specs.Lines.{units, utf16_len}
+use Rattle.ls_text.specs.Lines.{units, units_of, utf16_len, width_in}
 use Rattle.ls_text.specs.Positions.{place_range}
 use Rattle.ls_text.specs.Edits.{edited_all}
 use Rattle.ls_text.specs.Cut.{text_of, AreLines}
 use Rattle.ls_text.specs.declared.position.Encoding.{Encoding}
-use Rattle.ls_text.specs.declared.position.Encoding.TheVariants.{Utf8, Utf16, Utf32}
+use Rattle.ls_text.specs.declared.position.Units.{Units}
+use Rattle.ls_text.specs.declared.position.Units.TheVariants.{Utf8, Utf16, Utf32}
 use Rattle.ls_text.specs.declared.position.Place.{Place}
 use Rattle.ls_text.specs.declared.position.Range.{Range}
 use Rattle.abnf_token.specs.Classes.{Text, is_name}
@@ -66,11 +67,14 @@ all_listed old text blocks pss said h =
 utf16_some : (c : ℕ) → 1 ≤ utf16_len c
 utf16_some c = grind (arith, nat_tests)
 
+width_some : (counted : Units) (c : ℕ) → 1 ≤ width_in counted c
+width_some Utf8 c = (len_utf8_bounds c).0
+width_some Utf16 c = utf16_some c
+width_some Utf32 c = omega arith
+
 -- each character has a unit
 units_some : (encoding : Encoding) (c : ℕ) → 1 ≤ units encoding c
-units_some Utf8 c = (len_utf8_bounds c).0
-units_some Utf16 c = utf16_some c
-units_some Utf32 c = omega arith
+units_some encoding c = width_some (units_of encoding) c
 
 -- ---- the lines of the text after the edits
 

@@ -25,7 +25,7 @@ use Rattle.abnf_least.specs.declared.shortest.Shortest.{Shortest}
 use Rattle.abnf_least.specs.declared.shortest.Shortest.TheVariants.{Shown, Long, Huge, Nothing, NotKnown}
 use Rattle.abnf_least.proofs.SomeShown.{certificate_of, some_shown}
 use Rattle.abnf_productive.proofs.Exist.{some_findings}
-use Rattle.ls_answers.specs.Answers.{IsAnswer}
+use Rattle.ls_answers.specs.InGrammars.{IsAnswerInGrammar}
 use Rattle.ls_answers.specs.Diagnostics.{AreDiagnostics, diagnostic_of}
 use Rattle.ls_answers.specs.Hover.{shown_text}
 use Rattle.ls_answers.specs.Hovers.{IsHover, IsHoverAt, IsHoverOfRule}
@@ -132,7 +132,7 @@ module _ (encoding : Encoding) where
       let found = some_findings text small in
       (map (diagnostic_of encoding text) found.0, record { findings = found.0; of_text = found.1; diagnostics_are = refl })
 
-  pub some_answer : (text : List ℕ) (question : Ask) → length text < 2 ^ 62 → (a : Answer) × IsAnswer encoding text question a
+  pub some_answer : (text : List ℕ) (question : Ask) → length text < 2 ^ 62 → (a : Answer) × IsAnswerInGrammar encoding text question a
   some_answer text (ask.Hover at) small = let found = hover text at small in (answer.Hover found.0, found.1)
   some_answer text (ask.Definition at) small = let found = places Definitions text at small in (answer.Places found.0, found.1)
   some_answer text (ask.References at declarations) small = let found = places (wanted_with declarations) text at small in (answer.Places found.0, found.1)

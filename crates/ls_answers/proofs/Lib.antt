@@ -10,3 +10,5 @@ pub mod RenameLaws
 pub mod RenameKept
 pub mod NoName
 pub mod InsertionLaws
+pub mod DraftAnswers
+pub mod Documents

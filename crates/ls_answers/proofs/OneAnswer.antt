@@ -51,7 +51,8 @@ use Rattle.abnf_places.specs.declared.wanted.Wanted.{Wanted}
 use Rattle.abnf_places.specs.declared.wanted.Wanted.TheVariants.{Definitions}
 use Rattle.abnf_places.specs.Wanted.{is_wanted}
 use Rattle.ls_answers.proofs.OneList.{one_list_of_numbers}
-use Rattle.ls_answers.specs.Answers.{IsAnswer, hover_without_cert, insertion_without_cert, without_cert}
+use Rattle.ls_answers.specs.Answers.{hover_without_cert, insertion_without_cert, without_cert}
+use Rattle.ls_answers.specs.InGrammars.{IsAnswerInGrammar}
 
 module _ (encoding : Encoding) where
   -- ---- outlines
@@ -199,7 +200,7 @@ module _ (encoding : Encoding) where
 
   -- ---- the answers to each kind of question
 
-  hover_answer : (text : List ℕ) (at : Position) (a : Answer) → IsAnswer encoding text (ask.Hover at) a → (x : Option HoverText) × (a ≡ answer.Hover x) × IsHover encoding text at x
+  hover_answer : (text : List ℕ) (at : Position) (a : Answer) → IsAnswerInGrammar encoding text (ask.Hover at) a → (x : Option HoverText) × (a ≡ answer.Hover x) × IsHover encoding text at x
   hover_answer text at (answer.Hover hover) p = (hover, refl, p)
   hover_answer text at (answer.Places ranges) p = absurd p
   hover_answer text at (answer.Symbols symbols) p = absurd p
@@ -209,7 +210,7 @@ module _ (encoding : Encoding) where
   hover_answer text at (answer.Numbers numbers) p = absurd p
   hover_answer text at (answer.Findings diagnostics) p = absurd p
 
-  definitions_answer : (text : List ℕ) (at : Position) (a : Answer) → IsAnswer encoding text (ask.Definition at) a → (x : List Range) × (a ≡ answer.Places x) × AreDefinitions encoding text at x
+  definitions_answer : (text : List ℕ) (at : Position) (a : Answer) → IsAnswerInGrammar encoding text (ask.Definition at) a → (x : List Range) × (a ≡ answer.Places x) × AreDefinitions encoding text at x
   definitions_answer text at (answer.Hover hover) p = absurd p
   definitions_answer text at (answer.Places ranges) p = (ranges, refl, p)
   definitions_answer text at (answer.Symbols symbols) p = absurd p
@@ -219,7 +220,7 @@ module _ (encoding : Encoding) where
   definitions_answer text at (answer.Numbers numbers) p = absurd p
   definitions_answer text at (answer.Findings diagnostics) p = absurd p
 
-  references_answer : (text : List ℕ) (at : Position) (declarations : Bool) (a : Answer) → IsAnswer encoding text (ask.References at declarations) a → (x : List Range) × (a ≡ answer.Places x) × AreReferences encoding text at declarations x
+  references_answer : (text : List ℕ) (at : Position) (declarations : Bool) (a : Answer) → IsAnswerInGrammar encoding text (ask.References at declarations) a → (x : List Range) × (a ≡ answer.Places x) × AreReferences encoding text at declarations x
   references_answer text at declarations (answer.Hover hover) p = absurd p
   references_answer text at declarations (answer.Places ranges) p = (ranges, refl, p)
   references_answer text at declarations (answer.Symbols symbols) p = absurd p
@@ -229,7 +230,7 @@ module _ (encoding : Encoding) where
   references_answer text at declarations (answer.Numbers numbers) p = absurd p
   references_answer text at declarations (answer.Findings diagnostics) p = absurd p
 
-  outline_answer : (text : List ℕ) (a : Answer) → IsAnswer encoding text ask.Symbols a → (x : List Symbol) × (a ≡ answer.Symbols x) × IsOutline encoding text x
+  outline_answer : (text : List ℕ) (a : Answer) → IsAnswerInGrammar encoding text ask.Symbols a → (x : List Symbol) × (a ≡ answer.Symbols x) × IsOutline encoding text x
   outline_answer text (answer.Hover hover) p = absurd p
   outline_answer text (answer.Places ranges) p = absurd p
   outline_answer text (answer.Symbols symbols) p = (symbols, refl, p)
@@ -239,7 +240,7 @@ module _ (encoding : Encoding) where
   outline_answer text (answer.Numbers numbers) p = absurd p
   outline_answer text (answer.Findings diagnostics) p = absurd p
 
-  insertion_answer : (text : List ℕ) (range : Range) (a : Answer) → IsAnswer encoding text (ask.Action range) a → (x : Option Insertion) × (a ≡ answer.Insert x) × IsInsertion encoding text range x
+  insertion_answer : (text : List ℕ) (range : Range) (a : Answer) → IsAnswerInGrammar encoding text (ask.Action range) a → (x : Option Insertion) × (a ≡ answer.Insert x) × IsInsertion encoding text range x
   insertion_answer text range (answer.Hover hover) p = absurd p
   insertion_answer text range (answer.Places ranges) p = absurd p
   insertion_answer text range (answer.Symbols symbols) p = absurd p
@@ -249,7 +250,7 @@ module _ (encoding : Encoding) where
   insertion_answer text range (answer.Numbers numbers) p = absurd p
   insertion_answer text range (answer.Findings diagnostics) p = absurd p
 
-  tokens_answer : (text : List ℕ) (a : Answer) → IsAnswer encoding text ask.Tokens a → (x : List ℕ) × (a ≡ answer.Numbers x) × AreSemanticTokens encoding text x
+  tokens_answer : (text : List ℕ) (a : Answer) → IsAnswerInGrammar encoding text ask.Tokens a → (x : List ℕ) × (a ≡ answer.Numbers x) × AreSemanticTokens encoding text x
   tokens_answer text (answer.Hover hover) p = absurd p
   tokens_answer text (answer.Places ranges) p = absurd p
   tokens_answer text (answer.Symbols symbols) p = absurd p
@@ -259,7 +260,7 @@ module _ (encoding : Encoding) where
   tokens_answer text (answer.Numbers numbers) p = (numbers, refl, p)
   tokens_answer text (answer.Findings diagnostics) p = absurd p
 
-  findings_answer : (text : List ℕ) (a : Answer) → IsAnswer encoding text ask.Diagnose a → (x : List Diagnostic) × (a ≡ answer.Findings x) × AreDiagnostics encoding text x
+  findings_answer : (text : List ℕ) (a : Answer) → IsAnswerInGrammar encoding text ask.Diagnose a → (x : List Diagnostic) × (a ≡ answer.Findings x) × AreDiagnostics encoding text x
   findings_answer text (answer.Hover hover) p = absurd p
   findings_answer text (answer.Places ranges) p = absurd p
   findings_answer text (answer.Symbols symbols) p = absurd p
@@ -275,7 +276,7 @@ module _ (encoding : Encoding) where
   alike : {A : Type 0} (wrap : A → Answer) (a b : Answer) (x y : A) → a ≡ wrap x → b ≡ wrap y → without_cert (wrap x) ≡ without_cert (wrap y) → without_cert a ≡ without_cert b
   alike wrap a b x y p q e = ap without_cert p ∙ (e ∙ ap without_cert (sym q))
 
-  pub one_answer : (text : List ℕ) (question : Ask) (a b : Answer) → IsAnswer encoding text question a → IsAnswer encoding text question b → without_cert a ≡ without_cert b
+  pub one_answer : (text : List ℕ) (question : Ask) (a b : Answer) → IsAnswerInGrammar encoding text question a → IsAnswerInGrammar encoding text question b → without_cert a ≡ without_cert b
   one_answer text (ask.Hover at) a b p q =
       let x = hover_answer text at a p in
       let y = hover_answer text at b q in

@@ -12,7 +12,7 @@ use Rattle.abnf_syntax.specs.Blocks.{line_texts}
 use Rattle.abnf_syntax.specs.Items.{AreTokens}
 use Rattle.abnf_names.specs.Rules.{Grammar}
 use Rattle.abnf_names.proofs.OneGrammar.{one_grammar}
-use Rattle.ls_answers.specs.SemanticTokens.{AreSemanticTokens, origin, relative, stands_at, told, told_of}
+use Rattle.ls_answers.specs.SemanticTokens.{AreReported, AreSemanticTokens, origin, relative, stands_at, told, told_of}
 use Rattle.ls_answers.specs.declared.semantic_tokens.SemanticToken.{SemanticToken}
 
 abbrev View : Type 0
@@ -48,3 +48,11 @@ module _ (encoding : Encoding) where
       p.numbers_are
       ∙ (ap (λ (g : Grammar). relative origin (flat_map (filter_map (told encoding g)) p.tokens)) same
       ∙ (ap (relative origin) (same_told q.grammar (line_texts text) p.tokens q.tokens (p.all ∙ sym q.all) p.tokens_are q.tokens_are) ∙ sym q.numbers_are))
+
+  -- and one list of those that are reported
+  pub one_reported : (text : List ℕ) (xs ys : List SemanticToken) → AreReported encoding text xs → AreReported encoding text ys → xs ≡ ys
+  one_reported text xs ys p q =
+      let same = one_grammar p.grammar q.grammar p.right q.right (p.of_text ∙ sym q.of_text) in
+      p.given_are
+      ∙ (ap (λ (g : Grammar). flat_map (filter_map (told encoding g)) p.tokens) same
+      ∙ (same_told q.grammar (line_texts text) p.tokens q.tokens (p.all ∙ sym q.all) p.tokens_are q.tokens_are ∙ sym q.given_are))

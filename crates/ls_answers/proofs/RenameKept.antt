@@ -1,7 +1,6 @@
 -- A rename that is granted keeps the grammar.
 use Rattle.std.proofs.Common.{◌≡◌, ℕ, Bool, true, false, not, ◌&&◌, List, [], map, Option, Some, None, refl, sym, ap, subst, ◌∙◌}
-use Rattle.std.specs.Prelude.{All, IfOk, IfSome, Result, Ok, Err, if◌then◌else◌}
-use Rattle.std.specs.Result.{result_ok}
+use Rattle.std.specs.Prelude.{All, if◌then◌else◌}
 use Rattle.std.specs.Char.{IsScalar}
 use Rattle.std.specs.Str.{bytes_eq}
 use Rattle.abnf_token.specs.Classes.{is_name}
@@ -14,9 +13,9 @@ use Rattle.abnf_names.specs.Rules.{Grammar, IsGrammar}
 use Rattle.abnf_rename.specs.Rules.{IsGranted, is_in_use}
 use Rattle.abnf_rename.specs.Text.{KeepsTheGrammar}
 use Rattle.abnf_rename.proofs.RangesKept.{grammar_kept}
-use Rattle.ls_answers.specs.Answers.{IsAnswer}
+use Rattle.ls_answers.specs.InGrammars.{IsAnswerInGrammar}
 use Rattle.ls_answers.specs.Places.{name_at, name_range, places_alike}
-use Rattle.ls_answers.specs.RenameKeeps.{RenameKeeps, KeepsIfRenamed}
+use Rattle.ls_answers.specs.RenameKeeps.{RenameKeeps, KeepsIfRenamedInGrammar}
 use Rattle.ls_answers.specs.Renames.{IsRename, fault_there, rename_fault, rename_answer}
 use Rattle.ls_answers.specs.declared.answer.Answer.{Answer}
 use Rattle.ls_answers.specs.declared.answer.Answer.TheVariants as answer
@@ -91,12 +90,6 @@ module _ (encoding : Encoding) where
       subst (λ t. RenameKeeps encoding t at given ranges × (given ≡ new)) h.of_text
       (edits_keep h.grammar at new given ranges (rename_fault encoding h.grammar at new) h.right (subst (All IsScalar) (sym h.of_text) s) refl h.answer_is)
 
-  pub answer_keeps : (text : List ℕ) (question : Ask) (answer : Answer) → All IsScalar text → IsAnswer encoding text question answer → KeepsIfRenamed encoding text question answer
+  pub answer_keeps : (text : List ℕ) (question : Ask) (answer : Answer) → All IsScalar text → IsAnswerInGrammar encoding text question answer → KeepsIfRenamedInGrammar encoding text question answer
   answer_keeps text (ask.Rename at new) (answer.Edits ranges given) s h = rename_keeps text at new given ranges s h
   answer_keeps text question answer s h = tt
-
-  -- the same of an answer that may be missing
-  pub result_keeps : {E : Type 0} (text : List ℕ) (question : Ask) (r : Result Answer E) → All IsScalar text → IfOk r (λ answer. IsAnswer encoding text question answer)
-      → IfSome (result_ok r) (λ answer. KeepsIfRenamed encoding text question answer)
-  result_keeps text question (Ok answer) s h = answer_keeps text question answer s h
-  result_keeps text question (Err e) s h = tt

@@ -16,7 +16,7 @@ use Rattle.abnf_syntax.specs.Items.{AreTokens}
 use Rattle.abnf_names.specs.Places.{AllBehind, Ascend, Named, begins_before}
 use Rattle.abnf_names.specs.Rules.{Grammar, IsGrammar}
 use Rattle.abnf_names.proofs.Ascending.{places_ascend}
-use Rattle.ls_answers.specs.SemanticTokens.{AreSemanticTokens, origin, relative, stands_at, told, told_of}
+use Rattle.ls_answers.specs.SemanticTokens.{AreReported, AreSemanticTokens, origin, relative, stands_at, told, told_of}
 use Rattle.ls_answers.specs.Outline.{as_list}
 use Rattle.ls_answers.specs.own.Walk.{AreLineMarks, AreToldTokens, HasWalked, first_at, from_point, left_behind, left_behind_all, told_in_line, told_in_lines}
 use Rattle.ls_answers.specs.declared.semantic_tokens.SemanticToken.{SemanticToken}
@@ -119,9 +119,9 @@ found_first m t (n ∷ ns) all = found_by m t n ns (begins_before m t n) refl al
 module _ (encoding : Encoding) where
   -- ---- the tokens of a line
 
-  one_told : (o : Option SemanticToken) (xs : List SemanticToken) → as_list o ++ xs ≡ cons_option o xs
-  one_told None xs = refl
-  one_told (Some x) xs = refl
+  one_reported : (o : Option SemanticToken) (xs : List SemanticToken) → as_list o ++ xs ≡ cons_option o xs
+  one_reported None xs = refl
+  one_reported (Some x) xs = refl
 
   module _ (g : Grammar) (ascend : Ascend g.places) where
     abbrev at_point : ℕ → ℕ → List Named
@@ -139,7 +139,7 @@ module _ (encoding : Encoding) where
         found_first line t.start g.places ascend ∙ ap (λ n. find (stands_at n t.start) g.places) (sym of_line) in
         let rest = line_told line (start + length t.text.now) line t.start (drop (length t.text.now) left) ts h.1 (inr (refl, omega (arith, of_start))) in
         (λ i. as_list (told_of encoding g (sym of_line i) (mark_of t) ((ap (first_at line t.start) places_are ∙ found) i)) ++ told_in_line encoding g line (map mark_of ts) (places_are i))
-        ∙ (ap (λ l. as_list (told encoding g t) ++ l) rest ∙ one_told (told encoding g t) (filter_map (told encoding g) ts))
+        ∙ (ap (λ l. as_list (told encoding g t) ++ l) rest ∙ one_reported (told encoding g t) (filter_map (told encoding g) ts))
 
     -- where the walk stands behind a line
     line_left : (line start l s : ℕ) (left : Text) (ts : List Token) → TokensOf line start left ts → Reaches l s line start
@@ -203,6 +203,24 @@ module _ (encoding : Encoding) where
       → IfOk numbers (λ numbers. numbers ≡ relative origin given) → IfOk numbers (λ numbers. AreSemanticTokens encoding g.text numbers)
   told_numbers g tokens given (Ok numbers) right walked same are = told_tokens g tokens numbers right walked (are ∙ ap (relative origin) same)
   told_numbers g tokens given (Err e) right walked same are = are
+
+  reported_all : (g : Grammar) (tokens : List SemanticToken) → IsGrammar g → AreToldTokens encoding g tokens → AreReported encoding g.text tokens
+  reported_all g tokens right walked =
+      let w = walked.1 in
+      let all = lines_told g (places_ascend g right) (line_texts g.text) 0 0 0 w.lines w.marks (inr (refl, omega arith)) in
+      record {
+        grammar = g;
+        of_text = refl;
+        right = right;
+        tokens = all.lists;
+        all = all.count_is ∙ w.count_is;
+        tokens_are = all.are;
+        given_are = w.told ∙ (ap (told_in_lines encoding g 0 w.lines) (sym (from_start g.places)) ∙ all.told_are);
+      }
+
+  pub reported_given : {E : Type 0} (g : Grammar) (tokens : Result (List SemanticToken) E) → IsGrammar g → IfOk tokens (λ tokens. AreToldTokens encoding g tokens) → IfOk tokens (λ tokens. AreReported encoding g.text tokens)
+  reported_given g (Ok tokens) right walked = reported_all g tokens right walked
+  reported_given g (Err e) right walked = walked
 
   -- ---- the walk, line by line
 

@@ -1,33 +1,37 @@
--- What the answer to a question about a text is.
-use Rattle.std.specs.Prelude.{ℕ, List, [], option_map}
+-- What the answer to a question about a document is, and what a rename keeps.
+use Rattle.std.specs.Prelude.{ℕ, List, [], Option, None, Some, option_map}
 use Rattle.ls_text.specs.declared.position.Encoding.{Encoding}
-use Rattle.ls_answers.specs.Diagnostics.{AreDiagnostics}
-use Rattle.ls_answers.specs.Hovers.{IsHover}
-use Rattle.ls_answers.specs.Outline.{IsOutline}
-use Rattle.ls_answers.specs.Insertions.{IsInsertion}
-use Rattle.ls_answers.specs.Places.{AreDefinitions, AreReferences}
-use Rattle.ls_answers.specs.Renames.{IsRename}
-use Rattle.ls_answers.specs.SemanticTokens.{AreSemanticTokens}
+use Rattle.draft_grammars.specs.Drafts.{format_of}
+use Rattle.draft_grammars.specs.declared.format.Format.{Format}
+use Rattle.ls_answers.specs.InDrafts.{IsAnswerInDraft, KeepsIfRenamedInDraft}
+use Rattle.ls_answers.specs.InGrammars.{IsAnswerInGrammar}
+use Rattle.ls_answers.specs.RenameKeeps.{KeepsIfRenamedInGrammar}
 use Rattle.ls_answers.specs.declared.ask.Ask.{Ask}
-use Rattle.ls_answers.specs.declared.ask.Ask.TheVariants as ask
 use Rattle.ls_answers.specs.declared.answer.Answer.{Answer}
 use Rattle.ls_answers.specs.declared.answer.Answer.TheVariants as answer
 use Rattle.ls_answers.specs.declared.answer.HoverText.{HoverText}
 use Rattle.ls_answers.specs.declared.answer.Insertion.{Insertion}
 
--- The answer to the question about the text with these characters. Positions in both count the units of the encoding. Each question about a
--- text of fewer than 2^62 characters has one (`answers_exist`), and only one but for the certificate beside an example
--- (`answers_are_unique`).
+-- the answer, by what the document is written in; one without a format is a grammar
+abbrev pub IsAnswerBy : Option Format → Encoding → List ℕ → Ask → Answer → Type 0
+IsAnswerBy None encoding text question answer = IsAnswerInGrammar encoding text question answer
+IsAnswerBy (Some format) encoding text question answer = IsAnswerInDraft format encoding text question answer
+
+-- The answer to the question about the document with these characters. Positions in both count the units of the encoding, which says too
+-- whether it is a grammar or a draft. Each question about a document of fewer than 2^62 characters has one (`answers_exist`), and only one
+-- but for the certificate beside an example (`answers_are_unique`).
 abbrev pub IsAnswer : Encoding → List ℕ → Ask → Answer → Type 0
-IsAnswer encoding text (ask.Hover at) (answer.Hover hover) = IsHover encoding text at hover
-IsAnswer encoding text (ask.Definition at) (answer.Places ranges) = AreDefinitions encoding text at ranges
-IsAnswer encoding text (ask.References at declarations) (answer.Places ranges) = AreReferences encoding text at declarations ranges
-IsAnswer encoding text ask.Symbols (answer.Symbols symbols) = IsOutline encoding text symbols
-IsAnswer encoding text (ask.Rename at new) answer = IsRename encoding text at new answer
-IsAnswer encoding text (ask.Action range) (answer.Insert insertion) = IsInsertion encoding text range insertion
-IsAnswer encoding text ask.Tokens (answer.Numbers numbers) = AreSemanticTokens encoding text numbers
-IsAnswer encoding text ask.Diagnose (answer.Findings diagnostics) = AreDiagnostics encoding text diagnostics
-IsAnswer encoding text _ _ = ⊥
+IsAnswer encoding text question answer = IsAnswerBy (format_of encoding) encoding text question answer
+
+-- what is kept, by what the document is written in
+abbrev pub KeepsBy : Option Format → Encoding → List ℕ → Ask → Answer → Type 0
+KeepsBy None encoding text question answer = KeepsIfRenamedInGrammar encoding text question answer
+KeepsBy (Some format) encoding text question answer = KeepsIfRenamedInDraft format encoding text question answer
+
+-- What is kept where the answer is that to a rename, and grants it; of other questions and of refusals nothing is said. It follows from
+-- `IsAnswer` (`renames_keep_the_grammar`).
+abbrev pub KeepsIfRenamed : Encoding → List ℕ → Ask → Answer → Type 0
+KeepsIfRenamed encoding text question answer = KeepsBy (format_of encoding) encoding text question answer
 
 -- what is shown of a name, with an empty certificate beside the example, if there is one
 abbrev pub hover_without_cert : HoverText → HoverText

@@ -7,6 +7,8 @@ pub mod RenameKeeps
 pub mod Insertions
 pub mod SemanticTokens
 pub mod Diagnostics
+pub mod InGrammars
+pub mod InDrafts
 pub mod Answers
 pub mod Told
 pub mod Hover

@@ -24,8 +24,8 @@ pub record RenameKeeps (encoding : Encoding) (text : List ℕ) (at : Position) (
   pub found : name_at encoding grammar at ≡ Some named
   pub keeps : KeepsTheGrammar encoding (lowercase named.text) new grammar ranges
 
--- This holds of the ranges and the text that are the answer to a rename, and the text is the new one of the question. Of other questions
--- and of refusals nothing is said. It follows from `IsAnswer` (`renames_keep_the_grammar`).
-abbrev pub KeepsIfRenamed : Encoding → List ℕ → Ask → Answer → Type 0
-KeepsIfRenamed encoding text (ask.Rename at new) (answer.Edits ranges given) = RenameKeeps encoding text at given ranges × (given ≡ new)
-KeepsIfRenamed encoding text _ _ = Unit {0}
+-- This holds of the ranges and the text that are the answer to a rename in a grammar, and the text is the new one of the question. Of other
+-- questions and of refusals nothing is said.
+abbrev pub KeepsIfRenamedInGrammar : Encoding → List ℕ → Ask → Answer → Type 0
+KeepsIfRenamedInGrammar encoding text (ask.Rename at new) (answer.Edits ranges given) = RenameKeeps encoding text at given ranges × (given ≡ new)
+KeepsIfRenamedInGrammar encoding text _ _ = Unit {0}

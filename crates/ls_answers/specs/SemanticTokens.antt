@@ -98,3 +98,13 @@ pub record AreSemanticTokens (encoding : Encoding) (text : List ℕ) (numbers : 
   pub all : length tokens ≡ length (line_texts text)
   pub tokens_are : AreTokens (line_texts text) 0 tokens
   pub numbers_are : numbers ≡ relative origin (flat_map (filter_map (told encoding grammar)) tokens)
+
+-- These are the tokens of the text that are reported, in its order.
+pub record AreReported (encoding : Encoding) (text : List ℕ) (given : List SemanticToken) : Type 0 where
+  pub grammar : Grammar
+  pub of_text : grammar.text ≡ text
+  pub right : IsGrammar grammar
+  pub tokens : List (List Token)
+  pub all : length tokens ≡ length (line_texts text)
+  pub tokens_are : AreTokens (line_texts text) 0 tokens
+  pub given_are : given ≡ flat_map (filter_map (told encoding grammar)) tokens

@@ -2,9 +2,8 @@
 ghost use Rattle.std.specs.Prelude.{◌≡◌, ◌<◌, ◌^◌, All, List, ℕ, length};
 ghost use Rattle.std.specs.Char.{IsScalar};
 ghost use Rattle.ls_text.specs.declared.position.Encoding.{Encoding};
-ghost use Rattle.ls_answers.specs.Answers.{IsAnswer, without_cert};
+ghost use Rattle.ls_answers.specs.Answers.{IsAnswer, KeepsIfRenamed, without_cert};
 ghost use Rattle.ls_answers.specs.Hover.{AtMostOneHoverText, HoverTextsExist};
-ghost use Rattle.ls_answers.specs.RenameKeeps.{KeepsIfRenamed};
 ghost use Rattle.ls_answers.specs.declared.answer.Answer.{Answer};
 ghost use Rattle.ls_answers.specs.declared.ask.Ask.{Ask};
 

@@ -13,12 +13,17 @@
 mod answer;
 mod ask;
 mod diagnostics;
+mod draft_tokens;
 mod hover;
 mod hovers;
+mod in_draft;
+mod in_grammar;
 mod insertion;
+mod inward;
 mod job;
 mod laws;
 mod outline;
+mod outward;
 mod places;
 mod rename;
 mod semantic_tokens;

@@ -52,8 +52,23 @@ pub fn semantic_tokens(
     relative(alloc, tokens.as_slice())
 }
 
+/// The tokens of a text that are reported, in its order.
+///
+/// # Errors
+///
+/// Where an allocation is refused.
+pub(crate) fn reported(
+    alloc: Global,
+    grammar: &Grammar,
+    encoding: Encoding,
+) -> Result<List<SemanticToken>, Memory>
+    ensures { IfOk result (λ tokens. spec.AreReported encoding grammar.now.text tokens) }
+{
+    told(alloc, grammar, encoding)
+}
+
 /// The numbers of tokens.
-fn relative(alloc: Global, tokens: &[SemanticToken]) -> Result<List<u32>, Memory>
+pub(crate) fn relative(alloc: Global, tokens: &[SemanticToken]) -> Result<List<u32>, Memory>
     ensures { IfOk result (λ numbers. numbers ≡ spec.relative spec.origin tokens.now) }
 {
     let mut numbers = Vec::new(alloc);

@@ -4,7 +4,7 @@ use Rattle.std.specs.Prelude.{unwrap_or}
 use Rattle.std.proofs.lemmas.Bool.{cases_lt}
 use Rattle.std.proofs.lemmas.List.Elements.{filter_map-append}
 use Rattle.ls_answers.specs.Told.{Told}
-use Rattle.ls_answers.proofs.Exist.{some_answer}
+use Rattle.ls_answers.proofs.Documents.{some_document_answer}
 use Rattle.ls_machine.specs.Machine.{IsPossible, first_ticket, step, ticket_of}
 use Rattle.ls_machine.specs.Progress as machine
 use Rattle.ls_machine.specs.declared.event.Event.{Event}
@@ -78,7 +78,7 @@ unfolding IsOutFor
 some_out (Body body) h = record { leaves = out.Said body; is_for = refl; ticket_is = refl }
 some_out (Failure ticket id code) h = record { leaves = out.Failed ticket id code; is_for = refl; ticket_is = refl }
 some_out (Outcome w) h =
-    let a = some_answer w.encoding w.text w.ask h in
+    let a = some_document_answer w.encoding w.text w.ask h in
     let done : Told = record { ticket = w.ticket; text = w.text; encoding = w.encoding; ask = w.ask; answer = Some a.0 } in
     record {
       leaves = out_of w w.request done;

@@ -7,26 +7,55 @@ use Rattle.std.proofs.lemmas.Bool.{and_from, and_parts, eqb-true}
 use Rattle.std.proofs.lemmas.Bool.Decides.{Decides-eqb}
 use Rattle.std.proofs.lemmas.Slice.Eq.{bytes_eq-Decides}
 use Rattle.ls_text.specs.declared.position.Encoding.{Encoding}
-use Rattle.ls_text.specs.declared.position.Encoding.TheVariants.{Utf8, Utf16, Utf32}
+use Rattle.ls_text.specs.declared.position.Encoding.TheVariants.{Utf8, Utf16, Utf32, Markdown, Xml}
+use Rattle.ls_text.specs.declared.position.Units.{Units}
+use Rattle.ls_text.specs.declared.position.Units.TheVariants as counted
 use Rattle.ls_text.specs.declared.position.Position.{Position}
 use Rattle.ls_text.specs.declared.position.Range.{Range}
 use Rattle.ls_answers.specs.Told.{Told}
 use Rattle.ls_answers.specs.declared.ask.Ask.{Ask}
 use Rattle.ls_answers.specs.declared.ask.Ask.TheVariants as ask
 use Rattle.ls_machine.specs.Laws.{IsRunOf}
-use Rattle.ls_machine.specs.Same.{ask_eq, encoding_eq, is_for, position_eq, range_eq}
+use Rattle.ls_machine.specs.Same.{ask_eq, encoding_eq, is_for, position_eq, range_eq, units_eq}
 use Rattle.ls_machine.specs.declared.state.Waiting.{Waiting}
+
+units_true : (a b : Units) → units_eq a b ≡ true → a ≡ b
+units_true counted.Utf8 counted.Utf8 h = refl
+units_true counted.Utf8 counted.Utf16 h = absurd (cc)
+units_true counted.Utf8 counted.Utf32 h = absurd (cc)
+units_true counted.Utf16 counted.Utf8 h = absurd (cc)
+units_true counted.Utf16 counted.Utf16 h = refl
+units_true counted.Utf16 counted.Utf32 h = absurd (cc)
+units_true counted.Utf32 counted.Utf8 h = absurd (cc)
+units_true counted.Utf32 counted.Utf16 h = absurd (cc)
+units_true counted.Utf32 counted.Utf32 h = refl
 
 encoding_true : (a b : Encoding) → encoding_eq a b ≡ true → a ≡ b
 encoding_true Utf8 Utf8 h = refl
 encoding_true Utf8 Utf16 h = absurd (cc)
 encoding_true Utf8 Utf32 h = absurd (cc)
+encoding_true Utf8 (Markdown v) h = absurd (cc)
+encoding_true Utf8 (Xml v) h = absurd (cc)
 encoding_true Utf16 Utf8 h = absurd (cc)
 encoding_true Utf16 Utf16 h = refl
 encoding_true Utf16 Utf32 h = absurd (cc)
+encoding_true Utf16 (Markdown v) h = absurd (cc)
+encoding_true Utf16 (Xml v) h = absurd (cc)
 encoding_true Utf32 Utf8 h = absurd (cc)
 encoding_true Utf32 Utf16 h = absurd (cc)
 encoding_true Utf32 Utf32 h = refl
+encoding_true Utf32 (Markdown v) h = absurd (cc)
+encoding_true Utf32 (Xml v) h = absurd (cc)
+encoding_true (Markdown u) Utf8 h = absurd (cc)
+encoding_true (Markdown u) Utf16 h = absurd (cc)
+encoding_true (Markdown u) Utf32 h = absurd (cc)
+encoding_true (Markdown u) (Markdown v) h = ap Markdown (units_true u v h)
+encoding_true (Markdown u) (Xml v) h = absurd (cc)
+encoding_true (Xml u) Utf8 h = absurd (cc)
+encoding_true (Xml u) Utf16 h = absurd (cc)
+encoding_true (Xml u) Utf32 h = absurd (cc)
+encoding_true (Xml u) (Markdown v) h = absurd (cc)
+encoding_true (Xml u) (Xml v) h = ap Xml (units_true u v h)
 
 position_true : (a b : Position) → position_eq a b ≡ true → a ≡ b
 position_true a b h =
@@ -112,10 +141,17 @@ ask_true ask.Diagnose (ask.Action t) h = absurd (cc)
 ask_true ask.Diagnose ask.Tokens h = absurd (cc)
 ask_true ask.Diagnose ask.Diagnose h = refl
 
+units_itself : (a : Units) → units_eq a a ≡ true
+units_itself counted.Utf8 = refl
+units_itself counted.Utf16 = refl
+units_itself counted.Utf32 = refl
+
 encoding_itself : (a : Encoding) → encoding_eq a a ≡ true
 encoding_itself Utf8 = refl
 encoding_itself Utf16 = refl
 encoding_itself Utf32 = refl
+encoding_itself (Markdown u) = units_itself u
+encoding_itself (Xml u) = units_itself u
 
 position_itself : (a : Position) → position_eq a a ≡ true
 position_itself a = and_from (a.line == a.line) (a.character == a.character) ((Decides-eqb a.line a.line).1 refl) ((Decides-eqb a.character a.character).1 refl)

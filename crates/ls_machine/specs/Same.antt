@@ -5,7 +5,9 @@ use Rattle.std.specs.Ordering.{int_eq}
 use Rattle.ls_rpc.specs.declared.message.Id.{Id}
 use Rattle.ls_rpc.specs.declared.message.Id.TheVariants as id
 use Rattle.ls_text.specs.declared.position.Encoding.{Encoding}
-use Rattle.ls_text.specs.declared.position.Encoding.TheVariants.{Utf8, Utf16, Utf32}
+use Rattle.ls_text.specs.declared.position.Encoding.TheVariants.{Utf8, Utf16, Utf32, Markdown, Xml}
+use Rattle.ls_text.specs.declared.position.Units.{Units}
+use Rattle.ls_text.specs.declared.position.Units.TheVariants as counted
 use Rattle.ls_text.specs.declared.position.Position.{Position}
 use Rattle.ls_text.specs.declared.position.Range.{Range}
 use Rattle.ls_answers.specs.declared.ask.Ask.{Ask}
@@ -20,11 +22,20 @@ id_eq (id.Text a) (id.Text b) = bytes_eq a b
 id_eq (id.Number a) (id.Text b) = false
 id_eq (id.Text a) (id.Number b) = false
 
--- The encodings are the same.
+-- The units are the same.
+abbrev pub units_eq : Units → Units → Bool
+units_eq counted.Utf8 counted.Utf8 = true
+units_eq counted.Utf16 counted.Utf16 = true
+units_eq counted.Utf32 counted.Utf32 = true
+units_eq _ _ = false
+
+-- The encodings are the same: both are of a grammar, or of drafts in one format, and count the same.
 abbrev pub encoding_eq : Encoding → Encoding → Bool
 encoding_eq Utf8 Utf8 = true
 encoding_eq Utf16 Utf16 = true
 encoding_eq Utf32 Utf32 = true
+encoding_eq (Markdown a) (Markdown b) = units_eq a b
+encoding_eq (Xml a) (Xml b) = units_eq a b
 encoding_eq _ _ = false
 
 -- The positions have the same line and the same number of units before them in it.

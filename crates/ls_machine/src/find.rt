@@ -1,7 +1,7 @@
 //! Look-ups in the parts of a state. A look-up goes through the documents, 256 at most, or through the waiting jobs.
 ghost use Rattle.std.specs.Prelude.{◌≡◌, ◌↔◌, ◌<◌, IsTrue, position, is_some, IfOk, IfSome, find, length, bytes_eq, Some};
 ghost use Rattle.std.specs.Option.{option_map};
-ghost use Rattle.ls_machine.specs.Same.{id_eq, encoding_eq, ask_eq, position_eq, range_eq};
+ghost use Rattle.ls_machine.specs.Same.{id_eq, encoding_eq, units_eq, ask_eq, position_eq, range_eq};
 ghost use Rattle.ls_machine.specs.Machine.{is_open, document_of, asks_with, requests, is_held, is_queued, is_ended, ends_by_change, left_by, waits};
 ghost use Rattle.ls_machine.specs.Same.{is_for};
 
@@ -9,7 +9,7 @@ use crate::state::{Document, Waiting};
 use ls_answers::{Ask, Done};
 use ls_lists::Text;
 use ls_rpc::Id;
-use ls_text::{Encoding, Position, Range, Snapshot};
+use ls_text::{Encoding, Position, Range, Snapshot, Units};
 
 /// Whether two ids are the same: true exactly where they are equal. A number and a text never are.
 pub fn same_id(a: &Id, b: &Id) -> bool
@@ -23,7 +23,20 @@ pub fn same_id(a: &Id, b: &Id) -> bool
     }
 }
 
-/// Whether two encodings are the same.
+/// Whether two units are the same.
+fn same_units(a: Units, b: Units) -> bool
+    ensures value { result ≡ units_eq a b }
+    ensures same { IsTrue result ↔ (a ≡ b) }
+{
+    match (a, b) {
+        (Units::Utf8, Units::Utf8) => true,
+        (Units::Utf16, Units::Utf16) => true,
+        (Units::Utf32, Units::Utf32) => true,
+        _ => false,
+    }
+}
+
+/// Whether two encodings are the same, with what the texts are.
 pub fn same_encoding(a: Encoding, b: Encoding) -> bool
     ensures value { result ≡ encoding_eq a b }
     ensures same { IsTrue result ↔ (a ≡ b) }
@@ -32,6 +45,8 @@ pub fn same_encoding(a: Encoding, b: Encoding) -> bool
         (Encoding::Utf8, Encoding::Utf8) => true,
         (Encoding::Utf16, Encoding::Utf16) => true,
         (Encoding::Utf32, Encoding::Utf32) => true,
+        (Encoding::Markdown(a), Encoding::Markdown(b)) => same_units(a, b),
+        (Encoding::Xml(a), Encoding::Xml(b)) => same_units(a, b),
         _ => false,
     }
 }

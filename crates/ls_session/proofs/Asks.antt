@@ -10,7 +10,7 @@ use Rattle.ls_rpc.specs.Message.{Message, request, notice, response, bad, id_of}
 use Rattle.ls_text.specs.declared.position.Encoding.{Encoding}
 use Rattle.ls_answers.specs.declared.ask.Ask.{Ask}
 use Rattle.ls_answers.specs.declared.ask.Ask.TheVariants.{Hover, Definition, References, Rename, Action, Diagnose}
-use Rattle.ls_session.specs.Params.{◌>>=◌, ask_of, changes_of, declarations_of, document_member, event_of, label_of, position_in, question_of, range_of, uri_of}
+use Rattle.ls_session.specs.Params.{◌>>=◌, ask_of, changes_of, declarations_of, document_member, encoding_in, event_of, label_of, position_in, question_of, range_of, uri_of}
 use Rattle.ls_session.specs.Session.{asked, bad_turn, event_or_nothing, exit_turn, first_turn, late_event, notice_turn, request_turn, running_turn, stage_event, turn_of, IsAllowedOn}
 use Rattle.ls_machine.specs.declared.client.ClientEvent.{ClientEvent}
 use Rattle.ls_machine.specs.declared.client.ClientEvent.TheVariants as event
@@ -101,7 +101,8 @@ event_map : {A : Type 0} (f : A → ClientEvent) (o : Option A) → ((x : A) →
 event_map f None h = tt
 event_map f (Some x) h = h x
 
-open_allowed : (uri : Option (List ℕ)) (label : ℤ) (text : Option (List ℕ)) (encoding : Encoding) → IsEvent (option_and_then (λ u. option_and_then (λ t. Some (event.DidOpen u label t encoding)) text) uri)
+open_allowed : (uri : Option (List ℕ)) (label : ℤ) (text : Option (List ℕ)) (encoding : List ℕ → Encoding)
+    → IsEvent (option_and_then (λ u. option_and_then (λ t. Some (event.DidOpen u label t (encoding u))) text) uri)
 open_allowed None label text encoding = tt
 open_allowed (Some u) label None encoding = tt
 open_allowed (Some u) label (Some t) encoding = tt
@@ -112,13 +113,13 @@ change_allowed None label edits = tt
 change_allowed (Some u) label None = tt
 change_allowed (Some u) label (Some es) = tt
 
-event_allowed : (encoding : Encoding) (k : NoticeKind) (params : Data) → IsEvent (event_of encoding k params)
-event_allowed encoding note.Exit params = tt
-event_allowed encoding note.DidOpen params = open_allowed (uri_of params) (label_of params) (document_member (codes "text") params >>= as_str) encoding
-event_allowed encoding note.DidChange params = change_allowed (uri_of params) (label_of params) (changes_of params)
-event_allowed encoding note.DidClose params = event_map event.DidClose (uri_of params) (λ uri. tt)
-event_allowed encoding note.CancelRequest params = event_map event.Cancel (get (codes "id") params >>= id_of) (λ id. tt)
-event_allowed encoding note.Unknown params = tt
+event_allowed : (agreed : Agreed) (k : NoticeKind) (params : Data) → IsEvent (event_of agreed k params)
+event_allowed agreed note.Exit params = tt
+event_allowed agreed note.DidOpen params = open_allowed (uri_of params) (label_of params) (document_member (codes "text") params >>= as_str) (λ uri. encoding_in agreed uri params)
+event_allowed agreed note.DidChange params = change_allowed (uri_of params) (label_of params) (changes_of params)
+event_allowed agreed note.DidClose params = event_map event.DidClose (uri_of params) (λ uri. tt)
+event_allowed agreed note.CancelRequest params = event_map event.Cancel (get (codes "id") params >>= id_of) (λ id. tt)
+event_allowed agreed note.Unknown params = tt
 
 late_allowed : (k : NoticeKind) (params : Data) → IsEvent (late_event k params)
 late_allowed note.CancelRequest params = event_map event.Cancel (get (codes "id") params >>= id_of) (λ id. tt)
@@ -126,7 +127,7 @@ late_allowed k params = tt
 
 stage_allowed : (stage : Stage) (k : NoticeKind) (params : Data) → IsEvent (stage_event stage k params)
 stage_allowed BeforeInitialize k params = tt
-stage_allowed (Running agreed) k params = event_allowed agreed.encoding k params
+stage_allowed (Running agreed) k params = event_allowed agreed k params
 stage_allowed ShutDown k params = late_allowed k params
 stage_allowed Ended k params = tt
 

@@ -1,4 +1,5 @@
 pub mod Kind
+pub mod Language
 pub mod Params
 pub mod Legend
 pub mod Initialize

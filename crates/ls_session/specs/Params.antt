@@ -4,7 +4,8 @@ use Rattle.serde_json.specs.Data.{Data, null, boolean, number, string, array, ob
 use Rattle.serde_json.specs.Find.{get, as_str, as_bool, as_number, as_array, as_u64, as_i64}
 use Rattle.ls_rpc.specs.Message.{id_of}
 use Rattle.ls_text.specs.declared.position.Encoding.{Encoding}
-use Rattle.ls_text.specs.declared.position.Encoding.TheVariants.{Utf8, Utf16, Utf32}
+use Rattle.ls_text.specs.declared.position.Units.{Units}
+use Rattle.ls_text.specs.declared.position.Units.TheVariants.{Utf8, Utf16, Utf32}
 use Rattle.ls_text.specs.declared.position.Position.{Position}
 use Rattle.ls_text.specs.declared.position.Range.{Range}
 use Rattle.ls_text.specs.declared.edit.Edit.{Edit}
@@ -12,6 +13,9 @@ use Rattle.ls_answers.specs.declared.ask.Ask.{Ask}
 use Rattle.ls_answers.specs.declared.ask.Ask.TheVariants as ask
 use Rattle.ls_machine.specs.declared.client.ClientEvent.{ClientEvent}
 use Rattle.ls_machine.specs.declared.client.ClientEvent.TheVariants as event
+use Rattle.ls_session.specs.Language.{by_ending, encoding_for, format_named}
+use Rattle.ls_session.specs.declared.language.Format.{Format}
+use Rattle.ls_session.specs.declared.language.Format.TheVariants.{Abnf}
 use Rattle.ls_session.specs.declared.session.Agreed.{Agreed}
 use Rattle.ls_session.specs.declared.kind.RequestKind.{RequestKind}
 use Rattle.ls_session.specs.declared.kind.RequestKind.TheVariants as request
@@ -84,12 +88,26 @@ changes_of params = get (codes "contentChanges") params >>= as_array >>= edits_o
 
 -- ---- notices
 
+-- what `languageId` says that a document is written in, if it is a text that says one of the formats (LSP 3.17,
+-- "TextDocumentItem")
+abbrev pub named_format : Data → Option Format
+named_format params = document_member (codes "languageId") params >>= as_str >>= format_named
+
+-- what a document with this uri is written in: what `languageId` says, or else the ending of the uri
+abbrev pub format_of : List ℕ → Data → Format
+format_of uri params = unwrap_or (named_format params) (by_ending uri)
+
+-- How a document with this uri is read: as a grammar unless drafts were agreed on, and else by what it is written in.
+-- Its positions count the units that were agreed.
+abbrev pub encoding_in : Agreed → List ℕ → Data → Encoding
+encoding_in agreed uri params = encoding_for (if agreed.drafts then format_of uri params else Abnf) agreed.units
+
 -- the opening of a document, whose uri and text must be there (LSP 3.17, "DidOpenTextDocument Notification")
-abbrev pub did_open_of : Encoding → Data → Option ClientEvent
-did_open_of encoding params = do
+abbrev pub did_open_of : Agreed → Data → Option ClientEvent
+did_open_of agreed params = do
   uri ← uri_of params
   text ← document_member (codes "text") params >>= as_str
-  Some (event.DidOpen uri (label_of params) text encoding)
+  Some (event.DidOpen uri (label_of params) text (encoding_in agreed uri params))
 
 -- The change of a document (LSP 3.17, "DidChangeTextDocument Notification"). Where the uri can be read and the changes can't, the document
 -- is closed: its text isn't known any more.
@@ -106,14 +124,14 @@ did_close_of params = option_map event.DidClose (uri_of params)
 abbrev pub cancel_of : Data → Option ClientEvent
 cancel_of params = option_map event.Cancel (get (codes "id") params >>= id_of)
 
--- the event of a notice, if there is one, where this encoding was agreed: the positions in each document that is opened count its units
-abbrev pub event_of : Encoding → NoticeKind → Data → Option ClientEvent
-event_of encoding notice.Exit params = None
-event_of encoding notice.DidOpen params = did_open_of encoding params
-event_of encoding notice.DidChange params = did_change_of params
-event_of encoding notice.DidClose params = did_close_of params
-event_of encoding notice.CancelRequest params = cancel_of params
-event_of encoding notice.Unknown params = None
+-- the event of a notice, if there is one, where this was agreed: each document is opened by it (`encoding_in`)
+abbrev pub event_of : Agreed → NoticeKind → Data → Option ClientEvent
+event_of agreed notice.Exit params = None
+event_of agreed notice.DidOpen params = did_open_of agreed params
+event_of agreed notice.DidChange params = did_change_of params
+event_of agreed notice.DidClose params = did_close_of params
+event_of agreed notice.CancelRequest params = cancel_of params
+event_of agreed notice.Unknown params = None
 
 -- ---- requests
 
@@ -175,39 +193,48 @@ named_links params = get (codes "capabilities") params >>= get (codes "workspace
 abbrev pub links_of : Data → Bool
 links_of params = unwrap_or (named_links params) false
 
+-- what `initializationOptions.drafts` says, if it says true or false (LSP 3.17, "Initialize Request":
+-- `initializationOptions`); the member `drafts` is this server's own
+abbrev pub named_drafts : Data → Option Bool
+named_drafts params = get (codes "initializationOptions") params >>= get (codes "drafts") >>= as_bool
+
+-- whether drafts are opened as such, which only true says
+abbrev pub drafts_of : Data → Bool
+drafts_of params = unwrap_or (named_drafts params) false
+
 -- ---- what positions count (LSP 3.17, "PositionEncodingKind")
 
--- the encoding of a name, if it is one of the three; names are compared byte for byte
-abbrev pub encoding_named : List ℕ → Option Encoding
-encoding_named name =
+-- the units of a name, if it is one of the three; names are compared byte for byte
+abbrev pub units_named : List ℕ → Option Units
+units_named name =
     if bytes_eq name (codes "utf-8") then Some Utf8
     else if bytes_eq name (codes "utf-16") then Some Utf16
     else if bytes_eq name (codes "utf-32") then Some Utf32
     else None
 
--- what one offer of a client's names: the encoding, if it is a text that names one
-abbrev pub offer_of : Data → Option Encoding
-offer_of value = as_str value >>= encoding_named
+-- what one offer of a client's names: the units, if it is a text that names some
+abbrev pub offer_of : Data → Option Units
+offer_of value = as_str value >>= units_named
 
 -- the first of two that is there
-abbrev pub offer_or : Option Encoding → Option Encoding → Option Encoding
+abbrev pub offer_or : Option Units → Option Units → Option Units
 offer_or None later = later
-offer_or (Some encoding) later = Some encoding
+offer_or (Some units) later = Some units
 
--- the first of these offers that names an encoding
-abbrev pub first_offer : Items → Option Encoding
+-- the first of these offers that names units
+abbrev pub first_offer : Items → Option Units
 first_offer no_items = None
 first_offer (item value values) = offer_or (offer_of value) (first_offer values)
 
--- the first of the offers in `capabilities.general.positionEncodings` that names an encoding; none where none does
-abbrev pub named_encoding : Data → Option Encoding
-named_encoding params = get (codes "capabilities") params >>= get (codes "general") >>= get (codes "positionEncodings") >>= as_array >>= first_offer
+-- the first of the offers in `capabilities.general.positionEncodings` that names units; none where none does
+abbrev pub named_units : Data → Option Units
+named_units params = get (codes "capabilities") params >>= get (codes "general") >>= get (codes "positionEncodings") >>= as_array >>= first_offer
 
--- what positions count: the first of the client's offers that names one of the three encodings, and UTF-16 where none does. The reply to
--- `initialize` names it, and each document is opened in it.
-abbrev pub encoding_of : Data → Encoding
-encoding_of params = unwrap_or (named_encoding params) Utf16
+-- what positions count: the first of the client's offers that names one of the three units, and UTF-16 where none does.
+-- The reply to `initialize` names them, and the positions in each document count them.
+abbrev pub units_of_client : Data → Units
+units_of_client params = unwrap_or (named_units params) Utf16
 
--- what `initialize` settles: that encoding, and `links_of`
+-- what `initialize` settles: those units, `links_of` and `drafts_of`
 abbrev pub agreed_of : Data → Agreed
-agreed_of params = record { links = links_of params; encoding = encoding_of params }
+agreed_of params = record { links = links_of params; units = units_of_client params; drafts = drafts_of params }

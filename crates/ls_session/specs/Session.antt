@@ -45,7 +45,7 @@ asked id links None = refused (Some id) refusal.InvalidParams
 
 -- Before `initialize` that alone is served; all else is refused as -32002.
 abbrev pub first_turn : Id → RequestKind → Data → Turn × Stage
-first_turn id kind.Initialize params = (said (result_json id (initialize_json (agreed_of params).encoding)), Running (agreed_of params))
+first_turn id kind.Initialize params = (said (result_json id (initialize_json (agreed_of params).units)), Running (agreed_of params))
 first_turn id k params = (refused (Some id) refusal.NotInitialized, BeforeInitialize)
 
 -- While the session runs `shutdown` is answered by null, a second `initialize` is refused as -32600, an unknown method as -32601, and all
@@ -78,7 +78,7 @@ late_event k params = None
 -- A notice other than `exit` is taken while the session runs; before `initialize` it is dropped (LSP 3.17, "Server lifecycle").
 abbrev pub stage_event : Stage → NoticeKind → Data → Option ClientEvent
 stage_event BeforeInitialize k params = None
-stage_event (Running agreed) k params = event_of agreed.encoding k params
+stage_event (Running agreed) k params = event_of agreed k params
 stage_event ShutDown k params = late_event k params
 stage_event Ended k params = None
 

@@ -1,10 +1,10 @@
 //! The result of `initialize`: what the server can do.
 ghost use Rattle.std.specs.Prelude.{◌≡◌, IfOk};
 ghost use Rattle.serde_json.specs.View.{view, members_view};
-ghost use Rattle.ls_session.specs.Initialize.{encoding_name, initialize_json, capabilities_json, semantic_tokens_json, served_json, sync_json};
+ghost use Rattle.ls_session.specs.Initialize.{units_name, initialize_json, capabilities_json, semantic_tokens_json, served_json, sync_json};
 
 use crate::legend::legend_value;
-use ls_text::Encoding;
+use ls_text::Units;
 use serde_json::{Map, Value, put};
 use std::alloc::{AllocError as Memory, Global};
 
@@ -12,11 +12,11 @@ use std::alloc::{AllocError as Memory, Global};
 /// Synchronization").
 const SYNC_INCREMENTAL: u32 = 2;
 
-/// The result of `initialize`, with the encoding that was agreed (LSP 3.17, "Initialize Request").
-pub(crate) fn initialize_value(alloc: Global, encoding: Encoding) -> Result<Value, Memory>
-    ensures { IfOk result (λ value. view value ≡ initialize_json encoding) }
+/// The result of `initialize`, with the units that were agreed (LSP 3.17, "Initialize Request").
+pub(crate) fn initialize_value(alloc: Global, units: Units) -> Result<Value, Memory>
+    ensures { IfOk result (λ value. view value ≡ initialize_json units) }
 {
-    let capabilities = capabilities_value(alloc, encoding)?;
+    let capabilities = capabilities_value(alloc, units)?;
     let name = Value::try_from_str(alloc, "abnf_ls")?;
     let mut server = Map::new(alloc);
     put(&mut server, alloc, "name", name)?;
@@ -26,25 +26,25 @@ pub(crate) fn initialize_value(alloc: Global, encoding: Encoding) -> Result<Valu
     Ok(Value::Object(members))
 }
 
-/// The name of an encoding (LSP 3.17, "PositionEncodingKind").
-fn encoding_name(encoding: Encoding) -> &'static str
-    ensures { result.now ≡ encoding_name encoding }
+/// The name of the units that positions count (LSP 3.17, "PositionEncodingKind").
+fn units_name(units: Units) -> &'static str
+    ensures { result.now ≡ units_name units }
 {
-    match encoding {
-        Encoding::Utf8 => "utf-8",
-        Encoding::Utf16 => "utf-16",
-        Encoding::Utf32 => "utf-32",
+    match units {
+        Units::Utf8 => "utf-8",
+        Units::Utf16 => "utf-16",
+        Units::Utf32 => "utf-32",
     }
 }
 
-fn capabilities_value(alloc: Global, encoding: Encoding) -> Result<Value, Memory>
-    ensures { IfOk result (λ value. view value ≡ capabilities_json encoding) }
+fn capabilities_value(alloc: Global, units: Units) -> Result<Value, Memory>
+    ensures { IfOk result (λ value. view value ≡ capabilities_json units) }
 {
-    let encoding = Value::try_from_str(alloc, encoding_name(encoding))?;
+    let units = Value::try_from_str(alloc, units_name(units))?;
     let tokens = semantic_tokens_value(alloc)?;
     let sync = sync_value(alloc)?;
     let mut members = served(alloc)?;
-    put(&mut members, alloc, "positionEncoding", encoding)?;
+    put(&mut members, alloc, "positionEncoding", units)?;
     put(&mut members, alloc, "semanticTokensProvider", tokens)?;
     put(&mut members, alloc, "textDocumentSync", sync)?;
     Ok(Value::Object(members))

@@ -9,6 +9,7 @@ mod bodies;
 mod frame;
 mod initialize;
 mod kind;
+mod language;
 mod laws;
 mod legend;
 mod params;

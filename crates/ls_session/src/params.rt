@@ -2,15 +2,16 @@
 ghost use Rattle.std.specs.Prelude.{◌≡◌, IfOk, option_map, unwrap_or};
 ghost use Rattle.serde_json.specs.View.{view, items_view};
 ghost use Rattle.serde_json.specs.Data.{null};
-ghost use Rattle.ls_session.specs.Params.{document_member, uri_of, label_of, count_in, read_position, range_of, range_or_none, edit_of, edits_of, changes_of, did_open_of, did_change_of, did_close_of, cancel_of, event_of, position_in, named_declarations, declarations_of, references_of, rename_of, action_of, ask_of, question_of, named_links, links_of, encoding_named, offer_of, first_offer, named_encoding, encoding_of, agreed_of};
+ghost use Rattle.ls_session.specs.Params.{document_member, uri_of, label_of, count_in, read_position, range_of, range_or_none, edit_of, edits_of, changes_of, named_format, format_of, encoding_in, did_open_of, did_change_of, did_close_of, cancel_of, event_of, position_in, named_declarations, declarations_of, references_of, rename_of, action_of, ask_of, question_of, named_links, links_of, named_drafts, drafts_of, units_named, offer_of, first_offer, named_units, units_of_client, agreed_of};
 
 use crate::kind::{NoticeKind, RequestKind};
+use crate::language::{Format, by_ending, encoding_for, format_named};
 use crate::session::Agreed;
 use ls_answers::Ask;
 use ls_lists::{List, Text};
 use ls_machine::ClientEvent;
 use ls_rpc::read_id;
-use ls_text::{Edit, Encoding, Position, Range};
+use ls_text::{Edit, Encoding, Position, Range, Units};
 use serde_json::Value;
 use std::alloc::{AllocError as Memory, Global};
 
@@ -109,12 +110,32 @@ fn changes(alloc: Global, params: &Value) -> Result<Option<List<Edit>>, Memory>
     }
 }
 
-fn did_open(
-    alloc: Global,
-    encoding: Encoding,
-    params: &Value,
-) -> Result<Option<ClientEvent>, Memory>
-    ensures { IfOk result (λ event. event ≡ did_open_of encoding (view params.now)) }
+fn named_format(params: &Value) -> Option<Format>
+    ensures { result ≡ named_format (view params.now) }
+{
+    format_named(document_member(params, "languageId")?.as_str()?)
+}
+
+/// What a document with this uri is written in: what `languageId` says, or else the ending of the uri.
+fn format(uri: &str, params: &Value) -> Format
+    ensures { result ≡ format_of uri.now (view params.now) }
+{
+    named_format(params).unwrap_or(by_ending(uri))
+}
+
+/// How a document with this uri is read: as a grammar unless drafts were agreed on, and else by what it is written in.
+fn encoding(agreed: Agreed, uri: &str, params: &Value) -> Encoding
+    ensures { result ≡ encoding_in agreed uri.now (view params.now) }
+{
+    if agreed.drafts {
+        encoding_for(format(uri, params), agreed.units)
+    } else {
+        encoding_for(Format::Abnf, agreed.units)
+    }
+}
+
+fn did_open(alloc: Global, agreed: Agreed, params: &Value) -> Result<Option<ClientEvent>, Memory>
+    ensures { IfOk result (λ event. event ≡ did_open_of agreed (view params.now)) }
 {
     let Some(uri) = uri(params) else {
         return Ok(None);
@@ -122,6 +143,7 @@ fn did_open(
     let Some(text) = document_member(params, "text").and_then(Value::as_str) else {
         return Ok(None);
     };
+    let encoding = encoding(agreed, uri, params);
     let uri = Text::from_str(alloc, uri)?;
     let text = Text::from_str(alloc, text)?;
     Ok(Some(ClientEvent::DidOpen(uri, label(params), text, encoding)))
@@ -163,14 +185,14 @@ pub(crate) fn cancel(alloc: Global, params: &Value) -> Result<Option<ClientEvent
 /// The event of a notice.
 pub(crate) fn event(
     alloc: Global,
-    encoding: Encoding,
+    agreed: Agreed,
     kind: NoticeKind,
     params: &Value,
 ) -> Result<Option<ClientEvent>, Memory>
-    ensures { IfOk result (λ event. event ≡ event_of encoding kind (view params.now)) }
+    ensures { IfOk result (λ event. event ≡ event_of agreed kind (view params.now)) }
 {
     match kind {
-        NoticeKind::DidOpen => did_open(alloc, encoding, params),
+        NoticeKind::DidOpen => did_open(alloc, agreed, params),
         NoticeKind::DidChange => did_change(alloc, params),
         NoticeKind::DidClose => did_close(alloc, params),
         NoticeKind::CancelRequest => cancel(alloc, params),
@@ -273,25 +295,43 @@ fn named_links(params: &Value) -> Option<bool>
         .as_bool()
 }
 
+/// Whether drafts are opened as such, for which `initializationOptions.drafts` asks (LSP 3.17, "Initialize Request":
+/// `initializationOptions`); the member `drafts` is this server's own.
+fn drafts(params: &Value) -> bool
+    ensures { result ≡ drafts_of (view params.now) }
+{
+    named_drafts(params).unwrap_or(false)
+}
+
+fn named_drafts(params: &Value) -> Option<bool>
+    ensures { result ≡ named_drafts (view params.now) }
+{
+    params
+        .get("initializationOptions")?
+        .get("drafts")?
+        .as_bool()
+}
+
 /// What `initialize` settles.
 pub(crate) fn agreed(params: &Value) -> Agreed
     ensures { result ≡ agreed_of (view params.now) }
 {
     Agreed {
         links: links(params),
-        encoding: encoding(params),
+        units: units(params),
+        drafts: drafts(params),
     }
 }
 
 /// The first of the client's offers that is known, and UTF-16 where there is none.
-fn encoding(params: &Value) -> Encoding
-    ensures { result ≡ encoding_of (view params.now) }
+fn units(params: &Value) -> Units
+    ensures { result ≡ units_of_client (view params.now) }
 {
-    named_encoding(params).unwrap_or(Encoding::Utf16)
+    named_units(params).unwrap_or(Units::Utf16)
 }
 
-fn named_encoding(params: &Value) -> Option<Encoding>
-    ensures { result ≡ named_encoding (view params.now) }
+fn named_units(params: &Value) -> Option<Units>
+    ensures { result ≡ named_units (view params.now) }
 {
     let offers = params
         .get("capabilities")?
@@ -301,32 +341,32 @@ fn named_encoding(params: &Value) -> Option<Encoding>
     first_offer(offers)
 }
 
-fn first_offer(values: &Vec<Value>) -> Option<Encoding>
+fn first_offer(values: &Vec<Value>) -> Option<Units>
     ensures { result ≡ first_offer (items_view values.now.items) }
 {
     for value in values {
-        if let Some(encoding) = offer(value) {
-            return Some(encoding);
+        if let Some(units) = offer(value) {
+            return Some(units);
         }
     }
     None
 }
 
-fn offer(value: &Value) -> Option<Encoding>
+fn offer(value: &Value) -> Option<Units>
     ensures { result ≡ offer_of (view value.now) }
 {
-    encoding_named(value.as_str()?)
+    units_named(value.as_str()?)
 }
 
-fn encoding_named(name: &str) -> Option<Encoding>
-    ensures { result ≡ encoding_named name.now }
+fn units_named(name: &str) -> Option<Units>
+    ensures { result ≡ units_named name.now }
 {
     if name == "utf-8" {
-        Some(Encoding::Utf8)
+        Some(Units::Utf8)
     } else if name == "utf-16" {
-        Some(Encoding::Utf16)
+        Some(Units::Utf16)
     } else if name == "utf-32" {
-        Some(Encoding::Utf32)
+        Some(Units::Utf32)
     } else {
         None
     }

@@ -17,7 +17,7 @@ use ls_bodies::Refusal;
 use ls_lists::{List, Text};
 use ls_machine::ClientEvent;
 use ls_rpc::{Id, Message, read_message, result_text};
-use ls_text::Encoding;
+use ls_text::Units;
 use serde_json::Value;
 use std::alloc::{AllocError as Memory, Global};
 use std::marker::Model;
@@ -28,7 +28,10 @@ pub struct Agreed {
     /// Whether the client takes edits of a workspace as `documentChanges` (LSP 3.17, "WorkspaceEdit").
     pub links: bool,
     /// What positions count (LSP 3.17, "PositionEncodingKind").
-    pub encoding: Encoding,
+    pub units: Units,
+    /// Whether the client opens drafts too, of which the grammars in them are read (LSP 3.17, "Initialize Request":
+    /// `initializationOptions`, whose `drafts` is this server's own).
+    pub drafts: bool,
 }
 
 /// Where a session stands (LSP 3.17, "Server lifecycle").
@@ -137,7 +140,7 @@ fn first_turn(
     match kind {
         RequestKind::Initialize => {
             let agreed = params::agreed(params);
-            let reply = replied(alloc, &id, initialize_value(alloc, agreed.encoding)?)?;
+            let reply = replied(alloc, &id, initialize_value(alloc, agreed.units)?)?;
             Ok((reply, Stage::Running(agreed)))
         }
         _ => {
@@ -215,7 +218,7 @@ fn stage_event(
     ensures { IfOk result (λ event. event ≡ stage_event stage kind (view params.now)) }
 {
     match stage {
-        Stage::Running(agreed) => params::event(alloc, agreed.encoding, kind, params),
+        Stage::Running(agreed) => params::event(alloc, agreed, kind, params),
         Stage::ShutDown => late_event(alloc, kind, params),
         Stage::BeforeInitialize | Stage::Ended => Ok(None),
     }

@@ -4,7 +4,7 @@ use Rattle.std.specs.Prelude.{◌+◌, find, is_none, is_some, length, not, slic
 use Rattle.std.proofs.lemmas.Option.{same_Some}
 use Rattle.ls_answers.specs.Told.{Told}
 use Rattle.ls_answers.specs.declared.answer.Answer.{Answer}
-use Rattle.ls_answers.proofs.OneAnswer.{one_answer}
+use Rattle.ls_answers.proofs.Documents.{one_document_answer}
 use Rattle.ls_machine.specs.declared.event.Out.{Out}
 use Rattle.ls_machine.specs.declared.event.DeskFault.{DeskFault}
 use Rattle.ls_machine.specs.declared.event.DeskFault.TheVariants as fault
@@ -74,8 +74,8 @@ pub body_told : (w : Waiting) (out : Out) (done : Told) (a : Answer) → out ≡
 body_told w out done a o e = ap body_of o ∙ told_body w w.request done a e
 
 one_told : (w : Waiting) (r : Option Request) (a b : Answer) → IsAnswer w.encoding w.text w.ask a → IsAnswer w.encoding w.text w.ask b → body_for w r a ≡ body_for w r b
-one_told w None a b p q = same_findings w.uri w.label a b (one_answer w.encoding w.text w.ask a b p q)
-one_told w (Some r) a b p q = same_reply r.id w.uri w.label r.links a b (one_answer w.encoding w.text w.ask a b p q)
+one_told w None a b p q = same_findings w.uri w.label a b (one_document_answer w.encoding w.text w.ask a b p q)
+one_told w (Some r) a b p q = same_reply r.id w.uri w.label r.links a b (one_document_answer w.encoding w.text w.ask a b p q)
 
 one_body : (e : Entry) (o p : Out) (a b : List ℕ) → IsOutFor e o → IsOutFor e p → body_of o ≡ Some a → body_of p ≡ Some b → a ≡ b
 unfolding IsOutFor

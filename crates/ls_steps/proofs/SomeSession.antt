@@ -5,7 +5,7 @@ use Rattle.std.proofs.lemmas.Bool.{or_parts}
 use Rattle.ls_answers.specs.Told.{Told}
 use Rattle.ls_answers.specs.declared.answer.Answer.{Answer}
 use Rattle.ls_answers.specs.declared.answer.Answer.TheVariants.{Hover}
-use Rattle.ls_answers.proofs.Exist.{some_answer}
+use Rattle.ls_answers.proofs.Documents.{some_document_answer}
 use Rattle.ls_machine.specs.declared.event.Event.{Event}
 use Rattle.ls_machine.specs.declared.event.Event.TheVariants.{Finished, Sent, Took}
 use Rattle.ls_machine.specs.declared.event.Out.{Out}
@@ -123,7 +123,7 @@ unfolding IsOutFor body_of
 some_out (Body body) h = record { leaves = out.Said body; body = body; is_for = refl; body_is = refl }
 some_out (Failure ticket id code) h = record { leaves = out.Failed ticket id code; body = failure_body id code; is_for = refl; body_is = refl }
 some_out (Outcome w) h =
-    let a = some_answer w.encoding w.text w.ask h in
+    let a = some_document_answer w.encoding w.text w.ask h in
     let done : Told = record { ticket = w.ticket; text = w.text; encoding = w.encoding; ask = w.ask; answer = Some a.0 } in
     record {
       leaves = out_of w w.request done;

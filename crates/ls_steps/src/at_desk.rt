@@ -1,15 +1,16 @@
 //! What the session's steps do at the desk.
-ghost use Rattle.std.specs.Prelude.{◌≡◌, [], IfNone, IfOk, IfSome, Option, Some};
+ghost use Rattle.std.specs.Prelude.{◌≡◌, [], IfNone, IfOk, IfSome, Option, Some, false};
 ghost use Rattle.std.specs.Arc.{arc_value};
 ghost use Rattle.abnf_kept.specs.Known.{Known};
 ghost use Rattle.abnf_kept.specs.Recent.{IsTaken};
 ghost use Rattle.ls_answers.specs.Asks.{IsToNoName};
 ghost use Rattle.ls_answers.specs.declared.answer.Answer.TheVariants.{Refused};
 ghost use Rattle.ls_answers.specs.declared.answer.RenameFault.TheVariants.{NotAName};
-ghost use Rattle.ls_desk.specs.Stands.{IsSound};
+ghost use Rattle.ls_desk.specs.Stands.{IsSound, state_of};
 ghost use Rattle.ls_steps.specs.Runs.{finishes, meets, refused};
 ghost use Rattle.ls_steps.specs.own.Leaves.{IsLeft};
 ghost use Rattle.ls_machine.specs.Client.{IsAllowed};
+ghost use Rattle.ls_machine.specs.Machine.{waits};
 
 use ls_answers::{Done, Job, Recent, run, run_keeping};
 use ls_desk::{Desk, DeskFault, SharedSnapshot};
@@ -85,6 +86,7 @@ pub fn run_job(alloc: Global, desk: &Desk, recent: &mut Recent, job: Job) -> Don
     ensures encoding { result.encoding ≡ job.encoding }
     ensures ask { result.ask ≡ job.ask }
     ensures not_a_name { IsToNoName job.ask → result.answer ≡ Some (Refused NotAName) }
+    ensures unwanted { waits job.ticket (state_of desk.now).waiting ≡ false → recent.new ≡ recent.old }
 {
     if desk.wanted(job.ticket) {
         run_keeping(alloc, recent, job)

@@ -7,9 +7,10 @@ use Rattle.std.proofs.lemmas.Str.{encodes-append, encodes-chars, length-encode, 
 use Rattle.std.proofs.lemmas.List.{append-nil, take_more, at_drop_more, at_drop_all}
 use Rattle.std.proofs.lemmas.List.Sums.{sum_by-cons, sum_by-append}
 use Rattle.std.proofs.lemmas.Bool.Decides.{nat_tests}
-use Rattle.ls_text.specs.Lines.{fitting, units, utf16_len}
+use Rattle.ls_text.specs.Lines.{fitting, units, units_of, utf16_len, width_in}
 use Rattle.ls_text.specs.declared.position.Encoding.{Encoding}
-use Rattle.ls_text.specs.declared.position.Encoding.TheVariants.{Utf8, Utf16, Utf32}
+use Rattle.ls_text.specs.declared.position.Units.{Units}
+use Rattle.ls_text.specs.declared.position.Units.TheVariants.{Utf8, Utf16, Utf32}
 
 -- ---- one character more
 pub taken : (cs : List ℕ) (n c : ℕ) → (n < length cs) × (c ≡ get_or cs n c) → take (n + 1) cs ≡ take n cs ++ c ∷ []
@@ -35,10 +36,13 @@ units_more w cs n c here =
 pub utf16_le : (c : ℕ) → utf16_len c ≤ len_utf8 c
 utf16_le c = grind (arith, nat_tests)
 
+in_le : (u : Units) (c : ℕ) → width_in u c ≤ len_utf8 c
+in_le Utf8 c = omega arith
+in_le Utf16 c = utf16_le c
+in_le Utf32 c = (len_utf8_bounds c).0
+
 pub width_le : (u : Encoding) (c : ℕ) → units u c ≤ len_utf8 c
-width_le Utf8 c = omega arith
-width_le Utf16 c = utf16_le c
-width_le Utf32 c = (len_utf8_bounds c).0
+width_le u c = in_le (units_of u) c
 
 pub units_le : (u : Encoding) (cs : List ℕ) → sum_by (units u) cs ≤ length (encodes cs)
 units_le u [] = omega arith
@@ -95,13 +99,16 @@ one_byte c cs e =
     let rest = length-le-encodes cs in
     (omega arith, omega arith)
 
-one_unit : (u : Encoding) (c : ℕ) → len_utf8 c ≡ 1 → units u c ≡ 1
-one_unit Utf8 c e = e
-one_unit Utf16 c e =
+one_in : (u : Units) (c : ℕ) → len_utf8 c ≡ 1 → width_in u c ≡ 1
+one_in Utf8 c e = e
+one_in Utf16 c e =
     let le = utf16_le c in
     let some : 0 < utf16_len c = grind (arith, nat_tests) in
     omega arith
-one_unit Utf32 c e = refl
+one_in Utf32 c e = refl
+
+one_unit : (u : Encoding) (c : ℕ) → len_utf8 c ≡ 1 → units u c ≡ 1
+one_unit u c e = one_in (units_of u) c e
 
 fit_more : (x k f n : ℕ) → x ≡ 1 → f ≡ min (k - x) n → cond (leb x k) (suc f) 0 ≡ min k (suc n)
 fit_more x k f n e h = grind (arith, nat_tests)

@@ -4,7 +4,9 @@
 use Rattle.std.specs.Prelude.{ℕ, zero, suc, ◌+◌, ◌-◌, min, Bool, false, not, ◌&&◌, ◌||◌, ◌==◌, nat_le, nat_lt, if◌then◌else◌, Option, Some, None, unwrap_or, List, [], ◌∷◌, length, take, drop, sum_by, slice_index}
 use Rattle.std.specs.Char.{len_utf8}
 use Rattle.ls_text.specs.declared.position.Encoding.{Encoding}
-use Rattle.ls_text.specs.declared.position.Encoding.TheVariants.{Utf8, Utf16, Utf32}
+use Rattle.ls_text.specs.declared.position.Encoding.TheVariants.{Utf8, Utf16, Utf32, Markdown, Xml}
+use Rattle.ls_text.specs.declared.position.Units.{Units}
+use Rattle.ls_text.specs.declared.position.Units.TheVariants as counted
 
 -- how many bytes of UTF-8 a text of a document may have: 4,194,304, a limit of this project
 abbrev pub max_bytes : ℕ
@@ -65,11 +67,23 @@ line_at t o = line_ends (take o t)
 abbrev pub utf16_len : ℕ → ℕ
 utf16_len c = if nat_lt c 0x1_0000 then 1 else 2
 
+-- what the positions in a text count, that of a draft as in a grammar
+abbrev pub units_of : Encoding → Units
+units_of Utf8 = counted.Utf8
+units_of Utf16 = counted.Utf16
+units_of Utf32 = counted.Utf32
+units_of (Markdown counts) = counts
+units_of (Xml counts) = counts
+
 -- the units of a character (LSP 3.17, "PositionEncodingKind"): its bytes of UTF-8, its UTF-16 units, or the character itself
+abbrev pub width_in : Units → ℕ → ℕ
+width_in counted.Utf8 = len_utf8
+width_in counted.Utf16 = utf16_len
+width_in counted.Utf32 = λ c. 1
+
+-- those that count for the positions in such a text
 abbrev pub units : Encoding → ℕ → ℕ
-units Utf8 = len_utf8
-units Utf16 = utf16_len
-units Utf32 = λ c. 1
+units encoding = width_in (units_of encoding)
 
 -- the units of the characters of that line before the offset o, by the width of a character
 abbrev pub units_at : (ℕ → ℕ) → List ℕ → ℕ → ℕ

@@ -27,6 +27,6 @@ mod units;
 
 pub use edit::Edit;
 pub use fault::TextFault;
-pub use position::{Encoding, Place, Position, Range};
+pub use position::{Encoding, Place, Position, Range, Units};
 pub use ruler::Ruler;
 pub use snapshot::{MAX_BYTES, Snapshot};

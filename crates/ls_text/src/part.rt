@@ -15,12 +15,10 @@ use crate::line::Line;
 use crate::line_end::LineEnd;
 use crate::units::char_count;
 use abnf_token::{TokenMark, push_marks};
+use ls_lists::{MOST_NARROW, narrow};
 use std::alloc::{AllocError, Global};
 use std::hash::{DefaultHasher, Hasher};
 use std::marker::Model;
-
-// The greatest number of 32 bits.
-const MOST: usize = 0xffff_ffff;
 
 // How many bytes and marks an edit may add before the room for them grows.
 const SPARE: usize = 256;
@@ -64,17 +62,6 @@ impl Model for Part {
     ghost view = { λ p. map (held_row (string_bytes p.text)) p.lines.items };
 
     ghost invariant = { λ p. IsPart (string_bytes p.text) p.marks.items p.lines.items };
-}
-
-// A number in 32 bits.
-#[inline(always)]
-fn narrow(number: usize) -> Result<u32, AllocError>
-    ensures { IfOk result (λ n. n ≡ number) }
-{
-    if number > MOST {
-        return Err(AllocError);
-    }
-    Ok(number as u32)
 }
 
 // A text from one place up to another.
@@ -371,7 +358,7 @@ impl Part {
         };
         text.push_str(piece(part.text.as_str(), first.text_start, last.text_end))?;
         marks.extend_from_slice(between(&part.marks, first.marks_start, last.marks_end))?;
-        if text.len() > MOST || marks.len() > MOST {
+        if text.len() > MOST_NARROW || marks.len() > MOST_NARROW {
             return Err(AllocError);
         }
         push_moved(&mut lines, &part.lines[from..to], shift)?;

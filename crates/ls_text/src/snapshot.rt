@@ -16,7 +16,7 @@ use crate::edit::{Edit, push_text, spliced, spot_of, whole};
 use crate::fault::TextFault;
 use crate::line::Line;
 use crate::lines::Lines;
-use crate::position::{Encoding, Place, Position, Range};
+use crate::position::{Encoding, Place, Position, Range, Units};
 use crate::units::{fitting, units_before, units_in};
 use abnf_token::TokenMark;
 use std::alloc::{AllocError, Global};
@@ -229,7 +229,7 @@ impl Snapshot {
         ensures fits { IfSome result (λ _. at < 4_294_967_296) }
         ensures position { IfSome result (λ line. (width : ℕ → ℕ) (bytes : ℕ) → position_in width at (chars line.now) bytes ≡ position_of width self.now (offset_of len_utf8 self.now at bytes)) }
     {
-        if let Encoding::Utf8 = encoding {
+        if let Units::Utf8 = encoding.units() {
             return None;
         }
         if at >= self.lines.len() {

@@ -5,7 +5,7 @@ ghost use Rattle.std.specs.Char.{len_utf8};
 ghost use Rattle.std.specs.Str.{chars, encode_utf8_all};
 ghost use Rattle.ls_text.specs.Lines.{fitting, units};
 
-use crate::position::Encoding;
+use crate::position::{Encoding, Units};
 use crate::snapshot::MAX_BYTES;
 
 // The characters at the front of a text that have at most so many units.
@@ -20,10 +20,10 @@ pub struct Fit {
 fn width(encoding: Encoding, c: char) -> u32
     ensures { result ≡ units encoding c }
 {
-    match encoding {
-        Encoding::Utf8 => c.len_utf8() as u32,
-        Encoding::Utf16 => if (c as u32) < 0x1_0000 { 1 } else { 2 },
-        Encoding::Utf32 => 1,
+    match encoding.units() {
+        Units::Utf8 => c.len_utf8() as u32,
+        Units::Utf16 => if (c as u32) < 0x1_0000 { 1 } else { 2 },
+        Units::Utf32 => 1,
     }
 }
 
@@ -109,7 +109,7 @@ pub fn units_in(text: &str, char_count: usize, encoding: Encoding, bytes: usize)
     requires small { length text.now ≤ MAX_BYTES }
     ensures { result ≡ sum_by (units encoding) (take (fitting len_utf8 (chars text.now) bytes) (chars text.now)) }
 {
-    if let Encoding::Utf8 = encoding {
+    if let Units::Utf8 = encoding.units() {
         if text.is_char_boundary(bytes) {
             return bytes as u32;
         }

@@ -25,7 +25,8 @@ pub struct Lent {
 impl Lately {
     /// None yet. Takes no memory.
     pub fn new() -> Lately
-        ensures { result.texts ≡ [] }
+        ensures texts { result.texts ≡ [] }
+        ensures closed { result.closed ≡ 0 }
     {
         Lately {
             texts: Recent::new(),

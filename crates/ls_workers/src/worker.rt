@@ -46,6 +46,7 @@ fn run_wanted<C: Crew, R: Wait>(
     ensures text { IfSome result (λ done. done.text ≡ arc_value job.snapshot) }
     ensures encoding { IfSome result (λ done. done.encoding ≡ job.encoding) }
     ensures ask { IfSome result (λ done. done.ask ≡ job.ask) }
+    ensures some { IfSome result (λ _. waits job.ticket (led_by seen.new).state.waiting ≡ true) }
     ensures none { IfNone result (waits job.ticket (led_by seen.new).state.waiting ≡ false) }
     ensures follows { IsPrefix seen.old seen.new }
 {

@@ -88,9 +88,11 @@ begins_comment line =
     let t = without_blanks line in
     begins (60 ∷ 33 ∷ 45 ∷ 45 ∷ []) t && not (has_end t)
 
--- it begins what kramdown leaves out, `{::comment}`
+-- it begins what kramdown leaves out: `{::comment}` alone
 abbrev pub begins_extension : List ℕ → Bool
-begins_extension line = begins (123 ∷ 58 ∷ 58 ∷ 99 ∷ 111 ∷ 109 ∷ 109 ∷ 101 ∷ 110 ∷ 116 ∷ 125 ∷ []) (without_blanks line)
+begins_extension line =
+    let t = without_blanks line in
+    begins (123 ∷ 58 ∷ 58 ∷ 99 ∷ 111 ∷ 109 ∷ 109 ∷ 101 ∷ 110 ∷ 116 ∷ 125 ∷ []) t && list_all is_blank_char (drop 11 t)
 
 -- it ends that, `{:/`
 abbrev pub ends_extension : List ℕ → Bool

@@ -3,7 +3,7 @@
 ghost use Rattle.std.specs.Prelude.{◌≡◌, slice_index, true};
 ghost use Rattle.markdown_blocks.specs.Fences as spec;
 
-use crate::line::without_blanks;
+use crate::line::{are_blank, without_blanks};
 use origins::is_blank;
 
 // Whether a text begins with these small letters and other characters, in any case of letters.
@@ -108,10 +108,9 @@ pub fn begins_comment(line: &[char]) -> bool
 pub fn begins_extension(line: &[char]) -> bool
     ensures { result ≡ spec.begins_extension line.now }
 {
-    begins(
-        &['{', ':', ':', 'c', 'o', 'm', 'm', 'e', 'n', 't', '}'],
-        without_blanks(line),
-    )
+    let word = ['{', ':', ':', 'c', 'o', 'm', 'm', 'e', 'n', 't', '}'];
+    let text = without_blanks(line);
+    text.len() >= 11 && begins(&word, text) && are_blank(&text[11..])
 }
 
 // Whether a line, without its line end, ends that.

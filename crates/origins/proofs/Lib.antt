@@ -1,2 +1,3 @@
 pub mod RunLaws
 pub mod AlignLaws
+pub mod PlaceLaws

@@ -98,7 +98,7 @@ all_below m n (r ∷ rs) le h = (omega (arith, h.0, le), all_below m n rs le h.1
 pub runs_more : (rs : List Run) (m n : ℕ) → m ≤ n → AreRuns rs m → AreRuns rs n
 runs_more rs m n le h = record { ordered = h.ordered; within = all_below m n rs le h.within; small = h.small }
 
-last_within : (rs : List Run) (count i : ℕ) (d : Run) → AllByRecursion (λ (r : Run). r.begins ≤ count) rs → i < length rs → (get_or rs i d).begins ≤ count
+pub last_within : (rs : List Run) (count i : ℕ) (d : Run) → AllByRecursion (λ (r : Run). r.begins ≤ count) rs → i < length rs → (get_or rs i d).begins ≤ count
 last_within [] count i d h lt = absurd (omega (arith, lt))
 last_within (r ∷ rs) count zero d h lt = h.0
 last_within (r ∷ rs) count (suc i) d h lt = last_within rs count i d h.1 (omega (arith, lt))

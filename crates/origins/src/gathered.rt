@@ -1,6 +1,6 @@
 //! Characters that are gathered from a draft.
 
-ghost use Rattle.std.specs.Prelude.{◌≡◌, ◌^◌, ◌<◌, List, [], ◌∷◌, ◌++◌, IfOk, OnOk, length};
+ghost use Rattle.std.specs.Prelude.{◌≡◌, ◌==◌, ◌^◌, ◌<◌, List, [], ◌∷◌, ◌++◌, IfOk, OnOk, length, position};
 ghost use Rattle.std.specs.Option.{option_map};
 ghost use Rattle.std.specs.List.{slice_get};
 ghost use Rattle.std.specs.Str.{chars};
@@ -8,7 +8,7 @@ ghost use Rattle.origins.specs.Origins as spec;
 ghost use Rattle.origins.specs.own.Runs.{AreRuns, origin_at, placed};
 
 use crate::aligned::{first_indent, is_blank, is_break};
-use crate::runs::{Run, START, continue_at, forward, run_of};
+use crate::runs::{Run, START, continue_at, forward, place_in, run_of};
 use std::alloc::{AllocError, Global};
 use std::marker::Model;
 
@@ -124,6 +124,14 @@ impl Gathered {
         } else {
             None
         }
+    }
+
+    /// The place here of the first character that begins at an offset of the draft, both in characters; `None` where
+    /// none does. Time goes by the runs of characters that stand in a row in the draft.
+    pub fn place_of(&self, origin: usize) -> Option<usize>
+        ensures { result ≡ position (λ c. c.1 == origin) self.now }
+    {
+        place_in(self.runs.as_slice(), self.count, origin)
     }
 }
 

@@ -2,7 +2,7 @@
 
 ghost use Rattle.std.specs.Prelude.{◌≡◌, ℕ, ◌+◌, ◌-◌, ◌^◌, ◌<◌, ◌≤◌, ◌∷◌, OnOk, length, slice_index_or};
 ghost use Rattle.std.specs.List.Sorted.{IsNonDecreasingBy};
-ghost use Rattle.origins.specs.own.Runs.{AreRuns, origin_at, origin_by, run_at, first_run};
+ghost use Rattle.origins.specs.own.Runs.{AreRuns, FindsPlace, FindsWithin, origin_at, origin_by, run_at, first_run};
 
 use std::alloc::AllocError;
 
@@ -32,6 +32,18 @@ impl Run {
         ensures { result ≡ origin_by self offset }
     {
         self.origin + (offset - self.begins)
+    }
+
+    // The place of the character that begins at an offset of the draft, if the run, up to `end`, has one.
+    fn place_of(self, origin: usize, end: usize) -> Option<usize>
+        requires { self.begins ≤ end }
+        ensures { FindsWithin (origin_by self) origin self.begins end result }
+    {
+        if origin >= self.origin && origin - self.origin < end - self.begins {
+            Some(self.begins + (origin - self.origin))
+        } else {
+            None
+        }
     }
 }
 
@@ -68,6 +80,21 @@ pub fn forward(run: Run, later: &[Run], offset: usize) -> (Run, &[Run])
         run = *next;
         later = behind;
     }
+}
+
+// The place of the first of so many characters that begins at an offset of the draft.
+pub fn place_in(runs: &[Run], count: usize, origin: usize) -> Option<usize>
+    requires { AreRuns runs.now count }
+    ensures { FindsPlace (origin_at runs.now) origin count result }
+{
+    let mut run = START;
+    'runs: for next in runs {
+        if let Some(place) = run.place_of(origin, next.begins) {
+            return Some(place);
+        }
+        run = *next;
+    }
+    run.place_of(origin, count)
 }
 
 // Says of what comes behind so many characters that it stands in the draft from an offset on. It makes no run where the last one goes on.

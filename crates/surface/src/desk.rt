@@ -7,6 +7,7 @@ use ls_desk::{
     State, Waiting,
 };
 use ls_lists::{List, Text};
+use ls_machine::ClientEvent;
 use ls_rpc::Id;
 use ls_text::{Edit, Encoding, Snapshot};
 use std::alloc::{AllocError as Memory, Global};
@@ -40,6 +41,14 @@ pub fn did_change(
 
 pub fn did_close(desk: &mut Desk, uri: Text) -> Result<(), DeskFault> {
     desk.did_close(uri)
+}
+
+pub fn text_closed_by(desk: &Desk, event: &ClientEvent) -> Result<Option<SharedSnapshot>, Memory> {
+    desk.text_closed_by(event)
+}
+
+pub fn give_room_back(events: &mut Vec<Event>) {
+    ls_desk::give_room_back(events)
 }
 
 pub fn request(

@@ -1,7 +1,7 @@
 //! `ls_frame`: frames of the base protocol.
 
 use ls_frame::{FrameFault, Framer};
-use std::alloc::Global;
+use std::alloc::{AllocError, Global};
 
 pub fn framer(alloc: Global) -> Framer {
     Framer::new(alloc)
@@ -21,6 +21,10 @@ pub fn end(framer: &Framer) -> Result<(), FrameFault> {
 
 pub fn write_frame(alloc: Global, body: &[u8], out: &mut Vec<u8>) -> Result<(), FrameFault> {
     ls_frame::write_frame(alloc, body, out)
+}
+
+pub fn frame_around(alloc: Global, body: Vec<u8>) -> Result<Vec<u8>, AllocError> {
+    ls_frame::frame_around(alloc, body)
 }
 
 pub const FRAME_FAULTS: [FrameFault; 8] = [

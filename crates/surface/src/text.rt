@@ -2,7 +2,7 @@
 
 use abnf_token::TokenMark;
 use ls_lists::Text;
-use ls_text::{Edit, Encoding, Place, Position, Range, Snapshot, TextFault};
+use ls_text::{Edit, Encoding, Place, Position, Range, Snapshot, TextFault, Units};
 use std::alloc::{AllocError as Memory, Global};
 
 pub fn position(line: u32, character: u32) -> Position {
@@ -32,6 +32,16 @@ pub fn encoding_number(encoding: Encoding) -> u8 {
         Encoding::Utf8 => 0,
         Encoding::Utf16 => 1,
         Encoding::Utf32 => 2,
+        Encoding::Markdown(_) => 3,
+        Encoding::Xml(_) => 4,
+    }
+}
+
+pub fn units_number(encoding: Encoding) -> u8 {
+    match encoding.units() {
+        Units::Utf8 => 0,
+        Units::Utf16 => 1,
+        Units::Utf32 => 2,
     }
 }
 

@@ -27,13 +27,13 @@ has_src quote (c ∷ t) = begins_src quote c t || has_src (open_quote quote c) t
 
 -- a piece is an element `xi:include`, for which a file stands (XInclude 1.0, section 3.1)
 abbrev pub is_include : Kind → List ℕ → Bool
-is_include Tag t = begins (120 ∷ 105 ∷ 58 ∷ 105 ∷ 110 ∷ 99 ∷ 108 ∷ 117 ∷ 100 ∷ 101 ∷ []) t
+is_include Tag t = begins (120 ∷ 105 ∷ 58 ∷ 105 ∷ 110 ∷ 99 ∷ 108 ∷ 117 ∷ 100 ∷ 101 ∷ []) t && is_space (slice_index t 10)
 is_include (Text c) t = false
 is_include Comment t = false
 is_include Section t = false
 is_include (Reference c) t = false
 
--- what stands in a block by a piece is white space, if anything
+-- what stands in a block by a piece is white space, if anything; of tags nothing is read
 abbrev pub is_bare : Kind → List ℕ → Bool
 is_bare (Text c) t = is_space c && list_all is_space t
 is_bare Comment t = true
@@ -102,6 +102,6 @@ unread_from state zero at (c ∷ t) =
     listed next.1 ++ unread_from next.0 piece.more (suc at) t)
 
 -- What can't be read of the blocks of ABNF in a draft in RFCXML, up to its first fault: elements that are blocks and have the attribute
--- `src` or an `xi:include` in them, and those in which nothing else stands than white space and comments.
+-- `src` or an `xi:include` in them, and those in which nothing else stands than white space, comments and tags.
 abbrev pub unread_blocks : List ℕ → List Unread
 unread_blocks draft = unread_from None 0 0 draft

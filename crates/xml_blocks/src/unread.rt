@@ -21,7 +21,7 @@ pub struct Begun {
     pub element: Element,
     // The offset at which the element's start tag begins.
     pub begin: usize,
-    // Whether its text isn't in another file, and so far only white space and comments stand in it.
+    // Whether its text isn't in another file, and so far only white space, comments and tags stand in it.
     pub is_bare: bool,
 }
 
@@ -62,7 +62,10 @@ fn is_include(kind: Kind, text: &str) -> bool
     ensures { result ≡ spec.is_include kind (chars text.now) }
 {
     match kind {
-        Kind::Tag => begins(text, &['x', 'i', ':', 'i', 'n', 'c', 'l', 'u', 'd', 'e']),
+        Kind::Tag => {
+            begins(text, &['x', 'i', ':', 'i', 'n', 'c', 'l', 'u', 'd', 'e'])
+                && is_space(char_at(text, 10))
+        }
         _ => false,
     }
 }
@@ -214,7 +217,7 @@ fn put_unread(found: &mut Vec<Unread>, unread: Option<Unread>) -> Result<(), All
 
 /// What can't be read of the blocks of ABNF in a draft in RFCXML, up to its first fault, in its order: each element
 /// `sourcecode` or `artwork` of this type with an attribute `src`, each `xi:include` in such an element, and each such
-/// element in which nothing stands but white space and comments.
+/// element in which nothing stands but white space, comments and tags.
 ///
 /// Of a fault nothing is said here: [`gather_xml`](crate::gather_xml) reports it. Time and memory go by the length of the
 /// draft.

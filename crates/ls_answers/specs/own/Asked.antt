@@ -3,8 +3,8 @@ use Rattle.std.specs.Prelude.{◌≡◌, true}
 use Rattle.abnf_token.specs.Classes.{is_name}
 use Rattle.ls_answers.specs.declared.ask.Ask.{Ask}
 use Rattle.ls_answers.specs.declared.ask.Ask.TheVariants as ask
-use Rattle.ls_answers.specs.declared.job.GrammarAsk.{GrammarAsk}
-use Rattle.ls_answers.specs.declared.job.GrammarAsk.TheVariants as grammar
+use Rattle.ls_answers.specs.declared.in_grammar.GrammarAsk.{GrammarAsk}
+use Rattle.ls_answers.specs.declared.in_grammar.GrammarAsk.TheVariants as grammar
 
 -- the same question among all questions
 abbrev pub asked : GrammarAsk → Ask

@@ -1,5 +1,5 @@
 -- Characters that are held as a text, and as runs of them that stand in a row in the draft. No public contract cites this.
-use Rattle.std.specs.Prelude.{ℕ, suc, ◌+◌, ◌-◌, ◌^◌, ◌<◌, ◌≤◌, nat_le, List, [], ◌∷◌, length, ◌≡◌, if◌then◌else◌}
+use Rattle.std.specs.Prelude.{ℕ, suc, ◌+◌, ◌-◌, ◌^◌, ◌<◌, ◌≤◌, nat_le, List, [], ◌∷◌, length, ◌≡◌, ◌≢◌, Option, MatchOption, if◌then◌else◌}
 use Rattle.std.specs.Str.{chars}
 use Rattle.std.specs.List.{AllByRecursion}
 use Rattle.std.specs.List.Sorted.{IsNonDecreasingBy}
@@ -22,6 +22,22 @@ first_run = record { begins = 0; origin = 0 }
 -- where the character k begins in the draft
 abbrev pub origin_at : List Run → ℕ → ℕ
 origin_at runs k = origin_by (run_at first_run runs k) k
+
+-- the place of the first of so many characters that begins at an offset of the draft; each begins at its `offset_of`
+pub record IsFirstPlace (offset_of : ℕ → ℕ) (origin count place : ℕ) : Type 0 where
+  pub inside : place < count
+  pub begins : offset_of place ≡ origin
+  pub first : (k : ℕ) → k < place → offset_of k ≢ origin
+
+-- what is found is that place, or none where none of them begins there
+abbrev pub FindsPlace : (ℕ → ℕ) → ℕ → ℕ → Option ℕ → Type 0
+FindsPlace offset_of origin count found =
+    MatchOption found ((k : ℕ) → k < count → offset_of k ≢ origin) (λ place. IsFirstPlace offset_of origin count place)
+
+-- what is found is a place from `low` on and before `end` whose character begins there, or none where no such one does
+abbrev pub FindsWithin : (ℕ → ℕ) → ℕ → ℕ → ℕ → Option ℕ → Type 0
+FindsWithin offset_of origin low end found =
+    MatchOption found ((k : ℕ) → low ≤ k → k < end → offset_of k ≢ origin) (λ place. (low ≤ place) × (place < end) × (offset_of place ≡ origin))
 
 -- characters, the first of which is number n, each with its place
 unfoldable pub placed : (ℕ → ℕ) → ℕ → List ℕ → List Sourced

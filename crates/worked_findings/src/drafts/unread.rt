@@ -27,8 +27,8 @@ const PAGES: &[Row] = &[
         &[(24, Lack::Elsewhere)],
     ),
     (
-        "<artwork type=\"abnf\">a = b<xi:include/> c<xi:include/></artwork>",
-        &[(26, Lack::Elsewhere), (41, Lack::Elsewhere)],
+        "<artwork type=\"abnf\">a = b<xi:include href=\"b\"/> c<xi:include href=\"c\"/></artwork>",
+        &[(26, Lack::Elsewhere), (50, Lack::Elsewhere)],
     ),
     // there is no text
     ("x<artwork type=\"abnf\"/>", &[(1, Lack::Empty)]),

@@ -1,6 +1,6 @@
 use super::seams::{Dice, first_other_line};
 use ls_lists::Text;
-use ls_text::{Edit, Encoding, Place, Position, Range, Ruler, Snapshot, TextFault};
+use ls_text::{Edit, Encoding, Place, Position, Range, Ruler, Snapshot, TextFault, Units};
 use std::alloc::{AllocError, Global};
 
 pub fn snapshot(alloc: Global, text: &str) -> Result<Snapshot, TextFault> {
@@ -540,10 +540,10 @@ fn push_part(to: &mut String, text: &str, from: usize, end: usize) -> Result<(),
 
 /// How many units a character counts.
 fn units_of(c: char, encoding: Encoding) -> usize {
-    match encoding {
-        Encoding::Utf8 => c.len_utf8(),
-        Encoding::Utf16 => c.len_utf16(),
-        Encoding::Utf32 => 1,
+    match encoding.units() {
+        Units::Utf8 => c.len_utf8(),
+        Units::Utf16 => c.len_utf16(),
+        Units::Utf32 => 1,
     }
 }
 

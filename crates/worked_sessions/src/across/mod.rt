@@ -8,5 +8,6 @@ mod answers;
 mod bodies;
 mod commands;
 mod devices;
+mod drafts;
 mod failing;
 mod full;

@@ -15,7 +15,7 @@ pub push_concatenation-returns-in_ok-push : goal.push_concatenation-returns-in_o
 push_concatenation-returns-in_ok-push t c =
     adds_seq (repetition_part no_number (tree_inside no_number c.args.room)) c.args.concatenation.now c.args.names.now c.push_repetitions.new.names
     c.args.words.now.items c.push_repetitions.new.words.items c.push.new.self.items c.in_ok-push_repetitions.ensures c.if-concatenation-ne1.true
-    (c.in_ok-push.ensures.items ∙ ap (λ n. c.push_repetitions.new.words.items ++ w.All n ∷ []) c.in_ok-narrow.ensures)
+    (c.in_ok-push.ensures.items ∙ ap (λ n. c.push_repetitions.new.words.items ++ w.All n ∷ []) c.in_ok-narrow.ensures.value)
 
 pub push_concatenation-returns-else-concatenation-ne1 : goal.push_concatenation-returns-else-concatenation-ne1
 push_concatenation-returns-else-concatenation-ne1 t c =
@@ -35,7 +35,7 @@ push_inside-returns-in_ok-push-2 t c =
     rw (inside_is no_number c.args.room c.args.alternation.now c.if-room-eq0.false)
     (adds_alt (concatenation_part no_number (tree_inside no_number (c.args.room - 1))) c.args.alternation.now c.args.names.now c.push_concatenations.new.names
     c.args.words.now.items c.push_concatenations.new.words.items c.push-then-alternation-ne1.new.self.items c.in_ok-push_concatenations.ensures
-    c.if-alternation-ne1.true (c.in_ok-push-2.ensures.items ∙ ap (λ n. c.push_concatenations.new.words.items ++ w.Any n ∷ []) c.in_ok-narrow.ensures))
+    c.if-alternation-ne1.true (c.in_ok-push-2.ensures.items ∙ ap (λ n. c.push_concatenations.new.words.items ++ w.Any n ∷ []) c.in_ok-narrow.ensures.value))
 
 pub push_inside-returns-else-alternation-ne1 : goal.push_inside-returns-else-alternation-ne1
 push_inside-returns-else-alternation-ne1 t c =

@@ -3,7 +3,7 @@ use Rattle.std.specs.Prelude.{All, IfOk}
 use Rattle.std.specs.Arc.{arc_value}
 use Rattle.std.specs.Char.{IsScalar}
 use Rattle.ls_answers.specs.Answers.{IsAnswer}
-use Rattle.ls_answers.proofs.RenameKept.{result_keeps}
+use Rattle.ls_answers.proofs.Documents.{result_keeps}
 use Rattle.ls_answers.proofs.job.run_keeping.Goals as goal
 
 pub invariant_of-result : goal.invariant_of-result

@@ -15,9 +15,9 @@ returns c = λ block of.
     _ (section.block.first, section.block.end) block c.in_ok-head.ensures.later (record {
       head = subst (λ head. StandsFor mid c.in_ok-head.head head) (head_is section block of) c.in_ok-head.ensures.head;
       added = c.in_ok-push_said.ensures block.said (is_said section block of);
-      begins = c.in_ok-start.ensures ∙ (c.len.ensures ∙ digests.words.ok.0);
-      ends = c.in_ok-end.ensures ∙ (c.len-2.ensures ∙ c.push_said.new.words.ok.0);
-      first = c.in_ok-first.ensures;
-      behind = c.in_ok-behind.ensures;
+      begins = c.in_ok-start.ensures.value ∙ (c.len.ensures ∙ digests.words.ok.0);
+      ends = c.in_ok-end.ensures.value ∙ (c.len-2.ensures ∙ c.push_said.new.words.ok.0);
+      first = c.in_ok-first.ensures.value;
+      behind = c.in_ok-behind.ensures.value;
       own = c.has_own_findings.ensures ∙ own_is section block of;
     }) c.in_ok-push.ensures.items)

@@ -26,13 +26,13 @@ between-requires-clause-within c =
 
 pub push_moved-requires : goal.push_moved-requires
 push_moved-requires c =
-    some_movable _ _ _ (IsUtf8-string_bytes c.part.inside.text) c.part.invariant _ c.part.view_is _ _ c.requires.order c.if-from-to.false c.requires.within _ _ c.index-first.ensures c.index-last.ensures _ _ _ _ _ (IsUtf8-string_bytes c.self.inside.text) c.self.invariant _ _ (c.in_ok-narrow.ensures ∙ c.len.ensures ∙ c.self.inside.text.bytes.ok.0) (c.in_ok-narrow-2.ensures ∙ c.len-2.ensures ∙ c.self.inside.marks.ok.0) (joined _ _ _ _ _ _ _ c.in_ok-push_str.ensures.bytes c.piece.ensures c.as_str.ensures.value) (joined _ _ _ _ _ _ _ c.in_ok-extend_from_slice.ensures.items c.between.ensures c.deref.ensures.value) _ c.deref-2.ensures.value (omega (arith, c.if-len-gt-MOST.false, c.len-3.ensures, c.push_str.new.self.bytes.ok.0)) (omega (arith, c.if-len-gt-MOST-2.false, c.len-else-len-gt-MOST.ensures, c.extend_from_slice.new.self.ok.0))
+    some_movable _ _ _ (IsUtf8-string_bytes c.part.inside.text) c.part.invariant _ c.part.view_is _ _ c.requires.order c.if-from-to.false c.requires.within _ _ c.index-first.ensures c.index-last.ensures _ _ _ _ _ (IsUtf8-string_bytes c.self.inside.text) c.self.invariant _ _ (c.in_ok-narrow.ensures.value ∙ c.len.ensures ∙ c.self.inside.text.bytes.ok.0) (c.in_ok-narrow-2.ensures.value ∙ c.len-2.ensures ∙ c.self.inside.marks.ok.0) (joined _ _ _ _ _ _ _ c.in_ok-push_str.ensures.bytes c.piece.ensures c.as_str.ensures.value) (joined _ _ _ _ _ _ _ c.in_ok-extend_from_slice.ensures.items c.between.ensures c.deref.ensures.value) _ c.deref-2.ensures.value (omega (arith, c.if-len-gt-MOST_NARROW.false, c.len-3.ensures, c.push_str.new.self.bytes.ok.0)) (omega (arith, c.if-len-gt-MOST_NARROW-2.false, c.len-else-len-gt-MOST_NARROW.ensures, c.extend_from_slice.new.self.ok.0))
 
 pub invariant_of-result : goal.invariant_of-result
 invariant_of-result c =
-    part_copied _ _ _ (IsUtf8-string_bytes c.part.inside.text) c.part.invariant _ c.part.view_is _ _ c.requires.order c.if-from-to.false c.requires.within _ _ c.index-first.ensures c.index-last.ensures _ _ _ _ _ (IsUtf8-string_bytes c.self.inside.text) c.self.invariant _ _ (c.in_ok-narrow.ensures ∙ c.len.ensures ∙ c.self.inside.text.bytes.ok.0) (c.in_ok-narrow-2.ensures ∙ c.len-2.ensures ∙ c.self.inside.marks.ok.0) (joined _ _ _ _ _ _ _ c.in_ok-push_str.ensures.bytes c.piece.ensures c.as_str.ensures.value) (joined _ _ _ _ _ _ _ c.in_ok-extend_from_slice.ensures.items c.between.ensures c.deref.ensures.value) _ c.deref-2.ensures.value _ c.in_ok-push_moved.ensures
+    part_copied _ _ _ (IsUtf8-string_bytes c.part.inside.text) c.part.invariant _ c.part.view_is _ _ c.requires.order c.if-from-to.false c.requires.within _ _ c.index-first.ensures c.index-last.ensures _ _ _ _ _ (IsUtf8-string_bytes c.self.inside.text) c.self.invariant _ _ (c.in_ok-narrow.ensures.value ∙ c.len.ensures ∙ c.self.inside.text.bytes.ok.0) (c.in_ok-narrow-2.ensures.value ∙ c.len-2.ensures ∙ c.self.inside.marks.ok.0) (joined _ _ _ _ _ _ _ c.in_ok-push_str.ensures.bytes c.piece.ensures c.as_str.ensures.value) (joined _ _ _ _ _ _ _ c.in_ok-extend_from_slice.ensures.items c.between.ensures c.deref.ensures.value) _ c.deref-2.ensures.value _ c.in_ok-push_moved.ensures
 
 pub returns : goal.returns
 returns c =
-    rows_with_copies _ _ _ (IsUtf8-string_bytes c.part.inside.text) c.part.invariant _ c.part.view_is _ _ c.requires.order c.if-from-to.false c.requires.within _ _ c.index-first.ensures c.index-last.ensures _ _ _ _ _ (IsUtf8-string_bytes c.self.inside.text) c.self.invariant _ _ (c.in_ok-narrow.ensures ∙ c.len.ensures ∙ c.self.inside.text.bytes.ok.0) (c.in_ok-narrow-2.ensures ∙ c.len-2.ensures ∙ c.self.inside.marks.ok.0) (joined _ _ _ _ _ _ _ c.in_ok-push_str.ensures.bytes c.piece.ensures c.as_str.ensures.value) (joined _ _ _ _ _ _ _ c.in_ok-extend_from_slice.ensures.items c.between.ensures c.deref.ensures.value) _ c.deref-2.ensures.value _ c.in_ok-push_moved.ensures
+    rows_with_copies _ _ _ (IsUtf8-string_bytes c.part.inside.text) c.part.invariant _ c.part.view_is _ _ c.requires.order c.if-from-to.false c.requires.within _ _ c.index-first.ensures c.index-last.ensures _ _ _ _ _ (IsUtf8-string_bytes c.self.inside.text) c.self.invariant _ _ (c.in_ok-narrow.ensures.value ∙ c.len.ensures ∙ c.self.inside.text.bytes.ok.0) (c.in_ok-narrow-2.ensures.value ∙ c.len-2.ensures ∙ c.self.inside.marks.ok.0) (joined _ _ _ _ _ _ _ c.in_ok-push_str.ensures.bytes c.piece.ensures c.as_str.ensures.value) (joined _ _ _ _ _ _ _ c.in_ok-extend_from_slice.ensures.items c.between.ensures c.deref.ensures.value) _ c.deref-2.ensures.value _ c.in_ok-push_moved.ensures
     ∙ ap (λ z. z ++ take (c.args.to - c.args.from) (drop c.args.from c.args.part.now)) c.self.view_is

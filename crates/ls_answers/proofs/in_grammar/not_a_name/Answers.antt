@@ -1,7 +1,7 @@
 use Rattle.std.proofs.Common.{arith}
 use Rattle.std.proofs.lemmas.Str.{length-le-encodes}
 use Rattle.ls_answers.proofs.NoName.{no_name}
-use Rattle.ls_answers.proofs.job.not_a_name.Goals as goal
+use Rattle.ls_answers.proofs.in_grammar.not_a_name.Goals as goal
 
 pub returns-clause-answer : goal.returns-clause-answer
 returns-clause-answer c = λ encoding at new other.

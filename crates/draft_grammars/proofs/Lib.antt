@@ -1,0 +1,4 @@
+pub mod CarryLaws
+pub mod GatherLaws
+pub mod ScalarLaws
+pub mod OffsetLaws

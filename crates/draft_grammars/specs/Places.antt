@@ -1,0 +1,100 @@
+-- Offsets, positions and ranges of a draft and of its grammar. Offsets count characters, and so do positions in the grammar; those in the
+-- draft count the units of its encoding.
+use Rattle.std.specs.Prelude.{ℕ, suc, pred, min, ◌+◌, ◌-◌, ◌==◌, nat_lt, Option, None, option_map, List, [], drop, length, position, slice_get, take, if◌then◌else◌}
+use Rattle.std.specs.Option.{option_map_or, option_or}
+use Rattle.std.specs.List.{prefix_len}
+use Rattle.ls_text.specs.Edits.{position_offset}
+use Rattle.ls_text.specs.Lines.{lines, units}
+use Rattle.ls_text.specs.Positions.{position_of}
+use Rattle.ls_text.specs.declared.position.Encoding.{Encoding}
+use Rattle.ls_text.specs.declared.position.Encoding.TheVariants.{Utf32}
+use Rattle.ls_text.specs.declared.position.Position.{Position}
+use Rattle.ls_text.specs.declared.position.Range.{Range}
+use Rattle.origins.specs.Origins.{Sourced, characters, is_blank_char}
+
+-- a draft and its grammar
+pub record Mapped : Type 0 where
+  pub draft : List ℕ
+  pub encoding : Encoding
+  pub grammar : List Sourced
+
+-- ---- from the draft to its grammar
+
+-- the line of a draft, without its line end
+abbrev pub line_of : List ℕ → ℕ → List ℕ
+line_of draft at = option_map_or (λ line. line) (slice_get (lines draft) at) []
+
+-- how many blanks follow an offset in its line
+abbrev pub blanks_behind : List ℕ → ℕ → ℕ
+blanks_behind draft offset =
+    let at = position_of (units Utf32) draft offset in
+    prefix_len is_blank_char (drop at.character (line_of draft at.line))
+
+-- the place of the first character that begins at an offset of the draft
+abbrev pub begun_at : List Sourced → ℕ → Option ℕ
+begun_at grammar offset = position (λ c. c.1 == offset) grammar
+
+-- the place behind one that ends there
+abbrev pub ended_at : List Sourced → ℕ → Option ℕ
+ended_at grammar offset = if offset == 0 then None else option_map (λ place. place + 1) (begun_at grammar (offset - 1))
+
+-- The place in the grammar of an offset of the draft, if that stands in a block: at the character that begins there; in the margin of a
+-- line, which isn't gathered, at the first one behind it; or else behind the one that ends there.
+abbrev pub inward : Mapped → ℕ → Option ℕ
+inward map offset =
+    option_or (begun_at map.grammar offset)
+    (option_or (begun_at map.grammar (offset + blanks_behind map.draft offset)) (ended_at map.grammar offset))
+
+-- the position of that place
+abbrev pub inward_at : Mapped → ℕ → Option Position
+inward_at map offset = option_map (position_of (units Utf32) (characters map.grammar)) (inward map offset)
+
+-- the position in the grammar of a position in the draft, if that stands in a block
+abbrev pub inward_position : Mapped → Position → Option Position
+inward_position map at = inward_at map (position_offset (units map.encoding) map.draft at)
+
+-- the range with nothing in it at a position
+abbrev pub empty_range : Position → Range
+empty_range at = record { start = at; end = at }
+
+-- the empty range at the start of a range, whichever of its ends comes first
+abbrev pub inward_range : Mapped → Range → Option Range
+inward_range map range =
+    option_map empty_range (inward_at map (min (position_offset (units map.encoding) map.draft range.start) (position_offset (units map.encoding) map.draft range.end)))
+
+-- ---- from the grammar to the draft
+
+-- where the character at a place of the grammar begins in the draft; behind the last one it is the draft's end
+abbrev pub outward : Mapped → ℕ → ℕ
+outward map place = option_map_or (λ c. c.1) (slice_get map.grammar place) (length map.draft)
+
+-- Where in the draft ends what goes from one place of the grammar to another: one behind where its last character begins. What is empty
+-- ends where it begins.
+abbrev pub outward_end : Mapped → ℕ → ℕ → ℕ
+outward_end map start end =
+    if nat_lt start end then min (suc (outward map (pred end))) (length map.draft) else outward map start
+
+-- the place of a position in the grammar
+abbrev pub place_of : Mapped → Position → ℕ
+place_of map at = position_offset (units Utf32) (characters map.grammar) at
+
+-- the position in the draft of an offset
+abbrev pub drafted : Mapped → ℕ → Position
+drafted map offset = position_of (units map.encoding) map.draft offset
+
+-- the position in the draft of a position in the grammar
+abbrev pub outward_position : Mapped → Position → Position
+outward_position map at = drafted map (outward map (place_of map at))
+
+-- the range in the draft of a range in the grammar, from where its first character begins to behind its last
+abbrev pub outward_range : Mapped → Range → Range
+outward_range map range = record {
+  start = drafted map (outward map (place_of map range.start));
+  end = drafted map (outward_end map (place_of map range.start) (place_of map range.end));
+}
+
+-- what stands before an offset of the draft in its line
+abbrev pub margin : List ℕ → ℕ → List ℕ
+margin draft offset =
+    let at = position_of (units Utf32) draft offset in
+    take at.character (line_of draft at.line)

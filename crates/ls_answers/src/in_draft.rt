@@ -1,0 +1,85 @@
+//! Questions about a draft.
+
+ghost use Rattle.std.specs.Prelude.{◌≡◌, false, IfOk, List, Ok, ℕ};
+ghost use Rattle.abnf_token.specs.Classes as classes;
+ghost use Rattle.ls_answers.specs.Asks.{IsToNoName};
+ghost use Rattle.ls_answers.specs.InDrafts as spec;
+
+use crate::answer::{Answer, RenameFault};
+use crate::ask::Ask;
+use crate::draft_tokens::draft_tokens;
+use crate::in_grammar::answer_in_grammar;
+use crate::inward::{inward_ask, outside_answer};
+use crate::outward::outward_answer;
+use crate::rename::is_name;
+use abnf_kept::Recent;
+use draft_grammars::{DraftGrammar, Format, SourceMap};
+use ls_text::{Encoding, Position, Snapshot};
+use std::alloc::{AllocError as Memory, Global};
+
+/// The answer by the grammar of a draft.
+fn answer_with(
+    alloc: Global,
+    recent: &mut Recent,
+    format: Format,
+    places: &SourceMap<'_>,
+    ask: &Ask,
+) -> Result<Answer, Memory>
+    ensures { IfOk result (λ given. spec.IsAnswerWith format places.now ask.now given) }
+{
+    if let Ask::Tokens = ask {
+        return Ok(Answer::Numbers(draft_tokens(alloc, places)?));
+    }
+    let Some(inner) = inward_ask(places, ask)? else {
+        return Ok(outside_answer(alloc, ask));
+    };
+    let text = places.grammar().text();
+    let answer = answer_in_grammar(alloc, recent, text, Encoding::Utf32, &inner)?;
+    outward_answer(alloc, format, answer, places)
+}
+
+/// What is answered to a rename whose new text is no name.
+fn not_a_name(format: Format, draft: &Snapshot) -> Answer
+    ensures value { result ≡ Answer.Refused RenameFault.NotAName }
+    ensures answer { (encoding : Encoding) (at : Position) (new : List ℕ) → classes.is_name new ≡ false
+        → spec.IsAnswerInDraft format encoding draft.now (Ask.Rename at new) result }
+{
+    let _count = draft.char_count();
+    Answer::Refused(RenameFault::NotAName)
+}
+
+fn by_draft(
+    alloc: Global,
+    recent: &mut Recent,
+    format: Format,
+    draft: &Snapshot,
+    encoding: Encoding,
+    ask: &Ask,
+) -> Result<Answer, Memory>
+    ensures { IfOk result (λ given. spec.IsAnswerInDraft format encoding draft.now ask.now given) }
+{
+    let grammar = DraftGrammar::of(alloc, format, draft)?;
+    let places = SourceMap::new(draft, encoding, &grammar);
+    answer_with(alloc, recent, format, &places, ask)
+}
+
+/// The answer to a question about a draft, whose grammar is gathered for it. A rename to what is no name is refused as that, whatever
+/// memory there is.
+pub(crate) fn answer_in_draft(
+    alloc: Global,
+    recent: &mut Recent,
+    format: Format,
+    draft: &Snapshot,
+    encoding: Encoding,
+    ask: &Ask,
+) -> Result<Answer, Memory>
+    ensures answer { IfOk result (λ given. spec.IsAnswerInDraft format encoding draft.now ask.now given) }
+    ensures not_a_name { IsToNoName ask.now → result ≡ Ok (Answer.Refused RenameFault.NotAName) }
+{
+    if let Ask::Rename(_, new) = ask {
+        if !is_name(new.as_str()) {
+            return Ok(not_a_name(format, draft));
+        }
+    }
+    by_draft(alloc, recent, format, draft, encoding, ask)
+}

@@ -1,0 +1,269 @@
+"""A plain reading of drafts: what of them is ABNF, where each character of that comes from, and what an answer about it is in the draft.
+
+It shares nothing with the program. What a draft in Markdown or in RFCXML has of ABNF is gathered as docs/DECISIONS.md has it ("Drafts and
+arguments"): a grammar is a list of characters, each with its offset in the draft. An answer about a grammar has positions in characters.
+"""
+import bisect
+import re
+
+from random_texts import UNITS
+
+LINE_END = re.compile("\r\n|\n|\r")
+LINE = re.compile("[^\r\n]*(?:\r\n|\n|\r)|[^\r\n]+")
+BLANKS = re.compile("[ \t]*")
+MARGIN, QUOTED_MARGIN = BLANKS, re.compile("[ \t>]*")
+FENCE = re.compile("([ \t>]*)(```+|~~~+)(.*)", re.DOTALL)
+ABNF_INFO = re.compile("(?ai)[ \t]*abnf(?![^ \t])")
+ABNF_LIST = re.compile(r'(?ai)[ \t]*\{:?(?:[^}]*[ \t])?(?:\.abnf|\.language-abnf|type="abnf")[ \t}]')
+KRAMDOWN_COMMENT = re.compile(r"(?ai)[ \t]*\{::comment\}[ \t]*")
+KRAMDOWN_END = re.compile(r"[ \t]*\{:/")
+# An XML tag: in one whose name begins with a letter quotes guard a `>`
+TAG = re.compile("<(?:[A-Za-z](?:[^>\"']|\"[^\"]*\"|'[^']*')*|(?![A-Za-z])[^>]*)>")
+ABNF_TAG = re.compile(
+    "<(sourcecode|artwork)(?=[ \t\r\n])(?:[^\"']|\"[^\"]*\"|'[^']*')*?[ \t\r\n]type[ \t\r\n]*=[ \t\r\n]*([\"'])[aA][bB][nN][fF]\\2"
+)
+REFERENCE = re.compile("&(?:#x([0-9A-Fa-f]+)|#([0-9]+)|([a-z]+));")
+NAMED = {"lt": "<", "gt": ">", "amp": "&", "quot": '"', "apos": "'", "nbsp": "\u00a0", "nbhy": "\u2011", "zwsp": "\u200b", "wj": "\u2060"}
+NOTHING_TO_RENAME, NOT_A_NAME = ({"error": {"code": -32803, "message": it}} for it in ("nothing to rename", "not a rule name"))
+# What is answered outside of all blocks, but to renames
+OUTSIDE = {"hover": None, "definition": [], "references": [], "codeAction": []}
+
+
+class Fence:
+    """The fence that opens a block: its margin and marks, and whether it says that the block is ABNF."""
+
+    def __init__(self, margin, marks, info):
+        self.margin, self.marks = margin, marks
+        self.is_abnf = bool(ABNF_INFO.match(info) or ABNF_LIST.match(info))
+        self.lines_margin = QUOTED_MARGIN if ">" in margin else MARGIN
+
+    def is_closed_by(self, line):
+        rest = line[self.lines_margin.match(line).end() :].rstrip(" \t")
+        return len(rest) >= len(self.marks) and not rest.strip(self.marks[0])
+
+    def content(self, line):
+        """Where the content of a line begins."""
+        return min(len(self.margin), self.lines_margin.match(line).end())
+
+
+def fence_of(line):
+    found = FENCE.fullmatch(line)
+    return Fence(*found.groups()) if found and not (found[2][0] == "`" and "`" in found[3]) else None
+
+
+def state_behind(line, state):
+    """What is read behind a line outside of blocks: a fence, or one of the words 'comment', 'extension', 'attributes' and 'text'."""
+    if state == "comment":
+        return "text" if "-->" in line else state
+    if state == "extension":
+        return "text" if KRAMDOWN_END.match(line) else state
+    fence = fence_of(line)
+    if fence:
+        fence.is_abnf |= state == "attributes"
+        return fence
+    if line.lstrip(" \t").startswith("<!--") and "-->" not in line:
+        return "comment"
+    if KRAMDOWN_COMMENT.fullmatch(line):
+        return "extension"
+    return "attributes" if state != "block" and ABNF_LIST.match(line) else "text"
+
+
+def blocks_in_markdown(draft):
+    """The blocks of ABNF, each as its characters with their offsets, and the offset of its end."""
+    lines, state, content, found = [(it.start(), it[0]) for it in LINE.finditer(draft)], "text", [], []
+    for number, (start, whole) in enumerate(lines):
+        line = whole.rstrip("\r\n")
+        if isinstance(state, str):
+            state, content = state_behind(line, state), []
+        elif state.is_closed_by(line):
+            if state.is_abnf or any(ABNF_LIST.match(it.rstrip("\r\n")) for _, it in lines[number + 1 : number + 2]):
+                found.append((content, start))
+            state = "block"
+        else:
+            content += [(whole[at], start + at) for at in range(state.content(line), len(whole))]
+    if isinstance(state, Fence) and state.is_abnf:
+        found.append((content, len(draft)))
+    return found
+
+
+def referred(draft, at):
+    """The character of the reference that stands here, and where that ends; None where none stands."""
+    found = REFERENCE.match(draft, at)
+    if found and found[3]:
+        return (NAMED[found[3]], found.end()) if found[3] in NAMED else None
+    number = int(found[1] or found[2], 16 if found[1] else 10) if found else -1
+    return (chr(number), found.end()) if 0 <= number <= 0x10FFFF and not 0xD800 <= number <= 0xDFFF else None
+
+
+def piece_at(draft, at, in_block):
+    """Where the piece ends that stands here, and the characters that it stands for in a block; None where it is at fault."""
+    for front, back in ("<!--", "-->"), ("<![CDATA[", "]]>"):
+        if draft.startswith(front, at):
+            start, end = at + len(front), draft.find(back, at + len(front))
+            said = [(draft[it], it) for it in range(start, end)] if front == "<![CDATA[" else []
+            return (end + 3, said) if end >= 0 else None
+    if draft[at] == "<":
+        tag = TAG.match(draft, at)
+        return (tag.end(), []) if tag else None
+    if in_block and draft[at] == "&":
+        found = referred(draft, at)
+        return (found[1], [(found[0], at)]) if found else None
+    end = re.compile("[^<&]+" if in_block else "[^<]+").match(draft, at).end()
+    return end, [(draft[it], it) for it in range(at, end)]
+
+
+def blocks_in_xml(draft):
+    """The same of a draft in RFCXML, which has none where it is at fault."""
+    at, name, content, found = 0, None, [], []
+    while at < len(draft):
+        piece = piece_at(draft, at, name is not None)
+        if piece is None:
+            return []
+        end, said = piece
+        if name and re.fullmatch(f"</{name}[ \t\r\n]*>", draft[at:end]):
+            found.append((content, at))
+            name = None
+        elif name:
+            content = content + said
+        elif (tag := ABNF_TAG.match(draft, at, end)) and draft[end - 2] != "/":
+            name, content = tag[1], []
+        at = end
+    return found if name is None else []
+
+
+def aligned(content, end):
+    """A block without its first indent at the front of each line, and with a line end that stands at its end."""
+    lines = re.split("[\r\n]", "".join(it for it, _ in content))
+    base = next((BLANKS.match(it).end() for it in lines if it.strip(" \t")[:1] not in ("", ";")), 0)
+    kept, at = [], 0
+    for line in lines:
+        gone = min(base, BLANKS.match(line).end())
+        kept += content[at + gone : at + len(line) + 1]
+        at += len(line) + 1
+    return [*kept, ("\n", end)]
+
+
+def gathered(draft, form):
+    """The characters of a draft's grammar, each with its offset."""
+    blocks = (blocks_in_markdown if form == "markdown" else blocks_in_xml)(draft)
+    return [it for block in blocks for it in aligned(*block)]
+
+
+class Text:
+    """A text whose positions count the units of an encoding."""
+
+    def __init__(self, text, encoding):
+        self.text, self.units = text, UNITS[encoding]
+        self.starts = [0, *(it.end() for it in LINE_END.finditer(text))]
+
+    def offset(self, at):
+        if at["line"] >= len(self.starts):
+            return len(self.text)
+        start = count = self.starts[at["line"]]
+        while self.text[count : count + 1] not in ("", "\r", "\n") and self.units(self.text[start : count + 1]) <= at["character"]:
+            count += 1
+        return count
+
+    def position(self, offset):
+        offset -= self.text[max(0, offset - 1) : offset + 1] == "\r\n"
+        line = bisect.bisect_right(self.starts, offset) - 1
+        return {"line": line, "character": self.units(self.text[self.starts[line] : offset])}
+
+    def with_edits(self, edits):
+        """The text after edits in ascending ranges."""
+        text = self.text
+        for edit in reversed(edits):
+            start, end = (self.offset(edit["range"][it]) for it in ("start", "end"))
+            text = text[:start] + edit["newText"] + text[end:]
+        return text
+
+
+class Draft(Text):
+    """A draft, with its grammar, where that comes from, and what is carried between them."""
+
+    def __init__(self, text, form, encoding):
+        super().__init__(text, encoding)
+        found = gathered(text, form)
+        self.form, self.encoding, self.origins = form, encoding, [at for _, at in found]
+        self.grammar = Text("".join(it for it, _ in found), "utf-32")
+        self.places = {at: place for place, at in reversed([*enumerate(self.origins)])}
+
+    def inward(self, offset):
+        """The position in the grammar of an offset: of what begins there, behind the margin, or of what ends there; None elsewhere."""
+        for at, more in ((offset, 0), (BLANKS.match(self.text, offset).end(), 0), (offset - 1, 1)):
+            if at in self.places:
+                return self.grammar.position(self.places[at] + more)
+        return None
+
+    def inner(self, params):
+        """What is asked about the grammar for what is asked about the draft; None outside of all blocks."""
+        name = next((it for it in ("range", "position") if it in params), None)
+        if name is None:
+            return params
+        given = params[name]
+        at = self.inward(self.offset(given) if name == "position" else min(map(self.offset, given.values())))
+        return at and {**params, name: at if name == "position" else {"start": at, "end": at}}
+
+    def outward(self, place):
+        return self.origins[place] if place < len(self.origins) else len(self.text)
+
+    def outward_range(self, at):
+        start, end = (self.grammar.offset(at[it]) for it in ("start", "end"))
+        behind = min(self.outward(end - 1) + 1, len(self.text)) if start < end else self.outward(start)
+        return {"start": self.position(self.outward(start)), "end": self.position(behind)}
+
+    def moved(self, told):
+        """All that is told, with each range in the draft."""
+        if isinstance(told, list):
+            return [self.moved(it) for it in told]
+        if not isinstance(told, dict):
+            return told
+        return {key: self.outward_range(it) if key in ("range", "selectionRange") else self.moved(it) for key, it in told.items()}
+
+    def tokens(self, numbers):
+        """The numbers of the tokens that stand in one line of the draft."""
+        line = start = last_line = last_start = 0
+        found = []
+        for down, right, length, *kind in zip(*[iter(numbers)] * 5):
+            line, start = line + down, right if down else start + right
+            ends = {"start": {"line": line, "character": start}, "end": {"line": line, "character": start + length}}
+            front, back = (self.outward_range(ends)[it] for it in ("start", "end"))
+            if front["line"] == back["line"]:
+                at = front["character"] - (last_start if front["line"] == last_line else 0)
+                found += [front["line"] - last_line, at, back["character"] - front["character"], *kind]
+                last_line, last_start = front["line"], front["character"]
+        return found
+
+    def with_margin(self, action):
+        """An action in the draft, whose text brings the margin of the line that it pushes down."""
+        moved = self.moved(action)
+        for edits in moved["edit"]["changes"].values():
+            for edit in edits:
+                start = edit["range"]["start"]
+                edit["newText"] += self.text[self.starts[start["line"]] : self.offset(start)]
+        return moved
+
+    def keeps(self, edits):
+        """Whether edits of the grammar, made in the draft, give it the edited grammar."""
+        edited = Draft(self.with_edits(self.moved(edits)), self.form, self.encoding)
+        return edited.grammar.text == self.grammar.with_edits(edits)
+
+    def answer(self, method, inside):
+        """The answer about the draft, by that about its grammar."""
+        if "error" in inside:
+            return inside
+        told = inside["result"]
+        if method == "semanticTokens/full":
+            return {"result": {"data": self.tokens(told["data"])}}
+        if method == "codeAction":
+            return {"result": [self.with_margin(it) for it in told] if self.form == "markdown" else []}
+        if method == "rename" and not all(map(self.keeps, told["changes"].values())):
+            return NOTHING_TO_RENAME
+        return {"result": self.moved(told)}
+
+
+def outside(method, params):
+    """The answer outside of all blocks."""
+    if method == "rename":
+        return NOTHING_TO_RENAME if re.fullmatch("[A-Za-z][A-Za-z0-9-]*", params["newName"]) else NOT_A_NAME
+    return {"result": OUTSIDE[method]}
