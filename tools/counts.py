@@ -10,6 +10,8 @@ something is missing, and so does one that is higher, as it could go again witho
 With --raise each count that is higher or new is put into counts.txt, the rows as the last gate found them (out/rows), and the figures in
 the pages are written anew. It lowers none: what is taken away with intent is taken out of counts.txt by hand.
 
+Among the counts are the pairs of places in the crates that share six or more lines (tools/alike_lines.py).
+
 Beside the counts it fails where a test, an edit or a crate stands where nothing looks for it, where an edit is another one once more, where
 something names what another crate says for itself alone (specs/own/), and where a page tells another figure than counts.txt
 (tools/figures.py).
@@ -21,6 +23,7 @@ import os
 import re
 import sys
 
+import alike_lines
 import figures
 from rows import report_faults
 from workspace import EDITS, NO_COMPILE, SAME_MEANING, TOP, crates, out_of_place, places, text_of
@@ -142,6 +145,7 @@ def of_sources():
     counts["same-meaning"] = sum(files_in(SAME_MEANING, it) for it in names)
     counts["examples"] = files_in("examples", end=".abnf")
     counts["known-examples"] = files_in("examples", "known", end=".abnf")
+    counts.update({f"alike-lines {kind}": count for kind, count in alike_lines.found().items()})
     counts.update({f"own-rows {it}": rows_of(it) for it in OWN_ROWS})
     counts.update({f"list {it}": number_at(it) for it in LISTS})
     counts.update({f"cases {it}": number_at(it) for it in NUMBERS})

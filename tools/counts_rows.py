@@ -11,6 +11,7 @@ import os
 import sys
 import tempfile
 
+import alike_lines
 import counts
 import figures
 import program_ends
@@ -20,6 +21,21 @@ import workspace
 
 TOLD = {"crates": 2, "tests a": 3, "edits a": 2, "edits b": 4, "rows p tool": 7, "rows p.by-rattle tool": 7}
 RAISE = f"`{counts.RAISE}` puts it there"
+
+SIX = [f"line {it}" for it in range(6)]
+TWICE = "\n".join(SIX)
+# The texts of files, and the pairs of places that share lines
+SHARED = (
+    ("six lines in two files", {"a": TWICE, "b": f"x\n{TWICE}"}, [(("a", 1), ("b", 2), 6)]),
+    ("five lines", {"a": "\n".join(SIX[1:]), "b": TWICE}, []),
+    ("other lines behind", {"a": f"{TWICE}\nx", "b": f"{TWICE}\ny"}, [(("a", 1), ("b", 1), 6)]),
+    ("seven lines are one pair", {"a": f"{TWICE}\nx", "b": f"{TWICE}\nx"}, [(("a", 1), ("b", 1), 7)]),
+    ("twice in one file", {"a": f"{TWICE}\nx\n{TWICE}"}, [(("a", 1), ("a", 8), 6)]),
+    ("blanks at the ends", {"a": TWICE, "b": "\n".join(f"  {it} " for it in SIX)}, [(("a", 1), ("b", 1), 6)]),
+    ("lines that say nothing between", {"a": TWICE, "b": "\n// c\n-- c\nuse x;\n}\n".join(SIX)}, [(("a", 1), ("b", 1), 6)]),
+    ("lines that say nothing alone", {"a": "}\n" * 9, "b": "}\n" * 9}, []),
+    ("in nine places", {str(it): TWICE for it in range(9)}, []),
+)
 
 # What is found, what differs from TOLD, and what TOLD is raised to
 COMPARED = (
@@ -194,6 +210,8 @@ def source_cases():
         yield f"places: {what}", [*workspace.out_of_place(paths, ["a", "b"])], lines
     for what, texts, lines in ALIKE:
         yield f"alike: {what}", [*counts.alike(texts)], lines
+    for what, texts, wanted in SHARED:
+        yield f"alike lines: {what}", [*alike_lines.pairs(texts)], wanted
     for what, texts, is_named in NAMED:
         yield f"named: {what}", [*counts.unnamed(["b"], texts)], [] if is_named else ["crates.txt gives it b, which it names nowhere"]
     for what, texts, lines in OWNED:

@@ -10,6 +10,7 @@ The same programs and files make the same bytes each time, with one Python and o
 each file has the time that SOURCE_DATE_EPOCH says, or else that of the commit.
 """
 import contextlib
+import email.utils
 import gzip
 import hashlib
 import io
@@ -34,8 +35,8 @@ OUT = os.path.join(TOP, "out", "dist")
 EXTENSION = os.path.join(TOP, "editors", "vscode")
 # The time of all files where there is neither SOURCE_DATE_EPOCH nor a commit: the first second of 2026. (No zip has one before 1980.)
 NO_COMMIT, LEAST_TIME = 1767225600, 315532800
-# The name of the Debian package, which may have no underscore
-DEBIAN = "abnf-ls"
+# The name of the Debian package, which may have no underscore, and who hands it on
+DEBIAN, OWNER = "abnf-ls", "The owner of abnf_ls <owner@abnf-ls.invalid>"
 # What README says of it
 LICENCE = "None is given yet; the owner of the repository decides."
 COPYRIGHT = f"abnf_ls: a language server for ABNF, and abnf_findings.\n\nLicence: {LICENCE}\n"
@@ -43,7 +44,7 @@ CONTROL = """\
 Package: {name}
 Version: {version}
 Architecture: amd64
-Maintainer: The owner of abnf_ls <owner@abnf-ls.invalid>
+Maintainer: {owner}
 Installed-Size: {size}
 Depends: {depends}
 Section: editors
@@ -58,6 +59,18 @@ Description: language server for ABNF, and findings in grammars and drafts
  Files for editors are in /usr/share/abnf_ls/editors, and grammars of
  standards, whose names abnf_findings can know, in
  /usr/share/abnf_ls/grammars.
+"""
+CHANGELOG = """\
+{name} ({version}) unstable; urgency=low
+
+  * Version {version}.
+
+ -- {owner}  {time}
+"""
+# What lintian is not to say of the package
+OVERRIDES = f"""\
+# The programs have their symbols, since their bytes are those whose sums are told.
+{DEBIAN}: unstripped-binary-or-object
 """
 TYPES = """\
 <?xml version="1.0" encoding="utf-8"?>
@@ -208,15 +221,22 @@ def c_library():
     return "libc6 (>= {}.{})".format(*max(found)) if found else "libc6"
 
 
-def debian_files():
+def changelog(at):
+    """The package's list of changes, which has its version alone."""
+    return CHANGELOG.format(name=DEBIAN, version=version(), owner=OWNER, time=email.utils.formatdate(at).replace("-0000", "+0000"))
+
+
+def debian_files(at):
     """The files that the package puts in place, by their paths from the root."""
     editors, known = [File(path, filled(it, "/usr/bin")) for path, it in snippets()], [File(*it) for it in grammars()]
     packed = [File(f"{it.path}.gz", gzipped(it.data)) for it in pages()]
+    told = [File("copyright", COPYRIGHT.encode()), File("changelog.gz", gzipped(changelog(at).encode()))]
     return [
         *under("usr/bin", programs()),
         *under("usr/share/man/man1", packed),
         *under("usr/share/abnf_ls", [*under("editors", editors), *under("grammars", known), listed_sums()]),
-        *under(f"usr/share/doc/{DEBIAN}", [File("copyright", COPYRIGHT.encode())]),
+        *under(f"usr/share/doc/{DEBIAN}", told),
+        File(f"usr/share/lintian/overrides/{DEBIAN}", OVERRIDES.encode()),
     ]
 
 
@@ -237,10 +257,11 @@ def lay(folder, files, at):
 def debian(files, at):
     """The bytes of the Debian package of these files. (Its size is in units of 1,024 bytes.)"""
     size = sum(-(-len(it.data) // 1024) for it in files)
-    control = CONTROL.format(name=DEBIAN, version=version(), size=size, depends=c_library())
+    control = CONTROL.format(name=DEBIAN, version=version(), owner=OWNER, size=size, depends=c_library())
+    md5sums = "".join(f"{hashlib.md5(it.data).hexdigest()}  {it.path}\n" for it in sorted(files))
     with tempfile.TemporaryDirectory() as folder:
         tree, made = os.path.join(folder, "tree"), os.path.join(folder, "made.deb")
-        lay(tree, [*files, File("DEBIAN/control", control.encode())], at)
+        lay(tree, [*files, *under("DEBIAN", [File("control", control.encode()), File("md5sums", md5sums.encode())])], at)
         # (one thread packs always the same, and gzip is packed by one)
         command = ["dpkg-deb", "--root-owner-group", "-Zgzip", "-z9", "--build", tree, made]
         env = {**os.environ, "SOURCE_DATE_EPOCH": str(at)}
@@ -336,7 +357,7 @@ def packages(at):
     name = f"abnf_ls-{version()}-linux-x86_64"
     yield f"{name}.tar.gz", archive(archive_files(name), at)
     if shutil.which("dpkg-deb"):
-        yield f"{DEBIAN}_{version()}_amd64.deb", debian(debian_files(), at)
+        yield f"{DEBIAN}_{version()}_amd64.deb", debian(debian_files(at), at)
     else:
         say("no Debian package is made: there is no dpkg-deb")
     packages_of_node, missing = needed()

@@ -7,7 +7,8 @@ The programs are those of the folder (`out/`, if it is left out). They stand for
 their sums, and in which made-up packages of Node stand for those that the extension for VS Code needs. The rows of `./install` are tried
 with the archive's install too, on whose PATH are a shell and the usual commands alone.
 
-Where there is no dpkg-deb or no node, the rows that need it aren't tried. A line says so, and counts as many as they are.
+Where there is no dpkg-deb, no lintian or no node, the rows that need it aren't tried, nor are those that put the Debian package in place where dpkg
+may not, as it is run by somebody else than root. A line says so, and counts as many as they are.
 """
 import contextlib
 import gzip
@@ -60,7 +61,9 @@ OWN_WORDS = {"'{}/p\\nq' has a control character, or isn't UTF-8": "the prefix h
 FIELDS = {"Package": "abnf-ls", "Version": version(), "Architecture": "amd64", "Section": "editors", "Priority": "optional"}
 LICENCE = "None is given yet; the owner of the repository decides."
 # How many rows need each of these, which may not be there
-NEED = {"dpkg-deb": 15, "node": 1}
+NEED = {"dpkg-deb": 31, "dpkg": 9, "lintian": 1, "node": 1}
+# What lintian says of the package, which lacks a licence
+NO_LICENCE = b"W: abnf-ls: copyright-without-copyright-notice\n"
 
 # A session, and a draft, with what is found in them
 TEXT = 'a = nope / "x"'
@@ -68,6 +71,8 @@ SAID = (session_rows.INITIALIZE, session_rows.INITIALIZED, session_rows.opened(T
 ANSWERED = (session_rows.CAPABILITIES, session_rows.published((0, 4, 8, 1, "undefined", "undefined rule nope")), session_rows.DOWN)
 DRAFT = f"# A draft\n\n```abnf\n{TEXT}\n```\n"
 FOUND = "{}:4:5: error: undefined rule nope [undefined]\n"
+# One with a name of a grammar that is installed
+NAMED = "# A draft\n\n```abnf\na = token\n```\n"
 
 
 def of_archive(row):
@@ -107,9 +112,10 @@ class Checkout:
         return {it: read(folder, it) for it in sorted(os.listdir(folder))} if os.path.isdir(folder) else {}
 
 
-def where(program, cases):
-    """These cases where there is such a program, and else one for all of them; and whether they are as many as are counted then."""
-    there = list(cases) if shutil.which(program) else [(f"NOT TRIED, since there is no {program}", True, True, NEED[program])]
+def where(program, cases, may=True):
+    """These cases where there is such a program, and it may do that, and else one for all of them; and whether they are as many as are counted then."""
+    why = f"this is not root, as {program} needs" if shutil.which(program) else f"there is no {program}"
+    there = list(cases) if shutil.which(program) and may else [(f"NOT TRIED, since {why}", True, True, NEED[program])]
     yield from there
     yield f"how many rows need {program}", sum(rows.Case(*it).count for it in there), NEED[program]
 
@@ -127,6 +133,7 @@ def make_cases(first, second):
     yield "its packages", tuple(made), ALL
     listed = dict(reversed(it.split("  ")) for it in made[SUMS].decode().splitlines())
     yield "their sums", listed, {it: hashlib.sha256(data).hexdigest() for it, data in made.items() if it != SUMS}
+    yield "their sums, by sha256sum", by_sha256sum(os.path.join(first.path, "out", "dist"), "--strict"), (0, [f"{it}: OK" for it in listed])
     yield "a second make", first.dist(), (0, LEFT_OUT)
     yield "the same bytes again", different(first.made(), made), []
     yield "a make elsewhere, with another mask of modes and another time zone", second.dist(mask=0o077, TZ="Asia/Tokyo"), (0, LEFT_OUT)
@@ -134,6 +141,12 @@ def make_cases(first, second):
     yield "a make of another time", second.dist(SOURCE_DATE_EPOCH=str(OTHER_TIME)), (0, LEFT_OUT)
     yield "other bytes", different(second.made(), made), [*ALL]
     yield "that time in the archive", {it.mtime for it in members(second.made()[ARCHIVE])}, {OTHER_TIME}
+
+
+def by_sha256sum(folder, *words):
+    """What sha256sum says of the files in a folder, by the sums that are listed there."""
+    ran = subprocess.run(["sha256sum", "--check", *words, SUMS], cwd=folder, capture_output=True, timeout=SECONDS, check=False)
+    return ran.returncode, ran.stdout.decode().splitlines()
 
 
 def different(made, others):
@@ -195,9 +208,10 @@ def archive_cases(archive, checkout):
         with tarfile.open(fileobj=io.BytesIO(archive)) as tar:
             tar.extractall(folder)
         lies = {"install": "tools/install.sh", **{it: f"out/{it}" for it in PROGRAMS}}
-        lies |= {f"grammars/{it}": f"examples/{it}" for it in os.listdir(os.path.join(TOP, "examples"))}
+        lies |= {it: f"{install_rows.folder_of(it[len('grammars/'):])}/{it[len('grammars/'):]}" for it in files if it.startswith("grammars/")}
         others = [it for it in sorted(files) if read(folder, FOLDER, it) != read(checkout.path, lies.get(it, it))]
         yield "files with other bytes than in the checkout", others, []
+        yield "its programs, by sha256sum", by_sha256sum(os.path.join(folder, FOLDER)), (0, [f"{it}: OK" for it in PROGRAMS])
 
 
 def install_cases(place, other, programs):
@@ -234,6 +248,8 @@ def use_cases(what, folder):
     with rows.files() as files:
         draft = files.written("draft.md", DRAFT)
         yield f"a draft, {what}", outcome(findings, None, [draft]), (1, b"", FOUND.format(draft).encode())
+        named = files.written("named.md", NAMED)
+        yield f"a name of another standard, {what}", outcome(findings, None, ["--strict", "--with", "rfc9110", named]), (0, b"", b"")
     status, _, said = outcome(findings, None, ["--version"])
     yield f"the version, {what}", (status, said.decode().partition(" (")[0]), (0, f"abnf_findings {version()}")
 
@@ -261,7 +277,13 @@ def debian_cases(folder, checkout):
     yield "other modes of it", {(it.isdir(), it.mode) for it in found if it.name not in is_run}, {(True, 0o755), (False, 0o644)}
     by_dpkg("-x", deb, root)
     own = {f"usr/{it}{'.gz' * it.startswith('share/man/')}" for it in FILES if it != "share/abnf_ls/installed"}
-    yield "what it puts in place", {*whole(root)}, own | {"usr/share/abnf_ls/sums.txt", "usr/share/doc/abnf-ls/copyright"}
+    told = {f"usr/share/{it}" for it in ("abnf_ls/sums.txt", "doc/abnf-ls/changelog.gz", "doc/abnf-ls/copyright", "lintian/overrides/abnf-ls")}
+    yield "what it puts in place", {*whole(root)}, own | told
+    changes = gzip.decompress(read(root, "usr", "share", "doc", "abnf-ls", "changelog.gz")).decode()
+    yield "its version in the list of changes", changes.partition("\n")[0], f"abnf-ls ({version()}) unstable; urgency=low"
+    yield "its time there", changes.endswith("  Thu, 01 Jan 2026 00:00:00 +0000\n"), True
+    sums_of = {path: hashlib.md5(data).hexdigest() for path, (data, _) in whole(root).items()}
+    yield "its sums for dpkg", by_dpkg("-I", deb, "md5sums").decode(), "".join(f"{sums_of[it]}  {it}\n" for it in sorted(sums_of))
     yield "its programs", [read(root, "usr", "bin", it) == read(checkout.path, "out", it) for it in PROGRAMS], [True, True]
     pages = [read(root, "usr", "share", "man", "man1", f"{it}.1.gz") for it in PROGRAMS]
     yield "its manual pages", [gzip.decompress(it) for it in pages], [read(TOP, "man", f"{it}.1") for it in PROGRAMS]
@@ -271,6 +293,28 @@ def debian_cases(folder, checkout):
     places = os.path.join(root, "usr", "share", "doc", "abnf-ls", "copyright"), os.path.join(TOP, "README.md")
     yield "its licence, as README says it", [LICENCE in text_of(it) for it in places], [True, True]
     yield from use_cases("of the Debian package", os.path.join(root, "usr", "bin"))
+    yield from where("dpkg", dpkg_cases(folder_in(folder, "root"), deb, whole(root)), os.geteuid() == 0)
+    yield from where("lintian", lintian_cases(deb))
+
+
+def dpkg_cases(root, deb, files):
+    """The package as dpkg puts it into an empty folder, where the C library isn't told, and takes it away."""
+    for it in ("info", "updates", "triggers"):
+        os.makedirs(os.path.join(root, "var", "lib", "dpkg", it))
+    write(os.path.join(root, "var", "lib", "dpkg", "status"), "")
+    by, name = [f"--root={root}", "--force-depends", "--force-bad-path"], FIELDS["Package"]
+    yield "an install by dpkg", outcome("dpkg", None, [*by, "-i", deb])[0], 0
+    installed = {path: it for path, it in whole(root).items() if path.startswith("usr/")}
+    yield "what dpkg has put in place", different(installed, files), []
+    yield "its files by the sums for dpkg", outcome("dpkg", None, [*by, "--verify", name])[::2], (0, b"")
+    yield from use_cases("as dpkg installs it", os.path.join(root, "usr", "bin"))
+    yield "a purge by dpkg", outcome("dpkg", None, [*by, "-P", name])[0], 0
+    yield "what it leaves", os.path.exists(os.path.join(root, "usr")), False
+
+
+def lintian_cases(deb):
+    """What lintian says of the package: nothing but of its licence."""
+    yield "the Debian package by lintian", outcome("lintian", None, ["--allow-root", deb])[::2], (0, NO_LICENCE)
 
 
 # ---- the package for VS Code

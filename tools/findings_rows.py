@@ -11,6 +11,7 @@ import sys
 
 import refused_memory
 import rows
+from install import grammars
 from runs import HUNG, outcome
 from sums import kit
 from workspace import version
@@ -269,6 +270,75 @@ XML_ROWS = (
 
 CORE = "OWS = *( SP / HTAB )\nRWS = 1*( SP / HTAB )\n"
 
+# The grammars that are installed, by their short names: those of other standards by which each is tried, what is found in it then, and a rule of it
+# with the shortest string that it generates. What is found are names that none of these has, and a misprint of RFC 3261, section 25.1.
+UTF8 = ("UTF8-2", "UTF8-3", "UTF8-4")
+KNOWN_ROWS = (
+    (
+        ("rfc3261", "rfc3986"),
+        (
+            "71:30: error: undefined rule telephone-subscriber [undefined]",
+            "315:1: warning: rule digest-uri generates nothing [unproductive]",
+            "316:1: warning: rule digest-uri-value generates nothing [unproductive]",
+            "316:22: error: undefined rule rquest-uri, did you mean Request-URI? [undefined]",
+        ),
+        ("Status-Line", r"14: SIP/0.0 100 \x{D}\x{A}"),
+    ),
+    (("rfc3339",), (), ("date-time", "20: 0000-00-00T00:00:00Z")),
+    (("rfc3501",), (), ("date-time", '28: " 0-Jan-0000 00:00:00 +0000"')),
+    (("rfc3986",), (), ("IPv4address", "7: 0.0.0.0")),
+    (("rfc4512",), (), ("numericoid", "3: 0.0")),
+    (("rfc5234",), (), ("rule", r"5: A=A\x{D}\x{A}")),
+    (("rfc5321", "rfc5322"), (), ("quit", r"6: QUIT\x{D}\x{A}")),
+    (("rfc5322",), (), ("addr-spec", "3: !@!")),
+    (
+        ("rfc5545", "rfc5646"),
+        (
+            "50:1: warning: rule NON-US-ASCII generates nothing [unproductive]",
+            *(f"50:{column}: error: undefined rule {name} [undefined]" for column, name in zip((17, 26, 35), UTF8)),
+            "134:1: warning: rule fmttypeparam generates nothing [unproductive]",
+            "134:30: error: undefined rule type-name [undefined]",
+            "134:44: error: undefined rule subtype-name [undefined]",
+        ),
+        ("date-time", "15: 00000000T000000"),
+    ),
+    (("rfc5646",), (), ("Language-Tag", "2: AA")),
+    (("rfc6265", "rfc7230"), (), ("cookie-pair", "2: !=")),
+    (
+        ("rfc6350", "rfc3986", "rfc5646"),
+        (
+            "48:1: warning: rule NON-ASCII generates nothing [unproductive]",
+            *(f"48:{column}: error: undefined rule {name} [undefined]" for column, name in zip((13, 22, 31), UTF8)),
+            "179:13: error: undefined rule type-name, did you mean type-value? [undefined]",
+            "179:27: error: undefined rule subtype-name [undefined]",
+            "179:47: error: undefined rule attribute [undefined]",
+        ),
+        ("timestamp", "15: 00000000T000000"),
+    ),
+    (("rfc6749", "rfc3986"), (), ("expires-in", "1: 0")),
+    (("rfc7230", "rfc3986"), (), ("status-line", r"15: HTTP/0.0 000 \x{D}\x{A}")),
+    (("rfc7231", "rfc7230"), (), ("HTTP-date", "24: Mon Jan 00 00:00:00 0000")),
+    (("rfc7232", "rfc7230"), (), ("ETag", '2: ""')),
+    (("rfc7233", "rfc7230"), (), ("Range", "3: !=!")),
+    (("rfc7234", "rfc7231"), (), ("warn-date", '26: "Mon Jan 00 00:00:00 0000"')),
+    (("rfc7235", "rfc7230"), (), ("WWW-Authenticate", "1: !")),
+    (("rfc7950",), (), ("date-arg", "10: 0000-00-00")),
+    (("rfc8259",), (), ("JSON-text", "1: 0")),
+    (
+        ("rfc8288", "rfc3986", "rfc7230"),
+        (
+            "15:1: warning: rule reg-rel-type generates nothing [unproductive]",
+            "15:18: error: undefined rule LOALPHA, did you mean ALPHA? [undefined]",
+            "15:29: error: undefined rule LOALPHA, did you mean ALPHA? [undefined]",
+        ),
+        ("link-param", "1: !"),
+    ),
+    (("rfc8866", "rfc3986", "rfc5322"), (), ("time-field", r"7: t=0 0\x{D}\x{A}")),
+    (("rfc9110",), (), ("Accept-Ranges", "1: !")),
+    (("rfc9111", "rfc9110"), (), ("cache-directive", "1: !")),
+    (("rfc9112", "rfc9110"), (), ("status-line", "13: HTTP/0.0 000 ")),
+)
+
 # Files with the files whose names are known (RFC 5234 sections 2.1, 2.2 and 3.3), what is found, and the lines of their rules: each file is
 # its name and its text. Nothing is told of the known files.
 WITH_ROWS = (
@@ -436,13 +506,18 @@ def format_cases(program, files):
     yield "a format behind a file", outcome(program, None, [good, "--format", "abnf"]), (5, USAGE, b"")
 
 
-def installed_cases(program, files):
-    """Grammars that are installed with the program, by their short names."""
-    own = files.path(os.path.join("installed", "bin", "abnf_findings"))
-    there = files.path(os.path.join("installed", "share", "abnf_ls", "grammars"))
+def put_in_place(program, files, name):
+    """The program as it is installed in a new folder of this name, and the folder of its grammars."""
+    own, there = (files.path(os.path.join(name, *it)) for it in (("bin", "abnf_findings"), ("share", "abnf_ls", "grammars")))
     for folder in (os.path.dirname(own), there):
         os.makedirs(folder)
     shutil.copy(program, own)
+    return own, there
+
+
+def installed_cases(program, files):
+    """Grammars that are installed with the program, by their short names."""
+    own, there = put_in_place(program, files, "installed")
     with open(os.path.join(there, "rfc1.abnf"), "w", encoding="utf-8") as file:
         file.write(CORE)
     text = files.written("uses.abnf", 'a = OWS "x"')
@@ -455,6 +530,21 @@ def installed_cases(program, files):
     os.makedirs(os.path.join(here, "rfc1"))
     yield "a folder of this name, and no such file", outcome(own, None, ["--with", "rfc1", text], folder=here), (2, b"cannot read rfc1\n", b"")
     yield "a program that isn't installed", outcome(program, None, ["--with", "rfc1", text]), (2, b"cannot read rfc1\n", b"")
+
+
+def known_cases(program, files):
+    """The grammars of standards, installed: a name of each is known by its short name, and what is found in each where those of others are known."""
+    own, there = put_in_place(program, files, "standards")
+    for name, text in grammars():
+        with open(os.path.join(there, name), "wb") as file:
+            file.write(text)
+    yield "the grammars with rows", [f"{name}.abnf" for (name, *_), _, _ in KNOWN_ROWS], [name for name, _ in grammars()]
+    for (name, *others), found, (rule, told) in KNOWN_ROWS:
+        known = [word for it in others for word in ("--with", it)]
+        use, file = files.written("use.abnf", f"a = {rule}"), os.path.join(there, f"{name}.abnf")
+        is_told = printed(use, (f"1:1: a: shortest length {told}",))
+        yield f"a name of {name}", outcome(own, None, ["--rules", *known, "--with", name, use]), (0, b"", is_told)
+        yield f"what is found in {name}", outcome(own, None, ["--strict", *known, file]), (status_of(found, True), b"", printed(file, found))
 
 
 def with_cases(program, files):
@@ -582,10 +672,10 @@ def bound_cases(program, files):
 
 
 def example_cases(program):
-    """Nothing is found in the grammars of standards, all in one run and each in its own."""
+    """Nothing is found in the grammars of standards, all in one run and each in its own, but in those that have faults."""
     examples = os.path.join(rows.TOP, "examples")
-    folders = (examples, os.path.join(examples, "known"))
-    files = sorted(os.path.join(folder, it) for folder in folders for it in os.listdir(folder) if it.endswith(".abnf"))
+    folders, faulty = (examples, os.path.join(examples, "known")), {f"{name}.abnf" for (name, *_), found, _ in KNOWN_ROWS if found}
+    files = sorted(os.path.join(folder, it) for folder in folders for it in os.listdir(folder) if it.endswith(".abnf") and it not in faulty)
     for some in (files, *([it] for it in files)):
         yield f"examples, {len(some)} of them", outcome(program, None, ["--strict", *some]), (0, b"", b"")
 
@@ -682,7 +772,7 @@ def cases(program):
     yield from version_cases()
     with rows.files() as files:
         for some in (
-            *(row_cases, rule_cases, draft_cases, with_cases, installed_cases, grammar_cases, format_cases, argument_cases, bound_cases),
+            *(row_cases, rule_cases, draft_cases, with_cases, installed_cases, known_cases, grammar_cases, format_cases, argument_cases, bound_cases),
             *(file_cases, memory_cases),
         ):
             yield from some(program, files)

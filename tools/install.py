@@ -21,6 +21,8 @@ LIST = os.path.join(OWN, "installed")
 IN_SNIPPETS = b"/path/to/abnf_ls/out"
 # What of editors/ is no such file: the trials, and what `npm install` lays beside the extension for VS Code
 NO_SNIPPETS = {"try", "node_modules", "package-lock.json"}
+# Where the grammars lie that are put in place. What stands in several folders is that of the last one, which is whole.
+GRAMMARS = ("examples", os.path.join("examples", "known"), "grammars")
 CANNOT, WRONG_USE = 1, 5
 
 
@@ -59,9 +61,9 @@ def snippets():
 
 def grammars():
     """Each grammar whose names can be known by its short name, by the name of its file: its bytes."""
-    for folder in ("examples", "grammars"):
-        for name in sorted(it for it in os.listdir(os.path.join(TOP, folder)) if it.endswith(".abnf")):
-            yield name, read(TOP, folder, name)
+    lies = {name: folder for folder in GRAMMARS for name in os.listdir(os.path.join(TOP, folder)) if name.endswith(".abnf")}
+    for name in sorted(lies):
+        yield name, read(TOP, lies[name], name)
 
 
 def filled(snippet, folder):

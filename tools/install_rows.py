@@ -56,10 +56,18 @@ FILES = (
     "share/abnf_ls/grammars/rfc6265.abnf",
     "share/abnf_ls/grammars/rfc6350.abnf",
     "share/abnf_ls/grammars/rfc6749.abnf",
+    "share/abnf_ls/grammars/rfc7230.abnf",
+    "share/abnf_ls/grammars/rfc7231.abnf",
+    "share/abnf_ls/grammars/rfc7232.abnf",
+    "share/abnf_ls/grammars/rfc7233.abnf",
+    "share/abnf_ls/grammars/rfc7234.abnf",
+    "share/abnf_ls/grammars/rfc7235.abnf",
     "share/abnf_ls/grammars/rfc7950.abnf",
     "share/abnf_ls/grammars/rfc8259.abnf",
+    "share/abnf_ls/grammars/rfc8288.abnf",
     "share/abnf_ls/grammars/rfc8866.abnf",
     "share/abnf_ls/grammars/rfc9110.abnf",
+    "share/abnf_ls/grammars/rfc9111.abnf",
     "share/abnf_ls/grammars/rfc9112.abnf",
     "share/abnf_ls/installed",
     "share/man/man1/abnf_findings.1",
@@ -254,6 +262,11 @@ def quoted(path):
     return path.replace("\\", "\\\\").replace('"', '\\"').encode()
 
 
+def folder_of(name):
+    """Where the grammar lies that is put in place by this name."""
+    return next(it for it in ("grammars", "examples/known", "examples") if os.path.isfile(os.path.join(TOP, it, name)))
+
+
 def command_of(settings):
     """The command in Kate's settings, none where they are no JSON."""
     try:
@@ -280,8 +293,7 @@ def content_cases(place, programs):
     folder, editors = os.path.join(prefix, "bin"), os.path.join(prefix, "share", "abnf_ls", "editors")
     for path in (it for it in FILES if it.startswith("share/abnf_ls/grammars/")):
         name = os.path.basename(path)
-        folder_of = next(it for it in ("examples", "grammars") if os.path.isfile(os.path.join(TOP, it, name)))
-        yield f"{name} as it is", read(prefix, path), read(TOP, folder_of, name)
+        yield f"{name} as it is", read(prefix, path), read(TOP, folder_of(name), name)
     yield "the server in Kate's settings", command_of(read(editors, "kate-settings.json")), [os.path.join(folder, "abnf_ls")]
     for path in (it[len("share/abnf_ls/editors/") :] for it in FILES if it.startswith("share/abnf_ls/editors/")):
         snippet, template = read(editors, path), read(TOP, "editors", path)

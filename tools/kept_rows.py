@@ -21,8 +21,9 @@ import rows
 import runs
 import session_rows
 
-# So many keystrokes must cost less than so many openings of the text. (With nothing kept each of them costs one; with what is kept a tenth.)
-KEYS, OPENINGS = 20, 6
+# So many keystrokes must cost less than so many openings of a grammar, or of a draft, which each of them reads. (With nothing kept each costs
+# one; with what is kept a fortieth, or a quarter.)
+KEYS, OPENINGS, OF_DRAFTS = 20, 6, 8
 # A document that is closed and opened again costs more than such a part of its first opening. (With what was kept it costs a third.)
 PART = 0.5
 IN_TURN = 4
@@ -31,6 +32,10 @@ RULES, RULES_TIMED, ROUNDS = 2000, 20000, 5
 COUNTS = "valgrind --tool=callgrind --callgrind-out-file=/dev/null"
 COUNTED = re.compile(rb"Collected : (\d+)")
 SMALL = 'small = "s"\n'
+# What a draft is written in, and what stands around its grammar, which begins at a line
+DRAFTS = (("markdown", "~~~ abnf", "~~~"), ("xml", '<sourcecode type="abnf"><![CDATA[', "]]></sourcecode>"))
+PROSE, IN_DRAFT = "What follows is the grammar of this draft.\n" * 20, 22
+WITH_DRAFTS = session_rows.INITIALIZE.replace('"capabilities":{}', '"capabilities":{},"initializationOptions":{"drafts":true}')
 # How many workers work of the four that there are, beside one thread that writes
 WORKING, OTHERS = (1, 4), 1
 
@@ -49,14 +54,21 @@ def opened(at, text):
     return replayed_typing.opened(uri(at), 1, text), 1
 
 
+def draft_opened(at, text):
+    """A turn: a draft is opened, in Markdown or in RFCXML by turns, which has some prose and the text as its grammar."""
+    language, begin, end = DRAFTS[at % len(DRAFTS)]
+    draft = f"{PROSE}\n{begin}\n{text}{end}\n"
+    return replayed_typing.notice("didOpen", {"uri": uri(at), "languageId": language, "version": 1, "text": draft}), 1
+
+
 def closed(at):
     """A turn: a document is closed, and nothing comes."""
     return session_rows.closed(uri(at)).encode(), 0
 
 
-def typed(at, count, key):
-    """A turn: a key is typed into a value in the middle of a text of so many rules, and findings come."""
-    line, character = count // 2 + key // IN_TURN, len(f't{at}-{count // 2} = "')
+def typed(at, count, key, line=0):
+    """A turn: a key is typed into a value in the middle of a text of so many rules, which begins at a line, and findings come."""
+    line, character = line + count // 2 + key // IN_TURN, len(f't{at}-{count // 2} = "')
     place = {"line": line, "character": character}
     change = {"range": {"start": place, "end": place}, "text": "k"}
     return replayed_typing.notice("didChange", {"uri": uri(at), "version": key + 2}, contentChanges=[change]), 1
@@ -77,9 +89,24 @@ def sessions(count):
     }
 
 
+def draft_sessions(count):
+    """The turns of each session with drafts."""
+    texts = [text_of(at, count) for at in range(IN_TURN)]
+    one, four = [draft_opened(0, texts[0])], [draft_opened(at, text) for at, text in enumerate(texts)]
+    return {
+        "nothing": [],
+        "one": one,
+        "four": four,
+        "keys in one": one + [typed(0, count, key, IN_DRAFT) for key in range(KEYS)],
+        "keys in four": four + [typed(key % IN_TURN, count, key, IN_DRAFT) for key in range(KEYS)],
+        "keys beside": one + [it for key in range(KEYS) for it in (opened("small", SMALL), closed("small"), typed(0, count, key, IN_DRAFT))],
+        "again": one + [closed(0), *one],
+    }
+
+
 def served(program, turns, env):
-    """Serves these turns, and gives what stands on standard error."""
-    status, said, wrote = runs.by_turns(program, [(session_rows.INITIALIZE, 1), *turns], env=env)
+    """Serves these turns, where drafts are read, and gives what stands on standard error."""
+    status, said, wrote = runs.by_turns(program, [(WITH_DRAFTS, 1), *turns], env=env)
     wanted = 1 + sum(more for _, more in turns)
     if status != 1 or len(runs.bodies_of(wrote)[0]) != wanted:
         raise RuntimeError(f"status {status}, {len(runs.bodies_of(wrote)[0])} bodies, and {wanted} must come: {said[-300:]}")
@@ -108,9 +135,9 @@ def timed(program, env, turns):
     return min(took)
 
 
-def costs(program, env, counts):
-    """What each session costs, in instructions or in seconds."""
-    turns = sessions(RULES if counts else RULES_TIMED)
+def costs(program, env, of, counts):
+    """What each of these sessions costs, in instructions or in seconds."""
+    turns = of(RULES if counts else RULES_TIMED)
     each = rows.side_by_side(functools.partial(counted, program, env), turns.values()) if counts else [timed(program, env, it) for it in turns.values()]
     return dict(zip(turns, each))
 
@@ -124,12 +151,13 @@ def compared(what, cost, bound, is_less):
 
 def cases_on(how, program, env):
     """What keystrokes and openings cost on so many workers."""
-    found = costs(program, env, shutil.which("valgrind") is not None)
-    opening = found["one"] - found["nothing"]
-    for what, session, begun in (("one document", "keys in one", "one"), ("four documents by turns", "keys in four", "four"),
-                                 ("a document while another is closed", "keys beside", "one")):
-        yield compared(f"{KEYS} keystrokes in {what}, {how}", (found[session] - found[begun]) / opening, OPENINGS, True)
-    yield compared(f"a document opened again, {how}", (found["again"] - found["one"]) / opening, PART, False)
+    for noun, of, most in (("document", sessions, OPENINGS), ("draft", draft_sessions, OF_DRAFTS)):
+        found = costs(program, env, of, shutil.which("valgrind") is not None)
+        opening = found["one"] - found["nothing"]
+        for what, session, begun in ((f"one {noun}", "keys in one", "one"), (f"four {noun}s by turns", "keys in four", "four"),
+                                     (f"a {noun} while another is closed", "keys beside", "one")):
+            yield compared(f"{KEYS} keystrokes in {what}, {how}", (found[session] - found[begun]) / opening, most, True)
+        yield compared(f"a {noun} opened again, {how}", (found["again"] - found["one"]) / opening, PART, False)
 
 
 def plain_cases(program):

@@ -1,5 +1,5 @@
 -- Offsets of positions are small.
-use Rattle.std.proofs.Common.{◌≡◌, ℕ, zero, suc, ◌≤◌, ◌<◌, ◌^◌, Bool, true, false, List, length, refl, arith, encode_utf8_all}
+use Rattle.std.proofs.Common.{◌≡◌, ℕ, zero, suc, ◌≤◌, ◌<◌, ◌^◌, Bool, true, false, List, length, arith, encode_utf8_all}
 use Rattle.std.specs.Prelude.{Option, None, Some, IfSome, if◌then◌else◌, unwrap_or}
 use Rattle.std.proofs.lemmas.Str.{length-le-encodes}
 use Rattle.ls_text.specs.Lines.{greatest, is_within, max_bytes, offset_of}

@@ -6,6 +6,7 @@ ghost use Rattle.ls_text.specs.Lines.{max_bytes};
 ghost use Rattle.origins.specs.Origins.{characters};
 ghost use Rattle.draft_grammars.specs.Drafts.{grammar_in};
 
+use crate::following::made_of;
 use crate::format::Format;
 use ls_text::{Snapshot, TextFault};
 use markdown_blocks::gather_markdown;
@@ -48,6 +49,29 @@ impl DraftGrammar {
         let gathered = gathered(alloc, format, draft)?;
         let text = text_of(alloc, &gathered)?;
         Ok(DraftGrammar { gathered, text })
+    }
+
+    /// The grammar of a draft as [`DraftGrammar::of`] gives it, in less time where another draft has the same grammar, or one that differs in
+    /// a few lines: the others are shared then.
+    ///
+    /// # Errors
+    ///
+    /// Where an allocation is refused.
+    pub fn following(
+        alloc: Global,
+        format: Format,
+        draft: &Snapshot,
+        before: &DraftGrammar,
+    ) -> Result<DraftGrammar, AllocError>
+        ensures { IfOk result (λ grammar. grammar ≡ grammar_in format draft.now) }
+    {
+        let _count = draft.char_count();
+        let found = gathered(alloc, format, draft)?;
+        let text = text_following(alloc, &found, before)?;
+        Ok(DraftGrammar {
+            gathered: found,
+            text,
+        })
     }
 
     /// Its text.
@@ -103,5 +127,24 @@ fn text_of(alloc: Global, gathered: &Gathered) -> Result<Arc<Snapshot>, AllocErr
         Ok(snapshot) => Ok(Arc::new(alloc, snapshot)?),
         Err(TextFault::Memory) => Err(AllocError),
         Err(TextFault::TooLarge) => unreachable!(),
+    }
+}
+
+// The same text, as far as it can be of the text of another grammar.
+fn text_following(
+    alloc: Global,
+    gathered: &Gathered,
+    before: &DraftGrammar,
+) -> Result<Arc<Snapshot>, AllocError>
+    requires { length (encode_utf8_all (characters gathered.now)) ≤ max_bytes }
+    ensures { IfOk result (λ text. arc_value text ≡ characters gathered.now) }
+{
+    let old = before.gathered.as_str();
+    if gathered.as_str() == old {
+        return before.text.clone();
+    }
+    match made_of(alloc, &before.text, old, gathered.as_str())? {
+        Some(snapshot) => Ok(Arc::new(alloc, snapshot)?),
+        None => text_of(alloc, gathered),
     }
 }

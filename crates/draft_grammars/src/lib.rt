@@ -6,6 +6,7 @@
 //! tries them: they are granted only where they give the draft just that grammar. This crate knows no question and no answer.
 #![tactic(auto)]
 
+mod following;
 mod format;
 mod grammar;
 mod places;

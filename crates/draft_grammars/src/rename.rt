@@ -34,7 +34,7 @@ fn edits_of(alloc: Global, ranges: &[Range], new: &Text) -> Result<Vec<Edit>, Al
 }
 
 // The text after edits, unless it is too large on the way.
-fn edited(
+pub fn edited(
     text: &Snapshot,
     edits: &[Edit],
     encoding: Encoding,

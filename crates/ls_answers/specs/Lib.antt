@@ -10,6 +10,7 @@ pub mod Diagnostics
 pub mod InGrammars
 pub mod InDrafts
 pub mod Answers
+pub mod Remembered
 pub mod Told
 pub mod Hover
 pub mod own

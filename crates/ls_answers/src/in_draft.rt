@@ -1,6 +1,7 @@
 //! Questions about a draft.
 
 ghost use Rattle.std.specs.Prelude.{◌≡◌, false, IfOk, List, Ok, ℕ};
+ghost use Rattle.std.specs.Arc.{arc_value};
 ghost use Rattle.abnf_token.specs.Classes as classes;
 ghost use Rattle.ls_answers.specs.Asks.{IsToNoName};
 ghost use Rattle.ls_answers.specs.InDrafts as spec;
@@ -11,16 +12,17 @@ use crate::draft_tokens::draft_tokens;
 use crate::in_grammar::answer_in_grammar;
 use crate::inward::{inward_ask, outside_answer};
 use crate::outward::outward_answer;
+use crate::recent::Recent;
 use crate::rename::is_name;
-use abnf_kept::Recent;
-use draft_grammars::{DraftGrammar, Format, SourceMap};
+use draft_grammars::{Format, SourceMap};
 use ls_text::{Encoding, Position, Snapshot};
 use std::alloc::{AllocError as Memory, Global};
+use std::sync::Arc;
 
 /// The answer by the grammar of a draft.
 fn answer_with(
     alloc: Global,
-    recent: &mut Recent,
+    recent: &mut abnf_kept::Recent,
     format: Format,
     places: &SourceMap<'_>,
     ask: &Ask,
@@ -48,32 +50,35 @@ fn not_a_name(format: Format, draft: &Snapshot) -> Answer
     Answer::Refused(RenameFault::NotAName)
 }
 
+/// The answer by the draft, which is kept then.
 fn by_draft(
     alloc: Global,
     recent: &mut Recent,
     format: Format,
-    draft: &Snapshot,
+    draft: &Arc<Snapshot>,
     encoding: Encoding,
     ask: &Ask,
 ) -> Result<Answer, Memory>
-    ensures { IfOk result (λ given. spec.IsAnswerInDraft format encoding draft.now ask.now given) }
+    ensures { IfOk result (λ given. spec.IsAnswerInDraft format encoding (arc_value draft.now) ask.now given) }
 {
-    let grammar = DraftGrammar::of(alloc, format, draft)?;
-    let places = SourceMap::new(draft, encoding, &grammar);
-    answer_with(alloc, recent, format, &places, ask)
+    let read = recent.read_draft(alloc, format, draft)?;
+    let places = SourceMap::new(draft, encoding, read.grammar());
+    let answer = answer_with(alloc, &mut recent.grammars, format, &places, ask);
+    recent.keep_draft(read);
+    answer
 }
 
-/// The answer to a question about a draft, whose grammar is gathered for it. A rename to what is no name is refused as that, whatever
+/// The answer to a question about a draft, whose grammar is gathered for it, unless it is kept. A rename to what is no name is refused as that, whatever
 /// memory there is.
 pub(crate) fn answer_in_draft(
     alloc: Global,
     recent: &mut Recent,
     format: Format,
-    draft: &Snapshot,
+    draft: &Arc<Snapshot>,
     encoding: Encoding,
     ask: &Ask,
 ) -> Result<Answer, Memory>
-    ensures answer { IfOk result (λ given. spec.IsAnswerInDraft format encoding draft.now ask.now given) }
+    ensures answer { IfOk result (λ given. spec.IsAnswerInDraft format encoding (arc_value draft.now) ask.now given) }
     ensures not_a_name { IsToNoName ask.now → result ≡ Ok (Answer.Refused RenameFault.NotAName) }
 {
     if let Ask::Rename(_, new) = ask {

@@ -8,7 +8,7 @@ use crate::answer::{Answer, RenameFault};
 use crate::ask::Ask;
 use crate::in_draft::answer_in_draft;
 use crate::in_grammar::answer_in_grammar;
-use abnf_kept::Recent;
+use crate::recent::Recent;
 use draft_grammars::Format;
 use ls_text::{Encoding, Snapshot};
 use std::alloc::{AllocError as Memory, Global};
@@ -137,7 +137,7 @@ fn answer_of(
 {
     match Format::of(encoding) {
         Some(format) => answer_in_draft(alloc, recent, format, snapshot, encoding, ask),
-        None => answer_in_grammar(alloc, recent, snapshot, encoding, ask),
+        None => answer_in_grammar(alloc, &mut recent.grammars, snapshot, encoding, ask),
     }
 }
 
@@ -146,8 +146,8 @@ fn answer_of(
 /// The edits of a rename that is granted keep the grammar of the text: line by line its tokens but at the places of the name, and its rules
 /// with what they generate. A rename to what is no name is refused as that, whatever memory there is.
 ///
-/// The texts that were diagnosed last are the caller's to keep from one run to the next, none at first: they may spare the findings of the
-/// next text much work, and no answer depends on them.
+/// What is kept of the last texts is the caller's to keep from one run to the next, nothing at first: it may spare much work on the next
+/// text, and no answer depends on it.
 ///
 /// All else grows with the size of the text. An outline reads the text's tokens, the places of a name those and the blocks that have the
 /// name. A rename, a hover, an insertion and the classes of tokens make the text's grammar; a hover and an insertion search a certificate

@@ -25,10 +25,10 @@ mod laws;
 mod outline;
 mod outward;
 mod places;
+mod recent;
 mod rename;
 mod semantic_tokens;
 
-pub use abnf_kept::Recent;
 pub use answer::{Answer, Diagnostic, HoverText, Insertion, RenameFault, Symbol};
 pub use ask::Ask;
 pub use hover::hover_text;
@@ -37,3 +37,4 @@ pub use laws::{
     answers_are_unique, answers_exist, hover_texts_are_unique, hover_texts_exist,
     renames_keep_the_grammar,
 };
+pub use recent::Recent;

@@ -1,9 +1,8 @@
 //! What the session's steps do at the desk.
-ghost use Rattle.std.specs.Prelude.{◌≡◌, [], IfNone, IfOk, IfSome, Option, Some, false};
+ghost use Rattle.std.specs.Prelude.{◌≡◌, IfNone, IfOk, IfSome, Some, false};
 ghost use Rattle.std.specs.Arc.{arc_value};
-ghost use Rattle.abnf_kept.specs.Known.{Known};
-ghost use Rattle.abnf_kept.specs.Recent.{IsTaken};
 ghost use Rattle.ls_answers.specs.Asks.{IsToNoName};
+ghost use Rattle.ls_answers.specs.Remembered.{IsGone, nothing};
 ghost use Rattle.ls_answers.specs.declared.answer.Answer.TheVariants.{Refused};
 ghost use Rattle.ls_answers.specs.declared.answer.RenameFault.TheVariants.{NotAName};
 ghost use Rattle.ls_desk.specs.Stands.{IsSound, state_of};
@@ -38,20 +37,20 @@ fn tell(alloc: Global, desk: &mut Desk, asker: Option<Id>, fault: DeskFault) -> 
     }
 }
 
-/// A document was closed that had this text: what is kept of it goes, which is the text that is nearest to it, if one is near. Where the
+/// A document was closed that had this text: what is kept of it goes, which is that of the text nearest to it, if one is near. Where the
 /// text isn't known all that is kept goes.
 fn let_go(recent: &mut Recent, text: &Option<SharedSnapshot>)
-    ensures near { IfSome text.now (λ _. (taken : Option Known) × IsTaken recent.old taken recent.new) }
-    ensures all { IfNone text.now (recent.new ≡ []) }
+    ensures near { IfSome text.now (λ _. IsGone recent.old recent.new) }
+    ensures all { IfNone text.now (recent.new ≡ nothing) }
 {
     match text {
-        Some(text) => drop(recent.lend(text.get())),
+        Some(text) => drop(recent.let_go(text.get())),
         None => *recent = Recent::new(),
     }
 }
 
-/// Does what an event of the client asks for, and gives whether the session is full. A refused request is answered by its error. Of a
-/// document that is closed nothing is kept: where its text isn't known, as where it grew too large, of no document.
+/// Does what an event of the client asks for, and gives whether the session is full. A refused request is answered by its error. What is
+/// kept of a document goes where it is closed: where its text isn't known, as where it grew too large, that of all documents.
 ///
 /// # Errors
 ///

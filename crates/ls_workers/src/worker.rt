@@ -9,7 +9,7 @@ ghost use Rattle.ls_workers.specs.Refusals.{ends_work, may_refuse_run};
 use crate::board::Board;
 use crate::ledgers::Crew;
 use crate::seats::WorkerSeat;
-use ls_answers::{Ask, Done, Job, run, run_keeping};
+use ls_answers::{Ask, Done, Job, run_keeping};
 use ls_desk::DeskFault;
 use ls_history::Front;
 use std::alloc::Global;
@@ -30,11 +30,12 @@ fn ended_by(fault: DeskFault) -> Option<DeskFault>
     (fault != DeskFault::UnknownTicket).then_some(fault)
 }
 
-/// Runs a job if it is still wanted. What is found in a text is found with the help of a text near to it, if all workers together have
-/// diagnosed one lately: that is lent meanwhile, and the job's own is kept then. No lock is held while the job runs.
+/// Runs a job if it is still wanted, with the help of what is kept of a text near to its own, if all workers together were asked about one
+/// lately. For findings that is lent meanwhile, and what is found is kept then; for all else a draft is shared. No lock is held while the
+/// job runs.
 ///
-/// The text is lent before it is asked whether the job is wanted. So a document that is closed later is counted in what is lent, and one
-/// that was closed earlier has no job that is wanted: in either case nothing is kept of it.
+/// A text is lent before it is asked whether the job is wanted. So a document that is closed later is counted in what is lent, and one that
+/// was closed earlier has no job that is wanted: in either case what is found isn't kept.
 fn run_wanted<C: Crew, R: Wait>(
     rt: &R,
     alloc: Global,
@@ -51,8 +52,13 @@ fn run_wanted<C: Crew, R: Wait>(
     ensures follows { IsPrefix seen.old seen.new }
 {
     let Ask::Diagnose = &job.ask else {
+        let mut shared = board.lately.lock(rt).share(&job.snapshot);
         let wanted = board.wanted(rt, seen, job.ticket);
-        return if wanted { Some(run(alloc, job)) } else { None };
+        return if wanted {
+            Some(run_keeping(alloc, &mut shared.texts, job))
+        } else {
+            None
+        };
     };
     let mut lent = board.lately.lock(rt).lend(&job.snapshot);
     let wanted = board.wanted(rt, seen, job.ticket);

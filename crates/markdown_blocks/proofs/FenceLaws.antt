@@ -1,7 +1,7 @@
 -- Laws of lines and blocks.
 use Rattle.std.proofs.Common.{◌≡◌, ℕ, zero, suc, ◌+◌, ◌-◌, ◌<◌, ◌≤◌, Bool, true, false, cond, List, [], ◌∷◌, ◌++◌, length, take, drop, get_or, refl, sym, ap, append_assoc, length-drop, ◌∙◌, arith}
 use Rattle.std.specs.Prelude.{nat_eq}
-use Rattle.std.proofs.lemmas.List.{append-nil, at_drop_more, drop_all, take_all}
+use Rattle.std.proofs.lemmas.List.{append-nil, at_drop_more, take_all}
 use Rattle.ls_text.specs.Lines.{ends_line}
 use Rattle.origins.specs.Origins.{Sourced, SourcedBlock, aligned, grammar_of}
 use Rattle.markdown_blocks.specs.declared.fence.Fence.{Fence}
@@ -12,14 +12,6 @@ use Rattle.markdown_blocks.specs.own.Reading.{Finds, finds_of, joined, line_len}
 use Rattle.markdown_blocks.specs.Unread.{empty_block, empty_blocks}
 
 -- ---- the first line of a text
-
-pub line_len_last : (c : ℕ) (t : List ℕ) → ends_line c t ≡ true → line_len (c ∷ t) ≡ 1
-unfolding line_len
-line_len_last c t e = rw e refl
-
-pub line_len_more : (c : ℕ) (t : List ℕ) → ends_line c t ≡ false → line_len (c ∷ t) ≡ suc (line_len t)
-unfolding line_len
-line_len_more c t e = rw e refl
 
 pub line_len_le : (t : List ℕ) → line_len t ≤ length t
 unfolding line_len
@@ -162,14 +154,3 @@ rest_all t n = take_all (length t - n) (drop n t) (omega (arith, length-drop n t
 
 pub left_at : (t : List ℕ) (n c : ℕ) → n < length t → c ≡ get_or t n c → drop n t ≡ c ∷ drop (n + 1) t
 left_at t n c lt is = at_drop_more (λ ds. ds) t n c lt ∙ ap (λ d. d ∷ drop (n + 1) t) (sym is)
-
-module _ (t : List ℕ) (n c : ℕ) (lt : n < length t) (is : c ≡ get_or t n c) (so_far : n + line_len (drop n t) ≡ line_len t) where
-  pub line_len_found : ends_line c (drop (n + 1) t) ≡ true → n + 1 ≡ line_len t
-  line_len_found e = omega (arith, so_far, ap line_len (left_at t n c lt is), line_len_last c (drop (n + 1) t) e)
-
-  pub line_len_next : ends_line c (drop (n + 1) t) ≡ false → n + 1 + line_len (drop (n + 1) t) ≡ line_len t
-  line_len_next e = omega (arith, so_far, ap line_len (left_at t n c lt is), line_len_more c (drop (n + 1) t) e)
-
-pub line_len_all : (t : List ℕ) (n : ℕ) → length t ≤ n → n + line_len (drop n t) ≡ line_len t → n ≡ line_len t
-unfolding line_len
-line_len_all t n le so_far = omega (arith, so_far, ap line_len (drop_all n t le))

@@ -1,2 +1,5 @@
 pub mod FenceLaws
 pub mod AttributeLaws
+pub mod FrontLaws
+pub mod CutLaws
+pub mod ProseLaws

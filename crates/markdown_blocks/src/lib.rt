@@ -6,10 +6,13 @@
 #![tactic(auto)]
 
 mod attributes;
+mod cut;
 mod fence;
 mod found;
+mod front;
 mod gather;
 mod line;
+mod prose;
 mod reading;
 
 pub use gather::{gather_markdown, unread_blocks};

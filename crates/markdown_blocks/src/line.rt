@@ -2,31 +2,10 @@
 
 ghost use Rattle.std.specs.Prelude.{◌≡◌, ◌≤◌, length, not};
 ghost use Rattle.std.specs.List.{list_all, prefix_len, take_while};
-ghost use Rattle.ls_text.specs.Lines.{ends_line};
 ghost use Rattle.origins.specs.Origins.{is_blank_char, is_break};
 ghost use Rattle.markdown_blocks.specs.Fences.{is_margin, margin, marks, without_blanks, without_end};
-ghost use Rattle.markdown_blocks.specs.own.Reading.{line_len};
 
 use origins::{is_blank, is_break};
-
-// Whether a line ends with a character, before the rest of the text.
-fn ends_line(c: char, rest: &[char]) -> bool
-    ensures { result ≡ ends_line c rest.now }
-{
-    c == '\n' || (c == '\r' && !matches!(rest, ['\n', ..]))
-}
-
-// How many characters the first line of a text has, with its line end.
-pub fn line_len(text: &[char]) -> usize
-    ensures { result ≡ line_len text.now }
-{
-    for (at, c) in text.iter().enumerate() {
-        if ends_line(*c, &text[at + 1..]) {
-            return at + 1;
-        }
-    }
-    text.len()
-}
 
 // Whether all characters are blanks.
 pub fn are_blank(text: &[char]) -> bool
@@ -36,7 +15,7 @@ pub fn are_blank(text: &[char]) -> bool
 }
 
 // Whether a character is of the margin of a line: a blank, and in a quote a `>` too.
-fn is_margin(quoted: bool, c: char) -> bool
+pub fn is_margin(quoted: bool, c: char) -> bool
     ensures { result ≡ is_margin quoted c }
 {
     is_blank(c) || (quoted && c == '>')

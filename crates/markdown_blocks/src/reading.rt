@@ -2,6 +2,7 @@
 
 ghost use Rattle.std.specs.Prelude.{◌≡◌};
 ghost use Rattle.markdown_blocks.specs.Fences as spec;
+ghost use Rattle.markdown_blocks.specs.own.Fronts as own;
 
 use crate::attributes::{begins_comment, begins_extension, ends_extension, has_end, says_abnf};
 use crate::fence::{Fence, opening};
@@ -40,6 +41,26 @@ impl Reading {
     {
         match self {
             Reading::BehindBlock => false,
+            _ => true,
+        }
+    }
+
+    // Whether a comment hasn't ended, or what kramdown leaves out.
+    pub fn goes_on(self) -> bool
+        ensures { result ≡ own.goes_on self }
+    {
+        match self {
+            Reading::Comment | Reading::Extension => true,
+            _ => false,
+        }
+    }
+
+    // Whether lines in which nothing but text may begin are passed over.
+    pub fn passes(self) -> bool
+        ensures { result ≡ own.passes self }
+    {
+        match self {
+            Reading::Comment | Reading::Extension | Reading::Block(_) => false,
             _ => true,
         }
     }

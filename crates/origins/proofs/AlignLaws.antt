@@ -1,12 +1,9 @@
 -- Laws of the indent of a block, and of the characters without it.
-use Rattle.std.proofs.Common.{◌≡◌, ℕ, suc, ◌+◌, ◌<◌, ◌≤◌, true, false, List, [], ◌∷◌, ◌++◌, length, drop, get_or, refl, sym, ap, subst, inl, inr, ◌∙◌, arith}
+use Rattle.std.proofs.Common.{◌≡◌, ℕ, suc, ◌+◌, ◌<◌, true, false, List, [], ◌∷◌, ◌++◌, length, drop, get_or, refl, sym, ap, subst, inl, inr, ◌∙◌, arith}
 use Rattle.std.specs.Prelude.{Option, Some, None, IfSome, nat_eq}
-use Rattle.std.proofs.lemmas.List.{append-nil, at_drop_more, drop_all, length_push}
-use Rattle.std.specs.List.{enumerate_from}
-use Rattle.std.proofs.lemmas.List.FromFn.{get_or-enumerate_from, length-enumerate_from}
+use Rattle.std.proofs.lemmas.List.{at_drop_more, length_push}
 use Rattle.std.proofs.lemmas.Bool.Decides.{eqb_tells}
-use Rattle.origins.specs.Origins.{Sourced, first_indent, is_blank_char, is_break, left_aligned}
-use Rattle.origins.specs.own.Runs.{placed}
+use Rattle.origins.specs.Origins.{first_indent, is_blank_char, is_break}
 
 -- a character of a text, and what is left behind it
 pub left_at : (cs : List ℕ) (n c : ℕ) → (n < length cs) × (c ≡ get_or cs n c) → drop n cs ≡ c ∷ drop (n + 1) cs
@@ -41,28 +38,3 @@ indent_more cs yielded c front next here step was =
 
 pub IfSome_at : (o : Option ℕ) (P : ℕ → Type 0) (n : ℕ) → o ≡ Some n → IfSome o P → P n
 IfSome_at o P n is h = subst (λ p. IfSome p P) is h
-
--- ---- the characters without the indent, by one more
-
-pub enumerated : (cs : List ℕ) (yielded : List (ℕ × ℕ)) (p : ℕ × ℕ) → (length yielded < length (enumerate_from 0 cs)) × (p ≡ get_or (enumerate_from 0 cs) (length yielded) p) → (p.0 ≡ length yielded) × (drop (length yielded) cs ≡ p.1 ∷ drop (length yielded + 1) cs)
-enumerated cs yielded p here =
-    let lt : length yielded < length cs = omega (arith, here.0, length-enumerate_from 0 cs) in
-    let is : p ≡ (0 + length yielded, get_or cs (length yielded) p.1) = here.1 ∙ get_or-enumerate_from 0 cs (length yielded) p lt in
-    (ap (λ q. q.0) is ∙ (let e : 0 + length yielded ≡ length yielded = omega arith in e), left_at cs (length yielded) p.1 (lt, ap (λ q. q.1) is))
-
-placed_left : (f : ℕ → ℕ) (n : ℕ) (cs : List ℕ) (c : ℕ) → drop n cs ≡ c ∷ drop (n + 1) cs → placed f n (drop n cs) ≡ (c, f n) ∷ placed f (n + 1) (drop (n + 1) cs)
-unfolding placed
-placed_left f n cs c is = ap (placed f n) is ∙ ap (λ m. (c, f n) ∷ placed f m (drop (n + 1) cs)) (let e : suc n ≡ n + 1 = omega arith in e)
-
-pub aligned_more : (f : ℕ → ℕ) (cs : List ℕ) (base left next : ℕ) (old new whole : List Sourced) (yielded : List (ℕ × ℕ)) (p : ℕ × ℕ) (at : ℕ) → drop (length yielded) cs ≡ p.1 ∷ drop (length yielded + 1) cs → at ≡ f (length yielded) → ((ds : List Sourced) → new ++ left_aligned base next ds ≡ old ++ left_aligned base left ((p.1, at) ∷ ds)) → old ++ left_aligned base left (placed f (length yielded) (drop (length yielded) cs)) ≡ whole → new ++ left_aligned base next (placed f (length (yielded ++ p ∷ [])) (drop (length (yielded ++ p ∷ [])) cs)) ≡ whole
-aligned_more f cs base left next old new whole yielded p at here place step was =
-    let n = length yielded in
-    ap (λ m. new ++ left_aligned base next (placed f m (drop m cs))) (length_push yielded p)
-    ∙ step (placed f (n + 1) (drop (n + 1) cs))
-    ∙ ap (λ a. old ++ left_aligned base left ((p.1, a) ∷ placed f (n + 1) (drop (n + 1) cs))) place
-    ∙ ap (λ ds. old ++ left_aligned base left ds) (sym (placed_left f n cs p.1 here))
-    ∙ was
-
-pub aligned_end : (f : ℕ → ℕ) (cs : List ℕ) (base left n : ℕ) (to : List Sourced) {whole : List Sourced} → length cs ≤ n → to ++ left_aligned base left (placed f n (drop n cs)) ≡ whole → to ≡ whole
-unfolding placed
-aligned_end f cs base left n to le was = sym (append-nil to) ∙ ap (λ ds. to ++ left_aligned base left (placed f n ds)) (sym (drop_all n cs le)) ∙ was

@@ -1,3 +1,4 @@
 pub mod RunLaws
 pub mod AlignLaws
 pub mod PlaceLaws
+pub mod RowLaws

@@ -12,7 +12,7 @@ use Rattle.std.proofs.lemmas.List.{append-nil}
 use Rattle.std.proofs.lemmas.Str.{IsUtf8-string_bytes, IsUtf8-encode, chars-append, chars-nil, chars_past_char, encodes-chars, length-le-encodes}
 use Rattle.std.specs.List.{AllByRecursion}
 use Rattle.std.specs.List.Sorted.{IsPartitionPoint}
-use Rattle.std.proofs.lemmas.Bool.{le-leb, lt-leb, leb-true}
+use Rattle.std.proofs.lemmas.Bool.{le-leb, lt-leb, leb-false, leb-true}
 use Rattle.std.proofs.lemmas.List.Sorted.{IsNonDecreasingBy-push}
 use Rattle.origins.specs.declared.runs.Run.{Run}
 use Rattle.origins.specs.Origins.{Sourced, from, characters}
@@ -28,6 +28,14 @@ run_at_split run d [] k (suc i) le h = absurd (omega (arith, le))
 run_at_split run d (r ∷ rs) k zero le h = rw (h.1 0 d (omega arith) (omega arith)) refl
 run_at_split run d (r ∷ rs) k (suc i) le h =
     rw (h.0 0 d (omega arith) (omega arith)) (run_at_split r d rs k i (omega (arith, le)) (λ j e low high. h.0 (suc j) e (omega arith) (omega (arith, high)), λ j e low high. h.1 (suc j) e (omega (arith, low)) (omega (arith, high))))
+
+-- the run of a character between two, where no run begins behind the first of them and not behind the other
+pub run_at_between : (rs : List Run) (i low high k : ℕ) → i ≤ length rs → IsPartitionPoint (λ (r : Run). leb r.begins low ≡ true) (λ (r : Run). leb r.begins low ≡ false) rs i → IsPartitionPoint (λ (r : Run). leb r.begins high ≡ true) (λ (r : Run). leb r.begins high ≡ false) rs i → low ≤ k → k ≤ high → run_at first_run rs k ≡ get_or (first_run ∷ rs) i first_run
+run_at_between rs i low high k le p q above below =
+    run_at_split first_run first_run rs k i le (
+      λ j d from to. le-leb (get_or rs j d).begins k (omega (arith, leb-true (get_or rs j d).begins low (p.0 j d from to), above)),
+      λ j d from to. lt-leb (get_or rs j d).begins k (omega (arith, leb-false (get_or rs j d).begins high (q.1 j d from to), below)),
+    )
 
 -- the run of a character doesn't begin behind it
 pub run_at_begins : (run : Run) (rs : List Run) (k : ℕ) → run.begins ≤ k → (run_at run rs k).begins ≤ k
@@ -129,10 +137,13 @@ origin_at_push rs r k h =
     ∙ (let e : r.origin + (r.begins + k - r.begins) ≡ r.origin + k = omega arith in e)
 
 -- a place in memory
-pub origin_fits : (rs : List Run) (count k : ℕ) → AreRuns rs count → k < 2 ^ 63 → origin_at rs k < 2 ^ 64
-origin_fits rs count k h lt =
-    let low : (run_at first_run rs k).origin < 2 ^ 63 = all_at (λ (r : Run). r.origin < 2 ^ 63) rs first_run k (omega arith) h.small in
+pub origin_small : (rs : List Run) (k : ℕ) → AllByRecursion (λ (r : Run). r.origin < 2 ^ 63) rs → k < 2 ^ 63 → origin_at rs k < 2 ^ 64
+origin_small rs k h lt =
+    let low : (run_at first_run rs k).origin < 2 ^ 63 = all_at (λ (r : Run). r.origin < 2 ^ 63) rs first_run k (omega arith) h in
     omega (arith, low, lt)
+
+pub origin_fits : (rs : List Run) (count k : ℕ) → AreRuns rs count → k < 2 ^ 63 → origin_at rs k < 2 ^ 64
+origin_fits rs count k h lt = origin_small rs k h.small lt
 
 -- ---- characters with their places
 

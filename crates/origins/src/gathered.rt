@@ -1,14 +1,16 @@
 //! Characters that are gathered from a draft.
 
-ghost use Rattle.std.specs.Prelude.{◌≡◌, ◌==◌, ◌^◌, ◌<◌, List, [], ◌∷◌, ◌++◌, IfOk, OnOk, length, position};
+ghost use Rattle.std.specs.Prelude.{◌≡◌, ◌==◌, ◌^◌, ◌<◌, List, [], ◌∷◌, ◌++◌, ◌+◌, OnOk, length, position};
 ghost use Rattle.std.specs.Option.{option_map};
-ghost use Rattle.std.specs.List.{slice_get};
+ghost use Rattle.std.specs.List.{AllByRecursion, slice_get};
+ghost use Rattle.std.specs.List.Sorted.{IsNonDecreasingBy};
 ghost use Rattle.std.specs.Str.{chars};
 ghost use Rattle.origins.specs.Origins as spec;
 ghost use Rattle.origins.specs.own.Runs.{AreRuns, origin_at, placed};
 
-use crate::aligned::{first_indent, is_blank, is_break};
-use crate::runs::{Run, START, continue_at, forward, place_in, run_of};
+use crate::aligned::first_indent;
+use crate::rows::{first, first_row, without_indent};
+use crate::runs::{Run, continue_at, place_in, run_of, run_of_all};
 use std::alloc::{AllocError, Global};
 use std::marker::Model;
 
@@ -39,6 +41,9 @@ impl Model for Gathered {
 fn char_count(text: &str) -> usize
     ensures { result ≡ length (chars text.now) }
 {
+    if text.is_ascii() {
+        return text.len();
+    }
     text.chars().count()
 }
 
@@ -135,35 +140,62 @@ impl Gathered {
     }
 }
 
-// Adds a character unless it is a blank of the base indent, of which `left` may still go. What may go behind it is returned.
-fn put_behind(
-    to: &mut Gathered,
-    c: char,
-    at: usize,
-    base: usize,
-    left: usize,
-) -> Result<usize, AllocError>
-    ensures { IfOk result (λ next. (ds : List spec.Sourced) → to.new ++ spec.left_aligned base next ds ≡ to.old ++ spec.left_aligned base left ((c, at) ∷ ds)) }
+// Adds the characters of a text, one by one, where the first of them is number `at` of all that have these runs.
+fn put_each(to: &mut Gathered, text: &str, runs: &[Run], at: usize) -> Result<(), AllocError>
+    requires small_origins { AllByRecursion (λ (r : Run). r.origin < 2 ^ 63) runs.now }
+    requires ordered { IsNonDecreasingBy (λ (r : Run). r.begins) runs.now }
+    requires small { at + length (chars text.now) < 2 ^ 63 }
+    ensures { OnOk result (to.new ≡ to.old ++ placed (origin_at runs.now) at (chars text.now)) }
 {
-    if is_blank(c) && left > 0 {
-        return Ok(left - 1);
+    let mut rest = text;
+    let mut at = at;
+    'characters: loop {
+        let Some((c, more)) = first(rest) else {
+            return Ok(());
+        };
+        to.put(c, run_of(runs, at).origin_of(at))?;
+        at += 1;
+        rest = more;
     }
-    to.put(c, at)?;
-    Ok(if is_break(c) { base } else { 0 })
 }
 
-// Adds the characters of a text without its base indent.
+// Adds the characters of a text in the same way, at once if they are of one run.
+fn put_row(
+    to: &mut Gathered,
+    text: &str,
+    count: usize,
+    runs: &[Run],
+    at: usize,
+) -> Result<(), AllocError>
+    requires count { count ≡ length (chars text.now) }
+    requires small_origins { AllByRecursion (λ (r : Run). r.origin < 2 ^ 63) runs.now }
+    requires ordered { IsNonDecreasingBy (λ (r : Run). r.begins) runs.now }
+    requires small { at + count < 2 ^ 63 }
+    ensures { OnOk result (to.new ≡ to.old ++ placed (origin_at runs.now) at (chars text.now)) }
+{
+    if let Some(run) = run_of_all(runs, at, count) {
+        to.copy(text, run.origin_of(at))?;
+        return Ok(());
+    }
+    put_each(to, text, runs, at)
+}
+
+// Adds the characters of a text without its base indent, row by row.
 fn put_aligned(to: &mut Gathered, text: &str, runs: &[Run], base: usize) -> Result<(), AllocError>
     requires runs { AreRuns runs.now (length (chars text.now)) }
     requires small { length (chars text.now) < 2 ^ 63 }
     ensures { OnOk result (to.new ≡ to.old ++ spec.left_aligned base base (placed (origin_at runs.now) 0 (chars text.now))) }
 {
-    let mut run = START;
-    let mut later = runs;
-    let mut left = base;
-    for (offset, c) in text.chars().enumerate() {
-        (run, later) = forward(run, later, offset);
-        left = put_behind(to, c, run.origin_of(offset), base, left)?;
+    let mut rest = text;
+    let mut at = 0usize;
+    'rows: loop {
+        let (gone, kept) = without_indent(rest, base);
+        let (row, count, behind) = first_row(kept);
+        if count == 0 {
+            return Ok(());
+        }
+        put_row(to, row, count, runs, at + gone)?;
+        at += gone + count;
+        rest = behind;
     }
-    Ok(())
 }

@@ -8,6 +8,7 @@
 
 mod aligned;
 mod gathered;
+mod rows;
 mod runs;
 mod unread;
 

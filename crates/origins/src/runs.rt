@@ -1,6 +1,6 @@
 //! Runs of characters that stand in a row in a draft.
 
-ghost use Rattle.std.specs.Prelude.{◌≡◌, ℕ, ◌+◌, ◌-◌, ◌^◌, ◌<◌, ◌≤◌, ◌∷◌, OnOk, length, slice_index_or};
+ghost use Rattle.std.specs.Prelude.{◌≡◌, ℕ, ◌+◌, ◌-◌, ◌^◌, ◌<◌, ◌≤◌, ◌∷◌, IfSome, OnOk, length, slice_index_or};
 ghost use Rattle.std.specs.List.Sorted.{IsNonDecreasingBy};
 ghost use Rattle.origins.specs.own.Runs.{AreRuns, FindsPlace, FindsWithin, origin_at, origin_by, run_at, first_run};
 
@@ -19,7 +19,7 @@ pub struct Run {
 }
 
 // What stands before any run.
-pub const START: Run = Run {
+const START: Run = Run {
     begins: 0,
     origin: 0,
 };
@@ -63,22 +63,22 @@ pub fn run_of(runs: &[Run], offset: usize) -> Run
     last_of(runs, runs.partition_point(|run| run.begins <= offset))
 }
 
-// The run of a character, and the runs behind it, from the run of a character before it.
-pub fn forward(run: Run, later: &[Run], offset: usize) -> (Run, &[Run])
-    ensures run_is { result.0 ≡ run_at run later.now offset }
-    ensures behind { (k : ℕ) → offset ≤ k → run_at result.0 result.1.now k ≡ run_at run later.now k }
+// The run of so many characters from one on, if they are all of one.
+pub fn run_of_all(runs: &[Run], offset: usize, count: usize) -> Option<Run>
+    requires ordered { IsNonDecreasingBy (λ r. r.begins) runs.now }
+    requires fits { offset + count < 2 ^ 64 }
+    ensures { IfSome result (λ run. (0 < count) × ((k : ℕ) → k < count → run_at first_run runs.now (offset + k) ≡ run)) }
 {
-    let mut run = run;
-    let mut later = later;
-    'runs: loop {
-        let Some((next, behind)) = later.split_first() else {
-            return (run, later);
-        };
-        if next.begins > offset {
-            return (run, later);
-        }
-        run = *next;
-        later = behind;
+    if count == 0 {
+        return None;
+    }
+    let end = offset + count - 1;
+    let first = runs.partition_point(|run| run.begins <= offset);
+    let last = runs.partition_point(|run| run.begins <= end);
+    if first == last {
+        Some(last_of(runs, first))
+    } else {
+        None
     }
 }
 

@@ -1,2 +1,5 @@
 pub mod XmlLaws
 pub mod UnreadLaws
+pub mod ByteLaws
+pub mod MarkLaws
+pub mod PieceLaws

@@ -13,7 +13,7 @@ use Rattle.xml_blocks.specs.declared.fault.XmlFault.TheVariants.{BlockWithoutEnd
 use Rattle.xml_blocks.specs.declared.gather.Open.{Open}
 use Rattle.xml_blocks.specs.declared.piece.Piece.{Piece}
 use Rattle.xml_blocks.specs.own.Reading.{reading_element}
-use Rattle.xml_blocks.specs.Xml.{Opened, and_then, begins, begins_type, behind_piece, element_blocks, closes_tag, grammar_behind, has_abnf_type, is_scalar, named_value, number, open_quote, piece_at, put_before, quoted_len, until, value_with_digit, with_value}
+use Rattle.xml_blocks.specs.Xml.{Opened, and_then, begins, begins_type, behind_piece, element_blocks, closes_tag, grammar_behind, has_abnf_type, is_scalar, named_value, number, open_quote, piece_at, put_before, quoted_len, value_with_digit, with_value}
 
 -- ---- texts
 
@@ -82,25 +82,6 @@ begins_more mark t ms u m c e is same was =
 map_suc : (count : ℕ) (o : Option ℕ) → option_map (λ n. count + 1 + n) o ≡ option_map (λ n. count + n) (option_map suc o)
 map_suc count None = refl
 map_suc count (Some n) = ap Some (let e : count + 1 + n ≡ count + suc n = omega arith in e)
-
-module _ (count : ℕ) (mark t : List ℕ) {whole : Option ℕ} (was : option_map (λ n. count + n) (until mark t) ≡ whole) where
-  pub until_none : t ≡ [] → None ≡ whole
-  unfolding until
-  until_none is = ap (λ u. option_map (λ n. count + n) (until mark u)) (sym is) ∙ was
-
-  pub until_found : (c : ℕ) (u : List ℕ) → t ≡ c ∷ u → begins mark t ≡ true → Some count ≡ whole
-  unfolding until
-  until_found c u is b =
-      ap Some (let e : count ≡ count + 0 = omega arith in e)
-      ∙ ap (λ x. option_map (λ n. count + n) (cond x (Some 0) (option_map suc (until mark u)))) (sym b ∙ ap (begins mark) is)
-      ∙ ap (λ v. option_map (λ n. count + n) (until mark v)) (sym is) ∙ was
-
-  pub until_more : (c : ℕ) (u : List ℕ) → t ≡ c ∷ u → begins mark t ≡ false → option_map (λ n. count + 1 + n) (until mark u) ≡ whole
-  unfolding until
-  until_more c u is b =
-      map_suc count (until mark u)
-      ∙ ap (λ x. option_map (λ n. count + n) (cond x (Some 0) (option_map suc (until mark u)))) (sym b ∙ ap (begins mark) is)
-      ∙ ap (λ v. option_map (λ n. count + n) (until mark v)) (sym is) ∙ was
 
 -- ---- tags
 

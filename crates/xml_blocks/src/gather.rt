@@ -7,7 +7,7 @@ ghost use Rattle.xml_blocks.specs.own.Reading.{reading_element};
 ghost use Rattle.xml_blocks.specs.Xml as spec;
 
 use crate::fault::XmlFault;
-use crate::piece::{Kind, piece_at};
+use crate::piece::{Kind, cut, piece_at};
 use crate::tag::{Element, opening};
 use crate::text::{before, behind, char_count, first};
 use origins::Gathered;
@@ -122,10 +122,11 @@ pub fn gather_xml(alloc: Global, draft: &str) -> Result<Gathered, XmlFault>
                 None => Ok(grammar),
             };
         };
-        let piece = piece_at(current.is_some(), at, c, more)?;
-        let text = before(more, piece.more);
+        let in_block = current.is_some();
+        let piece = piece_at(in_block, at, c, more)?;
+        let (text, left) = cut(in_block, piece, more);
         current = read(&mut grammar, &mut block, current, piece.kind, text, at)?;
-        rest = behind(more, piece.more);
+        rest = left;
         at += 1 + char_count(text);
     }
 }

@@ -2,6 +2,7 @@
 
 ghost use Rattle.std.specs.Prelude.{◌≡◌, ◌<◌, ◌^◌, ◌+◌, None, IfSome, length};
 ghost use Rattle.std.specs.Str.{chars};
+ghost use Rattle.xml_blocks.specs.own.Reading.{if_abnf};
 ghost use Rattle.xml_blocks.specs.Xml as spec;
 
 use crate::text::{
@@ -102,7 +103,7 @@ pub fn tag_len(text: &str) -> Option<usize>
     if char_at(text, 0).is_ascii_alphabetic() {
         return quoted_len(text);
     }
-    match until(text, &['>']) {
+    match until(text, b">") {
         Some(count) => Some(count + 1),
         None => None,
     }
@@ -169,16 +170,25 @@ pub fn is_empty_element(tag: &str) -> bool
     char_at(tag, char_count(tag).saturating_sub(2)) == '/'
 }
 
-// The element of a tag without its `<` that is a block of ABNF, empty or not.
+// This element of a tag without its `<`, if its `type` is `abnf`.
+fn if_abnf(tag: &str, element: Element) -> Option<Element>
+    ensures { result ≡ if_abnf (chars tag.now) element }
+{
+    if has_abnf_type(tag) {
+        Some(element)
+    } else {
+        None
+    }
+}
+
+// The element of a tag without its `<` that is a block of ABNF, empty or not. Few tags are searched for the attribute, since few have the name.
 pub fn block_element(tag: &str) -> Option<Element>
     ensures { result ≡ spec.block_element (chars tag.now) }
 {
-    if !has_abnf_type(tag) {
-        None
-    } else if Element::Sourcecode.is_named(tag) {
-        Some(Element::Sourcecode)
+    if Element::Sourcecode.is_named(tag) {
+        if_abnf(tag, Element::Sourcecode)
     } else if Element::Artwork.is_named(tag) {
-        Some(Element::Artwork)
+        if_abnf(tag, Element::Artwork)
     } else {
         None
     }
@@ -188,9 +198,12 @@ pub fn block_element(tag: &str) -> Option<Element>
 pub fn opening(tag: &str) -> Option<Element>
     ensures { result ≡ spec.opening_element (chars tag.now) }
 {
+    let Some(element) = block_element(tag) else {
+        return None;
+    };
     if is_empty_element(tag) {
         None
     } else {
-        block_element(tag)
+        Some(element)
     }
 }

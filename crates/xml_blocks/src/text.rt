@@ -1,9 +1,12 @@
-//! Texts, character by character.
+//! Texts and their characters.
 
-ghost use Rattle.std.specs.Prelude.{◌≡◌, ◌∷◌, ◌<◌, ◌^◌, [], MatchOption, IfSome, length, take, drop, slice_index};
-ghost use Rattle.std.specs.List.{prefix_len};
+ghost use Rattle.std.specs.Prelude.{◌≡◌, ◌∷◌, ◌<◌, ◌^◌, [], true, MatchOption, IfSome, length, take, drop, slice_index};
+ghost use Rattle.std.specs.List.{list_all, prefix_len};
 ghost use Rattle.std.specs.Str.{chars};
+ghost use Rattle.xml_blocks.specs.own.Reading.{is_low};
 ghost use Rattle.xml_blocks.specs.Xml as spec;
+
+use memchr::memmem;
 
 // The first character, and the text behind it.
 pub fn first(text: &str) -> Option<(char, &str)>
@@ -16,15 +19,18 @@ pub fn first(text: &str) -> Option<(char, &str)>
     }
 }
 
-// How many characters a text has.
+// How many characters a text has. In ASCII they are its bytes.
 pub fn char_count(text: &str) -> usize
     ensures count { result ≡ length (chars text.now) }
 {
+    if text.is_ascii() {
+        return text.len();
+    }
     text.chars().count()
 }
 
-// The text behind so many characters.
-pub fn behind(text: &str, count: usize) -> &str
+// The text behind so many characters, found one by one.
+fn walked(text: &str, count: usize) -> &str
     ensures { chars result.now ≡ drop count (chars text.now) }
 {
     let mut rest = text;
@@ -41,12 +47,41 @@ pub fn behind(text: &str, count: usize) -> &str
     }
 }
 
+// The first characters of a text, so many, and the text behind them, found one by one.
+fn halves_walked(text: &str, count: usize) -> (&str, &str)
+    ensures front { chars result.0.now ≡ take count (chars text.now) }
+    ensures back { chars result.1.now ≡ drop count (chars text.now) }
+{
+    let rest = walked(text, count);
+    let (front, _) = text.split_at(text.len() - rest.len());
+    (front, rest)
+}
+
+// The same texts. Where the characters are ASCII, they are as many bytes.
+pub fn halves(text: &str, count: usize) -> (&str, &str)
+    ensures front { chars result.0.now ≡ take count (chars text.now) }
+    ensures back { chars result.1.now ≡ drop count (chars text.now) }
+{
+    if let Some((front, rest)) = text.split_at_checked(count) {
+        if front.is_ascii() {
+            return (front, rest);
+        }
+    }
+    halves_walked(text, count)
+}
+
+// The text behind so many characters.
+pub fn behind(text: &str, count: usize) -> &str
+    ensures { chars result.now ≡ drop count (chars text.now) }
+{
+    halves(text, count).1
+}
+
 // The first characters of a text, so many.
 pub fn before(text: &str, count: usize) -> &str
     ensures { chars result.now ≡ take count (chars text.now) }
 {
-    let (front, _) = text.split_at(text.len() - behind(text, count).len());
-    front
+    halves(text, count).0
 }
 
 // The character at an index, NUL past the end.
@@ -80,23 +115,20 @@ pub fn begins(text: &str, mark: &[char]) -> bool
     }
 }
 
-// How many characters come before a mark, if it comes.
-pub fn until(text: &str, mark: &[char]) -> Option<usize>
-    requires { length (chars text.now) < 2 ^ 63 }
+// How many characters come before a mark of ASCII, if it comes.
+pub fn until(text: &str, mark: &[u8]) -> Option<usize>
+    requires ascii { list_all is_low mark.now ≡ true }
+    requires mark { 0 < length mark.now }
+    requires small { length (chars text.now) < 2 ^ 63 }
     ensures count { result ≡ spec.until mark.now (chars text.now) }
     ensures small { IfSome result (λ n. n < 2 ^ 63) }
 {
-    let mut rest = text;
-    let mut count = 0usize;
-    'characters: loop {
-        let Some((_, more)) = first(rest) else {
-            return None;
-        };
-        if begins(rest, mark) {
-            return Some(count);
+    match memmem::find(text.as_bytes(), mark) {
+        Some(at) => {
+            let (front, _) = text.split_at(at);
+            Some(char_count(front))
         }
-        rest = more;
-        count += 1;
+        None => None,
     }
 }
 

@@ -8,9 +8,9 @@ ghost use Rattle.xml_blocks.specs.Xml.{block_element, is_space};
 
 use crate::fault::XmlFault;
 use crate::gather::{NO_OFFSET, ends, section_text};
-use crate::piece::{Kind, piece_at};
+use crate::piece::{Kind, cut, piece_at};
 use crate::tag::{Element, block_element, is_empty_element, open_quote};
-use crate::text::{before, begins, behind, char_at, char_count, first, is_space, without_space};
+use crate::text::{begins, behind, char_at, char_count, first, is_space, without_space};
 use origins::{Lack, Unread};
 use std::alloc::{AllocError, Global};
 
@@ -240,14 +240,15 @@ pub fn unread_blocks(alloc: Global, draft: &str) -> Result<Vec<Unread>, XmlFault
         let Some((c, more)) = first(rest) else {
             return Ok(found);
         };
-        let Ok(piece) = piece_at(current.is_some(), at, c, more) else {
+        let in_block = current.is_some();
+        let Ok(piece) = piece_at(in_block, at, c, more) else {
             return Ok(found);
         };
-        let text = before(more, piece.more);
+        let (text, left) = cut(in_block, piece, more);
         let (next, unread) = unread_behind(current, piece.kind, at, text);
         put_unread(&mut found, unread)?;
         current = next;
-        rest = behind(more, piece.more);
+        rest = left;
         at += 1 + char_count(text);
     }
 }

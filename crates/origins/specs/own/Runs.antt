@@ -3,7 +3,7 @@ use Rattle.std.specs.Prelude.{ℕ, suc, ◌+◌, ◌-◌, ◌^◌, ◌<◌, ◌�
 use Rattle.std.specs.Str.{chars}
 use Rattle.std.specs.List.{AllByRecursion}
 use Rattle.std.specs.List.Sorted.{IsNonDecreasingBy}
-use Rattle.origins.specs.Origins.{Sourced}
+use Rattle.origins.specs.Origins.{Sourced, is_break}
 use Rattle.origins.specs.declared.runs.Run.{Run}
 
 -- the run of a character: the last one that begins at it or before it, in runs that are in order
@@ -43,6 +43,11 @@ FindsWithin offset_of origin low end found =
 unfoldable pub placed : (ℕ → ℕ) → ℕ → List ℕ → List Sourced
 placed origin n [] = []
 placed origin n (c ∷ cs) = (c, origin n) ∷ placed origin (suc n) cs
+
+-- how many characters the first line has, with the LF or CR that ends it
+unfoldable pub row_len : List ℕ → ℕ
+row_len [] = 0
+row_len (c ∷ cs) = if is_break c then 1 else suc (row_len cs)
 
 -- the runs of so many characters: in order, and in a draft that has room in memory
 pub record AreRuns (runs : List Run) (count : ℕ) : Type 0 where

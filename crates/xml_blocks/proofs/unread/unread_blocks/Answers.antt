@@ -1,5 +1,6 @@
 use Rattle.std.proofs.Common.{rules, ap, length, arith}
 use Rattle.std.specs.Str.{chars}
+use Rattle.xml_blocks.proofs.PieceLaws.{text_piece}
 use Rattle.xml_blocks.proofs.XmlLaws.{chars_small, parts_len}
 use Rattle.xml_blocks.proofs.UnreadLaws.{unread_ends, unread_fault, unread_more}
 use Rattle.xml_blocks.proofs.unread.unread_blocks.Goals as goal
@@ -12,20 +13,23 @@ piece_at-requires c = omega (arith, chars_small c.args.draft.now c.utf8.draft c.
 
 pub returns-in_default-piece_at-clause-found : goal.returns-in_default-piece_at-clause-found
 returns-in_default-piece_at-clause-found c =
-    unread_fault c.pieces.found.items c.pieces.at (chars c.pieces.rest.now) c.pieces.current c.pieces.invariant.2 c.in-Some.c (chars c.in-Some.more.now) c.in-Some.ensures c.is_some.result c.is_some.ensures c.in_default-piece_at.field-0 c.in_default-piece_at.ensures
+    unread_fault c.pieces.found.items c.pieces.at (chars c.pieces.rest.now) c.pieces.current c.pieces.invariant.2 c.in-Some.c (chars c.in-Some.more.now) c.in-Some.ensures c.is_some-in_block.result c.is_some-in_block.ensures c.in_default-piece_at.field-0 c.in_default-piece_at.ensures
+
+pub cut-requires : goal.cut-requires
+cut-requires c = text_piece c.is_some-in_block.result c.pieces.at c.in-Some.c (chars c.in-Some.more.now) c.in-Ok.piece c.in-Ok.ensures
 
 pub overflow_add-at : goal.overflow_add-at
-overflow_add-at c = omega (arith, chars_small c.args.draft.now c.utf8.draft c.if-draft-ge-NO_OFFSET.false, c.pieces.invariant.1, ap length c.in-Some.ensures, c.char_count.ensures.count, ap length c.before-text.ensures, parts_len c.in-Ok.piece.more (chars c.in-Some.more.now))
+overflow_add-at c = omega (arith, chars_small c.args.draft.now c.utf8.draft c.if-draft-ge-NO_OFFSET.false, c.pieces.invariant.1, ap length c.in-Some.ensures, c.char_count.ensures.count, ap length c.cut.ensures.front, parts_len c.in-Ok.piece.more (chars c.in-Some.more.now))
 
 pub overflow_add-at-in-pieces : goal.overflow_add-at-in-pieces
-overflow_add-at-in-pieces c = omega (arith, chars_small c.args.draft.now c.utf8.draft c.if-draft-ge-NO_OFFSET.false, c.pieces.invariant.1, ap length c.in-Some.ensures, c.char_count.ensures.count, ap length c.before-text.ensures, parts_len c.in-Ok.piece.more (chars c.in-Some.more.now))
+overflow_add-at-in-pieces c = omega (arith, chars_small c.args.draft.now c.utf8.draft c.if-draft-ge-NO_OFFSET.false, c.pieces.invariant.1, ap length c.in-Some.ensures, c.char_count.ensures.count, ap length c.cut.ensures.front, parts_len c.in-Ok.piece.more (chars c.in-Some.more.now))
 
 pub pieces-smaller : goal.pieces-smaller
-pieces-smaller c = omega (arith, ap length c.in-Some.ensures, ap length c.behind-rest.ensures, parts_len c.in-Ok.piece.more (chars c.in-Some.more.now))
+pieces-smaller c = omega (arith, ap length c.in-Some.ensures, ap length c.cut.ensures.back, parts_len c.in-Ok.piece.more (chars c.in-Some.more.now))
 
 pub pieces-preserved : goal.pieces-preserved
 pieces-preserved c = (
   search rules,
-  omega (arith, c.pieces.invariant.1, ap length c.in-Some.ensures, c.char_count.ensures.count, ap length c.before-text.ensures, ap length c.behind-rest.ensures, parts_len c.in-Ok.piece.more (chars c.in-Some.more.now)),
-  unread_more c.pieces.found.items c.pieces.at (chars c.pieces.rest.now) c.pieces.current c.pieces.invariant.2 c.in-Some.c (chars c.in-Some.more.now) c.in-Some.ensures c.is_some.result c.is_some.ensures c.in-Ok.piece c.in-Ok.ensures (chars c.before-text.result.now) (chars c.behind-rest.result.now) c.char_count.result c.unread_behind-next.result c.put_unread.new.found.items c.before-text.ensures c.behind-rest.ensures c.char_count.ensures.count c.unread_behind-next.ensures c.in_ok-put_unread.ensures,
+  omega (arith, c.pieces.invariant.1, ap length c.in-Some.ensures, c.char_count.ensures.count, ap length c.cut.ensures.front, ap length c.cut.ensures.back, parts_len c.in-Ok.piece.more (chars c.in-Some.more.now)),
+  unread_more c.pieces.found.items c.pieces.at (chars c.pieces.rest.now) c.pieces.current c.pieces.invariant.2 c.in-Some.c (chars c.in-Some.more.now) c.in-Some.ensures c.is_some-in_block.result c.is_some-in_block.ensures c.in-Ok.piece c.in-Ok.ensures (chars c.cut.result.0.now) (chars c.cut.result.1.now) c.char_count.result c.unread_behind-next.result c.put_unread.new.found.items c.cut.ensures.front c.cut.ensures.back c.char_count.ensures.count c.unread_behind-next.ensures c.in_ok-put_unread.ensures,
 )

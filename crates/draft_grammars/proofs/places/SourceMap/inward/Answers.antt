@@ -1,4 +1,4 @@
-use Rattle.std.proofs.Common.{◌≡◌, ◌∙◌, ◌+◌, ap, List, ℕ}
+use Rattle.std.proofs.Common.{◌∙◌, ◌+◌, ap, List, ℕ}
 use Rattle.std.specs.Option.{option_or}
 use Rattle.origins.specs.Origins.{Sourced}
 use Rattle.draft_grammars.specs.Places.{Mapped, begun_at, blanks_behind}
