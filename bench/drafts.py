@@ -6,6 +6,9 @@
 PROGRAM is that of the crate served_plainly, which is built if it is left out and isn't there. A draft has ten sections of prose, each with a
 block of rules, in Markdown or in RFCXML. A key is typed in a rule, and in prose; a hover is asked in the first rule. Times are milliseconds
 from the message to the findings, or to the reply: the least of some.
+
+Behind them come drafts of the middle size that aren't sound: in which an appendix collects the grammar once more, the first block has no end,
+or the last one, which in RFCXML is a fault.
 """
 from bench import INITIALIZE, RUNS, Server, notice, request
 
@@ -34,6 +37,25 @@ def draft(language, lines, grammar):
     return given
 
 
+def collected(language, lines):
+    """A draft with its grammar once more, in one block."""
+    begin, end = FENCES[language]
+    return [*lines, begin, *(it for it in lines if it.startswith("rule-")), end]
+
+
+def without_end(language, lines, which):
+    """A draft without the end of its first block, or of its last."""
+    at = [at for at, line in enumerate(lines) if line == FENCES[language][1]][which]
+    return [*lines[:at], *lines[at + 1 :]]
+
+
+SHAPES = (
+    ("collected", collected),
+    ("the first has no end", lambda language, lines: without_end(language, lines, 0)),
+    ("the last has no end", lambda language, lines: without_end(language, lines, -1)),
+)
+
+
 def opened(language, lines):
     return notice("textDocument/didOpen", textDocument={"uri": "file:///g", "languageId": language, "version": 1, "text": "\n".join(lines) + "\n"})
 
@@ -59,15 +81,22 @@ def costs(language, lines):
     return [it * 1e3 for it in least]
 
 
+def print_costs(name, language, lines):
+    runs = [costs(language, lines) for _ in range(RUNS)]
+    best = [min(column) for column in zip(*runs)]
+    best = best if len(best) == 3 else [best[0], None, best[1]]
+    shown = (f"{'–' if it is None else f'{it:.2f}':>10}" for it in best[1:])
+    print(f"{name:<20} {language:<10} {best[0]:14.2f} {' '.join(shown)}", flush=True)
+
+
 def main():
     print(f"{'lines, of grammar':<20} {'language':<10} {'key in a rule':>14} {'in prose':>10} {'hover':>10}")
     for lines, grammar in SIZES:
         for language in ("abnf", *FENCES):
-            runs = [costs(language, draft(language, lines, grammar)) for _ in range(RUNS)]
-            best = [min(column) for column in zip(*runs)]
-            best = best if len(best) == 3 else [best[0], None, best[1]]
-            shown = (f"{'–' if it is None else f'{it:.2f}':>10}" for it in best[1:])
-            print(f"{f'{lines}, {grammar}':<20} {language:<10} {best[0]:14.2f} {' '.join(shown)}", flush=True)
+            print_costs(f"{lines}, {grammar}", language, draft(language, lines, grammar))
+    for name, made in SHAPES:
+        for language in FENCES:
+            print_costs(name, language, made(language, draft(language, *SIZES[1])))
 
 
 if __name__ == "__main__":

@@ -8,14 +8,15 @@ of line end, references, comments and sections, and some with marks put in or ta
 names, in margins, in prose, at the ends of blocks and anywhere. Another session opens the text that plain_drafts gathers from a draft as a
 grammar, with positions in characters, and is asked the same there. What it answers is carried outward by plain_drafts, and must be the
 answer in the draft, in each of the three encodings. The edits of each rename that is granted are made in the draft: then the text that is
-gathered must be that with the edits in it.
+gathered must be that with the edits in it. So it must be once an example is inserted. Some drafts in RFCXML are at fault: then the grammar is
+what stands before the fault. Each way in which an answer in a draft is another one must have been met often.
 
 Then it is typed into a draft in Markdown, one in RFCXML and a grammar in turn: marks of blocks and what stands in them are put in, taken out
 and put back. What is published of each version must be what the plain readings find in the text that is gathered from it, byte for byte, with
 one worker, two and four (replayed_typing has how). Of a sample of the versions a new session must publish the same.
 
-At last there are rows by value: which names and endings make a draft, and of which initializationOptions. Without these a text in Markdown
-has, byte for byte, what it has as a grammar. A fault is told with the draft.
+At last there are rows by value: which names and endings make a draft, and of which initializationOptions; what is published of drafts, and
+what is answered in them. Without the options a text in Markdown has, byte for byte, what it has as a grammar. A fault is told with the draft.
 """
 import argparse
 import collections
@@ -25,6 +26,7 @@ import random
 import re
 import sys
 
+import draft_values
 import encoding_rows
 import plain_drafts
 import replayed_typing
@@ -109,8 +111,8 @@ class Opened:
 
     def wanted(self, inside):
         """What must be told, by the number of the question or by the version, where this is told of the grammar."""
-        found = inside[self.uri, 1]["params"]["diagnostics"]
-        yield (self.uri, 1), {"method": PUBLISHED, "params": {"diagnostics": self.draft.moved(found), "uri": self.uri, "version": 1}}
+        found = self.draft.findings(inside[self.uri, 1]["params"]["diagnostics"])
+        yield (self.uri, 1), {"method": PUBLISHED, "params": {"diagnostics": found, "uri": self.uri, "version": 1}}
         for number, (method, params) in self.asked.items():
             at = json.dumps(number)
             is_inside = self.inner[number] is not None
@@ -132,31 +134,65 @@ class Opened:
                 yield self.form, self.draft.text, self.draft.encoding, question, found, wanted
 
     def made(self, inside, told):
-        """Of each rename that is granted, whether the draft has the grammar with its edits; and what else the answers come to."""
+        """What the answers come to; of each edit that is granted, whether the draft has the grammar with it."""
+        yield from self.published(inside, told)
         for number, (method, _) in self.asked.items():
             if self.inner[number] is None:
                 yield f"{method} outside", True
                 continue
             before, after = inside[json.dumps(number)], told[json.dumps(number)]
-            if method == "rename" and "result" in before and "result" in after:
-                edits, by = ([*it["result"]["changes"].values()][0] for it in (before, after))
-                edited = Draft(self.draft.with_edits(by), self.form, self.draft.encoding)
-                yield "rename", edited.grammar.text == self.draft.grammar.with_edits(edits) or (self.form, self.draft.text, by)
-            elif method == "rename" and "result" in before:
-                yield "rename refused in the draft", True
+            if method in ("rename", "codeAction") and before.get("result"):
+                yield from self.edited(method, before["result"], after)
             elif method == "semanticTokens/full" and len(after["result"]["data"]) < len(before["result"]["data"]):
                 yield "tokens left out", True
             elif after.get("result"):
                 yield f"{method} in {self.form}", True
 
+    def published(self, inside, told):
+        """What is found otherwise in the draft than in its grammar."""
+        before, after = (it[self.uri, 1]["params"]["diagnostics"] for it in (inside, told))
+        codes, repeats = [it["code"] for it in after], sum(it["code"] == "duplicate" for it in before)
+        yield from ((it, True) for it in ("differs",) if it in codes)
+        yield from ((it["message"], True) for it in after if it["code"] == "xml")
+        yield from (("flood", True) for it in after if "(the first of " in it["message"])
+        if repeats > codes.count("differs") and not any("(the first of " in it["message"] for it in after):
+            yield "copy left out", True
+
+    def edited(self, method, before, after):
+        """What comes of edits that are granted in the grammar."""
+        if "error" in after:
+            yield after["error"]["message"], True
+        elif not after["result"]:
+            yield f"{method} left out", True
+        else:
+            edits, by = (edits_of(it) for it in (before, after["result"]))
+            yield f"{method} in {self.form}", self.has(edits, by) or (self.form, self.draft.text, by)
+            ends = {self.draft.text[self.draft.offset(it["range"]["end"]) - 1] for it in by}
+            yield from [(f"{method} behind a reference", True)] * (";" in ends and method == "rename")
+            yield from [(f"{method} with CR LF", True)] * ("\r\n" in by[0]["newText"])
+
+    def has(self, edits, by):
+        """Whether the draft with the second edits has the grammar with the first ones, but for the line ends that these put in."""
+        edited = Draft(self.draft.with_edits(by), self.form, self.draft.encoding)
+        grammars = edited.grammar.text, self.draft.grammar.with_edits(edits)
+        return len({it.replace("\r\n", "\n") for it in grammars}) == 1 and bool(edited.fault) == bool(self.draft.fault)
+
+
+def edits_of(result):
+    """The edits of a rename, or of a code action, in one document."""
+    (edits,) = (result[0]["edit"] if isinstance(result, list) else result)["changes"].values()
+    return edits
+
 
 PUBLISHED = "textDocument/publishDiagnostics"
-# What must have been found often
+# What must have been found often, and what less often
 COMES_TO = (
-    *("rename", "rename refused in the draft", "tokens left out", "codeAction in markdown"),
+    *("rename in markdown", "rename in xml", "tokens left out", "the draft's XML is at fault", "differs", "copy left out", "flood"),
+    *("codeAction in markdown", "codeAction in xml", "codeAction left out", "codeAction with CR LF"),
     *(f"{method} outside" for method in AT_POSITION),
     *(f"{method} in {form}" for method in ("hover", "definition", "references", "documentSymbol") for form in ("markdown", "xml")),
 )
+RARE = ("rename behind a reference", "name split by markup", *plain_drafts.XML_FAULTS.values(), plain_drafts.NO_END_TAG)
 
 
 def told_in(program, first, opened, is_draft):
@@ -175,7 +211,7 @@ def told_in(program, first, opened, is_draft):
 
 
 def question_cases(program, count, seed):
-    came_to, renames = collections.Counter(), []
+    came_to, edits = collections.Counter(), []
     for at, encoding in enumerate(UNITS):
         opened = [Opened(seed, count * at + number, encoding) for number in range(count)]
         groups = [opened[start : start + AT_ONCE] for start in range(0, count, AT_ONCE)]
@@ -186,11 +222,12 @@ def question_cases(program, count, seed):
             faults += [fault for it in group for fault in it.faults(inside, told)]
             made = [it for one in group if not one.missing(inside, told) for it in one.made(inside, told)]
             came_to.update(name for name, _ in made)
-            renames += [is_kept for name, is_kept in made if name == "rename" and is_kept is not True]
+            edits += [is_kept for _, is_kept in made if is_kept is not True]
         asked = sum(len(it.asked) for it in opened)
         yield f"{asked} questions about {count} drafts, in {encoding}", sorted(faults, key=lambda it: len(it[1]))[:2], [], asked
-    yield "the grammars after the renames that are granted", renames[:2], []
-    yield f"what the answers come to: {replayed_typing.said_of(came_to)}", [it for it in COMES_TO if came_to[it] < count / 12], []
+    yield "the grammars after the edits that are granted", edits[:2], []
+    too_seldom = [it for some, share in ((COMES_TO, 12), (RARE, 40)) for it in some if came_to[it] < count / share]
+    yield f"what the answers come to: {replayed_typing.said_of(came_to)}", too_seldom, []
 
 
 # ---- typing
@@ -230,7 +267,7 @@ class Typing:
             found = Reading(doc.text, self.encoding).findings()
         else:
             draft = Draft(doc.text, self.forms[doc.uri], self.encoding)
-            found = draft.moved(Reading(draft.grammar.text, "utf-32").findings())
+            found = draft.findings(Reading(draft.grammar.text, "utf-32").findings())
         return replayed_typing.body_of(method=PUBLISHED, params={"diagnostics": found, "uri": doc.uri, "version": label})
 
     def ask(self, doc):
@@ -248,8 +285,8 @@ class Typing:
     def change(self, doc):
         """Puts a mark in or takes one out; or makes the text what it was some edits ago, at times as a whole."""
         before, form = self.undone[doc.uri], self.forms[doc.uri]
-        is_lost = form != "abnf" and not gathered(doc.text, form)
-        if len(before) > 1 and self.dice.random() < (0.8 if is_lost else 0.2):
+        blocks, fault = gathered(doc.text, form) if form != "abnf" else ([doc.text], None)
+        if len(before) > 1 and self.dice.random() < (0.4 if fault else 0.2 if blocks else 0.8):
             text = before.pop()
             return doc.whole(text) if self.dice.random() < 0.1 else doc.back_to(text)
         before.append(doc.text)
@@ -259,7 +296,7 @@ class Typing:
     def fault(self, heard, due):
         """What is wrong with a session, with the text of the version; None where nothing is."""
         wrong = replayed_typing.fault(self, heard, due)
-        return wrong and (*wrong, [self.texts[it] for it in wrong[1:2] if it in self.texts])
+        return wrong and (*wrong, [self.texts[it] for it in wrong[1:2] if isinstance(it, tuple)])
 
     def fault_anew(self, program, key):
         """What is wrong with what a new session publishes of the text of a version; None where nothing is."""
@@ -322,6 +359,26 @@ def outlines(program, options):
     return [[symbol["name"] for symbol in it["result"]] for it in bodies if it.get("id", 1) != 1]
 
 
+def valued(program, form, text, asked):
+    """What is published of a draft, and what is answered to these questions, where the client counts characters."""
+    document = {"uri": draft_values.URI, "languageId": form, "version": 1, "text": text}
+    turns = [(initialize("utf-32", {"drafts": True}), 1), (replayed_typing.notice("didOpen", document), 1)]
+    for number, (method, params, _) in enumerate(asked, 10):
+        about = {"textDocument": {"uri": draft_values.URI}, **params}
+        turns.append((replayed_typing.body_of(id=number, method=f"textDocument/{method}", params=about), 1))
+    bodies = [json.loads(it) for it in runs.bodies_of(runs.by_turns(program, turns)[2])[0][1:]]
+    answers = [{key: body[key] for key in ("error", "result") if key in body} for body in bodies[1:]]
+    return bodies[0]["params"]["diagnostics"] if bodies else None, answers
+
+
+def value_cases(program):
+    for form, text, found, asked in draft_values.ROWS:
+        told, answers = valued(program, form, text, asked)
+        yield f"what is published of {text[:60]!r}", told, found
+        for (method, params, wanted), answer in itertools.zip_longest(asked, answers):
+            yield f"{method} at {json.dumps(params)[:60]} in it", answer, wanted
+
+
 def without_drafts(program, text, language):
     """What is written of a text with an ending of Markdown, where the client doesn't ask for drafts."""
     document = {"uri": "file:///g.md", "languageId": language, "version": 1, "text": text}
@@ -341,6 +398,7 @@ def row_cases(program, count, seed):
     texts = [markdown(random.Random(f"rows {seed} {number}")) for number in range(count)]
     differing = [text for text in texts if without_drafts(program, text, "markdown") != without_drafts(program, text, "abnf")]
     yield f"{count} texts in Markdown that are no drafts", differing[:2], [], count
+    yield from value_cases(program)
 
 
 def cases(program, count=COUNT, seed=SEED):

@@ -1,5 +1,5 @@
 """Random drafts as texts, from those of random_drafts: in lists and quotes, with tabs, each kind of line end, attribute lists, comments,
-sections and references; and the marks that may be put into a draft or taken out.
+sections and references; with fences that open over prose, and at fault; and the marks that may be put into a draft or taken out.
 """
 import re
 
@@ -19,6 +19,9 @@ ASIDES = (
     *("{.abnf}", ' {: .x type="ABNF"}', "{.language-abnf}", "{.abnf }", "{.x.abnf}", "<!--", "-->", "-->", "<!-- -->", "{::comment}", "{:/}", "{:/}"),
     *("; c", "      ; c", "   "),
 )
+# Words, of which each line is a fault of syntax where a fence opens over them
+PROSE = ("The server answers.", "An item: a - b", "- one", "1. two", "> three", "(four)", "## Five", "a = five, or six", "", "  and more")
+IN_WORD, WORD_END = re.compile("(?<=[A-Za-z0-9])[A-Za-z0-9]"), re.compile("[A-Za-z0-9](?![A-Za-z0-9-])")
 # What is taken out as one
 MARK = re.compile("[`~]{3,}(?:[ ]?[A-Za-z]+)?|<!--|-->|<!\\[CDATA\\[|\\]\\]>|<[^<>]*>|&[^;\\s]*;|\r\n|[A-Za-z0-9-]+|.", re.DOTALL)
 # What may stand between the pieces of a block of RFCXML
@@ -54,6 +57,9 @@ def with_asides(dice, lines):
 
 def markdown(dice):
     lines = [*with_asides(dice, random_drafts.draft_of(dice, random_drafts.grammar(dice).split("\n"))[0])]
+    if dice.random() < 0.15:
+        at = dice.randrange(len(lines) + 1)
+        lines[at:at] = ["```abnf", *dice.choices(PROSE, k=dice.choice((5, 15, 40))), *["```"] * dice.choice((0, 1))]
     front, front_again = dice.choice((("", ""), ("", ""), ("- ", "  "), ("> ", "> "), ("\t", "\t")))
     lines = [(front_again if at else front) + line for at, line in enumerate(lines)]
     if dice.random() < 0.2:
@@ -62,14 +68,18 @@ def markdown(dice):
 
 
 def marked_up(dice, text):
-    """What stands in a block of RFCXML for a text: sections, and characters of which some are written as references; between are comments."""
-    often = dice.choice((0.01, 0.05, 0.2, 0.3))
-    cuts = [at for at in range(1, len(text)) if dice.random() < often]
+    """What stands in a block of RFCXML for a text: sections, and characters of which some are written as references, at times those at the ends
+    of words; between are comments. At times many words are cut."""
+    often, by_number = (dice.choice((0.01, 0.05, 0.2, 0.3)) for _ in range(2))
+    in_words, odds = (0.2 if dice.random() < 0.2 else often), [by_number] * len(text)
+    cuts = [at for at in range(1, len(text)) if dice.random() < (in_words if IN_WORD.match(text, at) else often)]
+    if dice.random() < 0.3:
+        odds = [0.7 if WORD_END.match(text, at) else by_number for at in range(len(text))]
     for start, end in zip([0, *cuts], [*cuts, len(text)]):
         if dice.random() < 0.4:
             yield f"<![CDATA[{text[start:end]}]]>"
         else:
-            yield "".join(referred(dice, it, often) for it in text[start:end])
+            yield "".join(referred(dice, *it) for it in zip(text[start:end], odds[start:end]))
         yield dice.choice(("",) * 16 + BETWEEN)
 
 
@@ -88,8 +98,16 @@ def xml(dice):
     if dice.random() < 0.3:
         return page
     fronts = ("", "", "", "\n      ; c", " ; c\r  ; c")
-    return re.sub(r"<!\[CDATA\[(.*?)\]\]>", lambda it: "".join(marked_up(dice, dice.choice(fronts) + it[1])), page, flags=re.DOTALL)
+    return re.sub(r"<!\[CDATA\[(.*?)\]\]>", lambda it: "".join(marked_up(dice, begun(dice, fronts, it[1]))), page, flags=re.DOTALL)
+
+
+def begun(dice, fronts, text):
+    """A text of a block behind one of these fronts, or, now and then, in the line of its start tag."""
+    return text.lstrip("\r\n") if dice.random() < 0.15 else dice.choice(fronts) + text
 
 
 def random_draft(dice, form):
-    return damaged(dice, form, (markdown if form == "markdown" else xml)(dice))
+    if form == "markdown":
+        return damaged(dice, form, markdown(dice))
+    draft = xml(dice)
+    return damaged(dice, form, random_drafts.with_fault(dice, draft) if dice.random() < 0.35 else draft)

@@ -30,6 +30,10 @@ The file - is standard input.
   --version        prints the version
 """
 DEEP = "a = " + 65 * "("
+# So many faults of syntax are told one by one in a block of a draft.
+TEN = 10 * "b c\n"
+NO_HEAD = '"=" or "=/" expected'
+FIRST_OF_ELEVEN = " (the first of 11 faults in this block)"
 
 FOLDED = ", lines that are folded by \\ are not joined (RFC 8792)"
 OF_HTTP = ", lists by # are an extension of HTTP (RFC 9110, section 5.6.1)"
@@ -97,6 +101,8 @@ ROWS = (
     # lines, by each line end (LSP 3.17), and past nine
     ('a = "x"\r\nb = ?\rc = ?\nd = ?', tuple(f"{line}:5: error: bad character [syntax]" for line in (2, 3, 4))),
     ('a = "x"\n' + 9 * "\n" + "b = ?", ("11:5: error: bad character [syntax]",)),
+    # a grammar has all its faults told, however many they are
+    (f"{TEN}b c", tuple(f"{line}:3: error: {NO_HEAD} [syntax]" for line in range(1, 12))),
 )
 
 # What is printed of rules: each at the first place that defines it.
@@ -197,6 +203,19 @@ DRAFT_ROWS = (
     ),
     # what is added to a name repeats nothing, and a name of the text of a token is another one
     ('```abnf\na =/ b\na = b\na =/ b\na = "b"\nb = "x"\n```\n', ("2:1: warning: no earlier definition of a [no-base]", "5:1: error: rule a differs from its definition at line 3 [differs]"), ("2:1: a: shortest length 1: x", "6:1: b: shortest length 1: x")),
+    # ten faults of a block are told one by one; of eleven the first alone, and nothing else of the block; another block stays as it is
+    (
+        f'```abnf\na = 3*2"x" / "y"\n{TEN}```\n~~~abnf\nd = 3*2"x" / "y"\n{TEN}e = 4294967296"x"\nf = nope\n~~~\n```abnf\ng = ?\n```\n',
+        (
+            "2:5: warning: repeat with minimum above maximum [empty-repeat]",
+            *(f"{line}:3: error: {NO_HEAD} [syntax]" for line in range(3, 13)),
+            f"16:3: error: {NO_HEAD}{FIRST_OF_ELEVEN} [syntax]",
+            "30:5: error: bad character [syntax]",
+        ),
+        ("2:1: a: shortest length 1: y", "15:1: d: shortest length 1: y", "26:1: e: not known", "27:1: f: generates nothing", "30:1: g: not known"),
+    ),
+    # a fence that opens over what isn't ABNF, with a hint at the first fault
+    (f"# Title\n\n```abnf\na = 1#b\n{TEN}", (f"4:5: error: element expected{OF_HTTP}{FIRST_OF_ELEVEN} [syntax]",), ("4:1: a: not known",)),
 )
 
 # The same of drafts in RFCXML (RFC 7991 sections 2.5 and 2.48; XML 1.0, fifth edition). Of a draft at fault the fault alone is told.
@@ -248,6 +267,12 @@ XML_ROWS = (
         ("3:1: error: rule a differs from its definition at line 1 [differs]",),
         ("1:22: a: shortest length 1: x",),
     ),
+    # eleven faults in a block, of which one is of another code, beside definitions that come again
+    (
+        f'<artwork type="abnf">a = "x"</artwork>\n<artwork type="abnf">\na = &quot;x&quot;\na = "y"\n{TEN}c = %x100000000\n</artwork>',
+        (f"5:3: error: {NO_HEAD}{FIRST_OF_ELEVEN} [syntax]",),
+        ("1:22: a: shortest length 1: x", "15:1: c: not known"),
+    ),
     # names of spaces and hyphens, of which each is one character that no grammar has
     (
         '<artwork type="abnf">a = b&nbhy;c\nb =&nbsp;"x"\nc = "y" &zwsp;\nd = &wj;</artwork>',
@@ -266,6 +291,7 @@ XML_ROWS = (
     ("\u00e9<rfc a='>'", ("1:2: error: tag without an end [xml]",), None),
     ('<artwork type="abnf">a = &nope;</artwork>', ("1:26: error: no reference to a character [xml]",), None),
     ('<artwork type="abnf">a = &#xD800;</artwork>', ("1:26: error: no reference to a character [xml]",), None),
+    ('<artwork type="abnf">\na = nope\nb = ?\n &foo;</artwork>', ("4:2: error: no reference to a character [xml]",), None),
 )
 
 CORE = "OWS = *( SP / HTAB )\nRWS = 1*( SP / HTAB )\n"
@@ -418,6 +444,16 @@ WITH_ROWS = (
         ("1:1: a: shortest length 1: x",),
     ),
     (("a.abnf", 'a = "x"'), (("none.md", "```abnf\n; none\n```\n"),), (), ("1:1: a: shortest length 1: x",)),
+    # eleven faults in a block of a draft, and in one of a file that is known
+    (
+        ("a.md", f"```abnf\na = OWS nope\n{TEN}= c\n```\n~~~abnf\nd = OWS nope\n~~~\n"),
+        (("core.md", f"```abnf\n{CORE}{TEN}= c\n```\n"),),
+        (
+            f"3:3: error: {NO_HEAD}{FIRST_OF_ELEVEN} [syntax]",
+            *("16:1: warning: rule d generates nothing [unproductive]", "16:9: error: undefined rule nope [undefined]"),
+        ),
+        ("2:1: a: generates nothing", "16:1: d: generates nothing"),
+    ),
     # what can't be read of a draft
     (("a.md", "```abnf\n```\n"), (("core.abnf", CORE),), ("2:1: warning: empty block of grammar [not-read]",), ()),
     (
@@ -605,7 +641,8 @@ def but_repeats(lines):
 
 
 def grammar_cases(program, files):
-    """The grammar of each file, and that in it the same is found as in the file, but for places, and for definitions that repeat others."""
+    """The grammar of each file, and that in it the same is found as in the file, but for places, for definitions that repeat others, and for
+    blocks with many faults, of which all are told there."""
     for name, text, grammar in GRAMMAR_ROWS:
         what, file = f"the grammar of {text[:40]!r}", files.written(name, text)
         yield what, outcome(program, None, ["--grammar", file]), (0, b"", grammar.encode())
@@ -621,6 +658,10 @@ def grammar_cases(program, files):
             found = [it for it in found if not it.endswith(" [not-read]")]
             status, _, wrote = outcome(program, None, [files.written("grammar.abnf", grammar)])
             is_told, wanted = but_repeats(without_places(wrote)), but_repeats(without_places(printed(file, found)))
+            if any(" faults in this block) [" in it for it in found):
+                wanted = {it.replace(FIRST_OF_ELEVEN.encode(), b"") for it in wanted}
+                yield f"faults in {what}", (status, wanted - {*is_told}), (1, set())
+                continue
             does_repeat = b" [duplicate]" in wrote
             yield f"findings in {what}", (does_repeat or status, is_told), (does_repeat or status_of(found, False), wanted)
     none, good = files.path("none"), files.written("good.abnf", 'a = "x"')

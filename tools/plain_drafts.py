@@ -1,12 +1,14 @@
 """A plain reading of drafts: what of them is ABNF, where each character of that comes from, and what an answer about it is in the draft.
 
 It shares nothing with the program. What a draft in Markdown or in RFCXML has of ABNF is gathered as docs/DECISIONS.md has it ("Drafts and
-arguments"): a grammar is a list of characters, each with its offset in the draft. An answer about a grammar has positions in characters.
+arguments"): a grammar is a list of characters, each with the offsets at which it begins and ends in the draft. Where XML is at fault, the
+grammar is what stands before the fault. An answer about a grammar has positions in characters.
 """
 import bisect
 import re
 
-from random_texts import UNITS
+import plain_findings
+from random_texts import UNITS, Reading
 
 LINE_END = re.compile("\r\n|\n|\r")
 LINE = re.compile("[^\r\n]*(?:\r\n|\n|\r)|[^\r\n]+")
@@ -24,7 +26,18 @@ ABNF_TAG = re.compile(
 )
 REFERENCE = re.compile("&(?:#x([0-9A-Fa-f]+)|#([0-9]+)|([a-z]+));")
 NAMED = {"lt": "<", "gt": ">", "amp": "&", "quot": '"', "apos": "'", "nbsp": "\u00a0", "nbhy": "\u2011", "zwsp": "\u200b", "wj": "\u2060"}
-NOTHING_TO_RENAME, NOT_A_NAME = ({"error": {"code": -32803, "message": it}} for it in ("nothing to rename", "not a rule name"))
+# What is said of XML at fault, by what stands there
+XML_FAULTS = {
+    **{"<!--": "comment without an end", "<![CDATA[": "CDATA section without an end", "<": "tag without an end"},
+    **{"&": "no reference to a character"},
+}
+NO_END_TAG = "block without an end tag"
+# The codes of findings that may go by what stands behind a fault
+OPEN_CODES = {plain_findings.CODES[row][0] for row in (plain_findings.UNDEFINED, plain_findings.UNPRODUCTIVE)}
+NOTHING_TO_RENAME, NOT_A_NAME, AT_FAULT, SPLIT = (
+    {"error": {"code": -32803, "message": it}}
+    for it in ("nothing to rename", "not a rule name", "the draft's XML is at fault", "name split by markup")
+)
 # What is answered outside of all blocks, but to renames
 OUTSIDE = {"hover": None, "definition": [], "references": [], "codeAction": []}
 
@@ -69,7 +82,7 @@ def state_behind(line, state):
 
 
 def blocks_in_markdown(draft):
-    """The blocks of ABNF, each as its characters with their offsets, and the offset of its end."""
+    """The blocks of ABNF, each as its characters with their offsets, and the offset of its end; and that nothing is at fault."""
     lines, state, content, found = [(it.start(), it[0]) for it in LINE.finditer(draft)], "text", [], []
     for number, (start, whole) in enumerate(lines):
         line = whole.rstrip("\r\n")
@@ -80,10 +93,10 @@ def blocks_in_markdown(draft):
                 found.append((content, start))
             state = "block"
         else:
-            content += [(whole[at], start + at) for at in range(state.content(line), len(whole))]
+            content += [(whole[at], start + at, start + at + 1) for at in range(state.content(line), len(whole))]
     if isinstance(state, Fence) and state.is_abnf:
         found.append((content, len(draft)))
-    return found
+    return found, None
 
 
 def referred(draft, at):
@@ -100,53 +113,55 @@ def piece_at(draft, at, in_block):
     for front, back in ("<!--", "-->"), ("<![CDATA[", "]]>"):
         if draft.startswith(front, at):
             start, end = at + len(front), draft.find(back, at + len(front))
-            said = [(draft[it], it) for it in range(start, end)] if front == "<![CDATA[" else []
+            said = [(draft[it], it, it + 1) for it in range(start, end)] if front == "<![CDATA[" else []
             return (end + 3, said) if end >= 0 else None
     if draft[at] == "<":
         tag = TAG.match(draft, at)
         return (tag.end(), []) if tag else None
     if in_block and draft[at] == "&":
         found = referred(draft, at)
-        return (found[1], [(found[0], at)]) if found else None
+        return (found[1], [(found[0], at, found[1])]) if found else None
     end = re.compile("[^<&]+" if in_block else "[^<]+").match(draft, at).end()
-    return end, [(draft[it], it) for it in range(at, end)]
+    return end, [(draft[it], it, it + 1) for it in range(at, end)]
 
 
 def blocks_in_xml(draft):
-    """The same of a draft in RFCXML, which has none where it is at fault."""
-    at, name, content, found = 0, None, [], []
+    """The same of a draft in RFCXML up to its first fault, and that fault as its offset and its words; None where there is none. A block that is
+    open at the fault ends there; one that has no end tag is itself the fault."""
+    at, name, began, content, found = 0, None, 0, [], []
     while at < len(draft):
         piece = piece_at(draft, at, name is not None)
         if piece is None:
-            return []
+            words = next(it for front, it in XML_FAULTS.items() if draft.startswith(front, at))
+            return found + [(content, at)] * (name is not None), (at, words)
         end, said = piece
         if name and re.fullmatch(f"</{name}[ \t\r\n]*>", draft[at:end]):
             found.append((content, at))
             name = None
         elif name:
-            content = content + said
+            content += said
         elif (tag := ABNF_TAG.match(draft, at, end)) and draft[end - 2] != "/":
-            name, content = tag[1], []
+            name, began, content = tag[1], at, []
         at = end
-    return found if name is None else []
+    return found, (began, NO_END_TAG) if name else None
 
 
 def aligned(content, end):
     """A block without its first indent at the front of each line, and with a line end that stands at its end."""
-    lines = re.split("[\r\n]", "".join(it for it, _ in content))
+    lines = re.split("[\r\n]", "".join(it for it, *_ in content))
     base = next((BLANKS.match(it).end() for it in lines if it.strip(" \t")[:1] not in ("", ";")), 0)
     kept, at = [], 0
     for line in lines:
         gone = min(base, BLANKS.match(line).end())
         kept += content[at + gone : at + len(line) + 1]
         at += len(line) + 1
-    return [*kept, ("\n", end)]
+    return [*kept, ("\n", end, end + 1)]
 
 
 def gathered(draft, form):
-    """The characters of a draft's grammar, each with its offset."""
-    blocks = (blocks_in_markdown if form == "markdown" else blocks_in_xml)(draft)
-    return [it for block in blocks for it in aligned(*block)]
+    """The characters of each block of a draft's grammar, with their offsets, and the fault behind which nothing is gathered."""
+    blocks, fault = (blocks_in_markdown if form == "markdown" else blocks_in_xml)(draft)
+    return [aligned(*it) for it in blocks], fault
 
 
 class Text:
@@ -183,9 +198,12 @@ class Draft(Text):
 
     def __init__(self, text, form, encoding):
         super().__init__(text, encoding)
-        found = gathered(text, form)
-        self.form, self.encoding, self.origins = form, encoding, [at for _, at in found]
-        self.grammar = Text("".join(it for it, _ in found), "utf-32")
+        blocks, self.fault = gathered(text, form)
+        found = [it for block in blocks for it in block]
+        self.form, self.encoding = form, encoding
+        self.origins, self.ends = [start for _, start, _ in found], [end for *_, end in found]
+        self.grammar = Text("".join(it for it, *_ in found), "utf-32")
+        self.block_ends = [self.grammar.position(sum(map(len, blocks[:at])))["line"] for at in range(1, len(blocks) + 1)]
         self.places = {at: place for place, at in reversed([*enumerate(self.origins)])}
 
     def inward(self, offset):
@@ -207,10 +225,17 @@ class Draft(Text):
     def outward(self, place):
         return self.origins[place] if place < len(self.origins) else len(self.text)
 
+    def behind(self, place):
+        """Where a character ends: behind the whole of a reference."""
+        return min(self.ends[place], len(self.text)) if place < len(self.ends) else len(self.text)
+
     def outward_range(self, at):
         start, end = (self.grammar.offset(at[it]) for it in ("start", "end"))
-        behind = min(self.outward(end - 1) + 1, len(self.text)) if start < end else self.outward(start)
-        return {"start": self.position(self.outward(start)), "end": self.position(behind)}
+        return self.between(self.outward(start), self.behind(end - 1) if start < end else self.outward(start))
+
+    def between(self, start, end):
+        """The range between two offsets."""
+        return {"start": self.position(start), "end": self.position(end)}
 
     def moved(self, told):
         """All that is told, with each range in the draft."""
@@ -234,19 +259,55 @@ class Draft(Text):
                 last_line, last_start = front["line"], front["character"]
         return found
 
-    def with_margin(self, action):
-        """An action in the draft, whose text brings the margin of the line that it pushes down."""
-        moved = self.moved(action)
-        for edits in moved["edit"]["changes"].values():
-            for edit in edits:
-                start = edit["range"]["start"]
-                edit["newText"] += self.text[self.starts[start["line"]] : self.offset(start)]
-        return moved
+    def findings(self, found):
+        """What is found in the draft, by what is found in its grammar."""
+        repeats = plain_findings.repeats(Reading(self.grammar.text, "utf-32").items)
+        told = [self.told_again(it, repeats) for it in found if not (self.fault and it["code"] in OPEN_CODES)]
+        by_line = [(it["range"]["start"]["line"], it["code"], it) for it in told if it]
+        kept = plain_findings.without_floods(by_line, self.block_ends)
+        return [*(self.moved({**it, "message": it["message"] + plain_findings.first_of(count)}) for it, count in kept), *self.told_of_xml()]
+
+    def told_again(self, finding, repeats):
+        """A finding of the grammar, as it is of a draft, which may define a name again; None of a definition that says the same."""
+        if finding["code"] != plain_findings.CODES[plain_findings.DUPLICATE][0]:
+            return finding
+        name, first, is_same = repeats[finding["range"]["start"]["line"]]
+        line = self.position(self.outward(self.grammar.starts[first[2]] + first[3]))["line"] + 1
+        return None if is_same else {**finding, "code": "differs", "message": plain_findings.differing(name, line), "severity": 1}
+
+    def told_of_xml(self):
+        """The finding of XML at fault, one character long."""
+        if self.fault:
+            at, words = self.fault
+            yield {"code": "xml", "message": words, "range": self.between(at, at + 1), "severity": 1, "source": "abnf"}
 
     def keeps(self, edits):
         """Whether edits of the grammar, made in the draft, give it the edited grammar."""
         edited = Draft(self.with_edits(self.moved(edits)), self.form, self.encoding)
-        return edited.grammar.text == self.grammar.with_edits(edits)
+        return not edited.fault and edited.grammar.text == self.grammar.with_edits(edits)
+
+    def inserted(self, edit):
+        """An edit that puts lines in front of one of the grammar, as it is in the draft: they have the end of the draft's line there, and bring
+        the margin of that. None where this has markup, or where the draft wouldn't have the grammar with these lines."""
+        place = self.grammar.offset(edit["range"]["start"])
+        at = self.outward(place)
+        line = LINE.match(self.text, self.starts[self.position(at)["line"]])
+        new = edit["newText"].replace("\n", "\r\n") if line[0].endswith("\r\n") else edit["newText"]
+        margin = self.text[line.start() : at]
+        if margin.strip(" \t>"):
+            return None
+        with_margin = new + margin
+        edited = Draft(self.text[:at] + with_margin + self.text[at:], self.form, self.encoding)
+        wanted = self.grammar.text[:place] + new + self.grammar.text[place:]
+        is_kept = edited.grammar.text == wanted and bool(edited.fault) == bool(self.fault)
+        return {"newText": with_margin, "range": self.between(at, at)} if is_kept else None
+
+    def actions(self, told):
+        """The actions whose edits can be made in the draft."""
+        for action in told:
+            made = {uri: [*map(self.inserted, edits)] for uri, edits in action["edit"]["changes"].items()}
+            if not any(None in edits for edits in made.values()):
+                yield {**action, "edit": {"changes": made}}
 
     def answer(self, method, inside):
         """The answer about the draft, by that about its grammar."""
@@ -256,9 +317,11 @@ class Draft(Text):
         if method == "semanticTokens/full":
             return {"result": {"data": self.tokens(told["data"])}}
         if method == "codeAction":
-            return {"result": [self.with_margin(it) for it in told] if self.form == "markdown" else []}
+            return {"result": [*self.actions(told)]}
+        if method == "rename" and self.fault:
+            return AT_FAULT
         if method == "rename" and not all(map(self.keeps, told["changes"].values())):
-            return NOTHING_TO_RENAME
+            return SPLIT
         return {"result": self.moved(told)}
 
 

@@ -2,6 +2,8 @@
 
 It shares nothing with the program. An item is its kind, its text, its line, its start there, and whether it stands apart. A finding is its
 row, what is said of it, and its place: a line, and where it starts and ends there in characters.
+
+What is told of the findings of a draft is here too: of definitions that come again, and of blocks with many faults.
 """
 import re
 
@@ -15,6 +17,10 @@ CODES = {
     **{UNDEFINED: ("undefined", 1), DUPLICATE: ("duplicate", 1), NO_BASE: ("no-base", 2)},
     **{EMPTY_REPEAT: ("empty-repeat", 2), EMPTY_RANGE: ("empty-range", 2), UNPRODUCTIVE: ("unproductive", 2)},
 }
+
+# The codes that are faults of syntax, and how many of these a block of a draft may have before its first one alone is told
+FAULTS_OF_SYNTAX = {CODES[row][0] for row in (SYNTAX, TOO_LARGE, TOO_DEEP)}
+MOST_FAULTS = 10
 
 
 def place(item):
@@ -127,3 +133,38 @@ def findings(blocks, rules):
             heads.add(name)
             bases |= set() if adds else {name}
     return sorted(found, key=lambda it: (*it[2][:2], it[0]))
+
+
+def words(items):
+    """What a block says: its tokens but for blanks and comments, names in small letters."""
+    return [(kind, text.lower() if kind == "name" else text) for kind, text, *_ in items]
+
+
+def repeats(blocks):
+    """Of each line in which a name is defined again: the name there, the head of its first definition, and whether the two say the same."""
+    firsts, found = {}, {}
+    for items in blocks:
+        if has_head(items) and items[1][1] == "=":
+            first = firsts.setdefault(items[0][1].lower(), items)
+            if first is not items:
+                found[items[0][2]] = items[0][1], first[0], words(first) == words(items)
+    return found
+
+
+def differing(name, line):
+    """What is said in a draft of a definition that differs from the first, which stands in a line of it that is counted from 1."""
+    return f"rule {name} differs from its definition at line {line}"
+
+
+def first_of(count):
+    """What is said behind the first fault of a block that has so many; nothing where that isn't too many."""
+    return f" (the first of {count} faults in this block)" if count else ""
+
+
+def without_floods(found, ends):
+    """What is told of the findings of a draft whose blocks end before these lines, and of how many faults of its block each stands. A finding
+    is a line, a code, and what is told. Of a block with too many faults of syntax the first of these alone is told."""
+    for start, end in zip([0, *ends], ends):
+        here = [it for it in found if start <= it[0] < end]
+        faults = [told for _, code, told in here if code in FAULTS_OF_SYNTAX]
+        yield from [(faults[0], len(faults))] if len(faults) > MOST_FAULTS else [(told, 0) for *_, told in here]

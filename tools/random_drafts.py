@@ -7,10 +7,12 @@ grammar. It does the same with grammars beside others whose names are known.
 A grammar is cut before some of its rules. Each piece is indented by some blanks, stands in a fence of its own, which may be indented too, and
 has other text around it: words, and fences of other languages with rules in them. What is found in the draft must be what is found in the
 grammar, with and without --rules, each line moved as its piece was. Some definitions come again at the end: one that says the same as the
-first must be no finding in the draft, and of one that says something else the line of the first must be printed.
+first must be no finding in the draft, and of one that says something else the line of the first must be printed. Some pieces have just as many
+faults as are told one by one, some have more: of these the first fault alone must be printed.
 
 Between the fences stand some that are empty. In RFCXML each piece stands in a CDATA section of an element, and between these stand elements
-that are empty, or have their text in another file. Each of them must be a warning, before what is found behind it.
+that are empty, or have their text in another file. Each of them must be a warning, before what is found behind it. Some of these drafts are
+put at fault: then the fault alone must be printed, where a plain reading has it.
 
 Of random grammars one is told, and the names of the others are known, each indented by some blanks. What is found must be what is found in
 the one with just those blocks of the others behind it that have new names, up to the last line of the one.
@@ -20,6 +22,7 @@ import random
 import re
 import sys
 
+import plain_drafts
 import plain_findings
 import rows
 from random_texts import Reading, random_text
@@ -32,39 +35,56 @@ OTHERS = ("```\nno = ?\n```", "~~~~ text\n```abnf\nno = ?\n```\n~~~~", "``` abnf
 HEAD = re.compile(r"([A-Za-z][A-Za-z0-9-]*)(?:[ \t\n]|;.*\n)*=")
 PLACE = re.compile(r"g:(\d+):(\d+): (.*)", re.DOTALL)
 DEFINED_AGAIN = re.compile(r"error: rule (.*) is already defined \[duplicate\]")
+# A finding's words, and its code
+CODED = re.compile(r"(.*?: (?:error|warning): .*)( \[([a-z-]+)\])", re.DOTALL)
+# Lines that are each a block with one fault of syntax, and how many of them may stand in a row
+FAULTY = ("? is prose", "9 lives", "= b", "A title here", "/ c", "- an item", "too = 4294967296b", f"deep = {65 * '('}a{65 * ')'}", "b = ?", "a = (c")
+IN_A_ROW = (plain_findings.MOST_FAULTS - 1, plain_findings.MOST_FAULTS, plain_findings.MOST_FAULTS + 1, plain_findings.MOST_FAULTS + 1, 30)
+# Rules whose shortest strings have what XML reads
+MARKUP = ('lt = "<p>"', 'amp = "&" / "yy"', 'lt = %x26.6C.74.3B', "amp = %x5D.5D.3E", 'lt = amp "<" / first', 'amp = "<!--"')
+END_TAG = "</artwork>"
+# What is at fault in a block of RFCXML, each kind with what would end it behind
+ENDLESS = (
+    [("&foo;", ""), ("& ", ""), ("&#xD800;", "")],
+    *([("<!-- ", "-->")], [("<![CDATA[", "]]>")], [("<t ", ">"), ("<t a='", "'")], [(END_TAG, "")]),
+)
 
 
 def grammar(dice):
-    """A random grammar whose first line has content, at the left. Some of its blocks come again, some of them with another comment."""
+    """A random grammar whose first line has content, at the left. Some of its blocks come again, some of them with another comment. Some have
+    rules with marks of XML in their strings, or faults in a row."""
     text = 'first = "x"\n' + random_text(dice)
     lines = re.sub("\r\n?", "\n", text).split("\n")
     again = [block for block in blocks(lines) if dice.random() < 0.2]
-    return "\n".join([*lines, *(line + dice.choice(("", "", " ; again")) for block in again for line in block)])
-
-
-def words(items):
-    """What a block says: its tokens but for blanks and comments, names in small letters."""
-    return [(kind, text.lower() if kind == "name" else text) for kind, text, *_ in items]
+    lines += [line + dice.choice(("", "", " ; again")) for block in again for line in block]
+    if dice.random() < 0.3:
+        lines[1:1] = dice.sample(MARKUP, dice.choice((1, 2)))
+    if dice.random() < 0.3:
+        at = dice.choice([*(at for at in range(1, len(lines)) if is_at_left(lines[at])), len(lines)])
+        lines[at:at] = dice.choices(FAULTY, k=dice.choice(IN_A_ROW))
+    return "\n".join(lines)
 
 
 def repeats_in(lines):
     """Of each line in which a name is defined again: the line of its first definition, and whether the two say the same."""
-    firsts, found = {}, {}
-    for items in Reading("\n".join(lines), "utf-32").items:
-        if plain_findings.has_head(items) and items[1][1] == "=":
-            first = firsts.setdefault(items[0][1].lower(), items)
-            if first is not items:
-                found[items[0][2]] = first[0][2], words(first) == words(items)
-    return found
+    found = plain_findings.repeats(Reading("\n".join(lines), "utf-32").items)
+    return {line: (first[2], is_same) for line, (_, first, is_same) in found.items()}
 
 
 def is_content(line):
     return line.strip(" \t")[:1] not in ("", ";")
 
 
+def is_at_left(line):
+    return is_content(line) and line[0] not in " \t"
+
+
 def pieces(dice, lines):
-    """The lines of a grammar, cut before some of those that begin at the left."""
-    cuts = [at for at, line in enumerate(lines) if at and is_content(line) and line[0] not in " \t" and dice.random() < 0.4]
+    """The lines of a grammar, cut before some of those that begin at the left, and often where faults in a row begin and end."""
+    often, known = dice.choice((0.4, 0.4, 0.2, 0.05)), {True: 0, False: 0.8}
+    pairs = [(before in FAULTY, line in FAULTY) for before, line in zip(lines, lines[1:])]
+    odds = [known[one == other] if one or other else often for one, other in pairs]
+    cuts = [at for at, (line, odd) in enumerate(zip(lines[1:], odds), 1) if is_at_left(line) and dice.random() < odd]
     return [lines[start:end] for start, end in zip([0, *cuts], [*cuts, len(lines)])]
 
 
@@ -113,20 +133,29 @@ def moved_line(line, moved):
     return f"g:{place + 1}:{int(column) + by}: {rest}"
 
 
+def told_again(line, repeats, moved):
+    """A line about the grammar, as it is about a draft, which may define a name again; None of a definition that says the same."""
+    at, _, rest = PLACE.fullmatch(line).groups()
+    again = DEFINED_AGAIN.fullmatch(rest)
+    if not again:
+        return line
+    original, is_same = repeats[int(at) - 1]
+    differing = f"error: {plain_findings.differing(again[1], moved[original][0] + 1)} [differs]"
+    return None if is_same else line.replace(rest, differing)
+
+
 def in_draft(lines, repeats, moved):
-    """The lines about a grammar, as they must be about the draft in which it is."""
-    for line in lines:
-        at, _, rest = PLACE.fullmatch(line).groups()
-        again = DEFINED_AGAIN.fullmatch(rest)
-        original, is_same = repeats[int(at) - 1] if again else (None, False)
-        if again and not is_same:
-            line = line.replace(rest, f"error: rule {again[1]} differs from its definition at line {moved[original][0] + 1} [differs]")
-        if not is_same:
-            yield moved_line(line, moved)
+    """The lines about a grammar, as they must be about the draft in which it is. Lines of rules have no codes."""
+    kept = [it for line in lines if (it := told_again(line, repeats, moved))]
+    coded = [(int(PLACE.fullmatch(it)[1]) - 1, CODED.fullmatch(it), it) for it in kept]
+    ends = [at + 1 for at, (place, _) in enumerate(moved) if moved[at + 1 : at + 2] != [(place + 1, moved[at][1])]]
+    by_line = [(at, code[3] if code else "", it) for at, code, it in coded]
+    for line, count in plain_findings.without_floods(by_line, ends):
+        yield moved_line(CODED.sub(rf"\1{plain_findings.first_of(count)}\2", line) if count else line, moved)
 
 
 def draft_cases(program, count, seed):
-    faults, lines_printed, copies = [], 0, 0
+    faults, lines_printed, copies, floods = [], 0, 0, 0
     for number in range(count):
         dice = random.Random(f"{seed} {number}")
         lines = grammar(dice).split("\n")
@@ -138,10 +167,12 @@ def draft_cases(program, count, seed):
             kept = [*in_draft(alone, repeats, moved)]
             wanted = sorted([*kept, *([] if options else warnings)], key=place_of)
             found = told(program, [*options, "--format", "markdown"], end.join(draft), "g")
-            lines_printed, copies = lines_printed + len(kept), copies + len(alone) - len(kept)
+            lines_printed, copies = lines_printed + len(kept), copies + any(it[1] for it in repeats.values())
+            floods += any("(the first of " in it for it in kept)
             if found != (int(any(": error: " in it for it in wanted) and not options), said, wanted):
                 faults.append((number, options, found[2][:3], wanted[:3]))
-    yield f"{count} grammars in drafts", (faults[:2], lines_printed > count, copies > count / 10), ([], True, True), count
+    reached = lines_printed > count, copies > count / 10, floods > count / 10
+    yield f"{count} grammars in drafts", (faults[:2], *reached), ([], True, True, True), count
 
 
 def unread(dice):
@@ -186,8 +217,39 @@ def place_of(line):
     return tuple(int(it) for it in PLACE.fullmatch(line).groups()[:2])
 
 
+def with_fault(dice, page):
+    """A draft in RFCXML that is put at fault, mostly in a block: what is put in has no end behind it, or the last end tag is missing."""
+    mark, end = dice.choice(dice.choice(ENDLESS))
+    if mark == END_TAG:
+        return "".join(page.rpartition(mark)[::2])
+    within = [(it.end(), page.find(END_TAG, it.end())) for it in re.finditer('<artwork type="abnf">', page)]
+    start, stop = dice.choice((*within, (0, len(page))))
+    at = dice.randrange(start, max(start, stop) + 1)
+    is_cdata = page.rfind("<![CDATA[", 0, at) > page.rfind("]]>", 0, at)
+    return page[:at] + "]]>" * is_cdata + mark + (page[at:].replace(end, "") if end else page[at:])
+
+
+def fault_cases(program, count, seed):
+    """Drafts at fault: the fault alone is printed, where its rules are asked for too."""
+    faults, kinds = [], set()
+    for number in range(count):
+        dice = random.Random(f"fault {seed} {number}")
+        page, fault = "", None
+        while not fault:
+            lines = [line.replace("]]>", "] ]>") for line in grammar(dice).split("\n")]
+            page = with_fault(dice, dice.choice(("\n", "\r\n", "\r")).join(page_of(dice, lines)[0]))
+            _, fault = plain_drafts.gathered(page, "xml")
+        at = plain_drafts.Text(page, "utf-32").position(fault[0])
+        wanted = [f"g:{at['line'] + 1}:{at['character'] + 1}: error: {fault[1]} [xml]"]
+        found = [told(program, [*options, "--format", "xml"], page, "g") for options in ([], ["--rules"])]
+        kinds.add(fault[1])
+        if found != [(1, b"", wanted)] * 2:
+            faults.append((page, found, wanted))
+    yield f"{count} drafts in RFCXML at fault", (faults[:2], len(kinds)), ([], 5), count
+
+
 def page_cases(program, count, seed):
-    faults, lines_printed, unread_printed = [], 0, 0
+    faults, lines_printed, unread_printed, floods = [], 0, 0, 0
     for number in range(count):
         dice = random.Random(f"page {seed} {number}")
         lines = [line.replace("]]>", "] ]>") for line in grammar(dice).split("\n")]
@@ -198,9 +260,11 @@ def page_cases(program, count, seed):
             wanted = sorted([*in_draft(alone, repeats, moved), *([] if options else warnings)], key=place_of)
             found = told(program, [*options, "--format", "xml"], "\n".join(page), "g")
             lines_printed, unread_printed = lines_printed + len(wanted), unread_printed + len(wanted) * bool(warnings)
+            floods += any("(the first of " in it for it in wanted)
             if found != (int(any(": error: " in it for it in wanted) and not options), said, wanted):
                 faults.append((number, options, found[2][:3], wanted[:3]))
-    yield f"{count} grammars in RFCXML", (faults[:2], lines_printed > count, unread_printed > count), ([], True, True), count
+    reached = lines_printed > count, unread_printed > count, floods > count / 10
+    yield f"{count} grammars in RFCXML", (faults[:2], *reached), ([], True, True, True), count
 
 
 def blocks(lines):
@@ -254,12 +318,13 @@ def known_cases(program, count, seed):
 def cases(program):
     yield from draft_cases(program, COUNT, SEED)
     yield from page_cases(program, COUNT, SEED)
+    yield from fault_cases(program, COUNT, SEED)
     yield from known_cases(program, COUNT, SEED)
 
 
 def main(words):
     program, count, seed = [*words, *[rows.FINDINGS, COUNT, SEED][len(words) :]]
-    return rows.report(itertools.chain(*(it(program, int(count), seed) for it in (draft_cases, page_cases, known_cases))))
+    return rows.report(itertools.chain(*(it(program, int(count), seed) for it in (draft_cases, page_cases, fault_cases, known_cases))))
 
 
 if __name__ == "__main__":

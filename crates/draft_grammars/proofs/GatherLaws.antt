@@ -14,14 +14,14 @@ use Rattle.markdown_blocks.specs.Fences.{Line, begins_comment, begins_extension,
 use Rattle.markdown_blocks.specs.declared.fence.Fence.{Fence}
 use Rattle.markdown_blocks.specs.declared.reading.Reading.{Reading}
 use Rattle.markdown_blocks.specs.declared.reading.Reading.TheVariants as reading
-use Rattle.xml_blocks.specs.Xml.{Opened, and_then, begins, behind_piece, by_name, by_number, element_blocks, ends, grammar_behind, is_plain_char, is_scalar, markup, named_value, number, numbered_value, opened_by, piece_at, piece_content, piece_of, put_before, reference, referred_piece, section_text, tag_len, until, value_with_digit, with_value, xml_blocks}
+use Rattle.xml_blocks.specs.Xml.{Opened, begins, behind_piece, by_name, by_number, element_front, ended_at, ends, from_piece_on, is_plain_char, is_scalar, markup, named_value, number, numbered_value, opened_by, piece_at, piece_content, piece_of, put_before, reference, referred_piece, section_text, tag_len, until, value_with_digit, with_value}
 use Rattle.xml_blocks.specs.declared.fault.XmlFault.{XmlFault}
 use Rattle.xml_blocks.specs.declared.fault.XmlFault.TheVariants.{CommentWithoutEnd, SectionWithoutEnd, TagWithoutEnd}
 use Rattle.xml_blocks.specs.declared.piece.Kind.{Kind}
 use Rattle.xml_blocks.specs.declared.piece.Kind.TheVariants.{Text, Comment, Section, Tag, Reference}
 use Rattle.xml_blocks.specs.declared.piece.Piece.{Piece}
 use Rattle.xml_blocks.specs.declared.gather.Open.{Open as Begun}
-use Rattle.draft_grammars.specs.Drafts.{grammar_in, if_gathered}
+use Rattle.draft_grammars.specs.Drafts.{grammar_in}
 use Rattle.draft_grammars.specs.declared.format.Format.{Format}
 use Rattle.draft_grammars.specs.declared.format.Format.TheVariants.{Markdown, Xml}
 
@@ -384,37 +384,43 @@ module _ (f : ℕ → ℕ) (some : (c : ℕ) → 1 ≤ f c) (one : f 10 ≡ 1) w
           omega (arith, rest, both)
       by false = let more = weight_append opened.1 (piece_content kind at t) in omega (arith, more, le)
 
-  elements_le : ((c : ℕ) → f c ≤ 4) → (state : Option Opened) (read at : ℕ) (t : List ℕ) (bs : List SourcedBlock) → element_blocks state read at t ≡ Ok bs → weight f (grammar_of bs) ≤ bound_of state + size f (drop read t)
-  unfolding element_blocks
-  elements_le most None read at [] bs e = let same : [] ≡ bs = cc (e) in subst (λ bs. weight f (grammar_of bs) ≤ 0 + size f (drop read [])) same (omega arith)
-  elements_le most (Some opened) read at [] bs e = absurd (cc (e))
-  elements_le most state (suc read) at (c ∷ t) bs e = elements_le most state read (suc at) t bs e
-  elements_le most state zero at (c ∷ t) bs e = by (λ s read cs. elements_le most s read (suc at) t cs) (piece_at (is_some state) at c t) refl e
-    where
-      put : ((s : Option Opened) (read : ℕ) (cs : List SourcedBlock) → element_blocks s read (suc at) t ≡ Ok cs → weight f (grammar_of cs) ≤ bound_of s + size f (drop read t)) → (piece : Piece) → IsFair at c t piece → (rest : Result (List SourcedBlock) XmlFault) → element_blocks (behind_piece state piece.kind at (take piece.more t)).0 piece.more (suc at) t ≡ rest
-          → put_before (behind_piece state piece.kind at (take piece.more t)).1 rest ≡ Ok bs → weight f (grammar_of bs) ≤ bound_of state + (f c + size f t)
-      put all piece is_fair (Err fault) is e = absurd (cc (e))
-      put all piece is_fair (Ok cs) is e =
-          let next = behind_piece state piece.kind at (take piece.more t) in
-          let same : next.1 ++ cs ≡ bs = cc (e) in
-          let rest = all next.0 piece.more cs is in
-          let step = step_le state piece.kind at c (take piece.more t) is_fair in
-          let parts = ap (weight f) (grammar_of_append next.1 cs) ∙ weight_append (grammar_of next.1) (grammar_of cs) in
-          let both = size_take piece.more t in
-          subst (λ bs. weight f (grammar_of bs) ≤ bound_of state + (f c + size f t)) same (omega (arith, rest, step, parts, both))
+  ended_le : (state : Option Opened) (at : ℕ) → weight f (grammar_of (ended_at state at)) ≤ bound_of state
+  ended_le None at = omega arith
+  ended_le (Some opened) at =
+      let block : SourcedBlock = record { content = opened.1; end = at } in
+      let rest = weight_block block in
+      let both = weight_append (aligned block) [] in
+      omega (arith, rest, both)
 
-      by : ((s : Option Opened) (read : ℕ) (cs : List SourcedBlock) → element_blocks s read (suc at) t ≡ Ok cs → weight f (grammar_of cs) ≤ bound_of s + size f (drop read t)) → (r : Result Piece XmlFault) → piece_at (is_some state) at c t ≡ r → and_then r (λ piece.
-          put_before (behind_piece state piece.kind at (take piece.more t)).1 (element_blocks (behind_piece state piece.kind at (take piece.more t)).0 piece.more (suc at) t)) ≡ Ok bs
-          → weight f (grammar_of bs) ≤ bound_of state + (f c + size f t)
-      by all (Err fault) is e = absurd (cc (e))
-      by all (Ok piece) is e = put all piece (fair most (is_some state) at c t piece is) (element_blocks (behind_piece state piece.kind at (take piece.more t)).0 piece.more (suc at) t) refl e
+  elements_le : ((c : ℕ) → f c ≤ 4) → (state : Option Opened) (read at : ℕ) (t : List ℕ) → weight f (grammar_of (element_front state read at t).blocks) ≤ bound_of state + size f (drop read t)
+  unfolding element_front
+  elements_le most None read at [] = omega arith
+  elements_le most (Some opened) read at [] = omega arith
+  elements_le most state (suc read) at (c ∷ t) = elements_le most state read (suc at) t
+  elements_le most state zero at (c ∷ t) = by (λ s read. elements_le most s read (suc at) t) (piece_at (is_some state) at c t) refl
+    where
+      by : ((s : Option Opened) (read : ℕ) → weight f (grammar_of (element_front s read (suc at) t).blocks) ≤ bound_of s + size f (drop read t)) → (r : Result Piece XmlFault) → piece_at (is_some state) at c t ≡ r
+          → weight f (grammar_of (from_piece_on state at r (λ piece.
+          put_before (behind_piece state piece.kind at (take piece.more t)).1 (element_front (behind_piece state piece.kind at (take piece.more t)).0 piece.more (suc at) t))).blocks)
+          ≤ bound_of state + (f c + size f t)
+      by all (Err fault) is = let ended = ended_le state at in omega (arith, ended)
+      by all (Ok piece) is =
+          let next = behind_piece state piece.kind at (take piece.more t) in
+          let behind = element_front next.0 piece.more (suc at) t in
+          let rest = all next.0 piece.more in
+          let step = step_le state piece.kind at c (take piece.more t) (fair most (is_some state) at c t piece is) in
+          let parts = ap (weight f) (grammar_of_append next.1 behind.blocks) ∙ weight_append (grammar_of next.1) (grammar_of behind.blocks) in
+          let both = size_take piece.more t in
+          omega (arith, rest, step, parts, both)
 
   pub xml_le : ((c : ℕ) → f c ≤ 4) → (draft : List ℕ) → size f (characters (grammar_in Xml draft)) ≤ size f draft
-  xml_le most draft = by (xml_blocks draft) refl
-    where
-      by : (r : Result (List SourcedBlock) XmlFault) → xml_blocks draft ≡ r → size f (characters (if_gathered (grammar_behind [] r))) ≤ size f draft
-      by (Err fault) is = omega arith
-      by (Ok bs) is = let le = elements_le most None 0 0 draft bs is in omega (arith, le, weight_characters (grammar_of bs))
+  xml_le most draft =
+      let le = elements_le most None 0 0 draft in
+      omega (arith, le, weight_characters (grammar_in Xml draft))
+
+-- a reference is no longer than the text
+pub reference_le : (t : List ℕ) (r : ℕ × ℕ) → reference t ≡ Some r → r.1 ≤ length t
+reference_le t r e = (reference_long (λ c. 1) (λ c. omega arith) refl t r e).1
 
 -- ---- characters and bytes
 

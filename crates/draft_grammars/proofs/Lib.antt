@@ -1,4 +1,7 @@
 pub mod CarryLaws
 pub mod GatherLaws
-pub mod ScalarLaws
+pub mod InsertionLaws
 pub mod OffsetLaws
+pub mod ReferenceLaws
+pub mod RenameLaws
+pub mod ScalarLaws

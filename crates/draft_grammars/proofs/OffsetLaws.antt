@@ -1,8 +1,8 @@
 -- Offsets of positions are small.
-use Rattle.std.proofs.Common.{◌≡◌, ℕ, zero, suc, ◌≤◌, ◌<◌, ◌^◌, Bool, true, false, List, length, arith, encode_utf8_all}
+use Rattle.std.proofs.Common.{◌≡◌, ℕ, zero, suc, ◌+◌, ◌≤◌, ◌<◌, ◌^◌, Bool, true, false, List, [], ◌∷◌, length, length-take, take, arith, encode_utf8_all}
 use Rattle.std.specs.Prelude.{Option, None, Some, IfSome, if◌then◌else◌, unwrap_or}
 use Rattle.std.proofs.lemmas.Str.{length-le-encodes}
-use Rattle.ls_text.specs.Lines.{greatest, is_within, max_bytes, offset_of}
+use Rattle.ls_text.specs.Lines.{ends_line, greatest, is_within, line_at, line_ends, max_bytes, offset_of}
 
 greatest_le : (p : ℕ → Bool) (n : ℕ) → IfSome (greatest p n) (λ k. k ≤ n)
 unfolding greatest
@@ -29,3 +29,16 @@ offset_le width t l c = by (greatest (is_within width t l c) (length t)) (greate
 -- in a text of a document
 pub offset_small : (width : ℕ → ℕ) (t : List ℕ) (l c n : ℕ) → length (encode_utf8_all t) ≤ max_bytes → n ≡ offset_of width t l c → n < 2 ^ 63
 offset_small width t l c n small is = omega (arith, small, is, offset_le width t l c, length-le-encodes t)
+
+line_ends_le : (t : List ℕ) → line_ends t ≤ length t
+unfolding line_ends
+line_ends_le [] = omega arith
+line_ends_le (c ∷ t) = by (ends_line c t) (line_ends_le t)
+  where
+    by : (b : Bool) → line_ends t ≤ length t → (if b then 1 else 0) + line_ends t ≤ suc (length t)
+    by true h = omega (arith, h)
+    by false h = omega (arith, h)
+
+-- and so are lines
+pub line_small : (t : List ℕ) (o n : ℕ) → length (encode_utf8_all t) ≤ max_bytes → n ≡ line_at t o → n ≤ max_bytes
+line_small t o n small is = omega (arith, small, is, line_ends_le (take o t), length-take o t, length-le-encodes t)

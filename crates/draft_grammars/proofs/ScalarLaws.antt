@@ -12,14 +12,14 @@ use Rattle.markdown_blocks.specs.Fences.{Line, behind_line, closes_fence, ended_
 use Rattle.markdown_blocks.specs.declared.fence.Fence.{Fence}
 use Rattle.markdown_blocks.specs.declared.reading.Reading.{Reading}
 use Rattle.markdown_blocks.specs.declared.reading.Reading.TheVariants as reading
-use Rattle.xml_blocks.specs.Xml.{Opened, and_then, begins, behind_piece, by_name, by_number, element_blocks, ends, grammar_behind, is_plain_char, is_scalar, markup, named_value, number, numbered_value, opened_by, piece_at, piece_content, piece_of, put_before, reference, referred_piece, section_text, tag_len, until, value_with_digit, with_value, xml_blocks}
+use Rattle.xml_blocks.specs.Xml.{Opened, begins, behind_piece, by_name, by_number, element_front, ended_at, ends, from_piece_on, is_plain_char, is_scalar, markup, named_value, number, numbered_value, opened_by, piece_at, piece_content, piece_of, put_before, reference, referred_piece, section_text, tag_len, until, value_with_digit, with_value}
 use Rattle.xml_blocks.specs.declared.fault.XmlFault.{XmlFault}
 use Rattle.xml_blocks.specs.declared.fault.XmlFault.TheVariants.{CommentWithoutEnd, SectionWithoutEnd, TagWithoutEnd}
 use Rattle.xml_blocks.specs.declared.piece.Kind.{Kind}
 use Rattle.xml_blocks.specs.declared.piece.Kind.TheVariants.{Text, Comment, Section, Tag, Reference}
 use Rattle.xml_blocks.specs.declared.piece.Piece.{Piece}
 use Rattle.xml_blocks.specs.declared.gather.Open.{Open as Begun}
-use Rattle.draft_grammars.specs.Drafts.{grammar_in, if_gathered}
+use Rattle.draft_grammars.specs.Drafts.{grammar_in}
 use Rattle.draft_grammars.specs.declared.format.Format.{Format}
 use Rattle.draft_grammars.specs.declared.format.Format.TheVariants.{Markdown, Xml}
 use Rattle.draft_grammars.proofs.GatherLaws.{grammar_of_append}
@@ -275,39 +275,31 @@ steps (Some opened) kind at t h k = by (ends (opened.0).element kind t)
     by true = (are_one (record { content = opened.1; end = at }) h, tt)
     by false = (tt, both (λ (c : Sourced). IsScalar c.0) opened.1 (piece_content kind at t) h k)
 
-elements : (state : Option Opened) (read at : ℕ) (t : List ℕ) (bs : List SourcedBlock) → IsOpened state → Are t → element_blocks state read at t ≡ Ok bs → AreOf (grammar_of bs)
-unfolding element_blocks
-elements None read at [] bs h k e = let same : [] ≡ bs = cc (e) in subst (λ bs. AreOf (grammar_of bs)) same tt
-elements (Some opened) read at [] bs h k e = absurd (cc (e))
-elements state (suc read) at (c ∷ t) bs h k e = elements state read (suc at) t bs h k.1 e
-elements state zero at (c ∷ t) bs h k e = by (λ s read cs g. elements s read (suc at) t cs g k.1) (piece_at (is_some state) at c t) refl e
-  where
-    put : ((s : Option Opened) (read : ℕ) (cs : List SourcedBlock) → IsOpened s → element_blocks s read (suc at) t ≡ Ok cs → AreOf (grammar_of cs)) → (piece : Piece) → IsFair at t piece
-        → (rest : Result (List SourcedBlock) XmlFault) → element_blocks (behind_piece state piece.kind at (take piece.more t)).0 piece.more (suc at) t ≡ rest
-        → put_before (behind_piece state piece.kind at (take piece.more t)).1 rest ≡ Ok bs → AreOf (grammar_of bs)
-    put all piece is_fair (Err fault) is e = absurd (cc (e))
-    put all piece is_fair (Ok cs) is e =
-        let next = behind_piece state piece.kind at (take piece.more t) in
-        let same : next.1 ++ cs ≡ bs = cc (e) in
-        let step = steps state piece.kind at (take piece.more t) h is_fair in
-        subst (λ bs. AreOf (grammar_of bs)) same (are_joined next.1 cs step.0 (all next.0 piece.more cs step.1 is))
+are_ended_at : (state : Option Opened) (at : ℕ) → IsOpened state → AreOf (grammar_of (ended_at state at))
+are_ended_at None at h = tt
+are_ended_at (Some opened) at h = are_one (record { content = opened.1; end = at }) h
 
-    by : ((s : Option Opened) (read : ℕ) (cs : List SourcedBlock) → IsOpened s → element_blocks s read (suc at) t ≡ Ok cs → AreOf (grammar_of cs)) → (r : Result Piece XmlFault)
-        → piece_at (is_some state) at c t ≡ r → and_then r (λ piece.
-        put_before (behind_piece state piece.kind at (take piece.more t)).1 (element_blocks (behind_piece state piece.kind at (take piece.more t)).0 piece.more (suc at) t)) ≡ Ok bs
-        → AreOf (grammar_of bs)
-    by all (Err fault) is e = absurd (cc (e))
-    by all (Ok piece) is e = put all piece (fair (is_some state) at c t piece k.0 k.1 is) (element_blocks (behind_piece state piece.kind at (take piece.more t)).0 piece.more (suc at) t) refl e
+elements : (state : Option Opened) (read at : ℕ) (t : List ℕ) → IsOpened state → Are t → AreOf (grammar_of (element_front state read at t).blocks)
+unfolding element_front
+elements None read at [] h k = tt
+elements (Some opened) read at [] h k = tt
+elements state (suc read) at (c ∷ t) h k = elements state read (suc at) t h k.1
+elements state zero at (c ∷ t) h k = by (λ s read g. elements s read (suc at) t g k.1) (piece_at (is_some state) at c t) refl
+  where
+    by : ((s : Option Opened) (read : ℕ) → IsOpened s → AreOf (grammar_of (element_front s read (suc at) t).blocks)) → (r : Result Piece XmlFault) → piece_at (is_some state) at c t ≡ r
+        → AreOf (grammar_of (from_piece_on state at r (λ piece.
+        put_before (behind_piece state piece.kind at (take piece.more t)).1 (element_front (behind_piece state piece.kind at (take piece.more t)).0 piece.more (suc at) t))).blocks)
+    by all (Err fault) is = are_ended_at state at h
+    by all (Ok piece) is =
+        let next = behind_piece state piece.kind at (take piece.more t) in
+        let step = steps state piece.kind at (take piece.more t) h (fair (is_some state) at c t piece k.0 k.1 is) in
+        are_joined next.1 (element_front next.0 piece.more (suc at) t).blocks step.0 (all next.0 piece.more step.1)
 
 -- ---- both formats
 
 gathered : (format : Format) (draft : List ℕ) → Are draft → AreOf (grammar_in format draft)
 gathered Markdown draft h = are_gathered (length draft) reading.Text [] (placed_lines_from 0 draft) tt (are_lines 0 draft h)
-gathered Xml draft h = by (xml_blocks draft) refl
-  where
-    by : (r : Result (List SourcedBlock) XmlFault) → xml_blocks draft ≡ r → AreOf (if_gathered (grammar_behind [] r))
-    by (Err fault) is = tt
-    by (Ok bs) is = elements None 0 0 draft bs tt h is
+gathered Xml draft h = elements None 0 0 draft tt h
 
 pub all_scalars : (format : Format) (draft : List ℕ) → All IsScalar draft → All IsScalar (characters (grammar_in format draft))
 all_scalars format draft h =

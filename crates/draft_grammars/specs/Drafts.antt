@@ -1,10 +1,11 @@
--- What a draft is written in, and its grammar: what of it is ABNF, with the offset of each character in the draft.
-use Rattle.std.specs.Prelude.{ℕ, List, [], Option, None, Some, Result, Ok, Err}
+-- What a draft is written in, and what is read of it: its grammar, which is what of it is ABNF with the offset of each character in the
+-- draft, and its fault.
+use Rattle.std.specs.Prelude.{ℕ, Bool, not, ◌&&◌, bytes_eq, if◌then◌else◌, List, Option, None, Some, is_some}
 use Rattle.ls_text.specs.declared.position.Encoding.{Encoding}
 use Rattle.ls_text.specs.declared.position.Encoding.TheVariants as encoding
-use Rattle.origins.specs.Origins.{Sourced, grammar_of}
+use Rattle.origins.specs.Origins.{Sourced, characters, grammar_of}
 use Rattle.markdown_blocks.specs.Fences.{markdown_blocks}
-use Rattle.xml_blocks.specs.Xml.{grammar_behind, xml_blocks}
+use Rattle.xml_blocks.specs.Xml.{first_fault, front_blocks}
 use Rattle.xml_blocks.specs.declared.fault.XmlFault.{XmlFault}
 use Rattle.draft_grammars.specs.declared.format.Format.{Format}
 use Rattle.draft_grammars.specs.declared.format.Format.TheVariants.{Markdown, Xml}
@@ -17,12 +18,25 @@ format_of encoding.Utf32 = None
 format_of (encoding.Markdown counts) = Some Markdown
 format_of (encoding.Xml counts) = Some Xml
 
--- what was gathered, or nothing from a draft at fault
-abbrev pub if_gathered : Result (List Sourced) XmlFault → List Sourced
-if_gathered (Ok grammar) = grammar
-if_gathered (Err fault) = []
+-- what is read of a draft: its grammar, and its fault, if it has one
+pub record Contents : Type 0 where
+  pub grammar : List Sourced
+  pub fault : Option XmlFault
 
--- the grammar of a draft: that of all its blocks of ABNF; a draft in XML that is at fault has none
+-- The grammar is that of all blocks of ABNF. Those in XML are read up to the first fault.
+abbrev pub contents_in : Format → List ℕ → Contents
+contents_in Markdown draft = record { grammar = grammar_of (markdown_blocks draft); fault = None }
+contents_in Xml draft = record { grammar = grammar_of (front_blocks draft); fault = first_fault draft }
+
+-- the grammar of a draft
 abbrev pub grammar_in : Format → List ℕ → List Sourced
-grammar_in Markdown draft = grammar_of (markdown_blocks draft)
-grammar_in Xml draft = if_gathered (grammar_behind [] (xml_blocks draft))
+grammar_in format draft = (contents_in format draft).grammar
+
+-- the fault of a draft
+abbrev pub fault_in : Format → List ℕ → Option XmlFault
+fault_in format draft = (contents_in format draft).fault
+
+-- The grammar has this text, and there is a fault or none, as is said.
+abbrev pub has_contents : Bool → Contents → List ℕ → Bool
+has_contents at_fault contents text =
+    (if at_fault then is_some contents.fault else not (is_some contents.fault)) && bytes_eq (characters contents.grammar) text

@@ -1,3 +1,4 @@
 pub mod Drafts
+pub mod Insertions
 pub mod Places
 pub mod Renames

@@ -1,22 +1,27 @@
 -- Offsets, positions and ranges of a draft and of its grammar. Offsets count characters, and so do positions in the grammar; those in the
 -- draft count the units of its encoding.
-use Rattle.std.specs.Prelude.{ℕ, suc, pred, min, ◌+◌, ◌-◌, ◌==◌, nat_lt, Option, None, option_map, List, [], drop, length, position, slice_get, take, if◌then◌else◌}
+use Rattle.std.specs.Prelude.{ℕ, suc, pred, min, Bool, ◌+◌, ◌-◌, ◌==◌, nat_lt, Option, None, option_map, unwrap_or, List, [], ◌∷◌, drop, length, position, slice_get, take, if◌then◌else◌}
 use Rattle.std.specs.Option.{option_map_or, option_or}
 use Rattle.std.specs.List.{prefix_len}
+use Rattle.std.specs.Str.{chars, encode_utf8_all}
 use Rattle.ls_text.specs.Edits.{position_offset}
 use Rattle.ls_text.specs.Lines.{lines, units}
-use Rattle.ls_text.specs.Positions.{position_of}
+use Rattle.ls_text.specs.Positions.{place_at, position_of}
 use Rattle.ls_text.specs.declared.position.Encoding.{Encoding}
 use Rattle.ls_text.specs.declared.position.Encoding.TheVariants.{Utf32}
 use Rattle.ls_text.specs.declared.position.Position.{Position}
 use Rattle.ls_text.specs.declared.position.Range.{Range}
 use Rattle.origins.specs.Origins.{Sourced, characters, is_blank_char}
+use Rattle.xml_blocks.specs.Faults.{fault_offset}
+use Rattle.xml_blocks.specs.Xml.{reference}
+use Rattle.xml_blocks.specs.declared.fault.XmlFault.{XmlFault}
 
--- a draft and its grammar
+-- a draft, and what is read of it
 pub record Mapped : Type 0 where
   pub draft : List ℕ
   pub encoding : Encoding
   pub grammar : List Sourced
+  pub fault : Option XmlFault
 
 -- ---- from the draft to its grammar
 
@@ -68,11 +73,31 @@ inward_range map range =
 abbrev pub outward : Mapped → ℕ → ℕ
 outward map place = option_map_or (λ c. c.1) (slice_get map.grammar place) (length map.draft)
 
--- Where in the draft ends what goes from one place of the grammar to another: one behind where its last character begins. What is empty
+-- the bytes of UTF-8 that an offset's line has behind it
+abbrev pub bytes_behind : List ℕ → ℕ → List ℕ
+bytes_behind draft offset =
+    let at = place_at draft offset in
+    drop at.start (encode_utf8_all (line_of draft at.line))
+
+-- how many characters the reference has that such bytes begin with, its `&` (38) among them
+abbrev pub reference_at : List ℕ → Option ℕ
+reference_at [] = None
+reference_at (c ∷ rest) = if c == 38 then option_map (λ r. suc r.1) (reference (chars rest)) else None
+
+-- What comes next in the grammar stands right behind this place in the draft, too. So it is behind any `&` that is no reference: in a
+-- CDATA section, and in Markdown.
+abbrev pub goes_on : Mapped → ℕ → Bool
+goes_on map place = outward map (suc place) == suc (outward map place)
+
+-- how many characters of the draft stand for the one at a place of the grammar: those of a reference, or one
+abbrev pub width : Mapped → ℕ → ℕ
+width map place = if goes_on map place then 1 else unwrap_or (reference_at (bytes_behind map.draft (outward map place))) 1
+
+-- Where in the draft ends what goes from one place of the grammar to another: behind what stands for its last character. What is empty
 -- ends where it begins.
 abbrev pub outward_end : Mapped → ℕ → ℕ → ℕ
 outward_end map start end =
-    if nat_lt start end then min (suc (outward map (pred end))) (length map.draft) else outward map start
+    if nat_lt start end then min (outward map (pred end) + width map (pred end)) (length map.draft) else outward map start
 
 -- the place of a position in the grammar
 abbrev pub place_of : Mapped → Position → ℕ
@@ -92,6 +117,13 @@ outward_range map range = record {
   start = drafted map (outward map (place_of map range.start));
   end = drafted map (outward_end map (place_of map range.start) (place_of map range.end));
 }
+
+-- the character of the draft at which its fault is, if it has one
+abbrev pub fault_range : Mapped → Option Range
+fault_range map = option_map (λ fault. record {
+  start = drafted map (fault_offset fault);
+  end = drafted map (min (suc (fault_offset fault)) (length map.draft));
+}) map.fault
 
 -- what stands before an offset of the draft in its line
 abbrev pub margin : List ℕ → ℕ → List ℕ

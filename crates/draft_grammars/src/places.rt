@@ -1,6 +1,6 @@
 //! Offsets, positions and ranges of a draft and of its grammar.
 
-ghost use Rattle.std.specs.Prelude.{◌≡◌, ◌^◌, ◌<◌, ◌≤◌, ◌++◌, drop, encode_utf8_all, length, OnOk, map, string_bytes, take};
+ghost use Rattle.std.specs.Prelude.{◌≡◌, ◌^◌, ◌<◌, ◌≤◌, ◌++◌, drop, encode_utf8_all, IfSome, length, OnOk, map, string_bytes, take, unwrap_or};
 ghost use Rattle.std.specs.List.{prefix_len};
 ghost use Rattle.std.specs.Str.{chars};
 ghost use Rattle.origins.specs.Origins.{is_blank_char};
@@ -11,9 +11,10 @@ use ls_text::{Encoding, Position, Range, Snapshot};
 use origins::is_blank;
 use std::alloc::AllocError;
 use std::marker::Model;
+use xml_blocks::{XmlFault, reference_len};
 
 /// The way between the positions of a draft, which count the units of its encoding, and those of its grammar, which count characters.
-/// Contracts see the draft, the encoding and the grammar.
+/// Contracts see the draft, the encoding, the grammar and the draft's fault.
 #[derive(Drop)]
 pub struct SourceMap<'d> {
     draft: &'d Snapshot,
@@ -26,7 +27,7 @@ impl<'d> Model for SourceMap<'d> {
 
     ghost Value = { Mapped };
 
-    ghost view = { λ map. record { draft = map.draft.now; encoding = map.encoding; grammar = map.grammar.now } };
+    ghost view = { λ map. record { draft = map.draft.now; encoding = map.encoding; grammar = map.grammar.now.grammar; fault = map.grammar.now.fault } };
 }
 
 // How many blanks follow so many characters of a line.
@@ -49,6 +50,33 @@ fn blanks_behind(draft: &Snapshot, offset: usize) -> usize
     }
 }
 
+// How many characters the reference has that begins at a byte of a line, if one does there.
+fn reference_at(line: &str, at: usize) -> Option<usize>
+    ensures value { result ≡ spec.reference_at (drop at line.now) }
+    ensures small { IfSome result (λ width. width ≤ length line.now) }
+{
+    if at >= line.len() || line.as_bytes()[at] != b'&' {
+        return None;
+    }
+    let (_, behind) = line.split_at(at + 1);
+    match reference_len(behind) {
+        Some(len) => Some(len + 1),
+        None => None,
+    }
+}
+
+// How many characters the reference has that begins at an offset of a draft, or one.
+fn reference_width(draft: &Snapshot, offset: usize) -> usize
+    ensures value { result ≡ unwrap_or (spec.reference_at (spec.bytes_behind draft.now offset)) 1 }
+    ensures small { result < 2 ^ 63 }
+{
+    let at = draft.place_at(offset);
+    match draft.line(at.line) {
+        Some(line) => reference_at(line, at.start).unwrap_or(1),
+        None => 1,
+    }
+}
+
 // Adds the first characters of a line, so many.
 fn push_front(to: &mut String, line: &str, count: usize) -> Result<(), AllocError>
     ensures { OnOk result (string_bytes to.new ≡ string_bytes to.old ++ encode_utf8_all (take count (chars line.now))) }
@@ -62,7 +90,7 @@ fn push_front(to: &mut String, line: &str, count: usize) -> Result<(), AllocErro
 impl<'d> SourceMap<'d> {
     /// The way between a draft and its grammar.
     pub fn new(draft: &'d Snapshot, encoding: Encoding, grammar: &'d DraftGrammar) -> SourceMap<'d>
-        ensures { result ≡ record { draft = draft.now; encoding = encoding; grammar = grammar.now } }
+        ensures { result ≡ record { draft = draft.now; encoding = encoding; grammar = grammar.now.grammar; fault = grammar.now.fault } }
     {
         SourceMap {
             draft,
@@ -87,9 +115,29 @@ impl<'d> SourceMap<'d> {
 
     /// The draft's grammar.
     pub fn grammar(&self) -> &'d DraftGrammar
-        ensures { result.now ≡ self.now.grammar }
+        ensures { result.now ≡ record { grammar = self.now.grammar; fault = self.now.fault } }
     {
         self.grammar
+    }
+
+    /// The draft's fault, if it has one.
+    pub fn fault(&self) -> Option<XmlFault>
+        ensures { result ≡ self.now.fault }
+    {
+        self.grammar.fault()
+    }
+
+    /// The range of the draft's fault, if it has one: the one character at which it is. At the draft's end it is empty.
+    pub fn fault_range(&self) -> Option<Range>
+        ensures { result ≡ spec.fault_range self.now }
+    {
+        let at = self.fault()?.offset();
+        let count = self.draft.char_count();
+        let end = if at < count { at + 1 } else { count };
+        Some(Range {
+            start: self.drafted(at),
+            end: self.drafted(end),
+        })
     }
 
     // The place behind a character that ends at an offset of the draft.
@@ -155,8 +203,23 @@ impl<'d> SourceMap<'d> {
         }
     }
 
+    // How many characters of the draft stand for the one at a place of the grammar, which begins at this offset.
+    fn width(&self, place: usize, offset: usize) -> usize
+        requires place { place < 2 ^ 63 }
+        requires offset { offset ≡ spec.outward self.now place }
+        ensures value { result ≡ spec.width self.now place }
+        ensures small { result < 2 ^ 63 }
+    {
+        let next = self.outward(place + 1);
+        if next > offset && next - offset == 1 {
+            return 1;
+        }
+        reference_width(self.draft, offset)
+    }
+
     // Where in the draft ends what goes from one place of the grammar to another.
     fn outward_end(&self, start: usize, end: usize) -> usize
+        requires { end < 2 ^ 63 }
         ensures { result ≡ spec.outward_end self.now start end }
     {
         if start >= end {
@@ -164,13 +227,21 @@ impl<'d> SourceMap<'d> {
         }
         let last = self.outward(end - 1);
         let count = self.draft.char_count();
-        if last < count { last + 1 } else { count }
+        if last < count {
+            count.min(last + self.width(end - 1, last))
+        } else {
+            count
+        }
     }
 
+    // The place in the grammar of a position there.
     fn place_of(&self, at: Position) -> usize
-        ensures { result ≡ spec.place_of self.now at }
+        ensures value { result ≡ spec.place_of self.now at }
+        ensures small { result < 2 ^ 63 }
     {
-        self.grammar.text().offset_of(at, Encoding::Utf32)
+        let text: &Snapshot = self.grammar.text();
+        let _count = text.char_count();
+        text.offset_of(at, Encoding::Utf32)
     }
 
     fn drafted(&self, offset: usize) -> Position
@@ -179,14 +250,21 @@ impl<'d> SourceMap<'d> {
         self.draft.position_of(offset, self.encoding)
     }
 
+    // The offset in the draft of a position in the grammar.
+    pub(crate) fn outward_offset(&self, at: Position) -> usize
+        ensures { result ≡ spec.outward self.now (spec.place_of self.now at) }
+    {
+        self.outward(self.place_of(at))
+    }
+
     /// The position in the draft of a position in the grammar.
     pub fn outward_position(&self, at: Position) -> Position
         ensures { result ≡ spec.outward_position self.now at }
     {
-        self.drafted(self.outward(self.place_of(at)))
+        self.drafted(self.outward_offset(at))
     }
 
-    /// The range in the draft of a range in the grammar. It ends one behind where its last character begins.
+    /// The range in the draft of a range in the grammar. It ends behind what stands in the draft for its last character, as a reference.
     pub fn outward_range(&self, range: Range) -> Range
         ensures { result ≡ spec.outward_range self.now range }
     {
@@ -215,7 +293,7 @@ impl<'d> SourceMap<'d> {
     pub fn push_margin(&self, to: &mut String, at: Position) -> Result<(), AllocError>
         ensures { OnOk result (string_bytes to.new ≡ string_bytes to.old ++ encode_utf8_all (spec.margin self.now.draft (spec.outward self.now (spec.place_of self.now at)))) }
     {
-        let offset = self.outward(self.place_of(at));
+        let offset = self.outward_offset(at);
         let at = self.draft.position_of(offset, Encoding::Utf32);
         match self.draft.line(at.line as usize) {
             Some(line) => push_front(to, line, at.character as usize),

@@ -25,7 +25,7 @@ use Rattle.findings_files.specs.declared.format.Format.TheVariants.{Abnf, Markdo
 use Rattle.findings_files.specs.Drafts.{draft_position, no_grammar_line, no_grammar_lines}
 use Rattle.findings_files.specs.Formats.{ArePrintedRulesAs, ArePrintedXmlRules, IsPrintedAs, IsPrintedXml, unread_in, xml_fault_line}
 use Rattle.findings_files.specs.Grammars.{IsPrintedDraftGrammar, IsPrintedGrammarAs, IsPrintedXmlGrammar}
-use Rattle.findings_files.specs.Known.{AreRepeatsAs, ArePrintedJoinedRules, ArePrintedRulesBy, ArePrintedRulesWith, IsPrintedBy, IsPrintedDraftWith, IsPrintedJoined, IsPrintedWith, grammar_in}
+use Rattle.findings_files.specs.Known.{AreRepeatsAs, ArePrintedJoinedRules, ArePrintedRulesBy, ArePrintedRulesWith, IsPrintedBy, IsPrintedDraftWith, IsPrintedJoined, IsPrintedWith, ends_as, grammar_in}
 use Rattle.findings_files.proofs.DraftLaws.{one_draft}
 
 -- two print-outs with the same lines and the same outcome
@@ -47,11 +47,12 @@ one_repeats_as Xml text a b p q = one_repeats text a b p q
 one_by_join : (known : List (List ℕ)) (format : Format) (file draft : List ℕ) (unread : List Unread) (grammar : List Sourced) (a b : Printed) → IsPrintedJoined known format file draft unread grammar a → IsPrintedJoined known format file draft unread grammar b → a ≡ b
 one_by_join known format file draft unread grammar a b p q =
     let told = characters grammar in
+    let ends = ends_as format draft grammar in
     let text = one_joined told known p.0 q.0 p.2 q.2 in
     let repeats = one_repeats_as format q.0 p.1 q.1 (subst (λ (t : List ℕ). AreRepeatsAs format t p.1) text p.3) q.3 in
-    let there : IsPrintedIn told (asides_of draft unread) p.1 (position_in_draft draft grammar q.0) file q.0 a = subst (λ (t : List ℕ). IsPrintedIn told (asides_of draft unread) p.1 (position_in_draft draft grammar t) file t a) text p.4 in
-    one_in told (asides_of draft unread) q.1 (position_in_draft draft grammar q.0) file q.0 a b
-    (subst (λ (rs : List Repeat). IsPrintedIn told (asides_of draft unread) rs (position_in_draft draft grammar q.0) file q.0 a) repeats there) q.4
+    let there : IsPrintedIn told (asides_of draft unread) p.1 ends (position_in_draft draft grammar q.0) file q.0 a = subst (λ (t : List ℕ). IsPrintedIn told (asides_of draft unread) p.1 ends (position_in_draft draft grammar t) file t a) text p.4 in
+    one_in told (asides_of draft unread) q.1 ends (position_in_draft draft grammar q.0) file q.0 a b
+    (subst (λ (rs : List Repeat). IsPrintedIn told (asides_of draft unread) rs ends (position_in_draft draft grammar q.0) file q.0 a) repeats there) q.4
 
 one_draft_with : (known : List (List ℕ)) (format : Format) (file draft : List ℕ) (unread : List Unread) (grammar : List Sourced) (a b : Printed) → IsPrintedDraftWith known format file draft unread grammar a → IsPrintedDraftWith known format file draft unread grammar b → a ≡ b
 one_draft_with known format file draft unread [] a b p q = same a b (no_grammar_lines file draft unread) Warnings p q
@@ -79,7 +80,7 @@ pub some_with : (known : List (List ℕ)) (format : Format) (file draft : List �
 some_with known format file draft unread [] text joined small = (record { lines = no_grammar_lines file draft unread; outcome = Warnings }, (refl, refl))
 some_with known format file draft unread (c ∷ cs) text joined small =
     let repeats = some_repeats_as format text small in
-    let printed = some_in (characters (c ∷ cs)) (asides_of draft unread) repeats.0 (position_in_draft draft (c ∷ cs) text) file text small in
+    let printed = some_in (characters (c ∷ cs)) (asides_of draft unread) repeats.0 (ends_as format draft (c ∷ cs)) (position_in_draft draft (c ∷ cs) text) file text small in
     (printed.0, (text, repeats.0, joined, repeats.1, printed.1))
 
 -- ---- the rules

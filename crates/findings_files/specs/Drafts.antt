@@ -7,6 +7,7 @@ use Rattle.text_files.specs.declared.file.FileFault.{FileFault}
 use Rattle.text_files.specs.declared.file.FileFault.TheVariants.{CannotRead, Memory, NotText}
 use Rattle.origins.specs.Origins.{Sourced, characters}
 use Rattle.origins.specs.declared.unread.Unread.{Unread}
+use Rattle.draft_findings.specs.Ends.{block_ends}
 use Rattle.joined_grammars.specs.declared.repeats.Repeat.{Repeat}
 use Rattle.joined_grammars.specs.Repeats.{AreRepeats}
 use Rattle.findings_text.specs.declared.outcome.Outcome.TheVariants.{Warnings}
@@ -28,18 +29,18 @@ no_grammar_line file = file ++ (codes ":1:1: warning: no grammar in this draft [
 abbrev pub no_grammar_lines : List ℕ → List ℕ → List Unread → List ℕ
 no_grammar_lines file draft unread = no_grammar_line file ++ unread_lines file (asides_of draft unread).0 unread
 
--- This is printed of a text of whose file this can't be read, and in which definitions may repeat others: one that says the same as
--- the first of its name is no finding.
-abbrev pub IsPrintedRepeating : Asides → Locator → List ℕ → List ℕ → Printed → Type 0
-IsPrintedRepeating asides locate file text printed =
-    (repeats : List Repeat) × AreRepeats text repeats × IsPrintedFrom asides repeats locate file text printed
+-- This is printed of a text of whose file this can't be read, whose blocks end at these lines, and in which definitions may repeat
+-- others: one that says the same as the first of its name is no finding.
+abbrev pub IsPrintedRepeating : Asides → List ℕ → Locator → List ℕ → List ℕ → Printed → Type 0
+IsPrintedRepeating asides ends locate file text printed =
+    (repeats : List Repeat) × AreRepeats text repeats × IsPrintedFrom asides repeats ends locate file text printed
 
--- This is printed of a draft with this grammar, of which this can't be read: its findings, each where it stands in the draft, or,
--- where it has no block of grammar, a warning; and a warning for each that can't be read, in the order of the draft.
+-- This is printed of a draft with this grammar, of which this can't be read: what is reported of its findings, each where it stands in
+-- the draft, or, where it has no block of grammar, a warning; and a warning for each that can't be read, in the order of the draft.
 abbrev pub IsPrintedDraft : List ℕ → List ℕ → List Unread → List Sourced → Printed → Type 0
 IsPrintedDraft file draft unread [] printed = (printed.lines ≡ no_grammar_lines file draft unread) × (printed.outcome ≡ Warnings)
 IsPrintedDraft file draft unread (c ∷ cs) printed =
-    IsPrintedRepeating (asides_of draft unread) (draft_position draft (c ∷ cs)) file (characters (c ∷ cs)) printed
+    IsPrintedRepeating (asides_of draft unread) (block_ends draft (c ∷ cs)) (draft_position draft (c ∷ cs)) file (characters (c ∷ cs)) printed
 
 -- This is printed of the rules of a draft with this grammar, each where it is defined in the draft.
 abbrev pub ArePrintedDraftRules : List ℕ → List ℕ → List Sourced → List ℕ → Type 0

@@ -12,7 +12,7 @@ use Rattle.markdown_blocks.specs.Unread as m
 use Rattle.text_files.specs.declared.file.FileFault.{FileFault}
 use Rattle.text_files.specs.declared.file.FileFault.TheVariants.{Memory}
 use Rattle.xml_blocks.specs.declared.fault.XmlFault.{XmlFault}
-use Rattle.xml_blocks.specs.declared.fault.XmlFault.TheVariants as x
+use Rattle.xml_blocks.specs.Faults.{fault_offset, fault_words}
 use Rattle.xml_blocks.specs.Unread as xml
 use Rattle.xml_blocks.specs.Xml.{grammar_behind, xml_blocks}
 use Rattle.findings_text.specs.declared.outcome.Outcome.TheVariants.{Clean, Errors}
@@ -48,24 +48,6 @@ abbrev pub unread_in : Format → List ℕ → List Unread
 unread_in Abnf text = []
 unread_in Markdown text = m.unread_blocks text
 unread_in Xml text = xml.unread_blocks text
-
--- where a fault of a draft in XML stands, in characters
-abbrev pub fault_offset : XmlFault → ℕ
-fault_offset (x.BlockWithoutEnd at) = at
-fault_offset (x.CommentWithoutEnd at) = at
-fault_offset (x.SectionWithoutEnd at) = at
-fault_offset (x.TagWithoutEnd at) = at
-fault_offset (x.BadReference at) = at
-fault_offset x.Memory = 0
-
--- a fault of a draft in XML, in a few words
-abbrev pub fault_words : XmlFault → List ℕ
-fault_words (x.BlockWithoutEnd at) = codes "block without an end tag"
-fault_words (x.CommentWithoutEnd at) = codes "comment without an end"
-fault_words (x.SectionWithoutEnd at) = codes "CDATA section without an end"
-fault_words (x.TagWithoutEnd at) = codes "tag without an end"
-fault_words (x.BadReference at) = codes "no reference to a character"
-fault_words x.Memory = codes "out of memory"
 
 -- the line of a draft in XML that is at fault
 abbrev pub xml_fault_line : List ℕ → List ℕ → XmlFault → List ℕ

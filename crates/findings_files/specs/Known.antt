@@ -9,6 +9,7 @@ use Rattle.markdown_blocks.specs.Fences.{markdown_blocks}
 use Rattle.xml_blocks.specs.declared.fault.XmlFault.{XmlFault}
 use Rattle.xml_blocks.specs.declared.fault.XmlFault.TheVariants as x
 use Rattle.xml_blocks.specs.Xml.{grammar_behind, xml_blocks}
+use Rattle.draft_findings.specs.Ends.{block_ends}
 use Rattle.joined_grammars.specs.declared.repeats.Repeat.{Repeat}
 use Rattle.joined_grammars.specs.Joined.{IsJoined}
 use Rattle.joined_grammars.specs.Repeats.{AreRepeats}
@@ -72,12 +73,19 @@ AreRepeatsAs Abnf text repeats = repeats ≡ []
 AreRepeatsAs Markdown text repeats = AreRepeats text repeats
 AreRepeatsAs Xml text repeats = AreRepeats text repeats
 
+-- the lines of a grammar's text at which the blocks of its file, of this format, end: none of a file that is a grammar, of which
+-- each fault of syntax is reported
+abbrev pub ends_as : Format → List ℕ → List Sourced → List ℕ
+ends_as Abnf draft grammar = []
+ends_as Markdown draft grammar = block_ends draft grammar
+ends_as Xml draft grammar = block_ends draft grammar
+
 -- This is printed of a grammar to which others are joined: the lines of the findings that stand in it, at their places in the
 -- file, of which this can't be read.
 abbrev pub IsPrintedJoined : List (List ℕ) → Format → List ℕ → List ℕ → List Unread → List Sourced → Printed → Type 0
 IsPrintedJoined known format file draft unread grammar printed =
     (text : List ℕ) × (repeats : List Repeat) × IsJoined (characters grammar) known text × AreRepeatsAs format text repeats
-    × IsPrintedIn (characters grammar) (asides_of draft unread) repeats (position_in_draft draft grammar text) file text printed
+    × IsPrintedIn (characters grammar) (asides_of draft unread) repeats (ends_as format draft grammar) (position_in_draft draft grammar text) file text printed
 
 -- This is printed of a file with this grammar, of which this can't be read: the findings, or, where a draft has no block of grammar, a
 -- warning; and a warning for each that can't be read.

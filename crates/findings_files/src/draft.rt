@@ -3,10 +3,12 @@
 ghost use Rattle.std.specs.Prelude.{◌≡◌, IfErr, IfOk, string_bytes};
 ghost use Rattle.std.specs.Str.{chars};
 ghost use Rattle.origins.specs.Origins.{characters};
+ghost use Rattle.draft_findings.specs.Ends.{block_ends};
 ghost use Rattle.findings_text.specs.Sources.{position_in_draft};
 ghost use Rattle.findings_text.specs.Unread.{asides_of};
 ghost use Rattle.findings_files.specs.Drafts as spec;
 
+use draft_findings::block_ends;
 use findings_text::{Outcome, Printed, Source, print_from, print_rules_from, print_unread};
 use joined_grammars::Repeats;
 use ls_lists::Text;
@@ -109,16 +111,18 @@ fn print_text(
     grammar: &Gathered,
     text: &Snapshot,
 ) -> Result<Printed, Memory>
-    ensures { IfOk result (λ printed. spec.IsPrintedRepeating (asides_of draft.now unread.now) (position_in_draft draft.now grammar.now text.now) file.now text.now printed) }
+    ensures { IfOk result (λ printed. spec.IsPrintedRepeating (asides_of draft.now unread.now) (block_ends draft.now grammar.now) (position_in_draft draft.now grammar.now text.now) file.now text.now printed) }
 {
     let repeats = Repeats::of(alloc, text)?;
-    let source = Source::Draft(draft, grammar, &repeats, unread);
+    let ends = block_ends(alloc, draft, grammar)?;
+    let source = Source::Draft(draft, grammar, &repeats, ends.as_slice(), unread);
     print_from(alloc, file, source, text)
 }
 
 /// What is printed of a draft in a file with this name, where this can't be read, and this is the draft's grammar: each finding in a line,
 /// at the place where it begins in the draft. Lines and columns count from 1, and columns count characters. A definition that says the same
-/// as the first of its name is no finding, and what can't be read is a warning.
+/// as the first of its name is no finding, of a block with more than ten faults of syntax the first alone is told, and what can't be read
+/// is a warning.
 ///
 /// # Errors
 ///
@@ -163,7 +167,7 @@ pub(crate) fn print_draft_rules(
 {
     let text = text_of(alloc, grammar)?;
     let none = Repeats::none(alloc);
-    let source = Source::Draft(draft, grammar, &none, &[]);
+    let source = Source::Draft(draft, grammar, &none, &[], &[]);
     match print_rules_from(alloc, file, source, &text) {
         Ok(lines) => Ok(lines),
         Err(_) => Err(FileFault::Memory),

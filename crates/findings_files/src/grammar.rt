@@ -89,8 +89,9 @@ fn print_xml_grammar(alloc: Global, file: &str, draft: &Snapshot) -> Result<Prin
 }
 
 /// What is printed of the grammar in a file with this name and this format: its text, which has the same findings as the
-/// file but for their places, for definitions that a draft repeats, and for blocks that can't be read. Where a draft has
-/// no grammar, or is at fault, that alone is reported. Time goes by the length of the file.
+/// file but for their places, for definitions that a draft repeats, for blocks with more than ten faults of syntax, and
+/// for blocks that can't be read. Where a draft has no grammar, or is at fault, that alone is reported. Time goes by the
+/// length of the file.
 ///
 /// # Errors
 ///

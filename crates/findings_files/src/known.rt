@@ -11,6 +11,7 @@ use crate::draft::{print_without, snapshot_of, text_of, warned};
 use crate::format::{Format, clean, markdown_unread, print_alone, print_rules_alone};
 use crate::grammar::grammar_in;
 use crate::xml::{print_fault, xml_unread};
+use draft_findings::block_ends;
 use findings_text::{Printed, Source, print_told, print_told_rules, print_unread};
 use joined_grammars::{Repeats, joined};
 use ls_lists::{List, Text};
@@ -151,6 +152,26 @@ fn repeats_as(alloc: Global, format: Format, text: &Snapshot) -> Result<Repeats,
     }
 }
 
+/// The lines of a grammar's text at which the blocks of its file end, by the format of the file.
+fn ends_as(
+    alloc: Global,
+    format: Format,
+    draft: &Snapshot,
+    grammar: &Gathered,
+) -> Result<List<usize>, FileFault>
+    ensures ends { IfOk result (λ ends. ends ≡ spec.ends_as format draft.now grammar.now) }
+    ensures fault { IfErr result (λ fault. fault ≡ FileFault.Memory) }
+{
+    let ends: Result<List<usize>, Memory> = match format {
+        Format::Abnf => Ok(List::new(alloc)),
+        Format::Markdown | Format::Xml => block_ends(alloc, draft, grammar),
+    };
+    match ends {
+        Ok(ends) => Ok(ends),
+        Err(_) => Err(FileFault::Memory),
+    }
+}
+
 /// What can't be read of a file of this format.
 fn unread_in(alloc: Global, format: Format, text: &Snapshot) -> Result<Vec<Unread>, FileFault>
     ensures unread { IfOk result (λ unread. unread.items ≡ unread_in format text.now) }
@@ -179,7 +200,8 @@ fn print_gathered(
     let told = text_of(alloc, grammar)?;
     let text = joined_text(alloc, &told, others)?;
     let repeats = repeats_as(alloc, format, &text)?;
-    let source = Source::Draft(draft, grammar, &repeats, unread);
+    let ends = ends_as(alloc, format, draft, grammar)?;
+    let source = Source::Draft(draft, grammar, &repeats, ends.as_slice(), unread);
     match print_told(alloc, file, source, &told, &text) {
         Ok(printed) => Ok(printed),
         Err(_) => Err(FileFault::Memory),
@@ -236,7 +258,8 @@ fn print_joined(
 /// What is printed of a file with this name and this format, where the names of other files are known: each finding in a
 /// line, in the order of the file, at the place where it begins in the file. Lines and columns count from 1, and columns
 /// count characters. Of a draft it goes by the grammar in its blocks. Where it has no grammar that is a warning, as is
-/// each block that can't be read. Of a draft in XML that is at fault the fault alone is reported.
+/// each block that can't be read. Of a block with more than ten faults of syntax the first alone is told. Of a draft in
+/// XML that is at fault the fault alone is reported.
 ///
 /// Rules of the other files whose names the file doesn't define are joined to its grammar, those of an earlier file
 /// first; nothing is reported of them. Names that stand for nothing are compared with those of the joined grammar, the
@@ -278,7 +301,7 @@ fn gathered_rules(
     let told = text_of(alloc, grammar)?;
     let text = joined_text(alloc, &told, others)?;
     let none = Repeats::none(alloc);
-    let source = Source::Draft(draft, grammar, &none, &[]);
+    let source = Source::Draft(draft, grammar, &none, &[], &[]);
     match print_told_rules(alloc, file, source, &told, &text) {
         Ok(lines) => Ok(lines),
         Err(_) => Err(FileFault::Memory),

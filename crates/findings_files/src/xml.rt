@@ -15,21 +15,6 @@ use std::alloc::{AllocError as Memory, Global};
 use text_files::FileFault;
 use xml_blocks::{XmlFault, gather_xml};
 
-/// Where a fault stands, in characters, and what it is in a few words.
-fn place_and_words(fault: XmlFault) -> (usize, &'static str)
-    ensures offset { result.0 ≡ spec.fault_offset fault }
-    ensures words { result.1.now ≡ spec.fault_words fault }
-{
-    match fault {
-        XmlFault::BlockWithoutEnd(at) => (at, "block without an end tag"),
-        XmlFault::CommentWithoutEnd(at) => (at, "comment without an end"),
-        XmlFault::SectionWithoutEnd(at) => (at, "CDATA section without an end"),
-        XmlFault::TagWithoutEnd(at) => (at, "tag without an end"),
-        XmlFault::BadReference(at) => (at, "no reference to a character"),
-        XmlFault::Memory => (0, "out of memory"),
-    }
-}
-
 /// What is printed of a draft that is at fault.
 fn printed_fault(
     alloc: Global,
@@ -39,12 +24,11 @@ fn printed_fault(
 ) -> Result<Printed, Memory>
     ensures { IfOk result (λ printed. spec.IsPrintedFault file.now draft.now fault printed) }
 {
-    let (offset, words) = place_and_words(fault);
-    let place = place_text(alloc, draft.position_of(offset, Encoding::Utf32))?;
+    let place = place_text(alloc, draft.position_of(fault.offset(), Encoding::Utf32))?;
     let mut lines = String::from_str(alloc, file)?;
     lines.push_str(place.as_str())?;
     lines.push_str("error: ")?;
-    lines.push_str(words)?;
+    lines.push_str(fault.words())?;
     lines.push_str(" [xml]\n")?;
     Ok(Printed {
         lines: Text::new(lines),

@@ -2,8 +2,8 @@
 use Rattle.std.proofs.Common.{◌≡◌, ◌∙◌, ℕ, List, [], ◌∷◌, ◌++◌, ap, append_assoc}
 use Rattle.std.specs.Prelude.{Option, codes}
 use Rattle.ls_text.specs.declared.position.Position.{Position}
-use Rattle.abnf_lint.specs.declared.finding.Finding.{Finding}
 use Rattle.abnf_lint.specs.Messages.{severity_of}
+use Rattle.draft_findings.specs.Reports.{Remarked}
 use Rattle.abnf_names.specs.Places.{Named}
 use Rattle.findings_text.specs.Print.{code_at, line_of_finding, message_at, place_text, severity_text}
 use Rattle.abnf_least.specs.declared.shortest.Shortest.{Shortest}
@@ -28,12 +28,12 @@ eight old a b c d e f g h s1 s2 s3 s4 s5 s6 s7 s8 e1 e2 e3 e4 e5 e6 e7 e8 =
     (more old a b s1 s2 e1 e2) e3) e4) e5) e6) e7) e8
 
 -- the line of a finding, appended part by part
-pub line_grown : (known : List (List ℕ)) (file : List ℕ) (finding : Finding) (begin : Position) (original : Option ℕ) (hint : List ℕ)
-    → (old p s m c : List ℕ) → p ≡ place_text begin → s ≡ severity_text (severity_of finding.code) → m ≡ message_at known original hint finding → c ≡ code_at original finding
+pub line_grown : (known : List (List ℕ)) (file : List ℕ) (told : Remarked) (begin : Position) (original : Option ℕ) (hint : List ℕ)
+    → (old p s m c : List ℕ) → p ≡ place_text begin → s ≡ severity_text (severity_of told.finding.code) → m ≡ message_at known original hint told → c ≡ code_at original told.finding
     → (s1 s2 s3 s4 s5 s6 s7 s8 : List ℕ)
     → s1 ≡ old ++ file → s2 ≡ s1 ++ p → s3 ≡ s2 ++ s → s4 ≡ s3 ++ codes ": " → s5 ≡ s4 ++ m → s6 ≡ s5 ++ codes " [" → s7 ≡ s6 ++ c → s8 ≡ s7 ++ (codes "]" ++ 10 ∷ [])
-    → s8 ≡ old ++ line_of_finding known file begin original hint finding
-line_grown known file finding begin original hint old p s m c is_p is_s is_m is_c s1 s2 s3 s4 s5 s6 s7 s8 e1 e2 e3 e4 e5 e6 e7 e8 =
+    → s8 ≡ old ++ line_of_finding known file begin original hint told
+line_grown known file told begin original hint old p s m c is_p is_s is_m is_c s1 s2 s3 s4 s5 s6 s7 s8 e1 e2 e3 e4 e5 e6 e7 e8 =
     eight old file p s (codes ": ") m (codes " [") c (codes "]" ++ 10 ∷ []) s1 s2 s3 s4 s5 s6 s7 s8 e1 e2 e3 e4 e5 e6 e7 e8
     ∙ (λ i. old ++ (file ++ is_p i ++ is_s i ++ codes ": " ++ is_m i ++ codes " [" ++ is_c i ++ (codes "]" ++ 10 ∷ [])))
 

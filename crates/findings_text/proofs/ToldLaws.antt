@@ -9,10 +9,10 @@ use Rattle.abnf_names.proofs.OneGrammar.{one_grammar}
 use Rattle.abnf_lint.specs.declared.finding.Finding.{Finding}
 use Rattle.abnf_lint.proofs.Ascends.{rows_unique}
 use Rattle.abnf_productive.proofs.Exist.{some_findings}
+use Rattle.draft_findings.specs.Reports.{reported}
 use Rattle.joined_grammars.specs.declared.repeats.Repeat.{Repeat}
 use Rattle.findings_text.specs.declared.print.Printed.{Printed}
 use Rattle.findings_text.specs.declared.source.Source.{Source}
-use Rattle.findings_text.specs.Copies.{without_copies}
 use Rattle.findings_text.specs.Hints.{compared}
 use Rattle.findings_text.specs.Print.{Locator, shown_lines}
 use Rattle.findings_text.specs.Rules.{AreRuleLines, heads}
@@ -25,27 +25,27 @@ use Rattle.findings_text.proofs.RuleLaws.{one_lines, some_lines}
 
 -- ---- the findings
 
-abbrev printed_in : Asides → List Repeat → Locator → List ℕ → List ℕ → List (List ℕ) → List Finding → Printed
-printed_in asides repeats locate file text names found = record {
-  lines = shown_lines asides repeats locate names file text (without_copies repeats found);
-  outcome = outcome_with asides.1 (without_copies repeats found);
+abbrev printed_in : Asides → List Repeat → List ℕ → Locator → List ℕ → List ℕ → List (List ℕ) → List Finding → Printed
+printed_in asides repeats ends locate file text names found = record {
+  lines = shown_lines asides locate names file text (reported repeats ends found);
+  outcome = outcome_with asides.1 (reported repeats ends found);
 }
 
-is_in : (told : List ℕ) (asides : Asides) (repeats : List Repeat) (locate : Locator) (file text : List ℕ) (printed : Printed) (is : IsPrintedIn told asides repeats locate file text printed) → printed ≡ printed_in asides repeats locate file text is.names is.found
-is_in told asides repeats locate file text printed is = (λ i. record { lines = is.lines_are i; outcome = is.outcome_is i })
+is_in : (told : List ℕ) (asides : Asides) (repeats : List Repeat) (ends : List ℕ) (locate : Locator) (file text : List ℕ) (printed : Printed) (is : IsPrintedIn told asides repeats ends locate file text printed) → printed ≡ printed_in asides repeats ends locate file text is.names is.found
+is_in told asides repeats ends locate file text printed is = (λ i. record { lines = is.lines_are i; outcome = is.outcome_is i })
 
 -- what is printed of the findings that stand at the front of a joined text is printed of it, if it is
-pub printed_told : {E : Type 0} (told : List ℕ) (asides : Asides) (repeats : List Repeat) (locate : Locator) (file text : List ℕ) (found : List Finding) (names : List (List ℕ)) → AreToldWith told text found names
-    → (shown : List Finding) (known : List (List ℕ)) → shown ≡ without_copies repeats found → known ≡ names → (r : Result Printed E)
-    → IfOk r (λ printed. printed.lines ≡ shown_lines asides repeats locate known file text shown) → IfOk r (λ printed. printed.outcome ≡ outcome_with asides.1 shown)
-    → IfOk r (λ printed. IsPrintedIn told asides repeats locate file text printed)
-printed_told told asides repeats locate file text found names are shown known shown_is known_is (Err e) lines outcome = lines
-printed_told told asides repeats locate file text found names are shown known shown_is known_is (Ok printed) lines outcome = record {
+pub printed_told : {E : Type 0} (told : List ℕ) (asides : Asides) (repeats : List Repeat) (ends : List ℕ) (locate : Locator) (file text : List ℕ) (found : List Finding) (names : List (List ℕ)) → AreToldWith told text found names
+    → (shown : List Finding) (known : List (List ℕ)) → shown ≡ found → known ≡ names → (r : Result Printed E)
+    → IfOk r (λ printed. printed.lines ≡ shown_lines asides locate known file text (reported repeats ends shown)) → IfOk r (λ printed. printed.outcome ≡ outcome_with asides.1 (reported repeats ends shown))
+    → IfOk r (λ printed. IsPrintedIn told asides repeats ends locate file text printed)
+printed_told told asides repeats ends locate file text found names are shown known shown_is known_is (Err e) lines outcome = lines
+printed_told told asides repeats ends locate file text found names are shown known shown_is known_is (Ok printed) lines outcome = record {
   found = found;
   names = names;
   of_text = are;
-  lines_are = lines ∙ (λ i. shown_lines asides repeats locate (known_is i) file text (shown_is i));
-  outcome_is = outcome ∙ ap (outcome_with asides.1) shown_is;
+  lines_are = lines ∙ (λ i. shown_lines asides locate (known_is i) file text (reported repeats ends (shown_is i)));
+  outcome_is = outcome ∙ ap (λ fs. outcome_with asides.1 (reported repeats ends fs)) shown_is;
 }
 
 one_told : (told text : List ℕ) (a b : List Finding) (x y : List (List ℕ)) → AreToldWith told text a x → AreToldWith told text b y → a ≡ b
@@ -55,11 +55,11 @@ one_told_names : (told text : List ℕ) (a b : List Finding) (x y : List (List �
 one_told_names told text a b x y p q =
     p.names_are ∙ ((λ i. compared (one_told told text a b x y p q i) (one_known text p.known q.known p.are_known q.are_known i)) ∙ sym q.names_are)
 
-pub one_in : (told : List ℕ) (asides : Asides) (repeats : List Repeat) (locate : Locator) (file text : List ℕ) (a b : Printed) → IsPrintedIn told asides repeats locate file text a → IsPrintedIn told asides repeats locate file text b → a ≡ b
-one_in told asides repeats locate file text a b p q =
-    is_in told asides repeats locate file text a p
-    ∙ ((λ i. printed_in asides repeats locate file text (one_told_names told text p.found q.found p.names q.names p.of_text q.of_text i) (one_told told text p.found q.found p.names q.names p.of_text q.of_text i))
-    ∙ sym (is_in told asides repeats locate file text b q))
+pub one_in : (told : List ℕ) (asides : Asides) (repeats : List Repeat) (ends : List ℕ) (locate : Locator) (file text : List ℕ) (a b : Printed) → IsPrintedIn told asides repeats ends locate file text a → IsPrintedIn told asides repeats ends locate file text b → a ≡ b
+one_in told asides repeats ends locate file text a b p q =
+    is_in told asides repeats ends locate file text a p
+    ∙ ((λ i. printed_in asides repeats ends locate file text (one_told_names told text p.found q.found p.names q.names p.of_text q.of_text i) (one_told told text p.found q.found p.names q.names p.of_text q.of_text i))
+    ∙ sym (is_in told asides repeats ends locate file text b q))
 
 some_told : (told text : List ℕ) → length text < 2 ^ 62 → (found : List Finding) × (names : List (List ℕ)) × AreToldWith told text found names
 some_told told text small =
@@ -68,10 +68,10 @@ some_told told text small =
     let found = told_findings told all.0 in
     (found, compared found known.0, record { all = all.0; of_text = all.1; found_are = refl; known = known.0; are_known = known.1; names_are = refl })
 
-pub some_in : (told : List ℕ) (asides : Asides) (repeats : List Repeat) (locate : Locator) (file text : List ℕ) → length text < 2 ^ 62 → (printed : Printed) × IsPrintedIn told asides repeats locate file text printed
-some_in told asides repeats locate file text small =
+pub some_in : (told : List ℕ) (asides : Asides) (repeats : List Repeat) (ends : List ℕ) (locate : Locator) (file text : List ℕ) → length text < 2 ^ 62 → (printed : Printed) × IsPrintedIn told asides repeats ends locate file text printed
+some_in told asides repeats ends locate file text small =
     let front = some_told told text small in
-    (printed_in asides repeats locate file text front.1 front.0, record { found = front.0; names = front.1; of_text = front.2; lines_are = refl; outcome_is = refl })
+    (printed_in asides repeats ends locate file text front.1 front.0, record { found = front.0; names = front.1; of_text = front.2; lines_are = refl; outcome_is = refl })
 
 -- ---- the rules
 

@@ -1,5 +1,4 @@
 pub mod Outcomes
-pub mod Copies
 pub mod Heads
 pub mod Hints
 pub mod Places

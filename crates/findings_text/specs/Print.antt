@@ -1,7 +1,5 @@
 -- What is printed of the findings in a text: a line for each, in the form that compilers use.
-use Rattle.std.specs.Prelude.{◌≡◌, ℕ, ◌+◌, List, [], ◌∷◌, ◌++◌, Option, Some, None, codes}
-use Rattle.std.specs.Option.{option_map}
-use Rattle.std.specs.Fmt.{decimal}
+use Rattle.std.specs.Prelude.{◌≡◌, ℕ, List, [], ◌∷◌, ◌++◌, Option, Some, None, codes}
 use Rattle.ls_text.specs.Lines.{units}
 use Rattle.ls_text.specs.Positions.{place_start, position_of}
 use Rattle.ls_text.specs.declared.position.Encoding.TheVariants.{Utf32}
@@ -12,9 +10,12 @@ use Rattle.abnf_lint.specs.declared.message.Severity.{Severity}
 use Rattle.abnf_lint.specs.declared.message.Severity.TheVariants.{Error, Warning}
 use Rattle.abnf_lint.specs.Messages.{code_text, severity_of}
 use Rattle.abnf_lint.specs.Rows.{AreRows}
+use Rattle.draft_findings.specs.declared.report.Remark.{Remark}
+use Rattle.draft_findings.specs.declared.report.Remark.TheVariants.{Differs}
+use Rattle.draft_findings.specs.Reports.{Remarked, reported}
+use Rattle.draft_findings.specs.Words.{addition, differing}
 use Rattle.joined_grammars.specs.declared.repeats.Repeat.{Repeat}
 use Rattle.findings_text.specs.declared.print.Printed.{Printed}
-use Rattle.findings_text.specs.Copies.{original_of, without_copies}
 use Rattle.findings_text.specs.Hints.{AreKnown, compared, fault_hint, message}
 use Rattle.findings_text.specs.Unread.{Asides, merged, no_asides, outcome_with}
 pub use Rattle.findings_text.specs.Places.{counted_text, place_text}
@@ -32,14 +33,11 @@ position_at text place = position_of (units Utf32) text (place_start text place)
 abbrev pub begin_of : List ℕ → Finding → Position
 begin_of text finding = position_at text finding.place
 
--- what is said of a rule that differs from its definition in this line, which is printed from 1
-abbrev pub differing : List ℕ → ℕ → List ℕ
-differing name line = codes "rule " ++ name ++ codes " differs from its definition at line " ++ decimal (line + 1)
-
--- the message of a finding, with a hint behind it, or that its definition differs from the first, in this line
-abbrev pub message_at : List (List ℕ) → Option ℕ → List ℕ → Finding → List ℕ
-message_at known None hint finding = message known finding ++ hint
-message_at known (Some line) hint finding = differing finding.name line
+-- the message of a finding, with a hint behind it, and then how many faults its block has, where it stands for all of them; or that
+-- its definition differs from the first, in this line
+abbrev pub message_at : List (List ℕ) → Option ℕ → List ℕ → Remarked → List ℕ
+message_at known None hint told = message known told.finding ++ hint ++ addition told.remark
+message_at known (Some line) hint told = differing told.finding.name line
 
 -- the code that is printed of it
 abbrev pub code_at : Option ℕ → Finding → List ℕ
@@ -48,24 +46,24 @@ code_at (Some line) finding = codes "differs"
 
 -- `FILE:LINE:COLUMN: severity: message [code]`, and LF, of a finding that begins at this position, where its name is compared
 -- with these, its definition may differ from the first, in a line, and a hint may be given. Line and column are printed from 1.
-abbrev pub line_of_finding : List (List ℕ) → List ℕ → Position → Option ℕ → List ℕ → Finding → List ℕ
-line_of_finding known file at original hint finding =
-    file ++ place_text at ++ severity_text (severity_of finding.code) ++ codes ": "
-    ++ message_at known original hint finding ++ codes " [" ++ code_at original finding ++ (codes "]" ++ 10 ∷ [])
+abbrev pub line_of_finding : List (List ℕ) → List ℕ → Position → Option ℕ → List ℕ → Remarked → List ℕ
+line_of_finding known file at original hint told =
+    file ++ place_text at ++ severity_text (severity_of told.finding.code) ++ codes ": "
+    ++ message_at known original hint told ++ codes " [" ++ code_at original told.finding ++ (codes "]" ++ 10 ∷ [])
 
 -- where in the file stands what has this position in the grammar's text; positions count characters
 abbrev pub Locator : Type 0
 Locator = Position → Position
 
 -- the line of the file in which the first definition begins, where the finding's differs from it
-abbrev pub original_line : List Repeat → Locator → List ℕ → Finding → Option ℕ
-original_line repeats locate text finding =
-    option_map (λ line. (locate (position_at text (record { line = line; start = 0; end = 0 }))).line) (original_of repeats finding)
+abbrev pub original_line : Locator → List ℕ → Remark → Option ℕ
+original_line locate text (Differs line) = Some (locate (position_at text (record { line = line; start = 0; end = 0 }))).line
+original_line locate text _ = None
 
--- the line of a finding, at the place of the file where it begins
-abbrev pub finding_line : List Repeat → Locator → List (List ℕ) → List ℕ → List ℕ → Finding → List ℕ
-finding_line repeats locate known file text finding =
-    line_of_finding known file (locate (begin_of text finding)) (original_line repeats locate text finding) (fault_hint text finding.code) finding
+-- the line of a finding that is reported, at the place of the file where it begins
+abbrev pub finding_line : Locator → List (List ℕ) → List ℕ → List ℕ → Remarked → List ℕ
+finding_line locate known file text told =
+    line_of_finding known file (locate (begin_of text told.finding)) (original_line locate text told.remark) (fault_hint text told.finding.code) told
 
 -- These are the findings of a text, and the names with which theirs are compared.
 pub record AreFoundWith (text : List ℕ) (found : List Finding) (names : List (List ℕ)) : Type 0 where
@@ -74,22 +72,22 @@ pub record AreFoundWith (text : List ℕ) (found : List Finding) (names : List (
   pub are_known : AreKnown text known
   pub names_are : names ≡ compared found known
 
--- the lines of findings in a grammar's text from a file with this name, among those of what can't be read of the file
-abbrev pub shown_lines : Asides → List Repeat → Locator → List (List ℕ) → List ℕ → List ℕ → List Finding → List ℕ
-shown_lines asides repeats locate names file text shown =
-    merged file asides.0 (λ finding. locate (begin_of text finding)) (finding_line repeats locate names file text) asides.1 shown
+-- the lines of findings that are reported of a grammar's text from a file with this name, among those of what can't be read of the file
+abbrev pub shown_lines : Asides → Locator → List (List ℕ) → List ℕ → List ℕ → List Remarked → List ℕ
+shown_lines asides locate names file text shown =
+    merged file asides.0 (λ told. locate (begin_of text told.finding)) (finding_line locate names file text) asides.1 shown
 
--- This is printed of a grammar's text from a file with this name, of which this can't be read, and where these definitions repeat
--- others: the lines of its findings, in their order, but for definitions that say the same as the first, among them those of what
--- can't be read, and how the file went by them.
-pub record IsPrintedFrom (asides : Asides) (repeats : List Repeat) (locate : Locator) (file text : List ℕ) (printed : Printed) : Type 0 where
+-- This is printed of a grammar's text from a file with this name, of which this can't be read, where these definitions repeat others,
+-- and blocks end at these lines: the lines of what is reported of its findings, in their order, among them those of what can't be
+-- read, and how the file went by them.
+pub record IsPrintedFrom (asides : Asides) (repeats : List Repeat) (ends : List ℕ) (locate : Locator) (file text : List ℕ) (printed : Printed) : Type 0 where
   pub found : List Finding
   pub names : List (List ℕ)
   pub of_text : AreFoundWith text found names
-  pub lines_are : printed.lines ≡ shown_lines asides repeats locate names file text (without_copies repeats found)
-  pub outcome_is : printed.outcome ≡ outcome_with asides.1 (without_copies repeats found)
+  pub lines_are : printed.lines ≡ shown_lines asides locate names file text (reported repeats ends found)
+  pub outcome_is : printed.outcome ≡ outcome_with asides.1 (reported repeats ends found)
 
 -- This is printed of a file with this name that is the grammar's text: the lines of all its findings, in their order, and how
 -- the file went by them. There is one such print-out (`printed_texts_exist`), and only one (`printed_texts_are_unique`).
 abbrev pub IsPrinted : List ℕ → List ℕ → Printed → Type 0
-IsPrinted file text printed = IsPrintedFrom no_asides [] (λ at. at) file text printed
+IsPrinted file text printed = IsPrintedFrom no_asides [] [] (λ at. at) file text printed

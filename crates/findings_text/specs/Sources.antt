@@ -24,14 +24,19 @@ position_in_draft draft grammar text at =
 -- where what stands in the text of a source stands in the file: of a text that is the file at the same position
 abbrev pub located : Source → List ℕ → Locator
 located File text at = at
-located (Draft draft grammar repeats unread) text at = position_in_draft draft.now grammar.now text at
+located (Draft draft grammar repeats ends unread) text at = position_in_draft draft.now grammar.now text at
 
 -- the definitions that repeat others: none in a text that is the file, where each of them is an error
 abbrev pub repeats_in : Source → List Repeat
 repeats_in File = []
-repeats_in (Draft draft grammar repeats unread) = repeats.now
+repeats_in (Draft draft grammar repeats ends unread) = repeats.now
+
+-- the lines of the text at which blocks end: none in a text that is the file
+abbrev pub ends_in : Source → List ℕ
+ends_in File = []
+ends_in (Draft draft grammar repeats ends unread) = ends.now
 
 -- what can't be read of the file: nothing of a text that is the file
 abbrev pub asides_in : Source → Asides
 asides_in File = no_asides
-asides_in (Draft draft grammar repeats unread) = asides_of draft.now unread.now
+asides_in (Draft draft grammar repeats ends unread) = asides_of draft.now unread.now

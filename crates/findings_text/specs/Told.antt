@@ -7,9 +7,9 @@ use Rattle.abnf_names.specs.Places.{Named}
 use Rattle.abnf_names.specs.Rules.{Grammar, IsGrammar}
 use Rattle.abnf_lint.specs.declared.finding.Finding.{Finding}
 use Rattle.abnf_lint.specs.Rows.{AreRows}
+use Rattle.draft_findings.specs.Reports.{reported}
 use Rattle.joined_grammars.specs.declared.repeats.Repeat.{Repeat}
 use Rattle.findings_text.specs.declared.print.Printed.{Printed}
-use Rattle.findings_text.specs.Copies.{without_copies}
 use Rattle.findings_text.specs.Hints.{AreKnown, compared}
 use Rattle.findings_text.specs.Print.{Locator, shown_lines}
 use Rattle.findings_text.specs.Rules.{AreRuleLines, heads}
@@ -36,15 +36,15 @@ pub record AreToldWith (told text : List ℕ) (found : List Finding) (names : Li
   pub are_known : AreKnown text known
   pub names_are : names ≡ compared found known
 
--- This is printed of the grammar at the front of a joined text, of whose file this can't be read, and where these definitions repeat
--- others: the lines of the findings that stand there, in their order, but for definitions that say the same as the first, among
+-- This is printed of the grammar at the front of a joined text, of whose file this can't be read, where these definitions repeat
+-- others, and blocks end at these lines: the lines of what is reported of the findings that stand there, in their order, among
 -- them those of what can't be read, and how the file went by them.
-pub record IsPrintedIn (told : List ℕ) (asides : Asides) (repeats : List Repeat) (locate : Locator) (file text : List ℕ) (printed : Printed) : Type 0 where
+pub record IsPrintedIn (told : List ℕ) (asides : Asides) (repeats : List Repeat) (ends : List ℕ) (locate : Locator) (file text : List ℕ) (printed : Printed) : Type 0 where
   pub found : List Finding
   pub names : List (List ℕ)
   pub of_text : AreToldWith told text found names
-  pub lines_are : printed.lines ≡ shown_lines asides repeats locate names file text (without_copies repeats found)
-  pub outcome_is : printed.outcome ≡ outcome_with asides.1 (without_copies repeats found)
+  pub lines_are : printed.lines ≡ shown_lines asides locate names file text (reported repeats ends found)
+  pub outcome_is : printed.outcome ≡ outcome_with asides.1 (reported repeats ends found)
 
 -- ---- the rules
 

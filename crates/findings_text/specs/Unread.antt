@@ -8,7 +8,7 @@ use Rattle.ls_text.specs.declared.position.Position.{Position}
 use Rattle.origins.specs.declared.unread.Lack.{Lack}
 use Rattle.origins.specs.declared.unread.Lack.TheVariants.{Elsewhere, Empty}
 use Rattle.origins.specs.declared.unread.Unread.{Unread}
-use Rattle.abnf_lint.specs.declared.finding.Finding.{Finding}
+use Rattle.draft_findings.specs.Reports.{Remarked}
 use Rattle.findings_text.specs.declared.outcome.Outcome.{Outcome}
 use Rattle.findings_text.specs.declared.outcome.Outcome.TheVariants.{Clean, Errors, NotRead, Warnings}
 use Rattle.findings_text.specs.Outcomes.{outcome_of}
@@ -48,12 +48,12 @@ is_before a b = nat_lt a.line b.line || (a.line == b.line && nat_lt a.character 
 abbrev pub ahead : (Unread → Position) → Position → List Unread → ℕ
 ahead place at unread = prefix_len (λ u. is_before (place u) at) unread
 
--- the lines of findings, each behind the lines of what can't be read and begins before it, and then those of what is left
-abbrev pub merged : List ℕ → (Unread → Position) → (Finding → Position) → (Finding → List ℕ) → List Unread → List Finding → List ℕ
+-- the lines of what is reported, each behind the lines of what can't be read and begins before it, and then those of what is left
+abbrev pub merged : List ℕ → (Unread → Position) → (Remarked → Position) → (Remarked → List ℕ) → List Unread → List Remarked → List ℕ
 merged file place begin line unread [] = unread_lines file place unread
-merged file place begin line unread (f ∷ fs) =
-    let n = ahead place (begin f) unread in
-    unread_lines file place (take n unread) ++ (line f ++ merged file place begin line (drop n unread) fs)
+merged file place begin line unread (r ∷ rs) =
+    let n = ahead place (begin r) unread in
+    unread_lines file place (take n unread) ++ (line r ++ merged file place begin line (drop n unread) rs)
 
 -- how a file went, where what can't be read is a warning
 abbrev pub with_warning : Outcome → Outcome
@@ -62,7 +62,7 @@ with_warning Warnings = Warnings
 with_warning Errors = Errors
 with_warning NotRead = NotRead
 
--- how a file went by what can't be read in it and by its findings
-abbrev pub outcome_with : List Unread → List Finding → Outcome
-outcome_with [] found = outcome_of found
-outcome_with (u ∷ unread) found = with_warning (outcome_of found)
+-- how a file went by what can't be read in it and by what is reported of it
+abbrev pub outcome_with : List Unread → List Remarked → Outcome
+outcome_with [] told = outcome_of told
+outcome_with (u ∷ unread) told = with_warning (outcome_of told)

@@ -1,12 +1,14 @@
 //! The line of a finding.
 
 ghost use Rattle.std.specs.Prelude.{◌≡◌, ◌++◌, IfOk, OnOk, map, string_bytes};
+ghost use Rattle.draft_findings.specs.Words.{addition};
 ghost use Rattle.findings_text.specs.Hints.{message};
-ghost use Rattle.findings_text.specs.Print.{code_at, counted_text, differing, line_of_finding, message_at, place_text, severity_text};
+ghost use Rattle.findings_text.specs.Print.{code_at, counted_text, line_of_finding, message_at, place_text, severity_text};
 
 use crate::hints::message;
 use crate::source::Standing;
 use abnf_lint::{Finding, Severity};
+use draft_findings::{Reported, differing, push_addition};
 use ls_text::Position;
 use std::alloc::{AllocError as Memory, Global};
 
@@ -43,25 +45,18 @@ pub fn place_text(alloc: Global, at: Position) -> Result<String, Memory>
     Ok(text)
 }
 
-/// What is said of a rule that differs from its definition in this line, from 0.
-fn differing(alloc: Global, name: &str, original: u32) -> Result<String, Memory>
-    ensures { IfOk result (λ text. string_bytes text ≡ differing name.now original) }
+/// The message of a finding, a hint behind it, and then what else is said of it.
+fn hinted(
+    alloc: Global,
+    known: &[&str],
+    hint: &str,
+    reported: &Reported<'_>,
+) -> Result<String, Memory>
+    ensures { IfOk result (λ text. string_bytes text ≡ message (map (λ name. name.now) known.now) reported.now.finding ++ hint.now ++ addition reported.now.remark) }
 {
-    let number = u64::from(original) + 1;
-    let number = format!(in alloc; "{number}")?;
-    let mut text = String::from_str(alloc, "rule ")?;
-    text.push_str(name)?;
-    text.push_str(" differs from its definition at line ")?;
-    text.push_str(number.as_str())?;
-    Ok(text)
-}
-
-/// The message of a finding, and a hint behind it.
-fn hinted(alloc: Global, known: &[&str], hint: &str, finding: &Finding) -> Result<String, Memory>
-    ensures { IfOk result (λ text. string_bytes text ≡ message (map (λ name. name.now) known.now) finding.now ++ hint.now) }
-{
-    let mut text = message(alloc, known, finding)?;
+    let mut text = message(alloc, known, reported.finding())?;
     text.push_str(hint)?;
+    push_addition(&mut text, alloc, reported.remark())?;
     Ok(text)
 }
 
@@ -70,13 +65,13 @@ fn message_at(
     alloc: Global,
     known: &[&str],
     at: Standing,
-    finding: &Finding,
+    reported: &Reported<'_>,
 ) -> Result<String, Memory>
-    ensures { IfOk result (λ text. string_bytes text ≡ message_at (map (λ name. name.now) known.now) at.original at.hint.now finding.now) }
+    ensures { IfOk result (λ text. string_bytes text ≡ message_at (map (λ name. name.now) known.now) at.original at.hint.now reported.now) }
 {
     match at.original {
-        Some(line) => differing(alloc, finding.name.as_str(), line),
-        None => hinted(alloc, known, at.hint, finding),
+        Some(line) => differing(alloc, reported.finding().name.as_str(), line),
+        None => hinted(alloc, known, at.hint, reported),
     }
 }
 
@@ -90,19 +85,20 @@ fn code_at(original: Option<u32>, finding: &Finding) -> &'static str
     }
 }
 
-/// Appends the line of a finding in a file with this name, which stands there. Its name is compared with these, where it stands for nothing.
+/// Appends the line of a finding that is reported of a file with this name, which stands there. Its name is compared with these, where it stands for nothing.
 pub(crate) fn push_line(
     lines: &mut String,
     alloc: Global,
     file: &str,
     at: Standing,
     known: &[&str],
-    finding: &Finding,
+    reported: &Reported<'_>,
 ) -> Result<(), Memory>
-    ensures { OnOk result (string_bytes lines.new ≡ string_bytes lines.old ++ line_of_finding (map (λ name. name.now) known.now) file.now at.begin at.original at.hint.now finding.now) }
+    ensures { OnOk result (string_bytes lines.new ≡ string_bytes lines.old ++ line_of_finding (map (λ name. name.now) known.now) file.now at.begin at.original at.hint.now reported.now) }
 {
     let place = place_text(alloc, at.begin)?;
-    let message = message_at(alloc, known, at, finding)?;
+    let finding = reported.finding();
+    let message = message_at(alloc, known, at, reported)?;
     lines.push_str(file)?;
     lines.push_str(place.as_str())?;
     lines.push_str(severity_text(finding.code.severity()))?;

@@ -4,7 +4,8 @@ ghost use Rattle.std.specs.Prelude.{◌≡◌};
 ghost use Rattle.std.specs.List.{list_any};
 ghost use Rattle.findings_text.specs.Outcomes as spec;
 
-use abnf_lint::{Finding, Severity};
+use abnf_lint::Severity;
+use draft_findings::Reported;
 
 /// How a file went.
 #[derive(Clone, Copy, Debug, Drop, PartialEq, Eq)]
@@ -19,24 +20,24 @@ pub enum Outcome {
     NotRead,
 }
 
-/// Whether a finding is an error.
-fn is_error(finding: &Finding) -> bool
-    ensures { result ≡ spec.is_error finding.now }
+/// Whether a finding that is reported is an error.
+fn is_error(reported: &Reported<'_>) -> bool
+    ensures { result ≡ spec.is_error reported.now }
 {
-    match finding.code.severity() {
+    match reported.finding().code.severity() {
         Severity::Error => true,
         Severity::Warning => false,
     }
 }
 
-fn has_error(found: &[Finding]) -> bool
+fn has_error(found: &[Reported<'_>]) -> bool
     ensures { result ≡ list_any spec.is_error found.now }
 {
-    found.iter().any(|finding| is_error(finding))
+    found.iter().any(|reported| is_error(reported))
 }
 
-/// How a text went by its findings.
-pub(crate) fn outcome_of(found: &[Finding]) -> Outcome
+/// How a text went by what is reported of it.
+pub(crate) fn outcome_of(found: &[Reported<'_>]) -> Outcome
     ensures { result ≡ spec.outcome_of found.now }
 {
     match found {

@@ -1,19 +1,21 @@
 //! What is printed of a text.
 
 ghost use Rattle.std.specs.Prelude.{◌≡◌, IfOk, map, string_bytes};
+ghost use Rattle.draft_findings.specs.Reports.{reported};
 ghost use Rattle.findings_text.specs.Print.{AreFoundWith, IsPrinted, IsPrintedFrom, shown_lines};
-ghost use Rattle.findings_text.specs.Sources.{asides_in, located, repeats_in};
+ghost use Rattle.findings_text.specs.Sources.{asides_in, ends_in, located, repeats_in};
 ghost use Rattle.findings_text.specs.Told as front;
 ghost use Rattle.findings_text.specs.Unread.{outcome_with};
 
 use crate::hints::compared;
 use crate::line::push_line;
 use crate::outcome::Outcome;
-use crate::source::{Source, standing_of, without_copies};
+use crate::source::{Source, reported_in, standing_of};
 use crate::unread::{outcome_with, push_ahead, push_unread, unread_in};
 use abnf_lint::Finding;
 use abnf_names::Grammar;
 use abnf_productive::findings_in;
+use draft_findings::Reported;
 use ls_lists::{List, Text};
 use ls_text::{Encoding, Ruler, Snapshot};
 use std::alloc::{AllocError as Memory, Global};
@@ -38,30 +40,31 @@ fn found_in<'t>(alloc: Global, text: &'t Snapshot) -> Result<(List<Finding>, Lis
     Ok((found, known))
 }
 
-/// The lines of findings in a grammar's text, among those of what can't be read of its file.
+/// The lines of findings that are reported, among those of what can't be read of their file.
 fn lines_of(
     alloc: Global,
     file: &str,
     source: Source<'_>,
     text: &Snapshot,
     known: &[&str],
-    found: &[Finding],
+    reported: &[Reported<'_>],
 ) -> Result<String, Memory>
-    ensures { IfOk result (λ lines. string_bytes lines ≡ shown_lines (asides_in source.entry) (repeats_in source.entry) (located source.entry text.now) (map (λ name. name.now) known.now) file.now text.now found.now) }
+    ensures { IfOk result (λ lines. string_bytes lines ≡ shown_lines (asides_in source.entry) (located source.entry text.now) (map (λ name. name.now) known.now) file.now text.now reported.now) }
 {
     let mut ruler = Ruler::new(text, Encoding::Utf32);
     let mut lines = String::new(alloc);
     let mut left = unread_in(source);
-    for finding in found {
-        let at = standing_of(source, text, &mut ruler, finding);
+    for one in reported {
+        let at = standing_of(source, text, &mut ruler, one);
         left = push_ahead(&mut lines, alloc, file, source, at.begin, left)?;
-        push_line(&mut lines, alloc, file, at, known, finding)?;
+        push_line(&mut lines, alloc, file, at, known, one)?;
     }
     push_unread(&mut lines, alloc, file, source, left)?;
     Ok(lines)
 }
 
-/// The lines of findings in a grammar's text, among those of what can't be read of its file, and how the file went by them.
+/// The lines of what is reported of findings in a grammar's text, among those of what can't be read of its file, and how the file went
+/// by them.
 fn print_found(
     alloc: Global,
     file: &str,
@@ -70,20 +73,23 @@ fn print_found(
     known: &[&str],
     found: &[Finding],
 ) -> Result<Printed, Memory>
-    ensures lines { IfOk result (λ printed. printed.lines ≡ shown_lines (asides_in source.entry) (repeats_in source.entry) (located source.entry text.now) (map (λ name. name.now) known.now) file.now text.now found.now) }
-    ensures outcome { IfOk result (λ printed. printed.outcome ≡ outcome_with (asides_in source.entry).1 found.now) }
+    ensures lines { IfOk result (λ printed. printed.lines ≡ shown_lines (asides_in source.entry) (located source.entry text.now) (map (λ name. name.now) known.now) file.now text.now (reported (repeats_in source.entry) (ends_in source.entry) found.now)) }
+    ensures outcome { IfOk result (λ printed. printed.outcome ≡ outcome_with (asides_in source.entry).1 (reported (repeats_in source.entry) (ends_in source.entry) found.now)) }
 {
-    let lines = lines_of(alloc, file, source, text, known, found)?;
+    let reported = reported_in(alloc, source, found)?;
+    let reported = reported.as_slice();
+    let lines = lines_of(alloc, file, source, text, known, reported)?;
     Ok(Printed {
         lines: Text::new(lines),
-        outcome: outcome_with(unread_in(source), found),
+        outcome: outcome_with(unread_in(source), reported),
     })
 }
 
 /// What is printed of a grammar's text from a file with this name: each finding in a line, in the order of the text, at
 /// the place where it begins in the file. Lines and columns count from 1, and columns count characters. In a draft nothing
-/// is printed of a definition that says the same as the first of its name, and what can't be read of it has a line too,
-/// a warning, before those of findings that begin behind it.
+/// is printed of a definition that says the same as the first of its name. Of a block with more than ten faults of syntax
+/// the first alone is printed, and how many there are. What can't be read of a draft has a line too, a warning, before
+/// those of findings that begin behind it.
 ///
 /// Time goes by the length of the text and by its findings, of which n take n times the logarithm of n to order; in a
 /// draft each takes time by the characters of its lines. A name that stands for nothing is compared with each known one,
@@ -98,10 +104,9 @@ pub fn print_from(
     source: Source<'_>,
     text: &Snapshot,
 ) -> Result<Printed, Memory>
-    ensures { IfOk result (λ printed. IsPrintedFrom (asides_in source.entry) (repeats_in source.entry) (located source.entry text.now) file.now text.now printed) }
+    ensures { IfOk result (λ printed. IsPrintedFrom (asides_in source.entry) (repeats_in source.entry) (ends_in source.entry) (located source.entry text.now) file.now text.now printed) }
 {
     let (found, known) = found_in(alloc, text)?;
-    let found = without_copies(source, found);
     print_found(
         alloc,
         file,
@@ -154,10 +159,9 @@ pub fn print_told(
     told: &Snapshot,
     text: &Snapshot,
 ) -> Result<Printed, Memory>
-    ensures { IfOk result (λ printed. front.IsPrintedIn told.now (asides_in source.entry) (repeats_in source.entry) (located source.entry text.now) file.now text.now printed) }
+    ensures { IfOk result (λ printed. front.IsPrintedIn told.now (asides_in source.entry) (repeats_in source.entry) (ends_in source.entry) (located source.entry text.now) file.now text.now printed) }
 {
     let (found, known) = told_in(alloc, told, text)?;
-    let found = without_copies(source, found);
     print_found(
         alloc,
         file,

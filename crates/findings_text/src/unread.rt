@@ -7,7 +7,7 @@ ghost use Rattle.findings_text.specs.Unread as spec;
 use crate::line::place_text;
 use crate::outcome::{Outcome, outcome_of};
 use crate::source::Source;
-use abnf_lint::Finding;
+use draft_findings::Reported;
 use joined_grammars::Repeats;
 use ls_text::{Encoding, Position, Snapshot};
 use origins::{Gathered, Lack, Unread};
@@ -48,7 +48,7 @@ pub(crate) fn unread_in(source: Source<'_>) -> &[Unread]
 {
     match source {
         Source::File => &[],
-        Source::Draft(_, _, _, unread) => unread,
+        Source::Draft(_, _, _, _, unread) => unread,
     }
 }
 
@@ -61,7 +61,7 @@ fn begin_of(source: Source<'_>, unread: Unread) -> Position
             line: 0,
             character: 0,
         },
-        Source::Draft(draft, _, _, _) => draft.position_of(unread.at, Encoding::Utf32),
+        Source::Draft(draft, _, _, _, _) => draft.position_of(unread.at, Encoding::Utf32),
     }
 }
 
@@ -116,8 +116,8 @@ pub(crate) fn push_ahead<'u>(
     Ok(left)
 }
 
-/// How a file went by what can't be read in it and by its findings.
-pub(crate) fn outcome_with(unread: &[Unread], found: &[Finding]) -> Outcome
+/// How a file went by what can't be read in it and by what is reported of it.
+pub(crate) fn outcome_with(unread: &[Unread], found: &[Reported<'_>]) -> Outcome
     ensures { result ≡ spec.outcome_with unread.now found.now }
 {
     match (unread, outcome_of(found)) {
@@ -142,7 +142,7 @@ pub fn print_unread(
 {
     let grammar = Gathered::new(alloc);
     let none = Repeats::none(alloc);
-    let source = Source::Draft(draft, &grammar, &none, unread);
+    let source = Source::Draft(draft, &grammar, &none, &[], unread);
     let mut lines = String::new(alloc);
     push_unread(&mut lines, alloc, file, source, unread)?;
     Ok(lines)

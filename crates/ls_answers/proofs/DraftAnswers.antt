@@ -1,10 +1,9 @@
 -- A question about a draft has an answer, and one alone but for the certificate beside an example.
-use Rattle.std.proofs.Common.{arith, ◌≡◌, ℕ, ◌<◌, ◌^◌, List, length, map, refl, sym, ap, ◌∙◌, subst}
-use Rattle.std.specs.Prelude.{All, IfSome, Bool, true, false, if◌then◌else◌, bytes_eq, flat_map, Option, Some, None, option_map}
+use Rattle.std.proofs.Common.{arith, ◌≡◌, ℕ, ◌<◌, ◌^◌, List, [], length, map, refl, sym, ap, ◌∙◌, subst}
+use Rattle.std.specs.Prelude.{All, IfSome, false, flat_map, Option, Some, None, option_map}
 use Rattle.std.specs.List.{filter_map}
 use Rattle.std.specs.Char.{IsScalar}
 use Rattle.std.proofs.lemmas.List.{length-map}
-use Rattle.std.proofs.lemmas.Slice.Eq.{bytes_eq-Decides}
 use Rattle.ls_text.specs.declared.position.Encoding.{Encoding}
 use Rattle.ls_text.specs.declared.position.Encoding.TheVariants.{Utf32}
 use Rattle.ls_text.specs.declared.position.Position.{Position}
@@ -16,13 +15,21 @@ use Rattle.abnf_rename.specs.Text.{renaming_edits, text_renamed}
 use Rattle.origins.specs.Origins.{Sourced, characters}
 use Rattle.draft_grammars.specs.Drafts.{grammar_in}
 use Rattle.draft_grammars.specs.Places.{Mapped, inward_position, outward_range}
-use Rattle.draft_grammars.specs.Renames.{has_text, keeps_grammar}
+use Rattle.draft_grammars.specs.Insertions.{insertion_in}
+use Rattle.draft_grammars.specs.Renames.{draft_rename_fault}
+use Rattle.draft_grammars.specs.declared.insertion.Inserted.{Inserted}
+use Rattle.draft_grammars.specs.declared.rename.DraftRenameFault.{DraftRenameFault}
 use Rattle.draft_grammars.specs.declared.format.Format.{Format}
-use Rattle.draft_grammars.specs.declared.format.Format.TheVariants.{Markdown, Xml}
 use Rattle.draft_grammars.proofs.GatherLaws.{no_longer}
+use Rattle.draft_grammars.proofs.RenameLaws.{renamed}
 use Rattle.draft_grammars.proofs.ScalarLaws.{all_scalars}
-use Rattle.ls_answers.specs.Answers.{without_cert}
-use Rattle.ls_answers.specs.InDrafts.{AreTokensInDraft, IsAnswerInDraft, IsAnswerWith, IsCarried, IsGiven, KeepsIfRenamedInDraft, RenameKeepsInDraft, inward_ask, mapped, outside_answer, outward_answer, outward_tokens}
+use Rattle.joined_grammars.proofs.RepeatLaws.{one_repeats, some_repeats}
+use Rattle.abnf_cert.specs.declared.entry.Entry.{Entry}
+use Rattle.abnf_lint.proofs.Ascends.{rows_unique}
+use Rattle.abnf_productive.proofs.Exist.{some_findings}
+use Rattle.ls_answers.specs.Answers.{insertion_without_cert, without_cert}
+use Rattle.ls_answers.specs.DraftDiagnostics.{AreDraftDiagnostics, draft_diagnostics}
+use Rattle.ls_answers.specs.InDrafts.{AreTokensInDraft, IsAnswerInDraft, IsAnswerWith, IsCarried, IsGiven, KeepsIfRenamedInDraft, RenameKeepsInDraft, edits_unless, inward_ask, mapped, outside_answer, outward_answer, outward_tokens}
 use Rattle.ls_answers.specs.InGrammars.{IsAnswerInGrammar}
 use Rattle.ls_answers.specs.RenameKeeps.{RenameKeeps}
 use Rattle.ls_answers.specs.SemanticTokens.{AreSemanticTokens, origin, relative, told}
@@ -30,7 +37,10 @@ use Rattle.ls_answers.specs.declared.ask.Ask.{Ask}
 use Rattle.ls_answers.specs.declared.ask.Ask.TheVariants as ask
 use Rattle.ls_answers.specs.declared.answer.Answer.{Answer}
 use Rattle.ls_answers.specs.declared.answer.Answer.TheVariants as answer
-use Rattle.ls_answers.specs.declared.answer.RenameFault.TheVariants.{NotAName, NothingToRename}
+use Rattle.ls_answers.specs.declared.answer.DraftAnswer.TheVariants as draft_answer
+use Rattle.ls_answers.specs.declared.answer.DraftDiagnostic.{DraftDiagnostic}
+use Rattle.ls_answers.specs.declared.answer.Insertion.{Insertion}
+use Rattle.ls_answers.specs.declared.answer.RenameFault.TheVariants.{NotAName}
 use Rattle.ls_answers.proofs.Exist.{some_answer}
 use Rattle.ls_answers.proofs.NoName.{no_name}
 use Rattle.ls_answers.proofs.OneAnswer.{one_answer}
@@ -41,16 +51,16 @@ module _ (format : Format) (of : Mapped) where
   abbrev text : List ℕ
   text = characters of.grammar
 
-  -- all but the question about tokens is answered by the question about the grammar
-  pub other_answer : (question : Ask) (given : Answer) → (question ≡ ask.Tokens → ⊥) → IsGiven (inward_ask of question) format of question given → IsAnswerWith format of question given
-  other_answer (ask.Hover at) given differs h = h
-  other_answer (ask.Definition at) given differs h = h
-  other_answer (ask.References at declarations) given differs h = h
-  other_answer ask.Symbols given differs h = h
-  other_answer (ask.Rename at new) given differs h = h
-  other_answer (ask.Action range) given differs h = h
-  other_answer ask.Tokens given differs h = absurd (differs refl)
-  other_answer ask.Diagnose given differs h = h
+  -- all but the questions about tokens and findings are answered by the question about the grammar
+  pub other_answer : (question : Ask) (given : Answer) → (question ≡ ask.Tokens → ⊥) → (question ≡ ask.Diagnose → ⊥) → IsGiven (inward_ask of question) format of question given → IsAnswerWith format of question given
+  other_answer (ask.Hover at) given tokens findings h = h
+  other_answer (ask.Definition at) given tokens findings h = h
+  other_answer (ask.References at declarations) given tokens findings h = h
+  other_answer ask.Symbols given tokens findings h = h
+  other_answer (ask.Rename at new) given tokens findings h = h
+  other_answer (ask.Action range) given tokens findings h = h
+  other_answer ask.Tokens given tokens findings h = absurd (tokens refl)
+  other_answer ask.Diagnose given tokens findings h = absurd (findings refl)
 
   -- ---- one
 
@@ -59,21 +69,24 @@ module _ (format : Format) (of : Mapped) where
   carried_without (answer.Hover (Some hover)) = refl
   carried_without (answer.Places ranges) = refl
   carried_without (answer.Symbols symbols) = refl
-  carried_without (answer.Edits ranges new) = by (keeps_grammar format of ranges new)
+  carried_without (answer.Edits ranges new) = by (draft_rename_fault format of ranges new)
     where
-      by : (b : Bool) → without_cert (if b then answer.Edits (map (outward_range of) ranges) new else answer.Refused NothingToRename)
-          ≡ (if b then answer.Edits (map (outward_range of) ranges) new else answer.Refused NothingToRename)
-      by true = refl
-      by false = refl
+      by : (o : Option DraftRenameFault) → without_cert (edits_unless o of ranges new) ≡ edits_unless o of ranges new
+      by None = refl
+      by (Some fault) = refl
   carried_without (answer.Refused fault) = refl
-  carried_without (answer.Insert insertion) = by format insertion
+  carried_without (answer.Insert None) = refl
+  carried_without (answer.Insert (Some insertion)) = by (insertion_in format of insertion.position insertion.text)
     where
-      by : (f : Format) (o : Option _) → without_cert (outward_answer f of (answer.Insert o)) ≡ outward_answer f of (without_cert (answer.Insert o))
-      by Markdown None = refl
-      by Markdown (Some insertion) = refl
-      by Xml o = refl
+      put : List Entry → Inserted → Insertion
+      put cert placed = record { position = placed.position; text = placed.text; cert = cert }
+
+      by : (o : Option Inserted) → answer.Insert (option_map insertion_without_cert (option_map (put insertion.cert) o)) ≡ answer.Insert (option_map (put []) o)
+      by None = refl
+      by (Some placed) = refl
   carried_without (answer.Numbers numbers) = refl
   carried_without (answer.Findings found) = refl
+  carried_without (answer.Draft drafted) = refl
 
   one_carried : (inner : Ask) (a b : Answer) → IsCarried format of inner a → IsCarried format of inner b → without_cert a ≡ without_cert b
   one_carried inner a b p q =
@@ -99,6 +112,25 @@ module _ (format : Format) (of : Mapped) where
   tokens_answer (answer.Insert insertion) p = absurd p
   tokens_answer (answer.Numbers numbers) p = (numbers, refl, p)
   tokens_answer (answer.Findings found) p = absurd p
+  tokens_answer (answer.Draft drafted) p = absurd p
+
+  one_list_of_findings : (xs ys : List DraftDiagnostic) → AreDraftDiagnostics of xs → AreDraftDiagnostics of ys → xs ≡ ys
+  one_list_of_findings xs ys p q =
+      let found_are = rows_unique text p.findings q.findings p.of_text q.of_text in
+      let repeats_are = one_repeats text p.repeats q.repeats p.are_repeats q.are_repeats in
+      p.diagnostics_are ∙ ((λ i. draft_diagnostics of (repeats_are i) (found_are i)) ∙ sym q.diagnostics_are)
+
+  findings_answer : (a : Answer) → IsAnswerWith format of ask.Diagnose a → (x : List DraftDiagnostic) × (a ≡ answer.Draft (draft_answer.Findings x)) × AreDraftDiagnostics of x
+  findings_answer (answer.Hover hover) p = absurd p
+  findings_answer (answer.Places ranges) p = absurd p
+  findings_answer (answer.Symbols symbols) p = absurd p
+  findings_answer (answer.Edits ranges new) p = absurd p
+  findings_answer (answer.Refused fault) p = absurd p
+  findings_answer (answer.Insert insertion) p = absurd p
+  findings_answer (answer.Numbers numbers) p = absurd p
+  findings_answer (answer.Findings found) p = absurd p
+  findings_answer (answer.Draft (draft_answer.Refused fault)) p = absurd p
+  findings_answer (answer.Draft (draft_answer.Findings found)) p = (found, refl, p)
 
   pub one_answer_with : (question : Ask) (a b : Answer) → IsAnswerWith format of question a → IsAnswerWith format of question b → without_cert a ≡ without_cert b
   one_answer_with (ask.Hover at) a b p q = one_given (inward_ask of (ask.Hover at)) (ask.Hover at) a b p q
@@ -111,7 +143,10 @@ module _ (format : Format) (of : Mapped) where
       let x = tokens_answer a p in
       let y = tokens_answer b q in
       ap without_cert (x.1 ∙ (ap answer.Numbers (one_list_of_tokens x.0 y.0 x.2 y.2) ∙ sym y.1))
-  one_answer_with ask.Diagnose a b p q = one_given (inward_ask of ask.Diagnose) ask.Diagnose a b p q
+  one_answer_with ask.Diagnose a b p q =
+      let x = findings_answer a p in
+      let y = findings_answer b q in
+      ap without_cert (x.1 ∙ (ap (λ found. answer.Draft (draft_answer.Findings found)) (one_list_of_findings x.0 y.0 x.2 y.2) ∙ sym y.1))
 
   -- ---- some
 
@@ -141,6 +176,7 @@ module _ (format : Format) (of : Mapped) where
   some_tokens (answer.Insert insertion) p = absurd p
   some_tokens (answer.Numbers numbers) p = let found = tokens_with numbers p in (answer.Numbers found.0, found.1)
   some_tokens (answer.Findings found) p = absurd p
+  some_tokens (answer.Draft drafted) p = absurd p
 
   pub some_answer_with : (question : Ask) → length text < 2 ^ 62 → (a : Answer) × IsAnswerWith format of question a
   some_answer_with (ask.Hover at) small = some_given (inward_ask of (ask.Hover at)) (ask.Hover at) small
@@ -150,7 +186,12 @@ module _ (format : Format) (of : Mapped) where
   some_answer_with (ask.Rename at new) small = some_given (inward_ask of (ask.Rename at new)) (ask.Rename at new) small
   some_answer_with (ask.Action range) small = some_given (inward_ask of (ask.Action range)) (ask.Action range) small
   some_answer_with ask.Tokens small = let found = some_answer Utf32 text ask.Tokens small in some_tokens found.0 found.1
-  some_answer_with ask.Diagnose small = some_given (inward_ask of ask.Diagnose) ask.Diagnose small
+  some_answer_with ask.Diagnose small =
+      let found = some_findings text small in
+      let repeats = some_repeats text small in (
+        answer.Draft (draft_answer.Findings (draft_diagnostics of repeats.0 found.0)),
+        record { findings = found.0; of_text = found.1; repeats = repeats.0; are_repeats = repeats.1; diagnostics_are = refl },
+      )
 
 module _ (format : Format) (encoding : Encoding) (draft : List ℕ) where
   abbrev grammar_text : List ℕ
@@ -170,29 +211,23 @@ module _ (format : Format) (encoding : Encoding) (draft : List ℕ) where
 
   -- ---- what a rename keeps
 
-  -- the two texts after the edits, where the one has the other
-  both_texts : (a b : Option (List ℕ)) → has_text format a b ≡ true → (after : List ℕ) × (text : List ℕ) × (a ≡ Some after) × (b ≡ Some text) × (characters (grammar_in format after) ≡ text)
-  both_texts None b e = absurd (cc (e))
-  both_texts (Some after) None e = absurd (cc (e))
-  both_texts (Some after) (Some text) e = (after, text, refl, refl, (bytes_eq-Decides (characters (grammar_in format after)) text).0 e)
-
   abbrev outer_of : List Range → List Range
   outer_of ranges = map (outward_range places) ranges
 
-  edits_keep : (at inside : Position) (new given : List ℕ) (rs ranges : List Range) (b : Bool) → inward_position places at ≡ Some inside → keeps_grammar format places rs given ≡ b
+  edits_keep : (at inside : Position) (new given : List ℕ) (rs ranges : List Range) (o : Option DraftRenameFault) → inward_position places at ≡ Some inside → draft_rename_fault format places rs given ≡ o
       → RenameKeeps Utf32 grammar_text inside given rs
-      → answer.Edits ranges new ≡ (if b then answer.Edits (outer_of rs) given else answer.Refused NothingToRename) → RenameKeepsInDraft format encoding draft at new ranges × (new ≡ given)
-  edits_keep at inside new given rs ranges false stands k keeps e = absurd (cc (e))
-  edits_keep at inside new given rs ranges true stands k keeps e =
+      → answer.Edits ranges new ≡ edits_unless o places rs given → RenameKeepsInDraft format encoding draft at new ranges × (new ≡ given)
+  edits_keep at inside new given rs ranges (Some fault) stands k keeps e = absurd (cc (e))
+  edits_keep at inside new given rs ranges None stands k keeps e =
       let same : new ≡ given = cc (e) in
       let outer : ranges ≡ outer_of rs = cc (e) in
-      let found = both_texts (edited_all (units encoding) draft (renaming_edits given (outer_of rs))) (edited_all (units Utf32) grammar_text (renaming_edits given rs)) k in
-      let by_text : found.1 ≡ text_renamed Utf32 grammar_text given rs =
-      subst (λ t. found.1 ≡ text_renamed Utf32 t given rs) keeps.of_text
-      (subst (λ o. IfSome o (λ t. t ≡ text_renamed Utf32 keeps.grammar.text given rs)) (ap (λ t. edited_all (units Utf32) t (renaming_edits given rs)) keeps.of_text ∙ found.3) keeps.keeps.edits) in (
+      let found = renamed format places rs given k in
+      let by_text : found.text ≡ text_renamed Utf32 grammar_text given rs =
+      subst (λ t. found.text ≡ text_renamed Utf32 t given rs) keeps.of_text
+      (subst (λ o. IfSome o (λ t. t ≡ text_renamed Utf32 keeps.grammar.text given rs)) (ap (λ t. edited_all (units Utf32) t (renaming_edits given rs)) keeps.of_text ∙ found.text_is) keeps.keeps.edits) in (
         subst (λ n. RenameKeepsInDraft format encoding draft at n ranges) (sym same)
             (subst (λ os. RenameKeepsInDraft format encoding draft at given os) (sym outer)
-            (record { edited = found.0; edits = found.2; at_inside = inside; stands = stands; inner = rs; keeps = keeps; grammar = found.4 ∙ by_text })),
+            (record { edited = found.draft; edits = found.draft_is; at_inside = inside; stands = stands; inner = rs; keeps = keeps; grammar = found.grammar ∙ by_text })),
         same,
       )
 
@@ -203,12 +238,13 @@ module _ (format : Format) (encoding : Encoding) (draft : List ℕ) where
   renamed_keeps at inside new given ranges (answer.Symbols symbols) stands s h e = absurd (cc (e))
   renamed_keeps at inside new given ranges (answer.Edits rs put) stands s h e =
       let kept = answer_keeps Utf32 grammar_text (ask.Rename inside new) (answer.Edits rs put) s h in
-      let found = edits_keep at inside given put rs ranges (keeps_grammar format places rs put) stands refl kept.0 e in
+      let found = edits_keep at inside given put rs ranges (draft_rename_fault format places rs put) stands refl kept.0 e in
       (found.0, found.1 ∙ kept.1)
   renamed_keeps at inside new given ranges (answer.Refused fault) stands s h e = absurd (cc (e))
   renamed_keeps at inside new given ranges (answer.Insert insertion) stands s h e = absurd (cc (e))
   renamed_keeps at inside new given ranges (answer.Numbers numbers) stands s h e = absurd (cc (e))
   renamed_keeps at inside new given ranges (answer.Findings found) stands s h e = absurd (cc (e))
+  renamed_keeps at inside new given ranges (answer.Draft drafted) stands s h e = absurd (cc (e))
 
   given_keeps : (o : Option Position) (at : Position) (new given : List ℕ) (ranges : List Range) → inward_position places at ≡ o → All IsScalar draft
       → IsGiven (option_map (λ inner. ask.Rename inner new) o) format places (ask.Rename at new) (answer.Edits ranges given) → RenameKeepsInDraft format encoding draft at given ranges × (given ≡ new)

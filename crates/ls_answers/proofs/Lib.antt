@@ -7,6 +7,7 @@ pub mod HoverTexts
 pub mod OneList
 pub mod WalkLaws
 pub mod RenameLaws
+pub mod RepeatedLaws
 pub mod RenameKept
 pub mod NoName
 pub mod InsertionLaws

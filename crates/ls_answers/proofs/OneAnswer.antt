@@ -209,6 +209,7 @@ module _ (encoding : Encoding) where
   hover_answer text at (answer.Insert insertion) p = absurd p
   hover_answer text at (answer.Numbers numbers) p = absurd p
   hover_answer text at (answer.Findings diagnostics) p = absurd p
+  hover_answer text at (answer.Draft drafted) p = absurd p
 
   definitions_answer : (text : List ℕ) (at : Position) (a : Answer) → IsAnswerInGrammar encoding text (ask.Definition at) a → (x : List Range) × (a ≡ answer.Places x) × AreDefinitions encoding text at x
   definitions_answer text at (answer.Hover hover) p = absurd p
@@ -219,6 +220,7 @@ module _ (encoding : Encoding) where
   definitions_answer text at (answer.Insert insertion) p = absurd p
   definitions_answer text at (answer.Numbers numbers) p = absurd p
   definitions_answer text at (answer.Findings diagnostics) p = absurd p
+  definitions_answer text at (answer.Draft drafted) p = absurd p
 
   references_answer : (text : List ℕ) (at : Position) (declarations : Bool) (a : Answer) → IsAnswerInGrammar encoding text (ask.References at declarations) a → (x : List Range) × (a ≡ answer.Places x) × AreReferences encoding text at declarations x
   references_answer text at declarations (answer.Hover hover) p = absurd p
@@ -229,6 +231,7 @@ module _ (encoding : Encoding) where
   references_answer text at declarations (answer.Insert insertion) p = absurd p
   references_answer text at declarations (answer.Numbers numbers) p = absurd p
   references_answer text at declarations (answer.Findings diagnostics) p = absurd p
+  references_answer text at declarations (answer.Draft drafted) p = absurd p
 
   outline_answer : (text : List ℕ) (a : Answer) → IsAnswerInGrammar encoding text ask.Symbols a → (x : List Symbol) × (a ≡ answer.Symbols x) × IsOutline encoding text x
   outline_answer text (answer.Hover hover) p = absurd p
@@ -239,6 +242,7 @@ module _ (encoding : Encoding) where
   outline_answer text (answer.Insert insertion) p = absurd p
   outline_answer text (answer.Numbers numbers) p = absurd p
   outline_answer text (answer.Findings diagnostics) p = absurd p
+  outline_answer text (answer.Draft drafted) p = absurd p
 
   insertion_answer : (text : List ℕ) (range : Range) (a : Answer) → IsAnswerInGrammar encoding text (ask.Action range) a → (x : Option Insertion) × (a ≡ answer.Insert x) × IsInsertion encoding text range x
   insertion_answer text range (answer.Hover hover) p = absurd p
@@ -249,6 +253,7 @@ module _ (encoding : Encoding) where
   insertion_answer text range (answer.Insert insertion) p = (insertion, refl, p)
   insertion_answer text range (answer.Numbers numbers) p = absurd p
   insertion_answer text range (answer.Findings diagnostics) p = absurd p
+  insertion_answer text range (answer.Draft drafted) p = absurd p
 
   tokens_answer : (text : List ℕ) (a : Answer) → IsAnswerInGrammar encoding text ask.Tokens a → (x : List ℕ) × (a ≡ answer.Numbers x) × AreSemanticTokens encoding text x
   tokens_answer text (answer.Hover hover) p = absurd p
@@ -259,6 +264,7 @@ module _ (encoding : Encoding) where
   tokens_answer text (answer.Insert insertion) p = absurd p
   tokens_answer text (answer.Numbers numbers) p = (numbers, refl, p)
   tokens_answer text (answer.Findings diagnostics) p = absurd p
+  tokens_answer text (answer.Draft drafted) p = absurd p
 
   findings_answer : (text : List ℕ) (a : Answer) → IsAnswerInGrammar encoding text ask.Diagnose a → (x : List Diagnostic) × (a ≡ answer.Findings x) × AreDiagnostics encoding text x
   findings_answer text (answer.Hover hover) p = absurd p
@@ -269,6 +275,7 @@ module _ (encoding : Encoding) where
   findings_answer text (answer.Insert insertion) p = absurd p
   findings_answer text (answer.Numbers numbers) p = absurd p
   findings_answer text (answer.Findings diagnostics) p = (diagnostics, refl, p)
+  findings_answer text (answer.Draft drafted) p = absurd p
 
   -- ---- answers
 

@@ -51,3 +51,4 @@ without_cert (answer.Refused fault) = answer.Refused fault
 without_cert (answer.Insert insertion) = answer.Insert (option_map insertion_without_cert insertion)
 without_cert (answer.Numbers numbers) = answer.Numbers numbers
 without_cert (answer.Findings diagnostics) = answer.Findings diagnostics
+without_cert (answer.Draft given) = answer.Draft given

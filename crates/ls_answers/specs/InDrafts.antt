@@ -1,5 +1,6 @@
 -- What the answer to a question about a draft is: that to the question about the draft's grammar, with each position where it comes from.
-use Rattle.std.specs.Prelude.{◌≡◌, ◌==◌, if◌then◌else◌, ℕ, ◌++◌, List, [], filter, map, Option, None, Some, option_map, Bool, encode_utf8_all}
+use Rattle.std.specs.Prelude.{◌≡◌, ◌==◌, if◌then◌else◌, ℕ, List, [], filter, map, Option, None, Some, option_map, Bool}
+use Rattle.std.specs.Option.{option_and_then}
 use Rattle.ls_text.specs.declared.position.Encoding.{Encoding}
 use Rattle.ls_text.specs.declared.position.Encoding.TheVariants.{Utf32}
 use Rattle.ls_text.specs.declared.position.Position.{Position}
@@ -9,11 +10,13 @@ use Rattle.ls_text.specs.Lines.{units}
 use Rattle.abnf_token.specs.Classes.{is_name}
 use Rattle.abnf_rename.specs.Text.{renaming_edits, text_renamed}
 use Rattle.origins.specs.Origins.{characters}
-use Rattle.draft_grammars.specs.Drafts.{grammar_in}
-use Rattle.draft_grammars.specs.Places.{Mapped, inward_position, inward_range, margin, outward, outward_position, outward_range, place_of}
-use Rattle.draft_grammars.specs.Renames.{keeps_grammar}
+use Rattle.draft_grammars.specs.Drafts.{fault_in, grammar_in}
+use Rattle.draft_grammars.specs.Insertions.{insertion_in}
+use Rattle.draft_grammars.specs.Places.{Mapped, inward_position, inward_range, outward_range}
+use Rattle.draft_grammars.specs.Renames.{draft_rename_fault}
 use Rattle.draft_grammars.specs.declared.format.Format.{Format}
-use Rattle.draft_grammars.specs.declared.format.Format.TheVariants.{Markdown, Xml}
+use Rattle.draft_grammars.specs.declared.rename.DraftRenameFault.{DraftRenameFault}
+use Rattle.ls_answers.specs.DraftDiagnostics.{AreDraftDiagnostics}
 use Rattle.ls_answers.specs.InGrammars.{IsAnswerInGrammar}
 use Rattle.ls_answers.specs.RenameKeeps.{RenameKeeps}
 use Rattle.ls_answers.specs.SemanticTokens.{AreReported, origin, relative}
@@ -21,7 +24,7 @@ use Rattle.ls_answers.specs.declared.ask.Ask.{Ask}
 use Rattle.ls_answers.specs.declared.ask.Ask.TheVariants as ask
 use Rattle.ls_answers.specs.declared.answer.Answer.{Answer}
 use Rattle.ls_answers.specs.declared.answer.Answer.TheVariants as answer
-use Rattle.ls_answers.specs.declared.answer.Diagnostic.{Diagnostic}
+use Rattle.ls_answers.specs.declared.answer.DraftAnswer.TheVariants as draft_answer
 use Rattle.ls_answers.specs.declared.answer.HoverText.{HoverText}
 use Rattle.ls_answers.specs.declared.answer.Insertion.{Insertion}
 use Rattle.ls_answers.specs.declared.answer.RenameFault.TheVariants.{NotAName, NothingToRename}
@@ -50,7 +53,7 @@ outside_answer (ask.Rename at new) = answer.Refused (if is_name new then Nothing
 outside_answer (ask.Action range) = answer.Insert None
 outside_answer ask.Symbols = answer.Symbols []
 outside_answer ask.Tokens = answer.Numbers []
-outside_answer ask.Diagnose = answer.Findings []
+outside_answer ask.Diagnose = answer.Draft (draft_answer.Findings [])
 
 -- ---- answers
 
@@ -62,29 +65,25 @@ outward_hover map hover = record { range = outward_range map hover.range; text =
 abbrev pub outward_symbol : Mapped → Symbol → Symbol
 outward_symbol map symbol = record { name = symbol.name; range = outward_range map symbol.range; name_range = outward_range map symbol.name_range }
 
--- a finding, at its place in the draft
-abbrev pub outward_diagnostic : Mapped → Diagnostic → Diagnostic
-outward_diagnostic map found = record { range = outward_range map found.range; code = found.code; message = found.message }
+-- what could be inserted in the draft, with its place and its text there, if it can be
+abbrev pub outward_insertion : Format → Mapped → Insertion → Option Insertion
+outward_insertion format of insertion =
+    option_map (λ placed. record { position = placed.position; text = placed.text; cert = insertion.cert }) (insertion_in format of insertion.position insertion.text)
 
--- The comment comes behind the margin of its line, and brings the margin of the line that it pushes down.
-abbrev pub outward_insertion : Mapped → Insertion → Insertion
-outward_insertion map insertion = record {
-  position = outward_position map insertion.position;
-  text = insertion.text ++ encode_utf8_all (margin map.draft (outward map (place_of map insertion.position)));
-  cert = insertion.cert;
-}
-
--- In XML nothing is inserted: the comment would have to be written with references, or not, as what surrounds it is.
+-- the same of what could be inserted in the grammar, if there is something
 abbrev pub outward_action : Format → Mapped → Option Insertion → Option Insertion
-outward_action Markdown map insertion = option_map (outward_insertion map) insertion
-outward_action Xml map insertion = None
+outward_action format of insertion = option_and_then (outward_insertion format of) insertion
 
--- A rename is granted in a draft where that keeps its grammar.
+-- the edits of a rename, unless there is a reason not to grant it
+abbrev pub edits_unless : Option DraftRenameFault → Mapped → List Range → List ℕ → Answer
+edits_unless None of ranges new = answer.Edits (map (outward_range of) ranges) new
+edits_unless (Some fault) of ranges new = answer.Draft (draft_answer.Refused fault)
+
+-- A rename that the grammar grants is granted in the draft, too, unless there is a reason not to.
 abbrev pub outward_edits : Format → Mapped → List Range → List ℕ → Answer
-outward_edits format of ranges new =
-    if keeps_grammar format of ranges new then answer.Edits (map (outward_range of) ranges) new else answer.Refused NothingToRename
+outward_edits format of ranges new = edits_unless (draft_rename_fault format of ranges new) of ranges new
 
--- the answer to a question about the grammar, in the draft; numbers of tokens aren't carried by themselves
+-- the answer to a question about the grammar, in the draft; numbers of tokens and findings aren't carried by themselves
 abbrev pub outward_answer : Format → Mapped → Answer → Answer
 outward_answer format of (answer.Hover hover) = answer.Hover (option_map (outward_hover of) hover)
 outward_answer format of (answer.Places ranges) = answer.Places (map (outward_range of) ranges)
@@ -93,7 +92,8 @@ outward_answer format of (answer.Edits ranges new) = outward_edits format of ran
 outward_answer format of (answer.Refused fault) = answer.Refused fault
 outward_answer format of (answer.Insert insertion) = answer.Insert (outward_action format of insertion)
 outward_answer format of (answer.Numbers numbers) = answer.Numbers numbers
-outward_answer format of (answer.Findings found) = answer.Findings (map (outward_diagnostic of) found)
+outward_answer format of (answer.Findings found) = answer.Findings found
+outward_answer format of (answer.Draft given) = answer.Draft given
 
 -- ---- tokens
 
@@ -132,11 +132,13 @@ IsGiven (Some inner) format of question given = IsCarried format of inner given
 abbrev pub IsAnswerWith : Format → Mapped → Ask → Answer → Type 0
 IsAnswerWith format of ask.Tokens (answer.Numbers numbers) = AreTokensInDraft of numbers
 IsAnswerWith format of ask.Tokens _ = ⊥
+IsAnswerWith format of ask.Diagnose (answer.Draft (draft_answer.Findings found)) = AreDraftDiagnostics of found
+IsAnswerWith format of ask.Diagnose _ = ⊥
 IsAnswerWith format of question given = IsGiven (inward_ask of question) format of question given
 
 -- a draft and its grammar
 abbrev pub mapped : Format → Encoding → List ℕ → Mapped
-mapped format encoding draft = record { draft = draft; encoding = encoding; grammar = grammar_in format draft }
+mapped format encoding draft = record { draft = draft; encoding = encoding; grammar = grammar_in format draft; fault = fault_in format draft }
 
 -- the answer to the question about the draft
 abbrev pub IsAnswerInDraft : Format → Encoding → List ℕ → Ask → Answer → Type 0

@@ -7,6 +7,7 @@ pub mod RenameKeeps
 pub mod Insertions
 pub mod SemanticTokens
 pub mod Diagnostics
+pub mod DraftDiagnostics
 pub mod InGrammars
 pub mod InDrafts
 pub mod Answers

@@ -1,8 +1,12 @@
 //! What questions are answered.
 
+ghost use Rattle.std.specs.Prelude.{◌≡◌};
+ghost use Rattle.ls_answers.specs.DraftDiagnostics as draft;
+
 use abnf_cert::Cert;
 use abnf_least::Shortest;
-use abnf_lint::Code;
+use abnf_lint::{Code, Severity};
+use draft_grammars::DraftRenameFault;
 use ls_lists::{List, Text};
 use ls_text::{Position, Range};
 use thiserror::Error;
@@ -40,6 +44,51 @@ pub struct Diagnostic {
     pub message: Text,
 }
 
+/// What is found in a draft at a place: what is found in its grammar, or what only a draft has.
+#[derive(Clone, Copy, Debug, Drop, PartialEq, Eq)]
+pub enum DraftCode {
+    /// A code of the grammar.
+    Grammar(Code),
+    /// `differs`: an earlier block of the draft defines the name, and says something else. At the head of the second or later one.
+    Differs,
+    /// `xml`: the draft's XML is at fault, and what stands behind isn't read. At the fault's first character.
+    Xml,
+}
+
+impl DraftCode {
+    /// Its text.
+    pub fn text(self) -> &'static str
+        ensures { result.now ≡ draft.draft_code_text self }
+    {
+        match self {
+            DraftCode::Grammar(code) => code.text(),
+            DraftCode::Differs => "differs",
+            DraftCode::Xml => "xml",
+        }
+    }
+
+    /// How grave it is.
+    pub fn severity(self) -> Severity
+        ensures { result ≡ draft.draft_severity self }
+    {
+        match self {
+            DraftCode::Grammar(code) => code.severity(),
+            DraftCode::Differs | DraftCode::Xml => Severity::Error,
+        }
+    }
+}
+
+/// What is wrong or doubtful at a place of a draft (LSP 3.17, "PublishDiagnostics Notification").
+#[derive(Drop)]
+pub struct DraftDiagnostic {
+    /// Where it stands.
+    pub range: Range,
+    /// Its code, from which its severity follows.
+    pub code: DraftCode,
+    /// What is said of it.
+    pub message: Text,
+}
+
 /// A text that could be inserted (LSP 3.17, "Code Action Request").
 #[derive(Drop)]
 pub struct Insertion {
@@ -65,6 +114,15 @@ pub enum RenameFault {
     NameInUse,
 }
 
+/// What only a question about a draft is answered.
+#[derive(Drop)]
+pub enum DraftAnswer {
+    /// Why a rename that the draft's grammar grants isn't granted in the draft.
+    Refused(DraftRenameFault),
+    /// What is found in the draft, in its order.
+    Findings(List<DraftDiagnostic>),
+}
+
 /// What is answered to a question about a document. Positions and ranges count what those of the question do.
 #[derive(Drop)]
 pub enum Answer {
@@ -83,6 +141,8 @@ pub enum Answer {
     Insert(Option<Insertion>),
     /// Five numbers for each token but blanks and bad ones, in the order of the text.
     Numbers(List<u32>),
-    /// What is found in the text, in its order.
+    /// What is found in a text that is a grammar, in its order.
     Findings(List<Diagnostic>),
+    /// What only a draft has.
+    Draft(DraftAnswer),
 }

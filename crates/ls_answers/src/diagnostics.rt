@@ -32,7 +32,7 @@ pub fn diagnostics(
 }
 
 /// A text with what is found in it: by what is kept of a text near to it, or else by all of its blocks.
-fn diagnosed(
+pub(crate) fn diagnosed(
     alloc: Global,
     near: Option<Diagnosed>,
     snapshot: &Arc<Snapshot>,

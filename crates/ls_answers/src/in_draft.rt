@@ -6,8 +6,9 @@ ghost use Rattle.abnf_token.specs.Classes as classes;
 ghost use Rattle.ls_answers.specs.Asks.{IsToNoName};
 ghost use Rattle.ls_answers.specs.InDrafts as spec;
 
-use crate::answer::{Answer, RenameFault};
+use crate::answer::{Answer, DraftAnswer, RenameFault};
 use crate::ask::Ask;
+use crate::draft_diagnostics::draft_diagnostics;
 use crate::draft_tokens::draft_tokens;
 use crate::in_grammar::answer_in_grammar;
 use crate::inward::{inward_ask, outside_answer};
@@ -19,6 +20,24 @@ use ls_text::{Encoding, Position, Snapshot};
 use std::alloc::{AllocError as Memory, Global};
 use std::sync::Arc;
 
+/// The answer to the question about the grammar of a draft, in the draft.
+fn carried(
+    alloc: Global,
+    recent: &mut abnf_kept::Recent,
+    format: Format,
+    places: &SourceMap<'_>,
+    ask: &Ask,
+) -> Result<Answer, Memory>
+    ensures { IfOk result (λ given. spec.IsGiven (spec.inward_ask places.now ask.now) format places.now ask.now given) }
+{
+    let Some(inner) = inward_ask(places, ask)? else {
+        return Ok(outside_answer(alloc, ask));
+    };
+    let text = places.grammar().text();
+    let answer = answer_in_grammar(alloc, recent, text, Encoding::Utf32, &inner)?;
+    outward_answer(alloc, format, answer, places)
+}
+
 /// The answer by the grammar of a draft.
 fn answer_with(
     alloc: Global,
@@ -29,15 +48,14 @@ fn answer_with(
 ) -> Result<Answer, Memory>
     ensures { IfOk result (λ given. spec.IsAnswerWith format places.now ask.now given) }
 {
-    if let Ask::Tokens = ask {
-        return Ok(Answer::Numbers(draft_tokens(alloc, places)?));
+    match ask {
+        Ask::Tokens => Ok(Answer::Numbers(draft_tokens(alloc, places)?)),
+        Ask::Diagnose => {
+            let found = draft_diagnostics(alloc, recent, places)?;
+            Ok(Answer::Draft(DraftAnswer::Findings(found)))
+        }
+        _ => carried(alloc, recent, format, places, ask),
     }
-    let Some(inner) = inward_ask(places, ask)? else {
-        return Ok(outside_answer(alloc, ask));
-    };
-    let text = places.grammar().text();
-    let answer = answer_in_grammar(alloc, recent, text, Encoding::Utf32, &inner)?;
-    outward_answer(alloc, format, answer, places)
 }
 
 /// What is answered to a rename whose new text is no name.

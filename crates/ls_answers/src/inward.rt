@@ -3,7 +3,7 @@
 ghost use Rattle.std.specs.Prelude.{◌≡◌, IfOk};
 ghost use Rattle.ls_answers.specs.InDrafts as spec;
 
-use crate::answer::{Answer, RenameFault};
+use crate::answer::{Answer, DraftAnswer, RenameFault};
 use crate::ask::Ask;
 use crate::rename::is_name;
 use draft_grammars::SourceMap;
@@ -49,6 +49,6 @@ pub(crate) fn outside_answer(alloc: Global, ask: &Ask) -> Answer
         Ask::Action(_) => Answer::Insert(None),
         Ask::Symbols => Answer::Symbols(List::new(alloc)),
         Ask::Tokens => Answer::Numbers(List::new(alloc)),
-        Ask::Diagnose => Answer::Findings(List::new(alloc)),
+        Ask::Diagnose => Answer::Draft(DraftAnswer::Findings(List::new(alloc))),
     }
 }

@@ -13,6 +13,7 @@
 mod answer;
 mod ask;
 mod diagnostics;
+mod draft_diagnostics;
 mod draft_tokens;
 mod hover;
 mod hovers;
@@ -29,7 +30,10 @@ mod recent;
 mod rename;
 mod semantic_tokens;
 
-pub use answer::{Answer, Diagnostic, HoverText, Insertion, RenameFault, Symbol};
+pub use answer::{
+    Answer, Diagnostic, DraftAnswer, DraftCode, DraftDiagnostic, HoverText, Insertion, RenameFault,
+    Symbol,
+};
 pub use ask::Ask;
 pub use hover::hover_text;
 pub use job::{Done, Job, run, run_keeping};

@@ -1,11 +1,11 @@
 //! Answers about the grammar of a draft, carried to the draft.
 
-ghost use Rattle.std.specs.Prelude.{◌≡◌, ◌++◌, encode_utf8_all, IfOk, map, option_map};
+ghost use Rattle.std.specs.Prelude.{◌≡◌, IfOk, map, option_map};
 ghost use Rattle.draft_grammars.specs.Places.{outward_range};
 ghost use Rattle.ls_answers.specs.InDrafts as spec;
 
-use crate::answer::{Answer, Diagnostic, HoverText, Insertion, RenameFault, Symbol};
-use draft_grammars::{Format, SourceMap, renamed_ranges};
+use crate::answer::{Answer, DraftAnswer, HoverText, Insertion, Symbol};
+use draft_grammars::{Format, SourceMap, inserted_lines, renamed_ranges};
 use ls_lists::{List, Text};
 use ls_text::Range;
 use std::alloc::{AllocError as Memory, Global};
@@ -16,14 +16,6 @@ fn carry_symbols(symbols: &mut [Symbol], places: &SourceMap<'_>)
     for symbol in symbols.iter_mut() {
         symbol.range = places.outward_range(symbol.range);
         symbol.name_range = places.outward_range(symbol.name_range);
-    }
-}
-
-fn carry_diagnostics(diagnostics: &mut [Diagnostic], places: &SourceMap<'_>)
-    ensures { diagnostics.new ≡ map (spec.outward_diagnostic places.now) diagnostics.old }
-{
-    for found in diagnostics.iter_mut() {
-        found.range = places.outward_range(found.range);
     }
 }
 
@@ -43,14 +35,6 @@ fn outward_symbols(symbols: List<Symbol>, places: &SourceMap<'_>) -> List<Symbol
     List::from_vec(symbols)
 }
 
-fn outward_diagnostics(diagnostics: List<Diagnostic>, places: &SourceMap<'_>) -> List<Diagnostic>
-    ensures { result ≡ map (spec.outward_diagnostic places.now) diagnostics }
-{
-    let mut diagnostics = diagnostics.into_vec();
-    carry_diagnostics(&mut diagnostics, places);
-    List::from_vec(diagnostics)
-}
-
 fn outward_hover(hover: HoverText, places: &SourceMap<'_>) -> HoverText
     ensures { result ≡ spec.outward_hover places.now hover }
 {
@@ -66,37 +50,44 @@ fn outward_hover(hover: HoverText, places: &SourceMap<'_>) -> HoverText
     }
 }
 
-fn outward_insertion(insertion: Insertion, places: &SourceMap<'_>) -> Result<Insertion, Memory>
-    ensures { IfOk result (λ given. given ≡ spec.outward_insertion places.now insertion) }
+fn outward_insertion(
+    alloc: Global,
+    format: Format,
+    insertion: Insertion,
+    places: &SourceMap<'_>,
+) -> Result<Option<Insertion>, Memory>
+    ensures { IfOk result (λ given. given ≡ spec.outward_insertion format places.now insertion) }
 {
     let Insertion {
         position,
         text,
         cert,
     } = insertion;
-    let mut inserted = text.into_string();
-    places.push_margin(&mut inserted, position)?;
-    Ok(Insertion {
-        position: places.outward_position(position),
-        text: Text::new(inserted),
-        cert,
-    })
+    match inserted_lines(alloc, format, places, position, &text)? {
+        Some(placed) => Ok(Some(Insertion {
+            position: placed.position,
+            text: placed.text,
+            cert,
+        })),
+        None => Ok(None),
+    }
 }
 
 fn outward_action(
+    alloc: Global,
     format: Format,
     insertion: Option<Insertion>,
     places: &SourceMap<'_>,
 ) -> Result<Option<Insertion>, Memory>
     ensures { IfOk result (λ given. given ≡ spec.outward_action format places.now insertion) }
 {
-    match (format, insertion) {
-        (Format::Markdown, Some(insertion)) => Ok(Some(outward_insertion(insertion, places)?)),
-        _ => Ok(None),
+    match insertion {
+        Some(insertion) => outward_insertion(alloc, format, insertion, places),
+        None => Ok(None),
     }
 }
 
-/// The edits of a rename, or that it isn't granted.
+/// The edits of a rename, or why it isn't granted.
 fn outward_edits(
     alloc: Global,
     format: Format,
@@ -107,8 +98,8 @@ fn outward_edits(
     ensures { IfOk result (λ given. given ≡ spec.outward_edits format places.now ranges new) }
 {
     match renamed_ranges(alloc, format, places, ranges, &new)? {
-        Some(ranges) => Ok(Answer::Edits(ranges, new)),
-        None => Ok(Answer::Refused(RenameFault::NothingToRename)),
+        Ok(ranges) => Ok(Answer::Edits(ranges, new)),
+        Err(fault) => Ok(Answer::Draft(DraftAnswer::Refused(fault))),
     }
 }
 
@@ -129,9 +120,10 @@ pub(crate) fn outward_answer(
         Answer::Edits(ranges, new) => outward_edits(alloc, format, ranges, new, places),
         Answer::Refused(fault) => Ok(Answer::Refused(fault)),
         Answer::Insert(insertion) => {
-            Ok(Answer::Insert(outward_action(format, insertion, places)?))
+            Ok(Answer::Insert(outward_action(alloc, format, insertion, places)?))
         }
         Answer::Numbers(numbers) => Ok(Answer::Numbers(numbers)),
-        Answer::Findings(found) => Ok(Answer::Findings(outward_diagnostics(found, places))),
+        Answer::Findings(found) => Ok(Answer::Findings(found)),
+        Answer::Draft(given) => Ok(Answer::Draft(given)),
     }
 }

@@ -3,7 +3,7 @@
 ghost use Rattle.std.specs.Prelude.{◌≡◌, ◌<◌, IfOk, IfSome, IsTrue, length};
 ghost use Rattle.std.specs.Arc.{arc_value};
 ghost use Rattle.abnf_kept.specs.Recent.{IsTaken};
-ghost use Rattle.draft_grammars.specs.Drafts.{grammar_in};
+ghost use Rattle.draft_grammars.specs.Drafts.{contents_in};
 ghost use Rattle.ls_answers.specs.Remembered as spec;
 
 use arrayvec::ArrayVec;
@@ -27,14 +27,14 @@ pub struct ReadDraft {
 impl Model for ReadDraft {
     ghost use Rattle.std.specs.Prelude.{◌≡◌};
     ghost use Rattle.std.specs.Arc.{arc_value};
-    ghost use Rattle.draft_grammars.specs.Drafts.{grammar_in};
+    ghost use Rattle.draft_grammars.specs.Drafts.{contents_in};
     ghost use Rattle.ls_answers.specs.Remembered.{KnownDraft};
 
     ghost Value = { KnownDraft };
 
     ghost view = { λ d. record { format = d.format; text = arc_value d.draft } };
 
-    ghost invariant = { λ d. arc_value d.grammar ≡ grammar_in d.format (arc_value d.draft) };
+    ghost invariant = { λ d. arc_value d.grammar ≡ contents_in d.format (arc_value d.draft) };
 }
 
 impl ReadDraft {
@@ -62,7 +62,7 @@ impl ReadDraft {
 
     /// The draft's grammar.
     pub fn grammar(&self) -> &DraftGrammar
-        ensures { result.now ≡ grammar_in self.now.format self.now.text }
+        ensures { result.now ≡ contents_in self.now.format self.now.text }
     {
         &self.grammar
     }

@@ -8,8 +8,9 @@ use Rattle.ls_rpc.specs.declared.message.Id.{Id}
 use Rattle.ls_rpc.specs.declared.message.Id.TheVariants.{Number, Text}
 use Rattle.ls_answers.specs.declared.answer.Answer.{Answer}
 use Rattle.ls_answers.specs.declared.answer.Answer.TheVariants as answer
+use Rattle.ls_answers.specs.declared.answer.DraftAnswer.TheVariants as draft_answer
 use Rattle.ls_text.specs.declared.position.Range.{Range}
-use Rattle.ls_bodies.specs.Bodies.{answer_json, answered_json, diagnostic_json, found_in, location_json, published_json, symbol_json}
+use Rattle.ls_bodies.specs.Bodies.{answer_json, answered_json, diagnostic_json, draft_diagnostic_json, found_json, location_json, published_json, symbol_json}
 use Rattle.ls_bodies.specs.Edits.{edit_json, edits_json, empty_range, workspace_edit_json}
 use Rattle.ls_bodies.specs.Tokens.{count_json}
 use Rattle.ls_bodies.proofs.Arrays.{has_no_float}
@@ -33,6 +34,20 @@ answer_whole uri label links (answer.Insert None) = refl
 answer_whole uri label links (answer.Insert (Some insertion)) = rw (edits_whole uri label links insertion.text (empty_range insertion.position ∷ [])) refl
 answer_whole uri label links (answer.Numbers numbers) = rw (has_no_float count_json (λ n. refl) numbers) refl
 answer_whole uri label links (answer.Findings diagnostics) = has_no_float diagnostic_json (λ diagnostic. refl) diagnostics
+answer_whole uri label links (answer.Draft (draft_answer.Refused fault)) = refl
+answer_whole uri label links (answer.Draft (draft_answer.Findings diagnostics)) = has_no_float draft_diagnostic_json (λ diagnostic. refl) diagnostics
+
+found_whole : (a : Answer) → has_float (found_json a) ≡ false
+found_whole (answer.Hover hover) = refl
+found_whole (answer.Places ranges) = refl
+found_whole (answer.Symbols symbols) = refl
+found_whole (answer.Edits ranges new) = refl
+found_whole (answer.Refused fault) = refl
+found_whole (answer.Insert insertion) = refl
+found_whole (answer.Numbers numbers) = refl
+found_whole (answer.Findings diagnostics) = has_no_float diagnostic_json (λ diagnostic. refl) diagnostics
+found_whole (answer.Draft (draft_answer.Refused fault)) = refl
+found_whole (answer.Draft (draft_answer.Findings diagnostics)) = has_no_float draft_diagnostic_json (λ diagnostic. refl) diagnostics
 
 reply_whole : (id : Id) (uri : List ℕ) (label : ℤ) (links : Bool) (a : Answer) → has_float (result_json id (answer_json uri label links a)) ≡ false
 reply_whole (Number n) uri label links a = rw (of_integer_whole n, answer_whole uri label links a) refl
@@ -44,4 +59,4 @@ answered_whole id uri label links a = reply_whole id uri label links a
 
 pub published_whole : (uri : List ℕ) (label : ℤ) (a : Answer) → has_float (published_json uri label a) ≡ false
 unfolding published_json
-published_whole uri label a = rw (has_no_float diagnostic_json (λ diagnostic. refl) (found_in a), of_integer_whole label) refl
+published_whole uri label a = rw (found_whole a, of_integer_whole label) refl

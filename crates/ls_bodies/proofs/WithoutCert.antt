@@ -3,7 +3,7 @@ use Rattle.std.proofs.Common.{◌≡◌, ℕ, ℤ, Bool, List, Some, None, refl,
 use Rattle.ls_rpc.specs.declared.message.Id.{Id}
 use Rattle.ls_answers.specs.Answers.{without_cert}
 use Rattle.ls_answers.specs.declared.answer.Answer.{Answer}
-use Rattle.ls_answers.specs.declared.answer.Answer.TheVariants.{Hover, Places, Symbols, Edits, Refused, Insert, Numbers, Findings}
+use Rattle.ls_answers.specs.declared.answer.Answer.TheVariants.{Hover, Places, Symbols, Edits, Refused, Insert, Numbers, Findings, Draft}
 use Rattle.ls_bodies.specs.Bodies.{answered_json, published_json, findings_body, reply_body}
 
 reply_without : (id : Id) (uri : List ℕ) (label : ℤ) (links : Bool) (a : Answer) → reply_body id uri label links (without_cert a) ≡ reply_body id uri label links a
@@ -18,6 +18,7 @@ reply_without id uri label links (Insert None) = refl
 reply_without id uri label links (Insert (Some insertion)) = refl
 reply_without id uri label links (Numbers numbers) = refl
 reply_without id uri label links (Findings diagnostics) = refl
+reply_without id uri label links (Draft given) = refl
 
 findings_without : (uri : List ℕ) (label : ℤ) (a : Answer) → findings_body uri label (without_cert a) ≡ findings_body uri label a
 unfolding findings_body published_json
@@ -31,6 +32,7 @@ findings_without uri label (Insert None) = refl
 findings_without uri label (Insert (Some insertion)) = refl
 findings_without uri label (Numbers numbers) = refl
 findings_without uri label (Findings diagnostics) = refl
+findings_without uri label (Draft given) = refl
 
 -- Answers that are the same but for a certificate have the same body.
 pub same_reply : (id : Id) (uri : List ℕ) (label : ℤ) (links : Bool) (a b : Answer) → without_cert a ≡ without_cert b → reply_body id uri label links a ≡ reply_body id uri label links b

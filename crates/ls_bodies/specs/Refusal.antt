@@ -5,6 +5,8 @@ use Rattle.serde_json.specs.Written.{compact_text}
 use Rattle.ls_rpc.specs.declared.message.Id.{Id}
 use Rattle.ls_rpc.specs.Message.{parse_error, invalid_request}
 use Rattle.ls_rpc.specs.Reply.{error_json}
+use Rattle.draft_grammars.specs.declared.rename.DraftRenameFault.{DraftRenameFault}
+use Rattle.draft_grammars.specs.declared.rename.DraftRenameFault.TheVariants as draft_rename
 use Rattle.ls_answers.specs.declared.answer.RenameFault.{RenameFault}
 use Rattle.ls_answers.specs.declared.answer.RenameFault.TheVariants as rename
 use Rattle.ls_bodies.specs.declared.refusal.Refusal.{Refusal}
@@ -28,6 +30,9 @@ code_of refusal.InternalError = neg_ℤ (pos 32603)
 code_of refusal.NotAName = neg_ℤ (pos 32803)
 code_of refusal.NothingToRename = neg_ℤ (pos 32803)
 code_of refusal.NameInUse = neg_ℤ (pos 32803)
+code_of refusal.DraftAtFault = neg_ℤ (pos 32803)
+code_of refusal.TextTooLarge = neg_ℤ (pos 32803)
+code_of refusal.NameSplit = neg_ℤ (pos 32803)
 
 -- the text of such an error, its `message`
 abbrev pub refusal_text : Refusal → List ℕ
@@ -45,6 +50,9 @@ refusal_text refusal.InternalError = codes "internal error"
 refusal_text refusal.NotAName = codes "not a rule name"
 refusal_text refusal.NothingToRename = codes "nothing to rename"
 refusal_text refusal.NameInUse = codes "name in use"
+refusal_text refusal.DraftAtFault = codes "the draft's XML is at fault"
+refusal_text refusal.TextTooLarge = codes "text too large"
+refusal_text refusal.NameSplit = codes "name split by markup"
 
 -- the refusal of a body that is no message, by its code: no JSON, or no message
 abbrev pub refusal_of_code : ℤ → Refusal
@@ -55,6 +63,12 @@ abbrev pub refusal_of_rename : RenameFault → Refusal
 refusal_of_rename rename.NotAName = refusal.NotAName
 refusal_of_rename rename.NothingToRename = refusal.NothingToRename
 refusal_of_rename rename.NameInUse = refusal.NameInUse
+
+-- the refusal of one that isn't granted in a draft
+abbrev pub refusal_in_draft : DraftRenameFault → Refusal
+refusal_in_draft draft_rename.AtFault = refusal.DraftAtFault
+refusal_in_draft draft_rename.TooLarge = refusal.TextTooLarge
+refusal_in_draft draft_rename.Split = refusal.NameSplit
 
 -- The refusal of a request that was given up, by the code that is kept for it. Each code that a desk keeps is said as it is
 -- (`failures_have_their_code` in `ls_session`); any other is the server's own fault, and would be said as -32603.

@@ -4,14 +4,14 @@
 ghost use Rattle.std.specs.Prelude.{◌≡◌, IfOk, OnOk, Ok};
 ghost use Rattle.serde_json.specs.Data.{array, no_items};
 ghost use Rattle.serde_json.specs.Events.{SendsValue};
-ghost use Rattle.ls_bodies.specs.Bodies.{answer_json, answered_json, failure_body, findings_body, findings_json, found_in, hover_json, location_json, locations_json, plain_text_json, published_json, reply_body, symbol_json, symbols_json};
+ghost use Rattle.ls_bodies.specs.Bodies.{answer_json, answered_json, failure_body, findings_body, findings_json, found_json, hover_json, location_json, locations_json, plain_text_json, published_json, refusal_in, reply_body, symbol_json, symbols_json};
 
-use crate::diagnostics::write_diagnostics;
+use crate::diagnostics::{write_diagnostics, write_draft_diagnostics};
 use crate::edits::{write_actions, write_workspace_edit};
 use crate::positions::write_range;
 use crate::refusal::Refusal;
 use crate::tokens::write_tokens;
-use ls_answers::{Answer, Diagnostic, HoverText, Symbol};
+use ls_answers::{Answer, DraftAnswer, HoverText, Symbol};
 use ls_rpc::{Id, open_notice, open_reply};
 use ls_text::Range;
 use serde::{Described, Serialize, Serializer};
@@ -38,8 +38,8 @@ pub fn reply_body(
 ) -> Result<Vec<u8>, Memory>
     ensures { IfOk result (λ body. body.items ≡ reply_body id.now uri.now label links answer.now) }
 {
-    if let Answer::Refused(fault) = answer {
-        return Refusal::of_rename(*fault).body(alloc, Some(id));
+    if let Some(refusal) = refusal_in(answer) {
+        return refusal.body(alloc, Some(id));
     }
     let document = Document { uri, label, links };
     let reply = Reply {
@@ -48,6 +48,17 @@ pub fn reply_body(
         answer,
     };
     written(serde_json::to_vec(alloc, &reply))
+}
+
+/// Why a rename isn't granted, if the answer says so.
+fn refusal_in(answer: &Answer) -> Option<Refusal>
+    ensures { result ≡ refusal_in answer.now }
+{
+    match answer {
+        Answer::Refused(fault) => Some(Refusal::of_rename(*fault)),
+        Answer::Draft(DraftAnswer::Refused(fault)) => Some(Refusal::in_draft(*fault)),
+        _ => None,
+    }
 }
 
 /// The body that replies to a request which was given up, by the code that is kept for it.
@@ -161,6 +172,10 @@ fn write_answer<S: Serializer>(
         Answer::Insert(None) => write_nothing(out),
         Answer::Numbers(numbers) => write_tokens(out, numbers.as_slice()),
         Answer::Findings(diagnostics) => write_diagnostics(out, diagnostics.as_slice()),
+        Answer::Draft(DraftAnswer::Refused(_)) => out.unit(),
+        Answer::Draft(DraftAnswer::Findings(diagnostics)) => {
+            write_draft_diagnostics(out, diagnostics.as_slice())
+        }
     }
 }
 
@@ -173,12 +188,15 @@ fn write_nothing<S: Serializer>(out: &mut S) -> Result<(), S::Error>
 }
 
 /// The findings that an answer has.
-fn found_in(answer: &Answer) -> &[Diagnostic]
-    ensures { result.now ≡ found_in answer.now }
+fn write_found<S: Serializer>(out: &mut S, answer: &Answer) -> Result<(), S::Error>
+    ensures { OnOk result (SendsValue (found_json answer.now) (S.written out.old) (S.written out.new)) }
 {
     match answer {
-        Answer::Findings(diagnostics) => diagnostics.as_slice(),
-        _ => &[],
+        Answer::Findings(diagnostics) => write_diagnostics(out, diagnostics.as_slice()),
+        Answer::Draft(DraftAnswer::Findings(found)) => {
+            write_draft_diagnostics(out, found.as_slice())
+        }
+        _ => write_nothing(out),
     }
 }
 
@@ -188,7 +206,7 @@ fn write_findings<S: Serializer>(out: &mut S, published: &Publication<'_>) -> Re
 {
     out.begin_map(Some(3))?;
     out.key("diagnostics")?;
-    write_diagnostics(out, found_in(published.answer))?;
+    write_found(out, published.answer)?;
     out.key("uri")?;
     out.str(published.uri)?;
     out.key("version")?;

@@ -1,8 +1,9 @@
 //! The errors that are answered, and their bodies.
 ghost use Rattle.std.specs.Prelude.{◌≡◌, IfOk};
 ghost use Rattle.std.specs.Option.{option_copied};
-ghost use Rattle.ls_bodies.specs.Refusal.{code_of, refusal_text, error_body, refusal_of_code, refusal_of_failure, refusal_of_rename};
+ghost use Rattle.ls_bodies.specs.Refusal.{code_of, refusal_text, error_body, refusal_in_draft, refusal_of_code, refusal_of_failure, refusal_of_rename};
 
+use draft_grammars::DraftRenameFault;
 use ls_answers::RenameFault;
 use ls_rpc::{INVALID_REQUEST, Id, PARSE_ERROR, error_text};
 use std::alloc::{AllocError as Memory, Global};
@@ -41,6 +42,12 @@ pub enum Refusal {
     NothingToRename,
     /// -32803: a rename to another name of the document, or to that of a core rule.
     NameInUse,
+    /// -32803: a rename in a draft whose XML is at fault.
+    DraftAtFault,
+    /// -32803: a rename that would make the draft too large.
+    TextTooLarge,
+    /// -32803: a rename in a draft that the name's markup doesn't allow.
+    NameSplit,
 }
 
 impl Refusal {
@@ -60,7 +67,10 @@ impl Refusal {
             Refusal::TooManyWaiting
             | Refusal::NotAName
             | Refusal::NothingToRename
-            | Refusal::NameInUse => -32803,
+            | Refusal::NameInUse
+            | Refusal::DraftAtFault
+            | Refusal::TextTooLarge
+            | Refusal::NameSplit => -32803,
         }
     }
 
@@ -83,6 +93,9 @@ impl Refusal {
             Refusal::NotAName => "not a rule name",
             Refusal::NothingToRename => "nothing to rename",
             Refusal::NameInUse => "name in use",
+            Refusal::DraftAtFault => "the draft's XML is at fault",
+            Refusal::TextTooLarge => "text too large",
+            Refusal::NameSplit => "name split by markup",
         }
     }
 
@@ -105,6 +118,17 @@ impl Refusal {
             RenameFault::NotAName => Refusal::NotAName,
             RenameFault::NothingToRename => Refusal::NothingToRename,
             RenameFault::NameInUse => Refusal::NameInUse,
+        }
+    }
+
+    /// The refusal of a rename that isn't granted in a draft.
+    pub(crate) fn in_draft(fault: DraftRenameFault) -> Refusal
+        ensures { result ≡ refusal_in_draft fault }
+    {
+        match fault {
+            DraftRenameFault::AtFault => Refusal::DraftAtFault,
+            DraftRenameFault::TooLarge => Refusal::TextTooLarge,
+            DraftRenameFault::Split => Refusal::NameSplit,
         }
     }
 

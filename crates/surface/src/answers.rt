@@ -160,6 +160,7 @@ pub fn answer_kind(answer: &Answer) -> u8 {
         Answer::Insert(_) => 5,
         Answer::Numbers(_) => 6,
         Answer::Findings(_) => 7,
+        Answer::Draft(_) => 8,
     }
 }
 

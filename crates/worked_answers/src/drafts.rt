@@ -1,6 +1,7 @@
 //! Answers in drafts, at the draft's own places. What is carried is written with a place for each range, as `LINE:START-LINE:END`.
 
-use ls_answers::{Answer, Ask, Job, RenameFault, run};
+use draft_grammars::DraftRenameFault;
+use ls_answers::{Answer, Ask, DraftAnswer, DraftDiagnostic, Job, RenameFault, run};
 use ls_lists::Text;
 use ls_text::{Encoding, Position, Range, Snapshot, Units};
 use std::alloc::{AllocError, Global};
@@ -84,15 +85,37 @@ fn push_answer(alloc: Global, answer: &Answer, shown: &mut String) -> Result<(),
             }
             Ok(())
         }
-        Answer::Findings(found) => {
-            for finding in found.as_slice() {
-                push_range(alloc, &finding.range, shown)?;
-                shown.push_str(finding.message.as_str())?;
-                shown.push_str("; ")?;
-            }
-            Ok(())
-        }
+        Answer::Findings(_) => shown.push_str("findings of a grammar"),
+        Answer::Draft(DraftAnswer::Refused(fault)) => shown.push_str(draft_fault_text(*fault)),
+        Answer::Draft(DraftAnswer::Findings(found)) => push_findings(
+            alloc,
+            found.as_slice(),
+            shown,
+        ),
     }
+}
+
+fn draft_fault_text(fault: DraftRenameFault) -> &'static str {
+    match fault {
+        DraftRenameFault::AtFault => "at fault",
+        DraftRenameFault::TooLarge => "too large",
+        DraftRenameFault::Split => "split",
+    }
+}
+
+fn push_findings(
+    alloc: Global,
+    found: &[DraftDiagnostic],
+    shown: &mut String,
+) -> Result<(), AllocError> {
+    for finding in found {
+        push_range(alloc, &finding.range, shown)?;
+        shown.push_str(finding.code.text())?;
+        shown.push_str(" ")?;
+        shown.push_str(finding.message.as_str())?;
+        shown.push_str("; ")?;
+    }
+    Ok(())
 }
 
 fn answers(
@@ -227,9 +250,66 @@ fn renames_change_names_in_blocks_alone(rt: HostRuntime) -> Result<(), Fail> {
         )?
     );
     assert!(rt; renames(alloc, MARKDOWN, MARKDOWN_16, at(0, 0), "1", "not a name")?);
-    // A name that is written with a reference has no range that could be written anew.
+    // A range ends behind a reference.
     let pieces = "<sourcecode type=\"abnf\">ab = a&#98;\n</sourcecode>";
-    assert!(rt; renames(alloc, pieces, XML_16, at(0, 24), "abc", "nothing to rename")?);
+    let both = "0:24-0:26 0:29-0:35 abc";
+    assert!(rt; renames(alloc, pieces, XML_16, at(0, 24), "abc", both)?);
+    // What would be written in the place of `a]]>b` would go on to be CDATA.
+    let split = "<sourcecode type=\"abnf\"><![CDATA[ab = a]]>b\n</sourcecode>";
+    assert!(rt; renames(alloc, split, XML_16, at(0, 33), "abc", "split")?);
+    Ok(())
+}
+
+#[test]
+fn xml_at_fault_keeps_what_stands_in_front(rt: HostRuntime) -> Result<(), Fail> {
+    let alloc = rt.alloc();
+    let draft = "<sourcecode type=\"abnf\">a = b\na = \"x\"\n&x;\nb = a</sourcecode>";
+    let found =
+        "1:0-1:1 differs rule a differs from its definition at line 1; 2:0-2:1 xml no reference to a character; ";
+    assert!(rt; answers(alloc, draft, XML_16, Ask::Diagnose, found)?);
+    let places = "0:24-0:25 1:0-1:1 ";
+    assert!(rt; answers(alloc, draft, XML_16, Ask::Definition(at(0, 24)), places)?);
+    assert!(rt; renames(alloc, draft, XML_16, at(0, 24), "c", "at fault")?);
+    assert!(rt; renames(alloc, draft, XML_16, at(0, 28), "c", "nothing to rename")?);
+    let open = "<sourcecode type=\"abnf\">a = a\n";
+    let without_end = "0:0-0:1 xml block without an end tag; ";
+    assert!(rt; answers(alloc, open, XML_16, Ask::Diagnose, without_end)?);
+    Ok(())
+}
+
+#[test]
+fn definitions_that_say_the_same_are_no_finding(rt: HostRuntime) -> Result<(), Fail> {
+    let alloc = rt.alloc();
+    let same = "~~~ abnf\na = \"x\"\n~~~\n~~~ abnf\nA = \"x\" ; c\n~~~\n";
+    assert!(rt; answers(alloc, same, MARKDOWN_16, Ask::Diagnose, "")?);
+    let other = "~~~ abnf\na = \"x\"\n~~~\n~~~ abnf\na = \"y\"\n~~~\n";
+    let differs = "4:0-4:1 differs rule a differs from its definition at line 2; ";
+    assert!(rt; answers(alloc, other, MARKDOWN_16, Ask::Diagnose, differs)?);
+    // A grammar that is no draft has one definition of each name.
+    let grammar = "a = \"x\"\na = \"x\"\n";
+    assert!(rt;
+        answers(
+            alloc,
+            grammar,
+            Encoding::Utf16,
+            Ask::Diagnose,
+            "findings of a grammar"
+        )?
+    );
+    Ok(())
+}
+
+#[test]
+fn of_many_faults_in_a_block_the_first_is_reported(rt: HostRuntime) -> Result<(), Fail> {
+    let alloc = rt.alloc();
+    let many = "~~~ abnf\n=\n=\n=\n=\n=\n=\n=\n=\n=\n=\n=\na = b\n~~~\n~~~ abnf\n=\n~~~\n";
+    let first =
+        "1:0-1:1 syntax rule name expected (the first of 11 faults in this block); 15:0-15:1 syntax rule name expected; ";
+    assert!(rt; answers(alloc, many, MARKDOWN_16, Ask::Diagnose, first)?);
+    let ten = "~~~ abnf\n=\n=\n=\n=\n=\n=\n=\n=\n=\n=\n~~~\n";
+    let each =
+        "1:0-1:1 syntax rule name expected; 2:0-2:1 syntax rule name expected; 3:0-3:1 syntax rule name expected; 4:0-4:1 syntax rule name expected; 5:0-5:1 syntax rule name expected; 6:0-6:1 syntax rule name expected; 7:0-7:1 syntax rule name expected; 8:0-8:1 syntax rule name expected; 9:0-9:1 syntax rule name expected; 10:0-10:1 syntax rule name expected; ";
+    assert!(rt; answers(alloc, ten, MARKDOWN_16, Ask::Diagnose, each)?);
     Ok(())
 }
 
@@ -240,17 +320,23 @@ fn comments_keep_the_margin(rt: HostRuntime) -> Result<(), Fail> {
         start: at(5, 16),
         end: at(5, 16),
     };
-    assert!(rt; in_markdown(alloc, Ask::Action(hello), "6:5-6:5 ; example hi\n     ")?);
+    assert!(rt; in_markdown(alloc, Ask::Action(hello), "6:5-6:5 ; example hi\r\n     ")?);
     let other = Range {
         start: at(13, 2),
         end: at(13, 3),
     };
-    assert!(rt; in_markdown(alloc, Ask::Action(other), "13:1-13:1 ; example xhi\n\t")?);
+    assert!(rt; in_markdown(alloc, Ask::Action(other), "13:1-13:1 ; example xhi\r\n\t")?);
     let b = Range {
         start: at(2, 2),
         end: at(2, 2),
     };
-    assert!(rt; in_xml(alloc, Ask::Action(b), "none")?);
+    assert!(rt; in_xml(alloc, Ask::Action(b), "2:2-2:2 ; example x\n  ")?);
+    let c = Range {
+        start: at(3, 21),
+        end: at(3, 21),
+    };
+    // Its example is `<`, which can't stand outside of a CDATA section.
+    assert!(rt; in_xml(alloc, Ask::Action(c), "none")?);
     Ok(())
 }
 
@@ -258,7 +344,8 @@ fn comments_keep_the_margin(rt: HostRuntime) -> Result<(), Fail> {
 fn findings_and_tokens_stand_in_the_draft(rt: HostRuntime) -> Result<(), Fail> {
     let alloc = rt.alloc();
     let draft = "prose\n~~~ abnf\n  a = b\n~~~\nprose\n";
-    let undefined = "2:2-2:3 rule a generates nothing; 2:6-2:7 undefined rule b; ";
+    let undefined =
+        "2:2-2:3 unproductive rule a generates nothing; 2:6-2:7 undefined undefined rule b; ";
     assert!(rt; answers(alloc, draft, MARKDOWN_16, Ask::Diagnose, undefined)?);
     let tokens = "2 2 1 0 1 0 2 1 3 0 0 2 1 0 0 ";
     assert!(rt; answers(alloc, draft, MARKDOWN_16, Ask::Tokens, tokens)?);

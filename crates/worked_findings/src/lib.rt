@@ -1,4 +1,4 @@
-//! Worked rows of `abnf_findings`: near names, files whose names are known, printed grammars, and arguments.
+//! Worked rows of `abnf_findings`: near names, files whose names are known, blocks with many faults, printed grammars, and arguments.
 //!
 //! They stand above the crates that they test, since a crate with tests is proved twice.
 #![tactic(auto)]
@@ -7,6 +7,8 @@
 mod arguments;
 #[cfg(test)]
 mod drafts;
+#[cfg(test)]
+mod floods;
 #[cfg(test)]
 mod grammars;
 #[cfg(test)]

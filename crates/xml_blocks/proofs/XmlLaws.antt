@@ -1,6 +1,6 @@
 -- Laws of texts, tags, references and blocks.
 use Rattle.std.proofs.Common.{◌≡◌, ℕ, zero, suc, ◌+◌, ◌-◌, ◌<◌, ◌≤◌, ◌^◌, Bool, true, false, cond, ◌&&◌, ◌||◌, List, [], ◌∷◌, ◌++◌, length, take, drop, refl, sym, ap, subst, inl, inr, ◌∙◌, eq-eqb, append_assoc, length-append, arith}
-use Rattle.std.specs.Prelude.{Option, Some, None, Result, Ok, Err, nat_eq}
+use Rattle.std.specs.Prelude.{Option, Some, None, Ok, Err, nat_eq}
 use Rattle.std.specs.Option.{option_map, is_some}
 use Rattle.std.specs.Str.{chars, IsUtf8, IsCharBoundary, encode_utf8_all as encodes}
 use Rattle.std.proofs.Math.Seq.{drop-append_seam}
@@ -9,11 +9,10 @@ use Rattle.std.proofs.lemmas.List.{append-nil, append_cancel_right, take-append-
 use Rattle.std.proofs.lemmas.Str.{encodes-chars, length-le-encodes, chars-nil, chars-append, encodes-append, IsCharBoundary-at_seam, IsUtf8-take}
 use Rattle.origins.specs.Origins.{Sourced, SourcedBlock, aligned, grammar_of}
 use Rattle.xml_blocks.specs.declared.fault.XmlFault.{XmlFault}
-use Rattle.xml_blocks.specs.declared.fault.XmlFault.TheVariants.{BlockWithoutEnd}
 use Rattle.xml_blocks.specs.declared.gather.Open.{Open}
 use Rattle.xml_blocks.specs.declared.piece.Piece.{Piece}
-use Rattle.xml_blocks.specs.own.Reading.{reading_element}
-use Rattle.xml_blocks.specs.Xml.{Opened, and_then, begins, begins_type, behind_piece, element_blocks, closes_tag, grammar_behind, has_abnf_type, is_scalar, named_value, number, open_quote, piece_at, put_before, quoted_len, value_with_digit, with_value}
+use Rattle.xml_blocks.specs.own.Reading.{front_behind, reading_element}
+use Rattle.xml_blocks.specs.Xml.{Front, Opened, at_end, begins, begins_type, behind_piece, closes_tag, element_front, ended_at, from_piece_on, has_abnf_type, is_scalar, named_value, number, open_quote, piece_at, put_before, quoted_len, value_with_digit, with_value}
 
 -- ---- texts
 
@@ -163,13 +162,13 @@ module _ (base value count : ℕ) (t : List ℕ) {whole : Option (ℕ × ℕ)} (
 -- ---- blocks
 
 -- what was read already is passed over
-blocks_skip : (state : Option Opened) (n at : ℕ) (t : List ℕ) → element_blocks state n at t ≡ element_blocks state 0 (at + length (take n t)) (drop n t)
-unfolding element_blocks
-blocks_skip state zero at t = ap (λ a. element_blocks state 0 a t) (let e : at ≡ at + 0 = omega arith in e)
-blocks_skip state (suc n) at [] = refl
-blocks_skip state (suc n) at (c ∷ t) =
-    blocks_skip state n (suc at) t
-    ∙ ap (λ a. element_blocks state 0 a (drop n t)) (let e : suc at + length (take n t) ≡ at + suc (length (take n t)) = omega arith in e)
+front_skip : (state : Option Opened) (n at : ℕ) (t : List ℕ) → element_front state n at t ≡ element_front state 0 (at + length (take n t)) (drop n t)
+unfolding element_front
+front_skip state zero at t = ap (λ a. element_front state 0 a t) (let e : at ≡ at + 0 = omega arith in e)
+front_skip state (suc n) at [] = refl
+front_skip state (suc n) at (c ∷ t) =
+    front_skip state n (suc at) t
+    ∙ ap (λ a. element_front state 0 a (drop n t)) (let e : suc at + length (take n t) ≡ at + suc (length (take n t)) = omega arith in e)
 
 pub parts_len : (n : ℕ) (t : List ℕ) → length (take n t) + length (drop n t) ≡ length t
 parts_len n t = sym (length-append (take n t) (drop n t)) ∙ ap length (take-append-drop n t)
@@ -178,50 +177,56 @@ grammar_of_append : (bs cs : List SourcedBlock) → grammar_of (bs ++ cs) ≡ gr
 grammar_of_append [] cs = refl
 grammar_of_append (b ∷ bs) cs = ap (λ g. aligned b ++ g) (grammar_of_append bs cs) ∙ sym (append_assoc (aligned b) (grammar_of bs) (grammar_of cs))
 
-behind_put : (front : List Sourced) (bs : List SourcedBlock) (r : Result (List SourcedBlock) XmlFault) → grammar_behind (front ++ grammar_of bs) r ≡ grammar_behind front (put_before bs r)
-behind_put front bs (Err f) = refl
-behind_put front bs (Ok cs) = ap Ok (append_assoc front (grammar_of bs) (grammar_of cs) ∙ ap (λ g. front ++ g) (sym (grammar_of_append bs cs)))
+behind_put : (grammar : List Sourced) (bs : List SourcedBlock) (rest : Front) → front_behind (grammar ++ grammar_of bs) rest ≡ front_behind grammar (put_before bs rest)
+behind_put grammar bs rest =
+    let pair : List Sourced → List Sourced × Option XmlFault = λ g. (g, rest.fault) in
+    ap pair (append_assoc grammar (grammar_of bs) (grammar_of rest.blocks) ∙ ap (λ g. grammar ++ g) (sym (grammar_of_append bs rest.blocks)))
 
 reading_some : (current : Option Open) (block : List Sourced) → is_some current ≡ is_some (reading_element current block)
 reading_some None block = refl
 reading_some (Some o) block = refl
 
--- the blocks behind a piece
-after : Option Opened → ℕ → List ℕ → Piece → Result (List SourcedBlock) XmlFault
-after state at t piece = put_before (behind_piece state piece.kind at (take piece.more t)).1 (element_blocks (behind_piece state piece.kind at (take piece.more t)).0 piece.more (suc at) t)
+-- what is read behind a piece
+after : Option Opened → ℕ → List ℕ → Piece → Front
+after state at t piece = put_before (behind_piece state piece.kind at (take piece.more t)).1 (element_front (behind_piece state piece.kind at (take piece.more t)).0 piece.more (suc at) t)
 
-module _ (grammar : List Sourced) (at : ℕ) (rest : List ℕ) (current : Option Open) (block : List Sourced) {whole : Result (List Sourced) XmlFault} (was : grammar_behind grammar (element_blocks (reading_element current block) 0 at rest) ≡ whole) where
-  pub ends_open : (o : Open) → rest ≡ [] → current ≡ Some o → Err (BlockWithoutEnd o.begin) ≡ whole
-  unfolding element_blocks
-  ends_open o none is = (λ i. grammar_behind grammar (element_blocks (reading_element (sym is i) block) 0 at (sym none i))) ∙ was
+-- no block comes at the end of the draft
+none_at_end : (state : Option Opened) → [] ≡ (at_end state).blocks
+none_at_end None = refl
+none_at_end (Some opened) = refl
 
-  pub ends_outside : rest ≡ [] → current ≡ None → Ok grammar ≡ whole
-  unfolding element_blocks
-  ends_outside none is = ap Ok (sym (append-nil grammar)) ∙ (λ i. grammar_behind grammar (element_blocks (reading_element (sym is i) block) 0 at (sym none i))) ∙ was
+module _ (grammar : List Sourced) (at : ℕ) (rest : List ℕ) (current : Option Open) (block : List Sourced) {whole : List Sourced × Option XmlFault} (was : front_behind grammar (element_front (reading_element current block) 0 at rest) ≡ whole) where
+  pub front_ends : rest ≡ [] → front_behind grammar (at_end (reading_element current block)) ≡ whole
+  unfolding element_front
+  front_ends none = ap (λ t. front_behind grammar (element_front (reading_element current block) 0 at t)) (sym none) ∙ was
+
+  pub ends_grammar : rest ≡ [] → grammar ≡ whole.0
+  ends_grammar none = sym (append-nil grammar) ∙ ap (λ bs. grammar ++ grammar_of bs) (none_at_end (reading_element current block)) ∙ ap (λ r. r.0) (front_ends none)
 
   module _ (c : ℕ) (t : List ℕ) (is : rest ≡ c ∷ t) (flag : Bool) (some : flag ≡ is_some current) where
-    stands : grammar_behind grammar (and_then (piece_at flag at c t) (after (reading_element current block) at t)) ≡ whole
-    unfolding element_blocks after
+    stands : front_behind grammar (from_piece_on (reading_element current block) at (piece_at flag at c t) (after (reading_element current block) at t)) ≡ whole
+    unfolding element_front after
     stands =
-        (λ i. grammar_behind grammar (and_then (piece_at ((some ∙ reading_some current block) i) at c t) (after (reading_element current block) at t)))
-        ∙ (λ i. grammar_behind grammar (element_blocks (reading_element current block) 0 at (sym is i)))
+        (λ i. front_behind grammar (from_piece_on (reading_element current block) at (piece_at ((some ∙ reading_some current block) i) at c t) (after (reading_element current block) at t)))
+        ∙ (λ i. front_behind grammar (element_front (reading_element current block) 0 at (sym is i)))
         ∙ was
 
-    pub piece_fault : (fault : XmlFault) → Err fault ≡ piece_at flag at c t → Err fault ≡ whole
-    piece_fault fault e = ap (λ r. grammar_behind grammar (and_then r (after (reading_element current block) at t))) e ∙ stands
+    pub piece_fault : (fault : XmlFault) → Err fault ≡ piece_at flag at c t → (grammar ++ grammar_of (ended_at (reading_element current block) at), Some fault) ≡ whole
+    piece_fault fault e = ap (λ r. front_behind grammar (from_piece_on (reading_element current block) at r (after (reading_element current block) at t))) e ∙ stands
 
     module _ (piece : Piece) (piece_is : Ok piece ≡ piece_at flag at c t) where
-      skipped : grammar_behind (grammar ++ grammar_of (behind_piece (reading_element current block) piece.kind at (take piece.more t)).1) (element_blocks (behind_piece (reading_element current block) piece.kind at (take piece.more t)).0 0 (at + (1 + length (take piece.more t))) (drop piece.more t)) ≡ whole
+      skipped : front_behind (grammar ++ grammar_of (behind_piece (reading_element current block) piece.kind at (take piece.more t)).1) (element_front (behind_piece (reading_element current block) piece.kind at (take piece.more t)).0 0 (at + (1 + length (take piece.more t))) (drop piece.more t)) ≡ whole
       unfolding after
       skipped =
-          ap (λ a. grammar_behind (grammar ++ grammar_of (behind_piece (reading_element current block) piece.kind at (take piece.more t)).1) (element_blocks (behind_piece (reading_element current block) piece.kind at (take piece.more t)).0 0 a (drop piece.more t))) (let e : at + (1 + length (take piece.more t)) ≡ suc at + length (take piece.more t) = omega arith in e)
-          ∙ ap (λ r. grammar_behind (grammar ++ grammar_of (behind_piece (reading_element current block) piece.kind at (take piece.more t)).1) r) (sym (blocks_skip (behind_piece (reading_element current block) piece.kind at (take piece.more t)).0 piece.more (suc at) t))
-          ∙ behind_put grammar (behind_piece (reading_element current block) piece.kind at (take piece.more t)).1 (element_blocks (behind_piece (reading_element current block) piece.kind at (take piece.more t)).0 piece.more (suc at) t)
-          ∙ ap (λ r. grammar_behind grammar (and_then r (after (reading_element current block) at t))) piece_is
+          let next = behind_piece (reading_element current block) piece.kind at (take piece.more t) in
+          ap (λ a. front_behind (grammar ++ grammar_of next.1) (element_front next.0 0 a (drop piece.more t))) (let e : at + (1 + length (take piece.more t)) ≡ suc at + length (take piece.more t) = omega arith in e)
+          ∙ ap (λ r. front_behind (grammar ++ grammar_of next.1) r) (sym (front_skip next.0 piece.more (suc at) t))
+          ∙ behind_put grammar next.1 (element_front next.0 piece.more (suc at) t)
+          ∙ ap (λ r. front_behind grammar (from_piece_on (reading_element current block) at r (after (reading_element current block) at t))) piece_is
           ∙ stands
 
-      pub piece_read : (text left : List ℕ) (n : ℕ) (next : Option Open) (to content : List Sourced) → text ≡ take piece.more t → left ≡ drop piece.more t → n ≡ length text → reading_element next content ≡ (behind_piece (reading_element current block) piece.kind at text).0 → to ≡ grammar ++ grammar_of (behind_piece (reading_element current block) piece.kind at text).1 → grammar_behind to (element_blocks (reading_element next content) 0 (at + (1 + n)) left) ≡ whole
+      pub piece_read : (text left : List ℕ) (n : ℕ) (next : Option Open) (to content : List Sourced) → text ≡ take piece.more t → left ≡ drop piece.more t → n ≡ length text → reading_element next content ≡ (behind_piece (reading_element current block) piece.kind at text).0 → to ≡ grammar ++ grammar_of (behind_piece (reading_element current block) piece.kind at text).1 → front_behind to (element_front (reading_element next content) 0 (at + (1 + n)) left) ≡ whole
       piece_read text left n next to content text_is left_is n_is next_is to_is =
-          (λ i. grammar_behind (to_is i) (element_blocks (next_is i) 0 (at + (1 + n_is i)) (left_is i)))
-          ∙ ap (λ x. grammar_behind (grammar ++ grammar_of (behind_piece (reading_element current block) piece.kind at x).1) (element_blocks (behind_piece (reading_element current block) piece.kind at x).0 0 (at + (1 + length x)) (drop piece.more t))) text_is
+          (λ i. front_behind (to_is i) (element_front (next_is i) 0 (at + (1 + n_is i)) (left_is i)))
+          ∙ ap (λ x. front_behind (grammar ++ grammar_of (behind_piece (reading_element current block) piece.kind at x).1) (element_front (behind_piece (reading_element current block) piece.kind at x).0 0 (at + (1 + length x)) (drop piece.more t))) text_is
           ∙ skipped

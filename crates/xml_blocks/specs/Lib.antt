@@ -1,3 +1,4 @@
+pub mod Faults
 pub mod Xml
 pub mod Unread
 pub mod own

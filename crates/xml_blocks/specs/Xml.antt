@@ -243,37 +243,61 @@ behind_piece (Some opened) kind at t =
     if ends (opened.0).element kind t then (None, record { content = opened.1; end = at } ∷ [])
     else (Some (opened.0, opened.1 ++ piece_content kind at t), [])
 
--- what comes next, unless there is a fault
-abbrev pub and_then : {A B : Type 0} → Result A XmlFault → (A → Result B XmlFault) → Result B XmlFault
-and_then (Ok x) f = f x
-and_then (Err e) f = Err e
+-- what can be read of a draft: the blocks in front of its first fault, and that fault, if it has one
+pub record Front : Type 0 where
+  pub blocks : List SourcedBlock
+  pub fault : Option XmlFault
 
--- blocks before others
-abbrev pub put_before : List SourcedBlock → Result (List SourcedBlock) XmlFault → Result (List SourcedBlock) XmlFault
-put_before bs rest = and_then rest (λ cs. Ok (bs ++ cs))
+-- blocks before what is read behind them
+abbrev pub put_before : List SourcedBlock → Front → Front
+put_before bs rest = record { blocks = bs ++ rest.blocks; fault = rest.fault }
 
--- at the end of the draft no block is open
-abbrev pub at_end : Option Opened → Result (List SourcedBlock) XmlFault
-at_end None = Ok []
-at_end (Some opened) = Err (BlockWithoutEnd (opened.0).begin)
+-- At the end of the draft no block is open. One that is has no end tag: it is at fault, and doesn't count.
+abbrev pub at_end : Option Opened → Front
+at_end None = record { blocks = []; fault = None }
+at_end (Some opened) = record { blocks = []; fault = Some (BlockWithoutEnd (opened.0).begin) }
 
--- The blocks of a text that begins at an offset, or the first fault. A block may be open, and so many characters are of a piece that
--- was read already.
-unfoldable pub element_blocks : Option Opened → ℕ → ℕ → List ℕ → Result (List SourcedBlock) XmlFault
-element_blocks state read at [] = at_end state
-element_blocks state (suc read) at (c ∷ t) = element_blocks state read (suc at) t
-element_blocks state zero at (c ∷ t) =
-    and_then (piece_at (is_some state) at c t) (λ piece.
+-- the block that is open, if there is one, with its content so far: it ends at this offset
+abbrev pub ended_at : Option Opened → ℕ → List SourcedBlock
+ended_at None at = []
+ended_at (Some opened) at = record { content = opened.1; end = at } ∷ []
+
+-- what is read from a piece on; a fault in its place ends the block that is open, and the reading
+abbrev pub from_piece_on : Option Opened → ℕ → Result Piece XmlFault → (Piece → Front) → Front
+from_piece_on state at (Ok piece) f = f piece
+from_piece_on state at (Err fault) f = record { blocks = ended_at state at; fault = Some fault }
+
+-- What can be read of a text that begins at an offset. A block may be open, and so many characters are of a piece that was read
+-- already.
+unfoldable pub element_front : Option Opened → ℕ → ℕ → List ℕ → Front
+element_front state read at [] = at_end state
+element_front state (suc read) at (c ∷ t) = element_front state read (suc at) t
+element_front state zero at (c ∷ t) =
+    from_piece_on state at (piece_at (is_some state) at c t) (λ piece.
     let next = behind_piece state piece.kind at (take piece.more t) in
-    put_before next.1 (element_blocks next.0 piece.more (suc at) t))
+    put_before next.1 (element_front next.0 piece.more (suc at) t))
+
+-- the blocks of ABNF in a draft in RFCXML, in front of its first fault
+abbrev pub front_blocks : List ℕ → List SourcedBlock
+front_blocks draft = (element_front None 0 0 draft).blocks
+
+-- the first fault of such a draft, if it has one
+abbrev pub first_fault : List ℕ → Option XmlFault
+first_fault draft = (element_front None 0 0 draft).fault
+
+-- blocks, unless there is a fault
+abbrev pub unless_fault : Option XmlFault → List SourcedBlock → Result (List SourcedBlock) XmlFault
+unless_fault None bs = Ok bs
+unless_fault (Some fault) bs = Err fault
 
 -- the blocks of ABNF in a draft in RFCXML, or its first fault
 abbrev pub xml_blocks : List ℕ → Result (List SourcedBlock) XmlFault
-xml_blocks draft = element_blocks None 0 0 draft
+xml_blocks draft = unless_fault (first_fault draft) (front_blocks draft)
 
--- the grammar of the blocks behind some characters
+-- the grammar of the blocks behind some characters, or the fault
 abbrev pub grammar_behind : List Sourced → Result (List SourcedBlock) XmlFault → Result (List Sourced) XmlFault
-grammar_behind front bs = and_then bs (λ cs. Ok (front ++ grammar_of cs))
+grammar_behind front (Ok bs) = Ok (front ++ grammar_of bs)
+grammar_behind front (Err fault) = Err fault
 
 -- what is gathered from a draft: the grammar of its blocks or its first fault, unless memory was refused
 abbrev pub IsGathered : List ℕ → Result (List Sourced) XmlFault → Type 0

@@ -1,5 +1,8 @@
 //! What can be wrong with a draft in RFCXML.
 
+ghost use Rattle.std.specs.Prelude.{◌≡◌};
+ghost use Rattle.xml_blocks.specs.Faults.{fault_offset, fault_words};
+
 use std::alloc::AllocError;
 use thiserror::Error;
 
@@ -24,6 +27,36 @@ pub enum XmlFault {
     /// An allocation was refused.
     #[error("out of memory")]
     Memory,
+}
+
+impl XmlFault {
+    /// The offset of the draft at which it stands, in characters; 0 of [`Memory`](XmlFault::Memory).
+    pub fn offset(self) -> usize
+        ensures { result ≡ fault_offset self }
+    {
+        match self {
+            XmlFault::BlockWithoutEnd(at) => at,
+            XmlFault::CommentWithoutEnd(at) => at,
+            XmlFault::SectionWithoutEnd(at) => at,
+            XmlFault::TagWithoutEnd(at) => at,
+            XmlFault::BadReference(at) => at,
+            XmlFault::Memory => 0,
+        }
+    }
+
+    /// What it is, in a few words.
+    pub fn words(self) -> &'static str
+        ensures { result.now ≡ fault_words self }
+    {
+        match self {
+            XmlFault::BlockWithoutEnd(_) => "block without an end tag",
+            XmlFault::CommentWithoutEnd(_) => "comment without an end",
+            XmlFault::SectionWithoutEnd(_) => "CDATA section without an end",
+            XmlFault::TagWithoutEnd(_) => "tag without an end",
+            XmlFault::BadReference(_) => "no reference to a character",
+            XmlFault::Memory => "out of memory",
+        }
+    }
 }
 
 impl From<AllocError> for XmlFault {

@@ -1,8 +1,8 @@
 //! The blocks of a draft, gathered.
 
-ghost use Rattle.std.specs.Prelude.{◌≡◌, ◌<◌, ◌^◌, ◌++◌, IfOk, OnOk, length};
+ghost use Rattle.std.specs.Prelude.{◌≡◌, ◌<◌, ◌^◌, ◌++◌, List, IfOk, OnOk, length};
 ghost use Rattle.std.specs.Str.{chars};
-ghost use Rattle.origins.specs.Origins.{grammar_of};
+ghost use Rattle.origins.specs.Origins.{Sourced, grammar_of};
 ghost use Rattle.xml_blocks.specs.own.Reading.{reading_element};
 ghost use Rattle.xml_blocks.specs.Xml as spec;
 
@@ -94,6 +94,82 @@ fn read(
     Ok(current)
 }
 
+// The fault of a block that is open at the end of the draft.
+fn fault_at_end(current: Option<Open>) -> Option<XmlFault>
+    ensures { (content : List Sourced) → result ≡ (spec.at_end (reading_element current content)).fault }
+{
+    match current {
+        Some(opened) => Some(XmlFault::BlockWithoutEnd(opened.begin)),
+        None => None,
+    }
+}
+
+// Adds the block that is open, if there is one: it ends at this offset.
+fn end_at(
+    grammar: &mut Gathered,
+    block: &Gathered,
+    current: Option<Open>,
+    at: usize,
+) -> Result<(), AllocError>
+    ensures { OnOk result (grammar.new ≡ grammar.old ++ grammar_of (spec.ended_at (reading_element current block.now) at)) }
+{
+    match current {
+        Some(_) => grammar.add_block(block, at),
+        None => Ok(()),
+    }
+}
+
+/// What can be read of a draft in RFCXML.
+#[derive(Drop)]
+pub struct XmlFront {
+    /// The grammar of all blocks of ABNF in front of the first fault, as [`gather_xml`] has it. The block that a fault stands in
+    /// counts as far as it goes, and ends at the fault; one whose end tag doesn't come doesn't count.
+    pub grammar: Gathered,
+    /// The first fault of the draft, if it has one.
+    pub fault: Option<XmlFault>,
+}
+
+/// What can be read of a draft in RFCXML: the grammar of its blocks up to its first fault, and that fault. Time and memory go
+/// by the length of the draft.
+///
+/// # Errors
+///
+/// Where an allocation is refused.
+pub fn gather_front(alloc: Global, draft: &str) -> Result<XmlFront, AllocError>
+    ensures grammar { IfOk result (λ front. front.grammar ≡ grammar_of (spec.front_blocks (chars draft.now))) }
+    ensures fault { IfOk result (λ front. front.fault ≡ spec.first_fault (chars draft.now)) }
+{
+    if draft.len() >= NO_OFFSET {
+        return Err(AllocError);
+    }
+    let mut grammar = Gathered::new(alloc);
+    let mut block = Gathered::new(alloc);
+    let mut current: Option<Open> = None;
+    let mut rest = draft;
+    let mut at = 0usize;
+    'pieces: loop {
+        let Some((c, more)) = first(rest) else {
+            let fault = fault_at_end(current);
+            return Ok(XmlFront { grammar, fault });
+        };
+        let in_block = current.is_some();
+        let piece = match piece_at(in_block, at, c, more) {
+            Ok(found) => found,
+            Err(fault) => {
+                end_at(&mut grammar, &block, current, at)?;
+                return Ok(XmlFront {
+                    grammar,
+                    fault: Some(fault),
+                });
+            }
+        };
+        let (text, left) = cut(in_block, piece, more);
+        current = read(&mut grammar, &mut block, current, piece.kind, text, at)?;
+        rest = left;
+        at += 1 + char_count(text);
+    }
+}
+
 /// The grammar of all blocks of ABNF in a draft in RFCXML, one behind the other, with the offset of each character in the
 /// draft. A draft without blocks has an empty one.
 ///
@@ -107,26 +183,9 @@ fn read(
 pub fn gather_xml(alloc: Global, draft: &str) -> Result<Gathered, XmlFault>
     ensures { spec.IsGathered (chars draft.now) result }
 {
-    if draft.len() >= NO_OFFSET {
-        return Err(XmlFault::Memory);
-    }
-    let mut grammar = Gathered::new(alloc);
-    let mut block = Gathered::new(alloc);
-    let mut current: Option<Open> = None;
-    let mut rest = draft;
-    let mut at = 0usize;
-    'pieces: loop {
-        let Some((c, more)) = first(rest) else {
-            return match current {
-                Some(opened) => Err(XmlFault::BlockWithoutEnd(opened.begin)),
-                None => Ok(grammar),
-            };
-        };
-        let in_block = current.is_some();
-        let piece = piece_at(in_block, at, c, more)?;
-        let (text, left) = cut(in_block, piece, more);
-        current = read(&mut grammar, &mut block, current, piece.kind, text, at)?;
-        rest = left;
-        at += 1 + char_count(text);
+    let front = gather_front(alloc, draft)?;
+    match front.fault {
+        Some(fault) => Err(fault),
+        None => Ok(front.grammar),
     }
 }

@@ -13,5 +13,6 @@ mod text;
 mod unread;
 
 pub use fault::XmlFault;
-pub use gather::gather_xml;
+pub use gather::{XmlFront, gather_front, gather_xml};
+pub use reference::reference_len;
 pub use unread::unread_blocks;

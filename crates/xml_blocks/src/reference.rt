@@ -1,6 +1,7 @@
 //! References to characters.
 
 ghost use Rattle.std.specs.Prelude.{◌≡◌, ◌≤◌, ◌<◌, ◌^◌, ◌+◌, IfSome, length};
+ghost use Rattle.std.specs.Option.{option_map};
 ghost use Rattle.std.specs.Str.{chars};
 ghost use Rattle.xml_blocks.specs.own.Reading.{IsBase};
 ghost use Rattle.xml_blocks.specs.Xml as spec;
@@ -125,5 +126,17 @@ pub fn reference(text: &str) -> Option<(char, usize)>
         Some(('\'', 5))
     } else {
         by_name(text)
+    }
+}
+
+/// How many characters a reference has behind its `&`, up to its `;` and with it, by the text there; `None` where that begins none
+/// of the references that a block of ABNF may have.
+pub fn reference_len(text: &str) -> Option<usize>
+    requires { length (chars text.now) < 2 ^ 63 }
+    ensures { result ≡ option_map (λ r. r.1) (spec.reference (chars text.now)) }
+{
+    match reference(text) {
+        Some((_, count)) => Some(count),
+        None => None,
     }
 }

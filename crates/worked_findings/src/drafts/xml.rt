@@ -1,7 +1,8 @@
 //! Drafts in RFCXML with their grammar, written out by hand.
 
+use origins::Gathered;
 use std::alloc::Global;
-use xml_blocks::{XmlFault, gather_xml};
+use xml_blocks::{XmlFault, gather_front, gather_xml};
 
 /// A draft, its grammar, and where characters of the grammar, by their offset, begin in the draft.
 type Row = (&'static str, &'static str, &'static [(usize, usize)]);
@@ -110,6 +111,42 @@ const FAULTS: &[(&'static str, XmlFault)] = &[
     ),
 ];
 
+/// A draft that is at fault, the grammar in front of that, the places of characters, as in a [`Row`], and the fault.
+type Front = (
+    &'static str,
+    &'static str,
+    &'static [(usize, usize)],
+    XmlFault,
+);
+
+const FRONTS: &[Front] = &[
+    (
+        "<artwork type=\"abnf\">a = b</artwork><artwork type=\"abnf\">c = &d</artwork>",
+        "a = b\nc = \n",
+        &[(0, 21), (5, 26), (6, 57), (9, 60), (10, 61)],
+        XmlFault::BadReference(61),
+    ),
+    (
+        "<artwork type=\"abnf\">a = b<![CDATA[ c</artwork>",
+        "a = b\n",
+        &[(4, 25), (5, 26)],
+        XmlFault::SectionWithoutEnd(26),
+    ),
+    (
+        "<artwork type=\"abnf\">a = b</artwork><artwork type=\"abnf\">c = d",
+        "a = b\n",
+        &[(5, 26)],
+        XmlFault::BlockWithoutEnd(36),
+    ),
+    (
+        "<artwork type=\"abnf\">a = b</artwork><!-- <artwork type=\"abnf\">c = d</artwork>",
+        "a = b\n",
+        &[(5, 26)],
+        XmlFault::CommentWithoutEnd(36),
+    ),
+    ("a <b", "", &[], XmlFault::TagWithoutEnd(2)),
+];
+
 /// Whether a draft has this grammar, whose characters begin in the draft at these places, and none behind the last.
 fn has_grammar(
     alloc: Global,
@@ -117,16 +154,20 @@ fn has_grammar(
     grammar: &str,
     places: &[(usize, usize)],
 ) -> Result<bool, XmlFault> {
-    let gathered = gather_xml(alloc, draft)?;
+    Ok(is_gathered(&gather_xml(alloc, draft)?, grammar, places))
+}
+
+/// Whether this grammar was gathered, whose characters begin in the draft at these places, and none behind the last.
+fn is_gathered(gathered: &Gathered, grammar: &str, places: &[(usize, usize)]) -> bool {
     if gathered.as_str() != grammar {
-        return Ok(false);
+        return false;
     }
     for (offset, origin) in places {
         if gathered.origin_of(*offset) != Some(*origin) {
-            return Ok(false);
+            return false;
         }
     }
-    Ok(gathered.origin_of(grammar.chars().count()) == None)
+    gathered.origin_of(grammar.chars().count()) == None
 }
 
 /// Whether a draft has this fault.
@@ -170,4 +211,20 @@ fn finds_faults(rt: HostRuntime) {
     for (draft, fault) in FAULTS {
         assert!(rt; has_fault(rt.alloc(), draft, *fault), "{draft}");
     }
+}
+
+#[test]
+fn finds_what_stands_in_front_of_faults(rt: HostRuntime) -> Result<(), XmlFault> {
+    assert!(rt; FRONTS.len() >= 5);
+    for (draft, grammar, places, fault) in FRONTS {
+        let front = gather_front(rt.alloc(), draft)?;
+        assert!(rt; is_gathered(&front.grammar, grammar, places), "{draft}");
+        assert!(rt; front.fault == Some(*fault), "{draft}");
+    }
+    for (draft, grammar, places) in BLOCKS {
+        let front = gather_front(rt.alloc(), draft)?;
+        assert!(rt; is_gathered(&front.grammar, grammar, places), "{draft}");
+        assert!(rt; front.fault == None, "{draft}");
+    }
+    Ok(())
 }

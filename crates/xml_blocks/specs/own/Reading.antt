@@ -1,17 +1,22 @@
 -- How the pieces of a draft are read, one after another. No public contract cites this.
-use Rattle.std.specs.Prelude.{◌≡◌, ℕ, Bool, nat_lt, ◌⊎◌, Option, Some, None, List, if◌then◌else◌}
+use Rattle.std.specs.Prelude.{◌≡◌, ℕ, Bool, nat_lt, ◌⊎◌, Option, Some, None, List, ◌++◌, if◌then◌else◌}
 use Rattle.std.specs.Option.{option_map}
 use Rattle.std.specs.List.{prefix_len}
-use Rattle.origins.specs.Origins.{Sourced}
+use Rattle.origins.specs.Origins.{Sourced, grammar_of}
+use Rattle.xml_blocks.specs.declared.fault.XmlFault.{XmlFault}
 use Rattle.xml_blocks.specs.declared.gather.Open.{Open}
 use Rattle.xml_blocks.specs.declared.piece.Kind.TheVariants.{Text}
 use Rattle.xml_blocks.specs.declared.piece.Piece.{Piece}
 use Rattle.xml_blocks.specs.declared.tag.Element.{Element}
-use Rattle.xml_blocks.specs.Xml.{Opened, has_abnf_type, is_plain_char}
+use Rattle.xml_blocks.specs.Xml.{Front, Opened, has_abnf_type, is_plain_char}
 
 -- what is read so far: the open block, if there is one, and what was gathered of it
 abbrev pub reading_element : Option Open → List Sourced → Option Opened
 reading_element current content = option_map (λ o. (o, content)) current
+
+-- what is gathered behind some characters by what is read, and the fault
+abbrev pub front_behind : List Sourced → Front → List Sourced × Option XmlFault
+front_behind grammar front = (grammar ++ grammar_of front.blocks, front.fault)
 
 -- a decimal or a hexadecimal number
 abbrev pub IsBase : ℕ → Type 0

@@ -1,4 +1,5 @@
 use Rattle.std.proofs.Common.{◌≡◌, ◌∙◌, IfOk, List, ℕ, subst, sym}
+use Rattle.draft_findings.specs.Ends.{block_ends}
 use Rattle.findings_text.specs.declared.outcome.Outcome.TheVariants.{Warnings}
 use Rattle.findings_text.specs.declared.print.Printed.{Printed}
 use Rattle.findings_text.specs.Sources.{position_in_draft}
@@ -18,6 +19,6 @@ returns-in-Ok-clause-printed c =
       | in-None w ↦ if_none file draft unread grammar c.in-Ok.printed (sym w.in-None.is ∙ c.origin_of.ensures)
           (subst (λ r. IfOk r (λ (p : Printed). (p.lines ≡ no_grammar_lines file draft unread) × (p.outcome ≡ Warnings))) (sym w.printed-is ∙ c.in-Ok.is) w.print_no_grammar-printed.ensures)
       | in-Some+in_ok-text-in-Some w ↦ if_some file draft unread grammar c.in-Ok.printed w.in-Some.field-0 (sym w.in-Some.is ∙ c.origin_of.ensures)
-          (subst (λ (text : List ℕ). IsPrintedRepeating (asides_of draft unread) (position_in_draft draft grammar text) file text c.in-Ok.printed) w.in_ok-text-in-Some.ensures.text
-          (subst (λ r. IfOk r (λ (p : Printed). IsPrintedRepeating (asides_of draft unread) (position_in_draft draft grammar w.in_ok-text-in-Some.text) file w.in_ok-text-in-Some.text p)) (sym w.printed-is ∙ c.in-Ok.is) w.print_text-printed.ensures))
+          (subst (λ (text : List ℕ). IsPrintedRepeating (asides_of draft unread) (block_ends draft grammar) (position_in_draft draft grammar text) file text c.in-Ok.printed) w.in_ok-text-in-Some.ensures.text
+          (subst (λ r. IfOk r (λ (p : Printed). IsPrintedRepeating (asides_of draft unread) (block_ends draft grammar) (position_in_draft draft grammar w.in_ok-text-in-Some.text) file w.in_ok-text-in-Some.text p)) (sym w.printed-is ∙ c.in-Ok.is) w.print_text-printed.ensures))
     ]

@@ -9,4 +9,4 @@ pub returns : goal.returns
 returns g c =
     let version : view c.from.result ≡ number (of_integer c.args.published.now.label) = search rules in
     on_ok_weaker c.end_map.result (λ e.
-    (_, c.in_ok-begin_map.ensures, (_, _, c.in_ok-key.ensures, (rw c.found_in.ensures at c.in_ok-write_diagnostics.ensures), (_, _, c.in_ok-key-2.ensures, c.in_ok-str.ensures, (_, _, c.in_ok-key-3.ensures, (rw version at c.in_ok-serialize.ensures), e))))) c.end_map.ensures
+    (_, c.in_ok-begin_map.ensures, (_, _, c.in_ok-key.ensures, c.in_ok-write_found.ensures, (_, _, c.in_ok-key-2.ensures, c.in_ok-str.ensures, (_, _, c.in_ok-key-3.ensures, (rw version at c.in_ok-serialize.ensures), e))))) c.end_map.ensures

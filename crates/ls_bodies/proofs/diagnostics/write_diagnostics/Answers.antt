@@ -8,7 +8,7 @@ use Rattle.ls_bodies.proofs.diagnostics.write_diagnostics.Goals as goal
 pub loop-diagnostic-preserved : goal.loop-diagnostic-preserved
 loop-diagnostic-preserved g c =
     next diagnostic_json c.args.diagnostics.now c.loop-diagnostic.diagnostic-index c.diagnostic-item.result _ _ _ (omega arith) c.loop-diagnostic.invariant
-    (subst (λ diagnostic. SendsValue (diagnostic_json diagnostic) (g.S.Serializer.written c.loop-diagnostic.out) (g.S.Serializer.written c.write_diagnostic.new.out)) c.diagnostic-item.is c.in_ok-write_diagnostic.ensures)
+    (subst (λ diagnostic. SendsValue (diagnostic_json diagnostic) (g.S.Serializer.written c.loop-diagnostic.out) (g.S.Serializer.written c.write_finding.new.out)) c.diagnostic-item.is (rw (c.text.ensures, c.as_str-message.ensures, c.severity.ensures) at c.in_ok-write_finding.ensures))
 
 pub returns : goal.returns
 returns g c =

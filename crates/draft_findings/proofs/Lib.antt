@@ -1,0 +1,3 @@
+pub mod WalkLaws
+pub mod EndLaws
+pub mod FloodLaws

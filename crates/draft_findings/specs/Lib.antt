@@ -1,0 +1,4 @@
+pub mod Copies
+pub mod Reports
+pub mod Ends
+pub mod Words
