@@ -40,13 +40,13 @@ LISTS = (
     *(f"{module}.{name}" for module in ("session_rows", "encoding_rows") for name in ("SESSIONS", "REPLIES")),
     *("session_rows.FRAMES", "command_rows.EXAMPLES", "command_rows.CHECKS"),
     *("findings_rows.ROWS", "findings_rows.RULE_ROWS", "findings_rows.DRAFT_ROWS", "findings_rows.XML_ROWS", "install_rows.ROWS"),
-    *("findings_rows.WITH_ROWS", "findings_rows.GRAMMAR_ROWS"),
+    *("findings_rows.WITH_ROWS", "findings_rows.GRAMMAR_ROWS", "published_rows.ROWS"),
     "typed_edits.KINDS",
 )
 NUMBERS = (
     *("broken_input.COUNT", "refused_sessions.FIRST", "refused_sessions.SAMPLE", "refused_threads.THREADS", "shaken_threads.COUNT"),
     *(f"random_texts.COUNTS.{encoding}" for encoding in ("utf-8", "utf-16", "utf-32")),
-    *("replayed_typing.EDITS", "random_drafts.COUNT"),
+    *("replayed_typing.EDITS", "random_drafts.COUNT", "published_rows.COUNT"),
 )
 # The same of tests in crates: the file, and how the number stands there
 LOOPS = {

@@ -3,7 +3,7 @@
 
     tools/draft_sessions.py [PROGRAM] [--count N] [--seed N]
 
-A client asks for drafts, and opens random ones in Markdown and in RFCXML: those of random_drafts, in lists and quotes, with tabs, each kind
+A client asks for drafts, and opens random ones in Markdown and in RFCXML: those of drawn_drafts, in lists and quotes, with tabs, each kind
 of line end, references, comments and sections, and some with marks put in or taken out at random. It asks everything about each of them, at
 names, in margins, in prose, at the ends of blocks and anywhere. Another session opens the text that plain_drafts gathers from a draft as a
 grammar, with positions in characters, and is asked the same there. What it answers is carried outward by plain_drafts, and must be the
@@ -33,9 +33,8 @@ import replayed_typing
 import rows
 import runs
 import session_rows
-from drawn_drafts import MARKS, markdown, random_draft, span, xml
+from drawn_drafts import MARKS, grammar, markdown, random_draft, span, xml
 from plain_drafts import Draft, gathered
-from random_drafts import grammar
 from random_texts import NEW_NAMES, UNITS, Reading, as_json
 from refused_sessions import key_of
 from typed_edits import Document

@@ -45,7 +45,8 @@ def unread_lines():
     """What the recipe's pattern makes wrongly of the lines that the worked rows have."""
     (pattern,) = json.loads(read(*MATCHER))["problemMatcher"][0]["pattern"]
     parts = [pattern[it] for it in ("file", "line", "column", "severity", "message", "code")]
-    lines = sorted({it for it in strings((findings_rows.ROWS, findings_rows.DRAFT_ROWS, findings_rows.XML_ROWS)) if FINDING.match(it)})
+    tables = (findings_rows.ROWS, findings_rows.DRAFT_ROWS, findings_rows.XML_ROWS, findings_rows.WITH_ROWS)
+    lines = sorted({it for it in strings(tables) if FINDING.match(it)})
     for line in lines:
         found = re.search(pattern["regexp"], f"{DRAFT}:{line}")
         if not found or found[parts[0]] != DRAFT or "{}:{}: {}: {} [{}]".format(*(found[it] for it in parts[1:])) != line:

@@ -109,6 +109,7 @@ FIGURES = (
     Figure(TESTING, "| edits that are typed, at least | {} |", count_of("cases replayed_typing.EDITS")),
     Figure(TESTING, "| kinds of these edits | {} |", count_of("list typed_edits.KINDS")),
     Figure(TESTING, "| random drafts | {} |", count_of("cases random_drafts.COUNT")),
+    Figure(TESTING, "| published texts | {}, random {} |", counts_of("list published_rows.ROWS", "cases published_rows.COUNT")),
     Figure(TESTING, "| random streams | {} |", count_of("cases broken_input.COUNT")),
     Figure(TESTING, "| allocations refused to threads | {} |", REFUSED_TO_THREADS),
     Figure(TESTING, "| random sessions | {} of {} messages |", counts_of("cases worked_sessions.random.SESSIONS", "cases worked_sessions.random.MESSAGES")),

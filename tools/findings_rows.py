@@ -6,25 +6,28 @@
 runs a program that is built. Each row is a text and its lines without the name of the file; the severity in a line tells how the run ends.
 """
 import os
+import re
 import shutil
 import sys
 
+import plain_findings
 import refused_memory
 import rows
 from install import grammars
+from random_texts import Reading
 from runs import HUNG, outcome
 from sums import kit
-from workspace import version
+from workspace import TOP, version
 
-USAGE = b"usage: abnf_findings [--strict | --rules | --grammar] [--with FILE].. [--format abnf | markdown | xml] FILE..\n"
-HELP = USAGE + b"""Prints what is found in the ABNF grammars of files: of drafts in Markdown or RFCXML too.
+USAGE = b"usage: abnf_findings [--strict | --rules | --grammar] [--with FILE].. [--format abnf | markdown | xml | text] FILE..\n"
+HELP = USAGE + b"""Prints what is found in the ABNF grammars of files: of drafts and published RFCs too.
 The file - is standard input.
 
   --strict         warnings count as errors do for the exit status
   --rules          prints the rules and their shortest strings instead
   --grammar        prints the grammars themselves instead
   --with FILE      the names that FILE defines are known; it may stand more than once
-  --format FORMAT  what each FILE is written in: abnf, markdown or xml
+  --format FORMAT  what each FILE is written in: abnf, markdown, xml or text
   --               what follows are files, whatever their names are
   --help           prints this
   --version        prints the version
@@ -37,6 +40,12 @@ FIRST_OF_ELEVEN = " (the first of 11 faults in this block)"
 
 FOLDED = ", lines that are folded by \\ are not joined (RFC 8792)"
 OF_HTTP = ", lists by # are an extension of HTTP (RFC 9110, section 5.6.1)"
+GAP = ", as it leads to names that no file defines"
+BARE = 'warning: rules in a block without a word, "~~~ abnf" marks them [unmarked]'
+UNTYPED = 'warning: rules in an element without a type, type="abnf" marks them [unmarked]'
+# What is printed of a text that is no grammar, and of a draft that has none
+NO_TEXT = ("1:1: error: no grammar in this text [no-grammar]",)
+NO_GRAMMAR = ("1:1: warning: no grammar in this draft [no-grammar]",)
 
 ROWS = (
     # nothing is found: the core rules are there (RFC 5234 appendix B.1), in either case, and equal bounds and ends are not empty
@@ -58,11 +67,11 @@ ROWS = (
     ('a = 1*2#b\nb = "x" #b', (f"1:5: error: element expected{OF_HTTP} [syntax]", f"2:9: error: bad character{OF_HTTP} [syntax]")),
     ("a = 1 #b", ("1:5: error: element expected [syntax]",)),
     ("# A title", ("1:1: error: rule name expected [syntax]",)),
-    ('\ufeffa = "x"\n\ufeffb = "y"', ("1:1: error: rule name expected, a byte order mark [syntax]", "2:1: error: rule name expected [syntax]")),
+    ('\ufeffa = "x"\n\ufeffb = "y"\nc = "z"', ("1:1: error: rule name expected, a byte order mark [syntax]", "2:1: error: rule name expected [syntax]")),
     ("\uff11 = a", ("1:1: error: rule name expected [syntax]",)),
     # lines that are folded (RFC 8792), and files that kramdown includes
     ('a = "x" \\\n  "y"\nb = c', (f"1:9: error: bad character{FOLDED} [syntax]", "3:1: warning: rule b generates nothing [unproductive]", "3:5: error: undefined rule c [undefined]")),
-    ("{::include a.abnf}\n{: b", ("1:1: error: rule name expected, what kramdown includes is not read [syntax]", "2:1: error: rule name expected [syntax]")),
+    ('{::include a.abnf}\n{: b\nc = "z"', ("1:1: error: rule name expected, what kramdown includes is not read [syntax]", "2:1: error: rule name expected [syntax]")),
     # limits
     ("a = %x100000000", ("1:5: error: number too large [number-too-large]",)),
     (DEEP, ("1:69: error: brackets nested too deep [too-deep]",)),
@@ -102,11 +111,23 @@ ROWS = (
     ('a = "x"\r\nb = ?\rc = ?\nd = ?', tuple(f"{line}:5: error: bad character [syntax]" for line in (2, 3, 4))),
     ('a = "x"\n' + 9 * "\n" + "b = ?", ("11:5: error: bad character [syntax]",)),
     # a grammar has all its faults told, however many they are
-    (f"{TEN}b c", tuple(f"{line}:3: error: {NO_HEAD} [syntax]" for line in range(1, 12))),
+    (f'a = "x"\n{TEN}b c', tuple(f"{line}:3: error: {NO_HEAD} [syntax]" for line in range(2, 13))),
+    # a text that is no grammar: more than one block, none a rule, and fewer than half with a head
+    ("Some words.\nMore of them.\n", NO_TEXT),
+    ("<!DOCTYPE html>\n<html>\n <body>\n  <p>a = b</p>\n </body>\n</html>\n", NO_TEXT),
+    ("; a\n  a = ?\n  Some words.\nMore words, a = b\n", NO_TEXT),
+    (f"{TEN}b c", NO_TEXT),
+    # half of its blocks have one, or one is a rule, or there is one block alone
+    ("a = ?\nSome words.\n", ("1:5: error: bad character [syntax]", f"2:6: error: {NO_HEAD} [syntax]")),
+    ("Some words.\nA\n =/ ?\n", (f"1:6: error: {NO_HEAD} [syntax]", "2:1: warning: no earlier definition of A [no-base]", "3:5: error: bad character [syntax]")),
+    ('Some words.\na = "x"\nMore words.\nAnd more.\n', (f"1:6: error: {NO_HEAD} [syntax]", f"3:6: error: {NO_HEAD} [syntax]", f"4:5: error: {NO_HEAD} [syntax]")),
+    ("Some words.\n  More of them.\n", (f"1:6: error: {NO_HEAD} [syntax]",)),
+    ("a = %x100000000\nb = %x100000000", ("1:5: error: number too large [number-too-large]", "2:5: error: number too large [number-too-large]")),
 )
 
-# What is printed of rules: each at the first place that defines it.
+# What is printed of rules: each at the first place that defines it. A text that is no grammar has rules where its blocks have heads.
 RULE_ROWS = (
+    ("Some words.\nMore of them.\na = ?\n", ("3:1: a: not known",)),
     ("", ()),
     ("; nothing\n", ()),
     ('a = "x"', ("1:1: a: shortest length 1: x",)),
@@ -128,8 +149,6 @@ RULE_ROWS = (
         ),
     ),
 )
-
-NO_GRAMMAR = ("1:1: warning: no grammar in this draft [no-grammar]",)
 
 # Drafts in Markdown (CommonMark 0.31, section 4.5), with what is found in them, and the lines of their rules. All stands where the draft
 # has it.
@@ -216,6 +235,33 @@ DRAFT_ROWS = (
     ),
     # a fence that opens over what isn't ABNF, with a hint at the first fault
     (f"# Title\n\n```abnf\na = 1#b\n{TEN}", (f"4:5: error: element expected{OF_HTTP}{FIRST_OF_ELEVEN} [syntax]",), ("4:1: a: not known",)),
+    # blocks of rules that nothing marks as ABNF: each at its fence, behind the margin
+    ('```\na = "x"\n```\n', (*NO_GRAMMAR, f"1:1: {BARE}"), ()),
+    ("text\n\n~~~~ \t\na = nope\na = nope\n\n\nb =/ 3*2a\n", (*NO_GRAMMAR, f"3:1: {BARE}"), ()),
+    ('- an item\n\n  ~~~\n    ; c\n    a = "x"\n     / b\n    b = a\n  ~~~\n\n> ````  \n> a = "x"\n> ````\n\t```\n\ta = b\n\t```\n', (*NO_GRAMMAR, f"3:3: {BARE}", f"10:3: {BARE}", f"13:2: {BARE}"), ()),
+    ("\u00e9\U0001f600\r\n> \t~~~\r\n> \ta = <\u00e9>\r\n> \t~~~\r\n", (*NO_GRAMMAR, f"2:4: {BARE}"), ()),
+    # among findings, and blocks that are empty, in the order of the draft
+    (
+        "~~~\nb = nope\n~~~\n\n```abnf\na = ?\n```\n```\nc = %x61\n / d\ne =/ c\n```\n```abnf\n```\n",
+        (f"1:1: {BARE}", "6:5: error: bad character [syntax]", f"8:1: {BARE}", "14:1: warning: empty block of grammar [not-read]"),
+        ("6:1: a: not known",),
+    ),
+    # an attribute list in the line before or behind, whatever it says: that behind a block stands before the next one, too
+    ('{.x}\n~~~\na = "x"\n~~~\n', NO_GRAMMAR, ()),
+    ('~~~\na = "x"\n~~~\n {: #y\n', NO_GRAMMAR, ()),
+    ('~~~\na = "x"\n~~~\n{.x}\n~~~\nb = "x"\n~~~\n~~~\nc = "x"\n~~~', (*NO_GRAMMAR, f"8:1: {BARE}"), ()),
+    ('{.x}\n\n~~~\na = "x"\n~~~\n\n{.x}\n', (*NO_GRAMMAR, f"3:1: {BARE}"), ()),
+    # an info string
+    ('``` x\na = "x"\n```\n~~~ {.x}\na = "x"\n~~~\n~~~abnfs\na = "x"\n~~~\n~~~ ~\na = "x"\n~~~\n', NO_GRAMMAR, ()),
+    # not all is rules, or nothing is
+    ('~~~\na = "x"\nb\n~~~\n```\n# A title\n\n    a = "x"\n```\n~~~\na = "x"\nb = %x100000000\n~~~\n', NO_GRAMMAR, ()),
+    ('~~~\n; a = "x"\n\n~~~\n```\n```\n~~~\n \t\n~~~\n~~~', NO_GRAMMAR, ()),
+    # other blocks, and comments
+    (
+        '````text\n~~~\na = "x"\n~~~\n````\n<!--\n~~~\na = "x"\n~~~\n-->\n{::comment}\n~~~\na = "x"\n~~~\n{:/comment}\n\n    ```\n    a = "x"\n    ```\n',
+        (*NO_GRAMMAR, f"17:5: {BARE}"),
+        (),
+    ),
 )
 
 # The same of drafts in RFCXML (RFC 7991 sections 2.5 and 2.48; XML 1.0, fifth edition). Of a draft at fault the fault alone is told.
@@ -284,6 +330,33 @@ XML_ROWS = (
         ),
         ("1:22: a: not known", "2:1: b: not known", "3:1: c: not known", "4:1: d: not known"),
     ),
+    # elements of rules without a type: each at its start tag
+    ('<rfc>\n<artwork>\n  a = "x"\n</artwork>\n<sourcecode>b = nope</sourcecode>\n</rfc>', (*NO_GRAMMAR, f"2:1: {UNTYPED}", f"5:1: {UNTYPED}"), ()),
+    (
+        '\u00e9<artwork name="type=" alt=\' src=\'\n>a = &lt;p&gt;<!-- ? --><![CDATA[ / "x"\nb = <q>]]><br/> ; &nbsp;</artwork\n>',
+        (*NO_GRAMMAR, f"1:2: {UNTYPED}"),
+        (),
+    ),
+    (
+        '<artwork>a = "x"</artwork>\n<artwork type="abnf">b = ?</artwork><sourcecode>c = b</sourcecode>\n<artwork type="abnf"/>',
+        (f"1:1: {UNTYPED}", "2:26: error: bad character [syntax]", f"2:37: {UNTYPED}", "3:1: warning: empty block of grammar [not-read]"),
+        ("2:22: b: not known",),
+    ),
+    # another type, none of a name, or `src`
+    ('<artwork type="">a = "x"</artwork><sourcecode type=\'text\'>a = "x"</sourcecode><artwork\ttype\n= "x">a = "x"</artwork>', NO_GRAMMAR, ()),
+    ('<artwork src="b">a = "x"</artwork><sourcecode name="a" src = "b" >a = "x"</sourcecode>', NO_GRAMMAR, ()),
+    # empty elements, others, and what is no element
+    ('<artwork/>a = "x"<artwork />a = "x"</artwork><artworks>a = "x"</artworks><t>a = "x"</t>', NO_GRAMMAR, ()),
+    ('<!-- <artwork>a = "x"</artwork> --><![CDATA[<artwork>a = "x"</artwork>]]>', NO_GRAMMAR, ()),
+    # one in another one: the inner one may be told
+    ('<artwork>a = "x"<sourcecode>b = "y"</sourcecode></artwork>', (*NO_GRAMMAR, f"1:17: {UNTYPED}"), ()),
+    ('<artwork>a = "x"\n<sourcecode type="abnf">b = ?</sourcecode></artwork>', ("2:29: error: bad character [syntax]",), ("2:25: b: not known",)),
+    ('<artwork>a = "x"<artwork src="b"/></artwork>', NO_GRAMMAR, ()),
+    # references that can't be read, no end tag, not all rules, and none
+    ('<artwork>a = "x" ; &foo;\n</artwork><sourcecode>a = "x" ; &\n</sourcecode>', NO_GRAMMAR, ()),
+    ('<sourcecode>a = "x"</artwork>', NO_GRAMMAR, ()),
+    ('<artwork>a = "x"\nb</artwork><artwork>; a</artwork><artwork> <!-- a = b --></artwork>', NO_GRAMMAR, ()),
+    ('<artwork>a = "x"</artwork><!-- a', ("1:27: error: comment without an end [xml]",), None),
     # faults
     ('<rfc>\n<artwork type="abnf">\na = ?\n', ("2:1: error: block without an end tag [xml]",), None),
     ("<rfc><!-- a", ("1:6: error: comment without an end [xml]",), None),
@@ -365,6 +438,45 @@ KNOWN_ROWS = (
     (("rfc9112", "rfc9110"), (), ("status-line", "13: HTTP/0.0 000 ")),
 )
 
+# The same as WITH_ROWS below, of rules that generate nothing: it is told where they lead to names that no file defines, but for those of the told
+# file alone.
+IDLE = "warning: rule a generates nothing [unproductive]"
+LEADING = f"warning: rule a generates nothing{GAP} [unproductive]"
+NOTHING = ("1:1: a: generates nothing",)
+GAP_ROWS = (
+    # directly, over several rules, and over those of two files
+    (("a.abnf", "a = x"), (("1.abnf", 'x = "1" nope'),), (f"1:1: {LEADING}",), NOTHING),
+    (
+        ("a.abnf", 'b = a\na = c "1"\nc = x'),
+        (("1.abnf", "x = 2y\ny = [z] nope\nz = x"),),
+        (f"1:1: warning: rule b generates nothing{GAP} [unproductive]", f"2:1: {LEADING}", f"3:1: warning: rule c generates nothing{GAP} [unproductive]"),
+        ("1:1: b: generates nothing", "2:1: a: generates nothing", "3:1: c: generates nothing"),
+    ),
+    (("a.abnf", "a = x"), (("1.abnf", "x = y"), ("2.abnf", "y = nope")), (f"1:1: {LEADING}",), NOTHING),
+    (("a.abnf", "a = x"), (("1.abnf", "x = NOPE"), ("2.abnf", 'nope = "1"')), (), ("1:1: a: shortest length 1: 1",)),
+    # a rule that has another alternative, here and there, or that may stand for anything
+    (("a.abnf", 'a = x / "1"\nb = y\nc = *x'), (("1.abnf", 'x = nope\ny = nope / "2"'),), (), ("1:1: a: shortest length 1: 1", "2:1: b: shortest length 1: 2", "3:1: c: shortest length 0: ")),
+    (("a.abnf", "a = x\nb = y"), (("1.abnf", "x = <p> nope\ny = nope ?"),), (), ("1:1: a: not known", "2:1: b: not known")),
+    # a rule that leads to itself alone, here and there; one that does, and to such a name too
+    (
+        ("a.abnf", 'a = a "x"\nb = x'),
+        (("1.abnf", "x = nope"),),
+        (f"1:1: {IDLE}", f"2:1: warning: rule b generates nothing{GAP} [unproductive]"),
+        ("1:1: a: generates nothing", "2:1: b: generates nothing"),
+    ),
+    (("a.abnf", "a = x"), (("1.abnf", 'x = x "1"\ny = nope x'),), (f"1:1: {IDLE}",), NOTHING),
+    (("a.abnf", "a = a x"), (("1.abnf", "x = nope"),), (f"1:1: {LEADING}",), NOTHING),
+    # what the file defines itself isn't joined; what is added and what comes again
+    (("a.abnf", "a = x\nx = x"), (("1.abnf", "x = nope"),), (f"1:1: {IDLE}", "2:1: warning: rule x generates nothing [unproductive]"), ("1:1: a: generates nothing", "2:1: x: generates nothing")),
+    (("a.abnf", "a = x"), (("1.abnf", "x = x\nx = nope"),), (f"1:1: {IDLE}",), NOTHING),
+    (("a.abnf", "a = x"), (("1.abnf", "x = x\nx =/ nope"),), (f"1:1: {LEADING}",), NOTHING),
+    # a name that the told file uses: alone, and with another one, in whatever rule
+    (("a.abnf", "a = nope"), (("1.abnf", 'x = "1"'),), (f"1:1: {IDLE}", "1:5: error: undefined rule nope [undefined]"), NOTHING),
+    (("a.abnf", "a = nope"), (("1.abnf", "x = Nope"),), (f"1:1: {LEADING}", "1:5: error: undefined rule nope [undefined]"), NOTHING),
+    # drafts
+    (("a.md", "```abnf\n  a = x\n```\n"), (("1.xml", '<artwork type="abnf">x = nope</artwork>'),), (f"2:3: {LEADING}",), ("2:3: a: generates nothing",)),
+)
+
 # Files with the files whose names are known (RFC 5234 sections 2.1, 2.2 and 3.3), what is found, and the lines of their rules: each file is
 # its name and its text. Nothing is told of the known files.
 WITH_ROWS = (
@@ -381,7 +493,7 @@ WITH_ROWS = (
     (
         ("a.abnf", "a = x"),
         (("1.abnf", "x = nope"), ("2.abnf", 'x = "1"')),
-        ("1:1: warning: rule a generates nothing [unproductive]",),
+        (f"1:1: warning: rule a generates nothing{GAP} [unproductive]",),
         ("1:1: a: generates nothing",),
     ),
     (
@@ -464,10 +576,27 @@ WITH_ROWS = (
     ),
     (("a.xml", '<artwork src="b" type="abnf"/>'), (("core.abnf", CORE),), (*NO_GRAMMAR, "1:1: warning: grammar in another file [not-read]"), ()),
     (("a.xml", "<rfc><!-- a"), (("core.abnf", CORE),), ("1:6: error: comment without an end [xml]",), None),
+    # rules that nothing marks
+    (("a.md", "```\na = OWS\n```\n~~~abnf\nb = OWS\n~~~\n"), (("core.abnf", CORE),), (f"1:1: {BARE}",), ("5:1: b: shortest length 0: ",)),
+    (("a.md", "```\na = OWS\n```\n"), (("core.abnf", CORE),), (*NO_GRAMMAR, f"1:1: {BARE}"), ()),
+    (
+        ("a.xml", '<artwork>a = OWS</artwork>\n<artwork type="abnf">b = OWS nope</artwork>'),
+        (("core.abnf", CORE),),
+        (f"1:1: {UNTYPED}", "2:22: warning: rule b generates nothing [unproductive]", "2:30: error: undefined rule nope [undefined]"),
+        ("2:22: b: generates nothing",),
+    ),
+    # texts that are no grammar, and one of which half the blocks have heads
+    (("a.abnf", "Some words.\nMore of them.\n"), (("core.abnf", CORE),), NO_TEXT, ()),
+    (("a.abnf", "Some words.\nMore of them.\na = ?\n"), (("core.abnf", CORE),), NO_TEXT, ("3:1: a: not known",)),
+    (("a.abnf", "Some words.\na = ?\n"), (("core.abnf", CORE),), (f"1:6: error: {NO_HEAD} [syntax]", "2:5: error: bad character [syntax]"), ("2:1: a: not known",)),
+    *GAP_ROWS,
 )
 
 # The grammars of drafts: each block without its indentation, and a line end behind it.
 GRAMMAR_ROWS = (
+    ("a.abnf", "Some words.\nMore of them.\n", "Some words.\nMore of them.\n"),
+    ("a.md", "```\na = b\n```\n~~~abnf\nc = d\n~~~\n", "c = d\n\n"),
+    ("a.xml", '<artwork>a = b</artwork><artwork type="abnf">c = d</artwork>', "c = d\n"),
     ("a.abnf", "  a = b\r\n; \u00e9", "  a = b\r\n; \u00e9"),
     ("a.abnf", "", ""),
     ("a.md", "# A title\n\n```abnf\n  a = b\n   / c\n```\ntext\n~~~abnf\nd = ?\n~~~\n", "a = b\n / c\n\nd = ?\n\n"),
@@ -528,16 +657,26 @@ def draft_cases(program, files):
 
 def format_cases(program, files):
     """What a file is by its name, and the options that tell it."""
-    for name in ("a.mkd", "a.markdown"):
+    bad = ("2:5: error: bad character [syntax]",)
+    for name in ("a.mkd", "a.markdown", "a.MD", "a.mD", "a.MKD", "a.Markdown", "a.txt.md"):
         file = files.written(name, "```abnf\na = ?\n```\n")
-        yield f"a draft {name}", outcome(program, None, [file]), (1, b"", printed(file, ("2:5: error: bad character [syntax]",)))
-    for name in ("a.abnf", "md", "a.md.txt", "a.MD", "xml", "a.XML"):
-        file = files.written(name, "a = ?\n")
-        yield f"a grammar {name}", outcome(program, None, [file]), (1, b"", printed(file, ("1:5: error: bad character [syntax]",)))
+        yield f"a draft {name}", outcome(program, None, [file]), (1, b"", printed(file, bad))
+    for name in ("a.XML", "a.Xml", "a.md.xml"):
+        file = files.written(name, '<artwork type="abnf">\na = ?\n</artwork>')
+        yield f"a draft {name}", outcome(program, None, [file]), (1, b"", printed(file, bad))
+    for name in ("a.abnf", "md", "a.txt.abnf", "xml", "txt", "a.mdx", "a.MD ", "a.m\u212ad", "a.ABNF", "a"):
+        file = files.written(name, "\na = ?\n")
+        yield f"a grammar {name}", outcome(program, None, [file]), (1, b"", printed(file, bad))
+    for name in ("a.txt", "a.TXT", "a.Txt", "a.md.txt"):
+        file = files.written(name, "\na = ?\n")
+        unread = (*NO_TEXT, "2:1: warning: lines that are not all rules [not-read]")
+        yield f"a published text {name}", outcome(program, None, [file]), (1, b"", printed(file, unread))
+        yield f"a grammar {name}, by its format", outcome(program, None, ["--format", "abnf", file]), (1, b"", printed(file, bad))
     plain, good = files.written("plain.md", 'a = "x"'), files.written("good.abnf", 'a = "x"')
     yield "a grammar in spite of its name", outcome(program, None, ["--format", "abnf", plain]), (0, b"", b"")
+    yield "a published text in spite of its name", outcome(program, None, ["--format", "text", plain]), (0, b"", b"")
     yield "a draft behind a grammar", outcome(program, None, [good, plain]), (0, b"", printed(plain, NO_GRAMMAR))
-    for words in ("--format", "--format abnf", "--format XML", "--format Abnf", "--format abnf --format abnf", "--format --strict"):
+    for words in ("--format", "--format abnf", "--format XML", "--format Abnf", "--format Text", "--format txt", "--format abnf --format abnf", "--format --strict"):
         yield f"the arguments {words} and a file", outcome(program, None, [*words.split(), *[good] * (words != "--format abnf")]), (5, USAGE, b"")
     yield "a format behind a file", outcome(program, None, [good, "--format", "abnf"]), (5, USAGE, b"")
 
@@ -566,6 +705,22 @@ def installed_cases(program, files):
     os.makedirs(os.path.join(here, "rfc1"))
     yield "a folder of this name, and no such file", outcome(own, None, ["--with", "rfc1", text], folder=here), (2, b"cannot read rfc1\n", b"")
     yield "a program that isn't installed", outcome(program, None, ["--with", "rfc1", text]), (2, b"cannot read rfc1\n", b"")
+
+
+def make_cases(program, files):
+    """README's lines for a makefile, where the program is on the PATH."""
+    own, _ = put_in_place(program, files, "made")
+    env = {**os.environ, "PATH": os.path.dirname(own) + os.pathsep + os.environ["PATH"]}
+    with open(os.path.join(TOP, "README.md"), encoding="utf-8") as file:
+        lines = re.search(r"^```make\n(.*?)^```", file.read(), re.MULTILINE | re.DOTALL)[1]
+    for what, text, status, found in (("passes", 'a = "x"', 0, b""), ("fails", "a = ?", 2, b"a.abnf:1:5: error: bad character [syntax]\n")):
+        here = os.path.join(files.folder, what)
+        os.makedirs(here)
+        for name, written in (("Makefile", lines), ("a.abnf", text), ("draft-b.md", "~~~ abnf\nb = \"y\"\n~~~\n")):
+            with open(os.path.join(here, name), "w", encoding="utf-8") as file:
+                file.write(written)
+        ended = outcome("make", None, ["--silent"], env=env, folder=here)
+        yield f"README's makefile {what}", (ended[0], ended[2]), (status, found)
 
 
 def known_cases(program, files):
@@ -607,6 +762,7 @@ def with_cases(program, files):
     yield "a file of --with that has no grammar", outcome(program, None, ["--with", empty, "--with", core, core]), (0, b"", warned)
     yield "strict, one that has none", outcome(program, None, ["--strict", "--with", empty, core]), (1, b"", warned)
     yield "one that has none, beside an error", outcome(program, None, ["--with", empty, bad]), (1, b"", warned + is_bad)
+    yield from unlike_cases(program, files, core, bad)
     none_read, apart = files.written("none_read.md", "```abnf\n```\n"), files.written("apart.xml", '<artwork type="abnf" src="a"/>')
     warnings = (
         printed(none_read, ("2:1: warning: empty block of grammar [not-read]",)),
@@ -628,6 +784,29 @@ def with_cases(program, files):
     yield "names of standards", outcome(program, None, ["--strict", "--with", own[0], "--with", own[1], link]), (0, b"", b"")
     for words in (["--with"], ["--with", core], ["--grammar", "--with", core, bad], [bad, "--with", core]):
         yield f"the arguments {words[:-1]}", outcome(program, None, words), (5, USAGE, b"")
+
+
+def unlike_cases(program, files, core, bad):
+    """Files of --with that are no grammar, or have rules that nothing marks: each is told as a warning, and the others are known all the same."""
+    is_bad, rules = printed(bad, ("1:5: error: bad character [syntax]",)), ("1:1: OWS: shortest length 0: ", "2:1: RWS: shortest length 1:  ")
+    for name, text, lines in (
+        ("prose.abnf", "Some words.\nMore of them.\n", ("1:1: warning: no grammar in this text [no-grammar]",)),
+        ("bare.md", "```\na = b\n```\n", (*NO_GRAMMAR, f"1:1: {BARE}")),
+        ("marked.md", '~~~abnf\nc = "x"\n~~~\n```\na = b\n```\n', (f"4:1: {BARE}",)),
+        ("bare.xml", '<artwork type="abnf">c = "x"</artwork>\n<artwork>a = b</artwork>', (f"2:1: {UNTYPED}",)),
+    ):
+        other = files.written(name, text)
+        warned, words = printed(other, lines), ["--with", other, "--with", core]
+        uses = files.written("uses.abnf", "a = RWS")
+        yield f"{name} is known", outcome(program, None, [*words, uses]), (0, b"", warned)
+        yield f"strict, {name} is known", outcome(program, None, ["--strict", *words, uses]), (1, b"", warned)
+        yield f"{name} is known, beside an error", outcome(program, None, [*words, bad]), (1, b"", warned + is_bad)
+        yield f"rules where {name} is known", outcome(program, None, ["--rules", *words, core]), (0, b"", printed(core, rules))
+    lone, uses = files.written("lone.abnf", "Some words"), files.written("uses.abnf", "a = head")
+    yield "a block alone that is no rule is known", outcome(program, None, ["--strict", "--with", lone, core]), (0, b"", b"")
+    prose = files.written("prose.abnf", "Some words.\nMore of them.\nhead = ?\n")
+    warned = printed(prose, ("1:1: warning: no grammar in this text [no-grammar]",))
+    yield "the names in what is no grammar are known", outcome(program, None, ["--with", prose, uses]), (0, b"", warned)
 
 
 def without_places(lines):
@@ -655,7 +834,11 @@ def grammar_cases(program, files):
                 yield what, (status, said, grammar), (status_of(found, False), b"", printed(file, found[:1]))
                 continue
             yield what, (status, said), (0, b"")
-            found = [it for it in found if not it.endswith(" [not-read]")]
+            found = [it for it in found if not it.endswith((" [not-read]", " [unmarked]"))]
+            if plain_findings.is_no_grammar(Reading(grammar.decode(), "utf-32").items):
+                file = files.written("grammar.abnf", grammar)
+                yield f"findings in {what}", outcome(program, None, [file]), (1, b"", printed(file, NO_TEXT))
+                continue
             status, _, wrote = outcome(program, None, [files.written("grammar.abnf", grammar)])
             is_told, wanted = but_repeats(without_places(wrote)), but_repeats(without_places(printed(file, found)))
             if any(" faults in this block) [" in it for it in found):
@@ -774,8 +957,15 @@ def memory_cases(program, files):
     unread = [files.written("empty.xml", '<artwork type="abnf"/>'), files.written("else.xml", '<artwork type="abnf" src="a">b = ?</artwork>')]
     empty = printed(unread[0], (*NO_GRAMMAR, "1:1: warning: empty block of grammar [not-read]"))
     elsewhere = printed(unread[1], ("1:1: warning: grammar in another file [not-read]", "1:34: error: bad character [syntax]"))
+    bare = [
+        files.written("bare.md", '```\na = b\n```\n~~~abnf\na =/ "x"\n~~~\n'),
+        files.written("bare.xml", '<artwork>a = b</artwork><artwork type="abnf">b = ?</artwork>'),
+    ]
+    in_markdown = printed(bare[0], (f"1:1: {BARE}", "5:1: warning: no earlier definition of a [no-base]"))
+    in_xml = printed(bare[1], (f"1:1: {UNTYPED}", "1:50: error: bad character [syntax]"))
+    prose, idle = files.written("prose.abnf", "Some words.\nMore of them.\n"), files.written("idle.abnf", "a = x")
     core = files.written("core.abnf", CORE)
-    known = ["--with", core, "--with", drafts[1]]
+    known, gap = ["--with", core, "--with", drafts[1]], ["--with", files.written("gap.abnf", "x = nope")]
     uses = [files.written("uses.abnf", "c = OWS a"), files.written("uses.md", '```abnf\nc = RWS "x" ?\n```')]
     near = [files.written("near.abnf", 'a = sheme / "x"\nscheme = "y"'), files.written("far.abnf", 'a = "x" / DIGITS')]
     for what, words, wanted in (("help", ["--help"], HELP), ("the version", ["--version"], f"abnf_findings {version()} ({told_kit()})\n".encode())):
@@ -792,6 +982,9 @@ def memory_cases(program, files):
         ("rules of drafts", ["--rules"], drafts, 0, "2:1: a: shortest length 1: x", "2:3: a: not known"),
         ("drafts in XML", [], pages, 1, "1:22: warning: no earlier definition of a [no-base]", "1:36: error: bad character [syntax]"),
         ("what can't be read", [], unread, 1, empty, elsewhere),
+        ("what nothing marks", [], bare, 1, in_markdown, in_xml),
+        ("a text that is no grammar", [], (prose, bad), 1, printed(prose, NO_TEXT), "1:7: error: bad character [syntax]"),
+        ("names that no file defines", gap, (idle, bad), 1, f"1:1: {LEADING}", "1:7: error: bad character [syntax]"),
         ("uses of others", known, [doubtful, uses[1]], 1, "1:1: warning: no earlier definition of a [no-base]", "2:13: error: bad character [syntax]"),
         ("rules with others", ["--rules", *known], uses, 0, "1:1: c: not known", "2:1: c: not known"),
         ("grammars", ["--grammar"], [doubtful, drafts[1]], 0, b'a =/ "x"', b"a = b ?\n"),
@@ -813,7 +1006,7 @@ def cases(program):
     yield from version_cases()
     with rows.files() as files:
         for some in (
-            *(row_cases, rule_cases, draft_cases, with_cases, installed_cases, known_cases, grammar_cases, format_cases, argument_cases, bound_cases),
+            *(row_cases, rule_cases, draft_cases, with_cases, installed_cases, make_cases, known_cases, grammar_cases, format_cases, argument_cases, bound_cases),
             *(file_cases, memory_cases),
         ):
             yield from some(program, files)

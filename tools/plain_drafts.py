@@ -3,9 +3,13 @@
 It shares nothing with the program. What a draft in Markdown or in RFCXML has of ABNF is gathered as docs/DECISIONS.md has it ("Drafts and
 arguments"): a grammar is a list of characters, each with the offsets at which it begins and ends in the draft. Where XML is at fault, the
 grammar is what stands before the fault. An answer about a grammar has positions in characters.
+
+What of a draft can't be read as it stands is here too: blocks that are empty or have their text elsewhere, and rules that nothing marks as
+ABNF. `abnf_findings` prints it, and the server doesn't publish it.
 """
 import bisect
 import re
+from typing import Any, NamedTuple
 
 import plain_findings
 from random_texts import UNITS, Reading
@@ -24,6 +28,11 @@ TAG = re.compile("<(?:[A-Za-z](?:[^>\"']|\"[^\"]*\"|'[^']*')*|(?![A-Za-z])[^>]*)
 ABNF_TAG = re.compile(
     "<(sourcecode|artwork)(?=[ \t\r\n])(?:[^\"']|\"[^\"]*\"|'[^']*')*?[ \t\r\n]type[ \t\r\n]*=[ \t\r\n]*([\"'])[aA][bB][nN][fF]\\2"
 )
+# An element `sourcecode` or `artwork`, and one for which a file stands
+STARTED = re.compile("<(sourcecode|artwork)(?=[ \t\r\n>])")
+INCLUDE = re.compile("<xi:include[ \t\r\n]")
+TYPE, SRC = (re.compile(f"<(?:[^\"']|\"[^\"]*\"|'[^']*')*?[ \t\r\n]{it}[ \t\r\n]*=") for it in ("type", "src"))
+WHITE = " \t\r\n"
 REFERENCE = re.compile("&(?:#x([0-9A-Fa-f]+)|#([0-9]+)|([a-z]+));")
 NAMED = {"lt": "<", "gt": ">", "amp": "&", "quot": '"', "apos": "'", "nbsp": "\u00a0", "nbhy": "\u2011", "zwsp": "\u200b", "wj": "\u2060"}
 # What is said of XML at fault, by what stands there
@@ -32,6 +41,10 @@ XML_FAULTS = {
     **{"&": "no reference to a character"},
 }
 NO_END_TAG = "block without an end tag"
+# What is said of what can't be read, and its code
+EMPTY, ELSEWHERE = ("empty block of grammar", "not-read"), ("grammar in another file", "not-read")
+BARE = ('rules in a block without a word, "~~~ abnf" marks them', "unmarked")
+UNTYPED = ('rules in an element without a type, type="abnf" marks them', "unmarked")
 # The codes of findings that may go by what stands behind a fault
 OPEN_CODES = {plain_findings.CODES[row][0] for row in (plain_findings.UNDEFINED, plain_findings.UNPRODUCTIVE)}
 NOTHING_TO_RENAME, NOT_A_NAME, AT_FAULT, SPLIT = (
@@ -42,13 +55,29 @@ NOTHING_TO_RENAME, NOT_A_NAME, AT_FAULT, SPLIT = (
 OUTSIDE = {"hover": None, "definition": [], "references": [], "codeAction": []}
 
 
+class Aside(NamedTuple):
+    """What may have to be said of a draft: the offset where it begins, what is said, and the block that must be rules for that, if one must."""
+
+    at: int
+    says: tuple
+    block: Any = None
+
+    def holds(self):
+        """Whether it is said."""
+        text = "".join(it for it, *_ in aligned(*self.block)) if self.block else ""
+        return not self.block or plain_findings.are_rules(Reading(text, "utf-32").items)
+
+
 class Fence:
-    """The fence that opens a block: its margin and marks, and whether it says that the block is ABNF."""
+    """The fence that opens a block: its margin and marks, whether it says that the block is ABNF, or says nothing; and what stands in the block,
+    and where that ends."""
 
     def __init__(self, margin, marks, info):
         self.margin, self.marks = margin, marks
         self.is_abnf = bool(ABNF_INFO.match(info) or ABNF_LIST.match(info))
+        self.is_bare = not info.strip(" \t")
         self.lines_margin = QUOTED_MARGIN if ">" in margin else MARGIN
+        self.at, self.inside, self.end = 0, [], 0
 
     def is_closed_by(self, line):
         rest = line[self.lines_margin.match(line).end() :].rstrip(" \t")
@@ -81,22 +110,43 @@ def state_behind(line, state):
     return "attributes" if state != "block" and ABNF_LIST.match(line) else "text"
 
 
-def blocks_in_markdown(draft):
-    """The blocks of ABNF, each as its characters with their offsets, and the offset of its end; and that nothing is at fault."""
-    lines, state, content, found = [(it.start(), it[0]) for it in LINE.finditer(draft)], "text", [], []
+def is_list(line):
+    """Whether a line begins as an attribute list does."""
+    return line.lstrip(" \t").startswith("{")
+
+
+def fences(draft):
+    """The fences of a draft in Markdown, each with what stands in its block. What a list says that stands in the line before or behind, counts."""
+    lines, state, before, found = [(it.start(), it[0]) for it in LINE.finditer(draft)], "text", "", []
     for number, (start, whole) in enumerate(lines):
         line = whole.rstrip("\r\n")
         if isinstance(state, str):
-            state, content = state_behind(line, state), []
+            state = state_behind(line, state)
+            if isinstance(state, Fence):
+                state.at, state.end, state.is_bare = start + len(state.margin), len(draft), state.is_bare and not is_list(before)
+                found.append(state)
+            before = line
         elif state.is_closed_by(line):
-            if state.is_abnf or any(ABNF_LIST.match(it.rstrip("\r\n")) for _, it in lines[number + 1 : number + 2]):
-                found.append((content, start))
-            state = "block"
+            behind = [it.rstrip("\r\n") for _, it in lines[number + 1 : number + 2]]
+            state.is_abnf, state.is_bare = state.is_abnf or any(map(ABNF_LIST.match, behind)), state.is_bare and not any(map(is_list, behind))
+            state.end, state, before = start, "block", ""
         else:
-            content += [(whole[at], start + at, start + at + 1) for at in range(state.content(line), len(whole))]
-    if isinstance(state, Fence) and state.is_abnf:
-        found.append((content, len(draft)))
-    return found, None
+            state.inside += [(whole[at], start + at, start + at + 1) for at in range(state.content(line), len(whole))]
+    return found
+
+
+def blocks_in_markdown(draft):
+    """The blocks of ABNF, each as its characters with their offsets, and the offset of its end; and that nothing is at fault."""
+    return [(it.inside, it.end) for it in fences(draft) if it.is_abnf], None
+
+
+def asides_in_markdown(draft):
+    """What may have to be said: of a block of ABNF that is empty, and of one without a word."""
+    for it in fences(draft):
+        if it.is_abnf and all(character in WHITE for character, *_ in it.inside):
+            yield Aside(it.end, EMPTY)
+        if it.is_bare and not it.is_abnf:
+            yield Aside(it.at, BARE, (it.inside, it.end))
 
 
 def referred(draft, at):
@@ -144,6 +194,62 @@ def blocks_in_xml(draft):
             name, began, content = tag[1], at, []
         at = end
     return found, (began, NO_END_TAG) if name else None
+
+
+class Element:
+    """An element of RFCXML that is open: the offset where it begins, its name, whether it is a block of ABNF, whether nothing is known to stand in
+    it, and the characters that do."""
+
+    def __init__(self, at, tag, is_abnf):
+        self.at, self.name, self.is_abnf = at, STARTED.match(tag)[1], is_abnf
+        self.is_bare, self.content = not SRC.match(tag), []
+
+
+def begun(at, tag):
+    """The element that is open behind a tag outside of all elements, if one is, and what may have to be said of the tag."""
+    is_abnf, is_empty, has_source = ABNF_TAG.match(tag), tag[-2:-1] == "/", SRC.match(tag)
+    if is_abnf:
+        says = ELSEWHERE if has_source else EMPTY
+        return None if is_empty else Element(at, tag, True), [Aside(at, says)] * bool(has_source or is_empty)
+    is_open = STARTED.match(tag) and not (TYPE.match(tag) or has_source or is_empty)
+    return Element(at, tag, False) if is_open else None, []
+
+
+def behind_piece(element, at, tag, said):
+    """The element that is open behind a piece in this element, and what may have to be said."""
+    if re.fullmatch(f"</{element.name}[ \t\r\n]*>", tag):
+        if not element.is_abnf:
+            return None, [Aside(element.at, UNTYPED, (element.content, at))]
+        return None, [Aside(element.at, EMPTY)] * element.is_bare
+    if not element.is_abnf and STARTED.match(tag):
+        return begun(at, tag)
+    element.content += said
+    includes = bool(element.is_abnf and INCLUDE.match(tag))
+    element.is_bare = element.is_bare and not includes and all(it in WHITE for it, *_ in said)
+    return element, [Aside(at, ELSEWHERE)] * includes
+
+
+def asides_in_xml(draft):
+    """What may have to be said of a draft in RFCXML up to its first fault: of blocks of ABNF that are empty or have their text in another file, and
+    of elements without a type. In one of these no other one begins, and each reference is one to a character."""
+    at, element = 0, None
+    while at < len(draft):
+        if element and not element.is_abnf and draft[at] == "&" and not referred(draft, at):
+            element = None
+        piece = piece_at(draft, at, element is not None)
+        if piece is None:
+            return
+        end, said = piece
+        tag = draft[at:end] if draft[at] == "<" and not draft.startswith(("<!--", "<![CDATA["), at) else ""
+        element, asides = behind_piece(element, at, tag, said) if element else begun(at, tag)
+        yield from asides
+        at = end
+
+
+def unread(draft, form):
+    """What can't be read of a draft: the offset where each begins, what is said of it, and its code."""
+    asides = (asides_in_markdown if form == "markdown" else asides_in_xml)(draft)
+    return [(it.at, *it.says) for it in asides if it.holds()]
 
 
 def aligned(content, end):

@@ -3,7 +3,8 @@
 It shares nothing with the program. An item is its kind, its text, its line, its start there, and whether it stands apart. A finding is its
 row, what is said of it, and its place: a line, and where it starts and ends there in characters.
 
-What is told of the findings of a draft is here too: of definitions that come again, and of blocks with many faults.
+What is told of the findings of a draft is here too: of definitions that come again, and of blocks with many faults. So is what `abnf_findings`
+prints beyond findings: of a text that is no grammar, and of rules that lead to names that no file defines.
 """
 import re
 
@@ -21,6 +22,10 @@ CODES = {
 # The codes that are faults of syntax, and how many of these a block of a draft may have before its first one alone is told
 FAULTS_OF_SYNTAX = {CODES[row][0] for row in (SYNTAX, TOO_LARGE, TOO_DEEP)}
 MOST_FAULTS = 10
+# What is said of a text that is no grammar, and of a draft that has none
+NO_GRAMMAR, NO_GRAMMAR_IN_DRAFT = "no grammar in this text [no-grammar]", "no grammar in this draft [no-grammar]"
+# What is said behind the message of a rule that leads to a name that no file defines
+GAP_HINT = ", as it leads to names that no file defines"
 
 
 def place(item):
@@ -168,3 +173,39 @@ def without_floods(found, ends):
         here = [it for it in found if start <= it[0] < end]
         faults = [told for _, code, told in here if code in FAULTS_OF_SYNTAX]
         yield from [(faults[0], len(faults))] if len(faults) > MOST_FAULTS else [(told, 0) for *_, told in here]
+
+
+def are_rules(blocks):
+    """Whether there are blocks, and each of them is a rule."""
+    return bool(blocks) and not any(map(fault_of, blocks))
+
+
+def is_no_grammar(blocks):
+    """Whether a text with these blocks is no grammar: they are more than one, none is a rule, and fewer than half of them have a head."""
+    return len(blocks) > 1 and all(map(fault_of, blocks)) and 2 * sum(map(has_head, blocks)) < len(blocks)
+
+
+def names_in(items):
+    """The names in the body of a block, in small letters."""
+    return {it[1].lower() for it in items[2:] if it[0] == "name"}
+
+
+def names_used(blocks):
+    """The names that each name's definitions use, its first one and what is added to it."""
+    used, bases = {}, set()
+    for items in filter(has_head, blocks):
+        name, adds = items[0][1].lower(), items[1][1] == "=/"
+        used.setdefault(name, set()).update(names_in(items) if adds or name not in bases else ())
+        bases |= set() if adds else {name}
+    return used
+
+
+def leading_to_gaps(blocks, rules, end):
+    """The lines in which rules are defined that lead to gaps: over any number of rules to names that stand for nothing, and are used in blocks
+    from this line on, behind the grammar of which findings are told."""
+    behind = [items for items in blocks if items[0][2] >= end and not fault_of(items)]
+    gaps = {name for items in behind for name in names_in(items) if rules.key("own", name) is None}
+    used, leading = names_used(blocks), set()
+    while more := {name for name, uses in used.items() if uses & (gaps | leading)} - leading:
+        leading |= more
+    return {items[0][2] for items in filter(has_head, blocks) if items[0][1].lower() in leading}

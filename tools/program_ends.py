@@ -29,6 +29,7 @@ import findings_rows
 import grown_edits
 import install_rows
 import kept_rows
+import published_rows
 import random_drafts
 import random_texts
 import refused_commands
@@ -176,7 +177,11 @@ TOOLS = {
         ("kept_rows", kept_rows.plain_cases),
     ),
     "refused_memory": (("refused_memory", refused_memory.cases),),
-    "abnf_findings": (("findings_rows", findings_rows.cases), ("random_drafts", random_drafts.cases)),
+    "abnf_findings": (
+        ("findings_rows", findings_rows.cases),
+        ("published_rows", published_rows.cases),
+        ("random_drafts", random_drafts.cases),
+    ),
 }
 
 

@@ -5,17 +5,22 @@ grammar. It does the same with grammars beside others whose names are known.
     tools/random_drafts.py [PROGRAM [COUNT [SEED]]]
 
 A grammar is cut before some of its rules. Each piece is indented by some blanks, stands in a fence of its own, which may be indented too, and
-has other text around it: words, and fences of other languages with rules in them. What is found in the draft must be what is found in the
-grammar, with and without --rules, each line moved as its piece was. Some definitions come again at the end: one that says the same as the
-first must be no finding in the draft, and of one that says something else the line of the first must be printed. Some pieces have just as many
-faults as are told one by one, some have more: of these the first fault alone must be printed.
+has other text around it: words, fences of other languages with rules in them, and fences of none. What is found in the draft must be what is
+found in the grammar, with and without --rules, each line moved as its piece was. Some definitions come again at the end: one that says the same
+as the first must be no finding in the draft, and of one that says something else the line of the first must be printed. Some pieces have just as
+many faults as are told one by one, some have more: of these the first fault alone must be printed.
 
 Between the fences stand some that are empty. In RFCXML each piece stands in a CDATA section of an element, and between these stand elements
-that are empty, or have their text in another file. Each of them must be a warning, before what is found behind it. Some of these drafts are
-put at fault: then the fault alone must be printed, where a plain reading has it.
+that are empty, or have their text in another file, or have no type. Each of them must be a warning, before what is found behind it; of a fence
+without a word and of an element without a type, where all of it is rules. Some of these drafts are put at fault: then the fault alone must be
+printed, where a plain reading has it. Of drafts with marks put in or taken out all must be printed that the plain readings find.
 
 Of random grammars one is told, and the names of the others are known, each indented by some blanks. What is found must be what is found in
-the one with just those blocks of the others behind it that have new names, up to the last line of the one.
+the one with just those blocks of the others behind it that have new names, up to the last line of the one; and of a rule that leads to a name
+of the others that no file defines it must be said so.
+
+Of texts of words those that are no grammar by a plain reading must be told as that, in one line. As files whose names are known they join what
+has a head, and that they are no grammar must be a warning.
 """
 import itertools
 import random
@@ -25,99 +30,35 @@ import sys
 import plain_drafts
 import plain_findings
 import rows
-from random_texts import Reading, random_text
+from drawn_drafts import blocks, draft_of, grammar, page_of, prose, random_draft, with_fault
+from random_texts import Reading
 from runs import outcome
 
 COUNT, SEED = 200, 1
-WORDS = ("", "Some words.", "\u00e9\u4e2d\U0001f600", "    an = indented block", "- an item", "# A title", "``no = fence``", "<!-- -->")
-OTHERS = ("```\nno = ?\n```", "~~~~ text\n```abnf\nno = ?\n```\n~~~~", "``` abnf-like\nno = ?\n```")
 # The name at the head of a block
 HEAD = re.compile(r"([A-Za-z][A-Za-z0-9-]*)(?:[ \t\n]|;.*\n)*=")
 PLACE = re.compile(r"g:(\d+):(\d+): (.*)", re.DOTALL)
 DEFINED_AGAIN = re.compile(r"error: rule (.*) is already defined \[duplicate\]")
 # A finding's words, and its code
 CODED = re.compile(r"(.*?: (?:error|warning): .*)( \[([a-z-]+)\])", re.DOTALL)
-# Lines that are each a block with one fault of syntax, and how many of them may stand in a row
-FAULTY = ("? is prose", "9 lives", "= b", "A title here", "/ c", "- an item", "too = 4294967296b", f"deep = {65 * '('}a{65 * ')'}", "b = ?", "a = (c")
-IN_A_ROW = (plain_findings.MOST_FAULTS - 1, plain_findings.MOST_FAULTS, plain_findings.MOST_FAULTS + 1, plain_findings.MOST_FAULTS + 1, 30)
-# Rules whose shortest strings have what XML reads
-MARKUP = ('lt = "<p>"', 'amp = "&" / "yy"', 'lt = %x26.6C.74.3B', "amp = %x5D.5D.3E", 'lt = amp "<" / first', 'amp = "<!--"')
-END_TAG = "</artwork>"
-# What is at fault in a block of RFCXML, each kind with what would end it behind
-ENDLESS = (
-    [("&foo;", ""), ("& ", ""), ("&#xD800;", "")],
-    *([("<!-- ", "-->")], [("<![CDATA[", "]]>")], [("<t ", ">"), ("<t a='", "'")], [(END_TAG, "")]),
+# What is said behind messages and isn't read plainly
+HINT = re.compile(
+    r", (?:did you mean [A-Za-z0-9-]+\?|lists by # are an extension of HTTP \(RFC 9110, section 5\.6\.1\)"
+    r"|lines that are folded by \\ are not joined \(RFC 8792\)|a byte order mark|what kramdown includes is not read)"
 )
-
-
-def grammar(dice):
-    """A random grammar whose first line has content, at the left. Some of its blocks come again, some of them with another comment. Some have
-    rules with marks of XML in their strings, or faults in a row."""
-    text = 'first = "x"\n' + random_text(dice)
-    lines = re.sub("\r\n?", "\n", text).split("\n")
-    again = [block for block in blocks(lines) if dice.random() < 0.2]
-    lines += [line + dice.choice(("", "", " ; again")) for block in again for line in block]
-    if dice.random() < 0.3:
-        lines[1:1] = dice.sample(MARKUP, dice.choice((1, 2)))
-    if dice.random() < 0.3:
-        at = dice.choice([*(at for at in range(1, len(lines)) if is_at_left(lines[at])), len(lines)])
-        lines[at:at] = dice.choices(FAULTY, k=dice.choice(IN_A_ROW))
-    return "\n".join(lines)
+# Rules of a grammar that is told, and of others, by which rules may lead to names that no file defines
+IDLE = ("idle = lead", "idle = idle lead", 'idle = "x" lead', "idle = nope lead", "idle =/ end", "idle = [lead] idle", "more = 2idle / end")
+LEADING = (
+    *("lead = gap", "lead = gap / lead", "lead = gap / 2end", "lead = lead 0gap", "lead = lead <p> gap", "lead = 3*2gap", "lead = lead ("),
+    *("lead = idle gap", "end = end", "end = nope", 'end = "x"', "end =/ lead"),
+)
+SEVERITIES = {1: "error", 2: "warning"}
 
 
 def repeats_in(lines):
     """Of each line in which a name is defined again: the line of its first definition, and whether the two say the same."""
     found = plain_findings.repeats(Reading("\n".join(lines), "utf-32").items)
     return {line: (first[2], is_same) for line, (_, first, is_same) in found.items()}
-
-
-def is_content(line):
-    return line.strip(" \t")[:1] not in ("", ";")
-
-
-def is_at_left(line):
-    return is_content(line) and line[0] not in " \t"
-
-
-def pieces(dice, lines):
-    """The lines of a grammar, cut before some of those that begin at the left, and often where faults in a row begin and end."""
-    often, known = dice.choice((0.4, 0.4, 0.2, 0.05)), {True: 0, False: 0.8}
-    pairs = [(before in FAULTY, line in FAULTY) for before, line in zip(lines, lines[1:])]
-    odds = [known[one == other] if one or other else often for one, other in pairs]
-    cuts = [at for at, (line, odd) in enumerate(zip(lines[1:], odds), 1) if is_at_left(line) and dice.random() < odd]
-    return [lines[start:end] for start, end in zip([0, *cuts], [*cuts, len(lines)])]
-
-
-def fence_around(dice, piece):
-    """A fence that no line of a piece closes."""
-    mark = dice.choice("`~")
-    longest = max((len(it) for line in piece for it in re.findall(f"^[ \t]*({mark}+)", line)), default=0)
-    return mark * dice.choice((max(3, longest + 1), max(3, longest + 1) + 2))
-
-
-def around(dice):
-    """Lines of other text."""
-    for _ in range(dice.randrange(4)):
-        yield from (dice.choice(OTHERS) if dice.random() < 0.3 else dice.choice(WORDS)).split("\n")
-
-
-def draft_of(dice, lines):
-    """The lines of a draft, of each line of the grammar where it stands there, as its line and by how much it is moved, and the warnings of
-    blocks that are empty."""
-    draft, moved, warnings = [], [], []
-    for piece in pieces(dice, lines):
-        draft += around(dice)
-        if dice.random() < 0.2:
-            draft += [dice.choice(("~~~ abnf", "> ~~~ abnf", "  ~~~{.abnf}")), *dice.choice(([], [""], [" \t", ""]))]
-            warnings.append(f"g:{len(draft) + 1}:1: warning: empty block of grammar [not-read]")
-            draft.append(f"{dice.choice(('', '  '))}~~~")
-        fence, outer, inner = fence_around(dice, piece), " " * dice.choice((0, 0, 2, 5)), " " * dice.choice((0, 0, 3, 8))
-        draft.append(f"{outer}{fence}{dice.choice(('', ' '))}{dice.choice(('abnf', 'ABNF', 'Abnf rules'))}")
-        for line in piece:
-            moved.append((len(draft), len(outer) + len(inner)))
-            draft.append(outer + inner + line)
-        draft.append(dice.choice(("", outer, "   ")) + fence + dice.choice(("", " ", fence[0])))
-    return [*draft, *around(dice)], moved, warnings
 
 
 def told(program, options, text, name):
@@ -155,7 +96,7 @@ def in_draft(lines, repeats, moved):
 
 
 def draft_cases(program, count, seed):
-    faults, lines_printed, copies, floods = [], 0, 0, 0
+    faults, lines_printed, copies, floods, unmarked = [], 0, 0, 0, 0
     for number in range(count):
         dice = random.Random(f"{seed} {number}")
         lines = grammar(dice).split("\n")
@@ -168,65 +109,15 @@ def draft_cases(program, count, seed):
             wanted = sorted([*kept, *([] if options else warnings)], key=place_of)
             found = told(program, [*options, "--format", "markdown"], end.join(draft), "g")
             lines_printed, copies = lines_printed + len(kept), copies + any(it[1] for it in repeats.values())
-            floods += any("(the first of " in it for it in kept)
+            floods, unmarked = floods + any("(the first of " in it for it in kept), unmarked + any("[unmarked]" in it for it in wanted)
             if found != (int(any(": error: " in it for it in wanted) and not options), said, wanted):
                 faults.append((number, options, found[2][:3], wanted[:3]))
-    reached = lines_printed > count, copies > count / 10, floods > count / 10
-    yield f"{count} grammars in drafts", (faults[:2], *reached), ([], True, True, True), count
-
-
-def unread(dice):
-    """An element whose text is in another file or that has none, as one line, with where its warning stands in it and what that says."""
-    name, quote = dice.choice(("sourcecode", "artwork")), dice.choice("\"'")
-    kind, other = f"type={quote}{dice.choice(('abnf', 'ABNF'))}{quote}", f"alt={quote}src=>{quote}"
-    source, blank = f"src{dice.choice(('', ' '))}={quote}a.abnf{quote}", dice.choice(("", " ", "<!-- no = ? -->", "<![CDATA[ ]]>", "&#9;"))
-    attributes = [kind, *dice.choice(([], [other]))]
-    dice.shuffle(attributes)
-    front = f"<{name} {' '.join(attributes)}"
-    text, at, says = dice.choice((
-        (f"{front}/>", 1, "empty block of grammar"),
-        (f"{front}>{blank}</{name}>", 1, "empty block of grammar"),
-        (f"{front} {source}/>", 1, "grammar in another file"),
-        (f"{front} {source}>{blank}</{name}>", 1, "grammar in another file"),
-        (f"{front}>{blank}<xi:include href='a'/></{name}>", len(front) + len(blank) + 2, "grammar in another file"),
-        (f"<{name} {other} {source}/>", 0, ""),
-    ))
-    return text, at, says
-
-
-def page_of(dice, lines):
-    """The lines of a draft in RFCXML, of each line of the grammar where it stands there, and the warnings of what can't be read."""
-    page, moved, warnings = [dice.choice(("<rfc>", "\u00e9<!-- no = ? -->"))], [], []
-    for piece in pieces(dice, lines):
-        for _ in range(dice.choice((0, 0, 1, 2))):
-            text, at, says = unread(dice)
-            before = dice.choice(("", "<t>\u4e2d</t>"))
-            if says:
-                warnings.append(f"g:{len(page) + 1}:{len(before) + at}: warning: {says} [not-read]")
-            page.append(before + text)
-        inner = " " * dice.choice((0, 0, 3, 8))
-        page.append('<artwork type="abnf"><![CDATA[')
-        for line in piece:
-            moved.append((len(page), len(inner)))
-            page.append(inner + line)
-        page.append("]]></artwork>")
-    return page, moved, warnings
+    reached = lines_printed > count, copies > count / 10, floods > count / 10, unmarked > count / 10
+    yield f"{count} grammars in drafts", (faults[:2], *reached), ([], *[True] * len(reached)), count
 
 
 def place_of(line):
     return tuple(int(it) for it in PLACE.fullmatch(line).groups()[:2])
-
-
-def with_fault(dice, page):
-    """A draft in RFCXML that is put at fault, mostly in a block: what is put in has no end behind it, or the last end tag is missing."""
-    mark, end = dice.choice(dice.choice(ENDLESS))
-    if mark == END_TAG:
-        return "".join(page.rpartition(mark)[::2])
-    within = [(it.end(), page.find(END_TAG, it.end())) for it in re.finditer('<artwork type="abnf">', page)]
-    start, stop = dice.choice((*within, (0, len(page))))
-    at = dice.randrange(start, max(start, stop) + 1)
-    is_cdata = page.rfind("<![CDATA[", 0, at) > page.rfind("]]>", 0, at)
-    return page[:at] + "]]>" * is_cdata + mark + (page[at:].replace(end, "") if end else page[at:])
 
 
 def fault_cases(program, count, seed):
@@ -267,12 +158,6 @@ def page_cases(program, count, seed):
     yield f"{count} grammars in RFCXML", (faults[:2], *reached), ([], True, True, True), count
 
 
-def blocks(lines):
-    """The blocks of a grammar that stands at the left, each as its lines."""
-    starts = [at for at, line in enumerate(lines) if is_content(line) and line[0] not in " \t"]
-    return [lines[start:end] for start, end in zip(starts, [*starts[1:], len(lines)])]
-
-
 def head(block):
     """The name at the head of a block, in small letters; None where it has no head."""
     found = HEAD.match("\n".join(block))
@@ -294,37 +179,142 @@ def indented(dice, lines):
     return "\n".join(blanks + line for line in lines), len(blanks)
 
 
+def with_gaps(lines, whole, count):
+    """The lines about a grammar of so many lines at the front of a whole one, of which some lead to names that no file defines."""
+    reading = Reading("\n".join(whole), "utf-32")
+    leading = plain_findings.leading_to_gaps(reading.items, reading.rules, count)
+    for line in lines:
+        does_lead = line.endswith(" [unproductive]") and int(PLACE.fullmatch(line)[1]) - 1 in leading
+        yield CODED.sub(rf"\1{plain_findings.GAP_HINT}\2", line) if does_lead else line
+
+
+def beside(program, options, whole, count, by):
+    """The lines about a grammar that is indented by so much, and has so many lines at the front of a whole one, as they must be where the others
+    are known."""
+    moves = [(at, by) for at in range(len(whole))]
+    moved = [moved_line(line, moves) for line in told(program, options, "\n".join(whole), "g")[2]]
+    return [*with_gaps([line for line in moved if int(PLACE.fullmatch(line)[1]) <= count], whole, count)]
+
+
+def with_some(dice, lines, some):
+    """The lines of a grammar, and at times some of these behind them."""
+    return [*lines, *(dice.sample(some, dice.choice((1, 2))) if dice.random() < 0.6 else ())]
+
+
 def known_cases(program, count, seed):
-    faults, lines_printed, lines_joined = [], 0, 0
+    faults, lines_printed, lines_joined, gaps = [], 0, 0, 0
     with rows.files() as files:
         for number in range(count):
             dice = random.Random(f"known {seed} {number}")
             lines, *others = (grammar(dice).split("\n") for _ in range(dice.choice((2, 2, 3))))
+            lines, *others = with_some(dice, lines, IDLE), *(with_some(dice, it, LEADING) for it in others)
             known = [files.written(f"{at}.abnf", indented(dice, it)[0]) for at, it in enumerate(others)]
             text, by = indented(dice, lines)
             whole = joined(lines, others)
             lines_joined += len(whole) - len(lines)
             for options in ([], ["--rules"]):
                 found = told(program, [*options, *(word for it in known for word in ("--with", it))], text, "g")
-                moves = [(at, by) for at in range(len(whole))]
-                moved = [moved_line(line, moves) for line in told(program, options, "\n".join(whole), "g")[2]]
-                wanted = [line for line in moved if int(PLACE.fullmatch(line)[1]) <= len(lines)]
-                lines_printed += len(wanted)
+                wanted = beside(program, options, whole, len(lines), by)
+                lines_printed, gaps = lines_printed + len(wanted), gaps + any(plain_findings.GAP_HINT in it for it in wanted)
                 if found != (int(any(": error: " in it for it in wanted) and not options), b"", wanted):
                     faults.append((number, options, found, wanted[:3]))
-    yield f"{count} grammars with known files", (faults[:2], lines_printed > count, lines_joined > count), ([], True, True), count
+    reached = lines_printed > count, lines_joined > count, gaps > count / 5
+    yield f"{count} grammars with known files", (faults[:2], *reached), ([], *[True] * len(reached)), count
 
 
-def cases(program):
-    yield from draft_cases(program, COUNT, SEED)
-    yield from page_cases(program, COUNT, SEED)
-    yield from fault_cases(program, COUNT, SEED)
-    yield from known_cases(program, COUNT, SEED)
+# ---- what the plain readings find alone
+
+
+def plain_line(at, severity, message, code):
+    return f"g:{at['line'] + 1}:{at['character'] + 1}: {severity}: {message} [{code}]"
+
+
+def plain_lines(found):
+    """The lines of findings as they are published, with positions in characters."""
+    return [plain_line(it["range"]["start"], SEVERITIES[it["severity"]], it["message"], it["code"]) for it in found]
+
+
+def plain_draft(text, form):
+    """The lines of a draft, but for hints."""
+    draft = plain_drafts.Draft(text, form, "utf-32")
+    if draft.fault:
+        return plain_lines(draft.told_of_xml())
+    unread = [plain_line(draft.position(at), "warning", words, code) for at, words, code in plain_drafts.unread(text, form)]
+    if not draft.grammar.text:
+        return [f"g:1:1: warning: {plain_findings.NO_GRAMMAR_IN_DRAFT}", *unread]
+    return sorted([*plain_lines(draft.findings(Reading(draft.grammar.text, "utf-32").findings())), *unread], key=place_of)
+
+
+def told_plainly(program, options, text):
+    """How a run on a text from standard input ends, with its lines but for hints."""
+    status, said, lines = told(program, options, text, "g")
+    return status, said, [HINT.sub("", it) for it in lines]
+
+
+def status_of(lines):
+    return int(any(": error: " in it for it in lines))
+
+
+def any_cases(program, count, seed):
+    """Drafts with marks put in or taken out."""
+    for form in ("markdown", "xml"):
+        faults, reached = [], {"[unmarked]": 0, "[not-read]": 0}
+        for number in range(count):
+            dice = random.Random(f"any {form} {seed} {number}")
+            text = random_draft(dice, form)
+            wanted = plain_draft(text, form)
+            found = told_plainly(program, ["--format", form], text)
+            if found != (status_of(wanted), b"", wanted):
+                faults.append((text, found, wanted))
+            for code in reached:
+                reached[code] += any(it.endswith(code) for it in wanted)
+        seldom = [it for it in reached if reached[it] < count / 20]
+        yield f"{count} drafts by the plain readings, in {form}", (sorted(faults, key=lambda it: len(it[0]))[:2], seldom), ([], []), count
+
+
+def at_left(text):
+    """The lines of a text, without its first indent."""
+    return re.split("\r\n|\n|\r", "".join(it for it, *_ in plain_drafts.aligned([(it, 0, 0) for it in text], 0)))
+
+
+def known_prose(program, file, text, other):
+    """What is found of a grammar where a text that is no grammar is known, and what must be found."""
+    lines = other.split("\n")
+    wanted = beside(program, [], joined(lines, [at_left(text)]), len(lines), 0)
+    warned = f"{file}:1:1: warning: {plain_findings.NO_GRAMMAR}\n" + "".join(f"-{it[1:]}\n" for it in wanted)
+    return outcome(program, other.encode(), ["--with", file, "-"]), (status_of(wanted), b"", warned.encode())
+
+
+def prose_cases(program, count, seed):
+    """Texts of words, alone and as files whose names are known."""
+    faults, nones = [], 0
+    with rows.files() as files:
+        for number in range(count):
+            dice = random.Random(f"prose {seed} {number}")
+            text, other = prose(dice), grammar(dice)
+            reading, file = Reading(text, "utf-32"), files.written("prose.abnf", text)
+            is_none = plain_findings.is_no_grammar(reading.items)
+            wanted = [f"g:1:1: error: {plain_findings.NO_GRAMMAR}"] if is_none else plain_lines(reading.findings())
+            found = [told_plainly(program, [], text), outcome(program, text.encode(), ["--grammar", "-"])]
+            if found != [(status_of(wanted), b"", wanted), (0, b"", text.encode())]:
+                faults.append((text, found, wanted))
+            found, wanted = known_prose(program, file, text, f"{other}\nuses = nope / a / no") if is_none else (None, None)
+            nones += is_none
+            if found != wanted:
+                faults.append((text, other, found, wanted))
+    yield f"{count} texts of words", (sorted(faults, key=lambda it: len(it[0]))[:2], count / 5 < nones < count), ([], True), count
+
+
+ALL = (draft_cases, page_cases, fault_cases, known_cases, any_cases, prose_cases)
+
+
+def cases(program, count=COUNT, seed=SEED):
+    return itertools.chain(*(it(program, count, seed) for it in ALL))
 
 
 def main(words):
     program, count, seed = [*words, *[rows.FINDINGS, COUNT, SEED][len(words) :]]
-    return rows.report(itertools.chain(*(it(program, int(count), seed) for it in (draft_cases, page_cases, fault_cases, known_cases))))
+    return rows.report(cases(program, int(count), seed))
 
 
 if __name__ == "__main__":

@@ -1,7 +1,6 @@
 pub mod CarryLaws
 pub mod GatherLaws
 pub mod InsertionLaws
-pub mod OffsetLaws
 pub mod ReferenceLaws
 pub mod RenameLaws
 pub mod ScalarLaws

@@ -12,14 +12,14 @@ fn options() -> &'static [&'static str]
     ensures { map (λ line. line.now) result.now ≡ spec.options }
 {
     &[
-        "Prints what is found in the ABNF grammars of files: of drafts in Markdown or RFCXML too.",
+        "Prints what is found in the ABNF grammars of files: of drafts and published RFCs too.",
         "The file - is standard input.",
         "",
         "  --strict         warnings count as errors do for the exit status",
         "  --rules          prints the rules and their shortest strings instead",
         "  --grammar        prints the grammars themselves instead",
         "  --with FILE      the names that FILE defines are known; it may stand more than once",
-        "  --format FORMAT  what each FILE is written in: abnf, markdown or xml",
+        "  --format FORMAT  what each FILE is written in: abnf, markdown, xml or text",
         "  --               what follows are files, whatever their names are",
         "  --help           prints this",
         "  --version        prints the version",

@@ -23,7 +23,7 @@ line_of e.Good = []
 line_of e.Found = []
 line_of e.NotRead = []
 line_of e.WriteFailed = codes "write failed"
-line_of e.Usage = codes "usage: abnf_findings [--strict | --rules | --grammar] [--with FILE].. [--format abnf | markdown | xml] FILE.."
+line_of e.Usage = codes "usage: abnf_findings [--strict | --rules | --grammar] [--with FILE].. [--format abnf | markdown | xml | text] FILE.."
 line_of e.OutOfMemory = codes "out of memory"
 
 -- the line on standard error for a file with this name that can't be used

@@ -1,5 +1,7 @@
+pub mod Contents
 pub mod Drafts
 pub mod Endings
 pub mod Formats
-pub mod Known
 pub mod Grammars
+pub mod Known
+pub mod Texts

@@ -46,7 +46,7 @@ impl Ending {
             Ending::Good | Ending::Found | Ending::NotRead => "",
             Ending::WriteFailed => "write failed",
             Ending::Usage =>
-                "usage: abnf_findings [--strict | --rules | --grammar] [--with FILE].. [--format abnf | markdown | xml] FILE..",
+                "usage: abnf_findings [--strict | --rules | --grammar] [--with FILE].. [--format abnf | markdown | xml | text] FILE..",
             Ending::OutOfMemory => "out of memory",
         }
     }

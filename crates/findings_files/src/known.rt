@@ -1,26 +1,32 @@
 //! The files whose names are known, and what is printed of a file by them.
 
-ghost use Rattle.std.specs.Prelude.{◌≡◌, ◌⊎◌, ℕ, List as Listed, [], IfErr, IfOk, OnErr, OnOk};
+ghost use Rattle.std.specs.Prelude.{◌≡◌, ◌⊎◌, ℕ, List as Listed, [], IfErr, IfOk, Ok, OnErr};
 ghost use Rattle.joined_grammars.specs.Joined.{IsJoined};
-ghost use Rattle.findings_files.specs.Drafts.{IsTextRefused};
-ghost use Rattle.findings_files.specs.Formats.{unread_in};
+ghost use Rattle.findings_text.specs.Gaps.{IsFilledTooLarge};
+ghost use Rattle.findings_text.specs.Print.{IsPrinted};
+ghost use Rattle.findings_text.specs.Rules.{ArePrintedRules};
+ghost use Rattle.findings_text.specs.Sources.{asides_in, ends_in, located, repeats_in};
+ghost use Rattle.findings_text.specs.Told.{IsPrintedIn};
 ghost use Rattle.findings_text.specs.Unread.{asides_of, outcome_with, unread_lines};
 ghost use Rattle.findings_files.specs.Known as spec;
+ghost use Rattle.findings_files.specs.Texts.{IsTextRefused};
 
-use crate::draft::{print_without, snapshot_of, text_of, warned};
-use crate::format::{Format, clean, markdown_unread, print_alone, print_rules_alone};
-use crate::grammar::grammar_in;
-use crate::xml::{print_fault, xml_unread};
+use crate::content::{Content, content_in, grammar_in, lacks_grammar, snapshot_of, text_of};
+use crate::draft::{print_draft, print_draft_rules, print_without};
+use crate::format::Format;
+use crate::xml::print_fault;
 use draft_findings::block_ends;
-use findings_text::{Printed, Source, print_told, print_told_rules, print_unread};
+use findings_text::{
+    Outcome, Printed, Source, print_findings, print_rules, print_told, print_told_rules,
+    print_unread,
+};
 use joined_grammars::{Repeats, joined};
 use ls_lists::{List, Text};
-use ls_text::Snapshot;
+use ls_text::{Snapshot, TextFault};
 use origins::{Gathered, Unread};
 use std::alloc::{AllocError as Memory, Global};
 use std::marker::Model;
 use text_files::FileFault;
-use xml_blocks::XmlFault;
 
 /// The files whose names are known. Contracts see the texts of their grammars, in the order in which they came.
 #[derive(Drop)]
@@ -49,13 +55,13 @@ impl Known {
     }
 
     /// Adds the grammar of a file with this name and this format, left aligned, behind those that are known. What is
-    /// printed of the file itself are warnings: that it is a draft without a grammar, and of each block of it that can't be
-    /// read. Time goes by the length of the file, in bytes.
+    /// printed of the file itself are warnings: that it has no grammar, and of each block of it that can't be read or that
+    /// nothing marks. Time goes by the length of the file, in bytes.
     ///
     /// # Errors
     ///
-    /// `NotText` only where the file is a draft in XML that is at fault, or its grammar is larger than a text may be, and
-    /// `Memory` where an allocation is refused. Then no file is added.
+    /// `NotText` only where the file is a draft in XML that is at fault, or its grammar, a block that nothing marks or a
+    /// run of lines is larger than a text may be, and `Memory` where an allocation is refused. Then no file is added.
     pub fn add(
         &mut self,
         alloc: Global,
@@ -63,19 +69,15 @@ impl Known {
         format: Format,
         text: &Snapshot,
     ) -> Result<Printed, FileFault>
-        ensures added { OnOk result (spec.IsAdded (spec.grammar_in format text.now) self.old self.new) }
-        ensures printed { IfOk result (λ printed. spec.IsPrintedSource format file.now text.now (spec.grammar_in format text.now) printed) }
-        ensures fault { IfErr result (λ fault. (fault ≡ FileFault.Memory) ⊎ spec.IsNotAdded (spec.grammar_in format text.now) fault) }
+        ensures added { IfOk result (spec.IsAdded format file.now text.now self.old self.new) }
+        ensures fault { IfErr result (spec.IsNotAdded format text.now) }
         ensures same { OnErr result (self.new ≡ self.old) }
     {
-        let grammar = match grammar_in(alloc, format, text) {
-            Ok(grammar) => grammar,
-            Err(XmlFault::Memory) => return Err(FileFault::Memory),
-            Err(_) => return Err(FileFault::NotText),
+        let Ok(content) = content_in(alloc, format, text)? else {
+            return Err(FileFault::NotText);
         };
-        let unread = unread_in(alloc, format, text)?;
-        let printed = print_source(alloc, file, text, unread.as_slice(), &grammar)?;
-        let text = text_of(alloc, &grammar)?;
+        let printed = print_source(alloc, file, format, text, &content)?;
+        let text = text_of(alloc, &content.grammar)?;
         match self.grammars.push(text) {
             Ok(()) => Ok(printed),
             Err(_) => Err(FileFault::Memory),
@@ -90,6 +92,16 @@ impl Known {
     }
 }
 
+/// How a file went by what can't be read in it.
+fn outcome_of(unread: &[Unread]) -> Outcome
+    ensures { result ≡ outcome_with unread.now [] }
+{
+    match unread {
+        [] => Outcome::Clean,
+        _ => Outcome::Warnings,
+    }
+}
+
 /// The lines of what can't be read of a file, and how it went by them.
 fn print_unread_of(
     alloc: Global,
@@ -97,33 +109,35 @@ fn print_unread_of(
     draft: &Snapshot,
     unread: &[Unread],
 ) -> Result<Printed, FileFault>
-    ensures printed { IfOk result (λ printed. (printed.lines ≡ unread_lines file.now (asides_of draft.now unread.now).0 unread.now) × (printed.outcome ≡ outcome_with unread.now [])) }
+    ensures lines { IfOk result (λ printed. printed.lines ≡ unread_lines file.now (asides_of draft.now unread.now).0 unread.now) }
+    ensures outcome { IfOk result (λ printed. printed.outcome ≡ outcome_with unread.now []) }
     ensures fault { IfErr result (λ fault. fault ≡ FileFault.Memory) }
 {
-    let Ok(lines) = print_unread(alloc, file, draft, unread) else {
-        return Err(FileFault::Memory);
-    };
-    Ok(match unread {
-        [] => clean(Text::new(lines)),
-        _ => warned(lines),
-    })
+    match print_unread(alloc, file, draft, unread) {
+        Ok(lines) => Ok(Printed {
+            lines: Text::new(lines),
+            outcome: outcome_of(unread),
+        }),
+        Err(_) => Err(FileFault::Memory),
+    }
 }
 
-/// What is printed of a file whose names are known, with this grammar, where this can't be read.
+/// What is printed of a file whose names are known, of which this is read.
 fn print_source(
     alloc: Global,
     file: &str,
-    draft: &Snapshot,
-    unread: &[Unread],
-    grammar: &Gathered,
+    format: Format,
+    text: &Snapshot,
+    content: &Content,
 ) -> Result<Printed, FileFault>
-    ensures printed { IfOk result (λ printed. printed ≡ spec.printed_source file.now draft.now unread.now grammar.now) }
+    ensures printed { IfOk result (spec.IsPrintedSource format file.now text.now (Ok content.now)) }
     ensures fault { IfErr result (λ fault. fault ≡ FileFault.Memory) }
 {
-    match grammar.origin_of(0) {
-        None => print_without(alloc, file, draft, unread),
-        Some(_) => print_unread_of(alloc, file, draft, unread),
+    let unread = content.unread.as_slice();
+    if lacks_grammar(alloc, format, text, &content.grammar)? {
+        return print_without(alloc, format, Outcome::Warnings, file, text, unread);
     }
+    print_unread_of(alloc, file, text, unread)
 }
 
 /// The text of a grammar with others joined to it.
@@ -144,7 +158,7 @@ fn repeats_as(alloc: Global, format: Format, text: &Snapshot) -> Result<Repeats,
 {
     let repeats: Result<Repeats, Memory> = match format {
         Format::Abnf => Ok(Repeats::none(alloc)),
-        Format::Markdown | Format::Xml => Repeats::of(alloc, text),
+        Format::Markdown | Format::Xml | Format::Text => Repeats::of(alloc, text),
     };
     match repeats {
         Ok(repeats) => Ok(repeats),
@@ -164,7 +178,7 @@ fn ends_as(
 {
     let ends: Result<List<usize>, Memory> = match format {
         Format::Abnf => Ok(List::new(alloc)),
-        Format::Markdown | Format::Xml => block_ends(alloc, draft, grammar),
+        Format::Markdown | Format::Xml | Format::Text => block_ends(alloc, draft, grammar),
     };
     match ends {
         Ok(ends) => Ok(ends),
@@ -172,105 +186,129 @@ fn ends_as(
     }
 }
 
-/// What can't be read of a file of this format.
-fn unread_in(alloc: Global, format: Format, text: &Snapshot) -> Result<Vec<Unread>, FileFault>
-    ensures unread { IfOk result (λ unread. unread.items ≡ unread_in format text.now) }
-    ensures fault { IfErr result (λ fault. fault ≡ FileFault.Memory) }
+/// The findings of a grammar at the front of a text, where too large a text is refused as that of a file.
+fn print_front(
+    alloc: Global,
+    file: &str,
+    source: Source<'_>,
+    told: &Snapshot,
+    text: &Snapshot,
+) -> Result<Printed, FileFault>
+    ensures printed { IfOk result (λ printed. IsPrintedIn told.now (asides_in source.entry) (repeats_in source.entry) (ends_in source.entry) (located source.entry text.now) file.now text.now printed) }
+    ensures fault { IfErr result (λ fault. (fault ≡ FileFault.Memory) ⊎ ((fault ≡ FileFault.NotText) × IsFilledTooLarge told.now text.now)) }
 {
-    match format {
-        Format::Abnf => Ok(Vec::new(alloc)),
-        Format::Markdown => markdown_unread(alloc, text),
-        Format::Xml => xml_unread(alloc, text),
+    match print_told(alloc, file, source, told, text) {
+        Ok(printed) => Ok(printed),
+        Err(TextFault::TooLarge) => Err(FileFault::NotText),
+        Err(TextFault::Memory) => Err(FileFault::Memory),
     }
 }
 
-/// What is printed of a grammar that was gathered from a file of which this can't be read, with others joined to it.
-fn print_gathered(
+/// What is printed of a file of which this is read, with others joined to its grammar.
+fn print_joined(
     alloc: Global,
     file: &str,
     format: Format,
     draft: &Snapshot,
-    unread: &[Unread],
-    grammar: &Gathered,
+    content: &Content,
     others: &[Snapshot],
 ) -> Result<Printed, FileFault>
-    ensures printed { IfOk result (λ printed. spec.IsPrintedJoined others.now format file.now draft.now unread.now grammar.now printed) }
-    ensures fault { IfErr result (λ fault. spec.IsJoinRefused others.now grammar.now fault) }
+    ensures printed { IfOk result (λ printed. spec.IsPrintedJoined others.now format file.now draft.now content.now.unread content.now.grammar printed) }
+    ensures fault { IfErr result (λ fault. spec.IsJoinRefused others.now content.now.grammar fault ⊎ spec.IsFillingRefused others.now content.now.grammar fault) }
 {
+    let grammar = &content.grammar;
     let told = text_of(alloc, grammar)?;
     let text = joined_text(alloc, &told, others)?;
     let repeats = repeats_as(alloc, format, &text)?;
     let ends = ends_as(alloc, format, draft, grammar)?;
+    let unread = content.unread.as_slice();
     let source = Source::Draft(draft, grammar, &repeats, ends.as_slice(), unread);
-    match print_told(alloc, file, source, &told, &text) {
+    print_front(alloc, file, source, &told, &text)
+}
+
+/// What is printed of a file with a grammar, where no other is known.
+fn print_alone(
+    alloc: Global,
+    file: &str,
+    format: Format,
+    text: &Snapshot,
+    content: &Content,
+) -> Result<Printed, FileFault>
+    ensures printed { IfOk result (λ printed. spec.IsPrintedOf [] format file.now text.now content.now printed) }
+    ensures fault { IfErr result (spec.AreFindingsRefused [] format content.now.grammar) }
+{
+    match format {
+        Format::Abnf => print_grammar(alloc, file, text),
+        Format::Markdown | Format::Xml | Format::Text => print_draft(alloc, file, text, content),
+    }
+}
+
+/// What is printed of a file that is a grammar.
+fn print_grammar(alloc: Global, file: &str, text: &Snapshot) -> Result<Printed, FileFault>
+    ensures printed { IfOk result (λ printed. IsPrinted file.now text.now printed) }
+    ensures fault { IfErr result (λ fault. fault ≡ FileFault.Memory) }
+{
+    match print_findings(alloc, file, text) {
         Ok(printed) => Ok(printed),
         Err(_) => Err(FileFault::Memory),
     }
 }
 
-/// What is printed of a file with this grammar, to which others are joined, where this can't be read.
-fn print_draft_with(
-    alloc: Global,
-    file: &str,
-    format: Format,
-    draft: &Snapshot,
-    unread: &[Unread],
-    grammar: &Gathered,
-    others: &[Snapshot],
-) -> Result<Printed, FileFault>
-    ensures printed { IfOk result (λ printed. spec.IsPrintedDraftWith others.now format file.now draft.now unread.now grammar.now printed) }
-    ensures fault { IfErr result (λ fault. spec.IsJoinRefused others.now grammar.now fault) }
-{
-    if grammar.origin_of(0).is_none() {
-        return print_without(alloc, file, draft, unread);
-    }
-    print_gathered(alloc, file, format, draft, unread, grammar, others)
-}
-
-/// What is printed of a file of this format, to whose grammar others are joined.
-fn print_joined(
+/// What is printed of a file with a grammar, where these others are known.
+fn print_of(
     alloc: Global,
     file: &str,
     format: Format,
     text: &Snapshot,
+    content: &Content,
     others: &[Snapshot],
 ) -> Result<Printed, FileFault>
-    ensures printed { IfOk result (λ printed. spec.IsPrintedBy others.now format file.now text.now (spec.grammar_in format text.now) printed) }
-    ensures fault { IfErr result (λ fault. (fault ≡ FileFault.Memory) ⊎ spec.IsRefusedBy others.now (spec.grammar_in format text.now) fault) }
+    ensures printed { IfOk result (λ printed. spec.IsPrintedOf others.now format file.now text.now content.now printed) }
+    ensures fault { IfErr result (spec.AreFindingsRefused others.now format content.now.grammar) }
 {
-    match grammar_in(alloc, format, text) {
-        Ok(grammar) => {
-            let unread = unread_in(alloc, format, text)?;
-            print_draft_with(
-                alloc,
-                file,
-                format,
-                text,
-                unread.as_slice(),
-                &grammar,
-                others,
-            )
-        }
-        Err(fault) => print_fault(alloc, file, text, fault),
+    match others {
+        [] => print_alone(alloc, file, format, text, content),
+        others => print_joined(alloc, file, format, text, content, others),
     }
 }
 
-/// What is printed of a file with this name and this format, where the names of other files are known: each finding in a
+/// What is printed of a file of which this is read.
+fn print_content(
+    alloc: Global,
+    file: &str,
+    format: Format,
+    text: &Snapshot,
+    content: &Content,
+    others: &[Snapshot],
+) -> Result<Printed, FileFault>
+    ensures printed { IfOk result (λ printed. spec.IsPrintedContent others.now format file.now text.now content.now printed) }
+    ensures fault { IfErr result (λ fault. (fault ≡ FileFault.Memory) ⊎ spec.AreFindingsRefused others.now format content.now.grammar fault) }
+{
+    if lacks_grammar(alloc, format, text, &content.grammar)? {
+        let unread = content.unread.as_slice();
+        return print_without(alloc, format, format.outcome_without(), file, text, unread);
+    }
+    print_of(alloc, file, format, text, content, others)
+}
+
+/// What is printed of a file with this name and this format, where the names of other files may be known: each finding in a
 /// line, in the order of the file, at the place where it begins in the file. Lines and columns count from 1, and columns
-/// count characters. Of a draft it goes by the grammar in its blocks. Where it has no grammar that is a warning, as is
-/// each block that can't be read. Of a block with more than ten faults of syntax the first alone is told. Of a draft in
+/// count characters. Of a draft or a published text it goes by the grammar in its blocks. Where a file has no grammar that
+/// is a warning for a draft and an error for any other, and no finding is reported. Each block that can't be read, or that
+/// nothing marks, is a warning. Of a block with more than ten faults of syntax the first alone is reported. Of a draft in
 /// XML that is at fault the fault alone is reported.
 ///
 /// Rules of the other files whose names the file doesn't define are joined to its grammar, those of an earlier file
 /// first; nothing is reported of them. Names that stand for nothing are compared with those of the joined grammar, the
-/// file's own first, and then with the core rules.
+/// file's own first, and then with the core rules. Of a rule that generates nothing it is said if it leads to a name that no
+/// file defines.
 ///
 /// Time goes by the length of the file and of all known grammars, which are joined anew for each file.
 ///
 /// # Errors
 ///
-/// `NotText` only where the file's grammar, or the joined one, is larger than a text may be, and `Memory` where an
-/// allocation is refused.
+/// `NotText` only where the file's grammar, the joined one, also with its gaps filled, a block that nothing marks or a run
+/// of lines is larger than a text may be, and `Memory` where an allocation is refused.
 pub fn print_as(
     alloc: Global,
     file: &str,
@@ -279,16 +317,16 @@ pub fn print_as(
     known: &Known,
 ) -> Result<Printed, FileFault>
     ensures printed { IfOk result (λ printed. spec.IsPrintedWith known.now format file.now text.now printed) }
-    ensures fault { IfErr result (λ fault. spec.IsRefusedWith known.now format text.now fault) }
+    ensures fault { IfErr result (spec.IsPrintRefused known.now format text.now) }
 {
-    match known.as_slice() {
-        [] => print_alone(alloc, file, format, text),
-        others => print_joined(alloc, file, format, text, others),
+    match content_in(alloc, format, text)? {
+        Ok(content) => print_content(alloc, file, format, text, &content, known.as_slice()),
+        Err(fault) => print_fault(alloc, file, text, fault),
     }
 }
 
 /// The lines of the rules of a grammar that was gathered from a file, with others joined to it.
-fn gathered_rules(
+fn joined_rules(
     alloc: Global,
     file: &str,
     draft: &Snapshot,
@@ -296,7 +334,7 @@ fn gathered_rules(
     others: &[Snapshot],
 ) -> Result<Text, FileFault>
     ensures printed { IfOk result (λ lines. spec.ArePrintedJoinedRules others.now file.now draft.now grammar.now lines) }
-    ensures fault { IfErr result (λ fault. spec.IsJoinRefused others.now grammar.now fault) }
+    ensures fault { IfErr result (spec.IsJoinRefused others.now grammar.now) }
 {
     let told = text_of(alloc, grammar)?;
     let text = joined_text(alloc, &told, others)?;
@@ -308,35 +346,74 @@ fn gathered_rules(
     }
 }
 
-/// What is printed of the rules of a file of this format, to whose grammar others are joined.
-fn print_joined_rules(
+/// The lines of the rules of a file that is a grammar.
+fn grammar_rules(alloc: Global, file: &str, text: &Snapshot) -> Result<Text, FileFault>
+    ensures printed { IfOk result (λ lines. ArePrintedRules file.now text.now lines) }
+    ensures fault { IfErr result (λ fault. fault ≡ FileFault.Memory) }
+{
+    match print_rules(alloc, file, text) {
+        Ok(lines) => Ok(lines),
+        Err(_) => Err(FileFault::Memory),
+    }
+}
+
+/// The lines of the rules of a file with this grammar, where no other is known.
+fn rules_alone(
     alloc: Global,
     file: &str,
     format: Format,
     text: &Snapshot,
-    others: &[Snapshot],
-) -> Result<Printed, FileFault>
-    ensures printed { IfOk result (λ printed. spec.ArePrintedRulesBy others.now file.now text.now (spec.grammar_in format text.now) printed) }
-    ensures fault { IfErr result (λ fault. (fault ≡ FileFault.Memory) ⊎ spec.IsRefusedBy others.now (spec.grammar_in format text.now) fault) }
+    grammar: &Gathered,
+) -> Result<Text, FileFault>
+    ensures printed { IfOk result (λ lines. spec.ArePrintedRulesOf [] format file.now text.now grammar.now lines) }
+    ensures fault { IfErr result (spec.AreRulesRefused [] format grammar.now) }
 {
-    match grammar_in(alloc, format, text) {
-        Ok(grammar) => {
-            let lines = gathered_rules(alloc, file, text, &grammar, others)?;
-            Ok(clean(lines))
+    match format {
+        Format::Abnf => grammar_rules(alloc, file, text),
+        Format::Markdown | Format::Xml | Format::Text => {
+            print_draft_rules(alloc, file, text, grammar)
         }
-        Err(fault) => print_fault(alloc, file, text, fault),
     }
 }
 
-/// What is printed of the rules in a file with this name and this format, where the names of other files are known: each
+/// The lines of the rules of a file with this grammar, where these others are known.
+fn rules_of(
+    alloc: Global,
+    file: &str,
+    format: Format,
+    text: &Snapshot,
+    grammar: &Gathered,
+    others: &[Snapshot],
+) -> Result<Text, FileFault>
+    ensures printed { IfOk result (λ lines. spec.ArePrintedRulesOf others.now format file.now text.now grammar.now lines) }
+    ensures fault { IfErr result (spec.AreRulesRefused others.now format grammar.now) }
+{
+    match others {
+        [] => rules_alone(alloc, file, format, text, grammar),
+        others => joined_rules(alloc, file, text, grammar, others),
+    }
+}
+
+/// Lines of rules, where nothing isn't to pass.
+fn clean(lines: Text) -> Printed
+    ensures lines { result.lines ≡ lines }
+    ensures outcome { result.outcome ≡ Outcome.Clean }
+{
+    Printed {
+        lines,
+        outcome: Outcome::Clean,
+    }
+}
+
+/// What is printed of the rules in a file with this name and this format, where the names of other files may be known: each
 /// rule that it defines in a line, at the first place that does. What a rule generates it generates by the joined
 /// grammar. Of a draft in XML that is at fault the fault alone is reported. Each rule that has an example takes time by
 /// the size of the joined grammar.
 ///
 /// # Errors
 ///
-/// As [`print_as`]: `NotText` only where the file's grammar, or the joined one, is larger than a text may be, and
-/// `Memory`.
+/// `NotText` only where the file's grammar, the joined one or a run of lines is larger than a text may be, and `Memory`
+/// where an allocation is refused.
 pub fn print_rules_as(
     alloc: Global,
     file: &str,
@@ -345,10 +422,13 @@ pub fn print_rules_as(
     known: &Known,
 ) -> Result<Printed, FileFault>
     ensures printed { IfOk result (λ printed. spec.ArePrintedRulesWith known.now format file.now text.now printed) }
-    ensures fault { IfErr result (λ fault. spec.IsRefusedWith known.now format text.now fault) }
+    ensures fault { IfErr result (spec.IsRulePrintRefused known.now format text.now) }
 {
-    match known.as_slice() {
-        [] => print_rules_alone(alloc, file, format, text),
-        others => print_joined_rules(alloc, file, format, text, others),
+    match grammar_in(alloc, format, text)? {
+        Ok(grammar) => {
+            let lines = rules_of(alloc, file, format, text, &grammar, known.as_slice())?;
+            Ok(clean(lines))
+        }
+        Err(fault) => print_fault(alloc, file, text, fault),
     }
 }

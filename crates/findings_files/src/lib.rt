@@ -1,11 +1,12 @@
 //! What is printed of a file, by what it is written in and by which other files are known, and how the program ends.
 //!
-//! [`print_as`] and [`print_rules_as`] read files by their [`Format`], as specs/Formats has it: of a draft they go by the
-//! grammar in it, as specs/Drafts has it. They join rules of files that are [`Known`] to their grammars, as specs/Known
-//! has it. [`print_grammar_as`] gives a file's grammar. How a file went is an [`Outcome`], and the [`Ending`] of a run
-//! follows from the outcomes of its files.
+//! [`print_as`] and [`print_rules_as`] read files by their [`Format`], as specs/Formats and specs/Contents have it: of a
+//! draft or a published text they go by the grammar in it, as specs/Drafts has it. They join rules of files that are
+//! [`Known`] to their grammars, as specs/Known has it. [`print_grammar_as`] gives a file's grammar. How a file went is an
+//! [`Outcome`], and the [`Ending`] of a run follows from the outcomes of its files.
 #![tactic(auto)]
 
+mod content;
 mod draft;
 mod ending;
 mod format;
@@ -20,8 +21,9 @@ pub use format::Format;
 pub use grammar::print_grammar_as;
 pub use known::{Known, print_as, print_rules_as};
 pub use laws::{
-    joined_prints_exist, joined_rule_prints_exist, printed_drafts_are_unique, printed_drafts_exist,
-    printed_grammars_are_unique, printed_grammars_exist, prints_are_unique, rule_prints_are_unique,
+    contents_are_unique, contents_exist, joined_prints_exist, joined_rule_prints_exist,
+    printed_grammars_are_unique, printed_grammars_exist, prints_are_unique, prints_exist,
+    rule_prints_are_unique,
 };
 pub use ls_lists::Text;
 pub use ls_text::Snapshot;

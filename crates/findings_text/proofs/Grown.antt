@@ -8,7 +8,7 @@ use Rattle.abnf_names.specs.Places.{Named}
 use Rattle.findings_text.specs.Print.{code_at, line_of_finding, message_at, place_text, severity_text}
 use Rattle.abnf_least.specs.declared.shortest.Shortest.{Shortest}
 use Rattle.findings_text.specs.Rules.{known_text, rule_line_at}
-use Rattle.findings_text.specs.Unread.{lack_line, lack_text}
+use Rattle.findings_text.specs.Unread.{lack_code, lack_line, lack_text}
 use Rattle.origins.specs.declared.unread.Lack.{Lack}
 
 -- what has grown by some, and then by more
@@ -57,13 +57,11 @@ rule_line_grown file head shown begin old p k is_p is_k s1 s2 s3 s4 s5 s6 e1 e2 
 
 -- the line of what can't be read, appended part by part
 pub lack_line_grown : (file : List ℕ) (begin : Position) (lack : Lack)
-    → (old p w : List ℕ) → p ≡ place_text begin → w ≡ lack_text lack
-    → (s1 s2 s3 s4 s5 : List ℕ)
-    → s1 ≡ old ++ file → s2 ≡ s1 ++ p → s3 ≡ s2 ++ codes "warning: " → s4 ≡ s3 ++ w → s5 ≡ s4 ++ (codes " [not-read]" ++ 10 ∷ [])
-    → s5 ≡ old ++ lack_line file begin lack
-lack_line_grown file begin lack old p w is_p is_w s1 s2 s3 s4 s5 e1 e2 e3 e4 e5 =
-    more old (file ++ p ++ codes "warning: " ++ w) (codes " [not-read]" ++ 10 ∷ []) s4 s5
-    (more old (file ++ p ++ codes "warning: ") w s3 s4
-    (more old (file ++ p) (codes "warning: ") s2 s3
-    (more old file p s1 s2 e1 e2) e3) e4) e5
-    ∙ (λ i. old ++ (file ++ is_p i ++ codes "warning: " ++ is_w i ++ (codes " [not-read]" ++ 10 ∷ [])))
+    → (old p w c : List ℕ) → p ≡ place_text begin → w ≡ lack_text lack → c ≡ lack_code lack
+    → (s1 s2 s3 s4 s5 s6 s7 : List ℕ)
+    → s1 ≡ old ++ file → s2 ≡ s1 ++ p → s3 ≡ s2 ++ codes "warning: " → s4 ≡ s3 ++ w → s5 ≡ s4 ++ codes " [" → s6 ≡ s5 ++ c → s7 ≡ s6 ++ (codes "]" ++ 10 ∷ [])
+    → s7 ≡ old ++ lack_line file begin lack
+lack_line_grown file begin lack old p w c is_p is_w is_c s1 s2 s3 s4 s5 s6 s7 e1 e2 e3 e4 e5 e6 e7 =
+    more old (file ++ p ++ codes "warning: " ++ w ++ codes " [" ++ c) (codes "]" ++ 10 ∷ []) s6 s7
+    (six old file p (codes "warning: ") w (codes " [") c s1 s2 s3 s4 s5 s6 e1 e2 e3 e4 e5 e6) e7
+    ∙ (λ i. old ++ (file ++ is_p i ++ codes "warning: " ++ is_w i ++ codes " [" ++ is_c i ++ (codes "]" ++ 10 ∷ [])))

@@ -1,4 +1,5 @@
 pub mod Grown
+pub mod GapLaws
 pub mod PrintLaws
 pub mod HeadLaws
 pub mod RuleLines

@@ -1,6 +1,6 @@
 -- Each text has one print-out, wherever it is said to stand.
 use Rattle.std.proofs.Common.{◌≡◌, ◌<◌, ◌^◌, ℕ, List, [], length, refl, ap, sym, ◌∙◌}
-use Rattle.std.specs.Prelude.{Result, Ok, Err, IfOk}
+use Rattle.std.specs.Prelude.{Option, None, Result, Ok, Err, IfOk}
 use Rattle.abnf_names.proofs.Exist.{some_grammar}
 use Rattle.abnf_names.proofs.OneGrammar.{one_grammar}
 use Rattle.abnf_lint.specs.declared.finding.Finding.{Finding}
@@ -16,25 +16,25 @@ use Rattle.abnf_productive.proofs.Exist.{some_findings}
 -- what is printed of these findings, whose names are compared with these
 abbrev printed_of : Asides → List Repeat → List ℕ → Locator → List ℕ → List ℕ → List (List ℕ) → List Finding → Printed
 printed_of asides repeats ends locate file text names found = record {
-  lines = shown_lines asides locate names file text (reported repeats ends found);
+  lines = shown_lines asides locate None names file text (reported repeats ends found);
   outcome = outcome_with asides.1 (reported repeats ends found);
 }
 
 is_that : (asides : Asides) (repeats : List Repeat) (ends : List ℕ) (locate : Locator) (file text : List ℕ) (printed : Printed) (is : IsPrintedFrom asides repeats ends locate file text printed) → printed ≡ printed_of asides repeats ends locate file text is.names is.found
 is_that asides repeats ends locate file text printed is = (λ i. record { lines = is.lines_are i; outcome = is.outcome_is i })
 
--- what is printed of findings is printed of their text, if it is
+-- what is printed of findings is printed of their text, where nothing is joined
 pub printed_from : {E : Type 0} (asides : Asides) (repeats : List Repeat) (ends : List ℕ) (locate : Locator) (file text : List ℕ) (found : List Finding) (names : List (List ℕ)) → AreFoundWith text found names
-    → (shown : List Finding) (known : List (List ℕ)) → shown ≡ found → known ≡ names → (r : Result Printed E)
-    → IfOk r (λ printed. printed.lines ≡ shown_lines asides locate known file text (reported repeats ends shown)) → IfOk r (λ printed. printed.outcome ≡ outcome_with asides.1 (reported repeats ends shown))
+    → (kept : Option (List ℕ)) → kept ≡ None → (r : Result Printed E)
+    → IfOk r (λ printed. printed.lines ≡ shown_lines asides locate kept names file text (reported repeats ends found)) → IfOk r (λ printed. printed.outcome ≡ outcome_with asides.1 (reported repeats ends found))
     → IfOk r (λ printed. IsPrintedFrom asides repeats ends locate file text printed)
-printed_from asides repeats ends locate file text found names are shown known shown_is known_is (Err e) lines outcome = lines
-printed_from asides repeats ends locate file text found names are shown known shown_is known_is (Ok printed) lines outcome = record {
+printed_from asides repeats ends locate file text found names are kept none (Err e) lines outcome = lines
+printed_from asides repeats ends locate file text found names are kept none (Ok printed) lines outcome = record {
   found = found;
   names = names;
   of_text = are;
-  lines_are = lines ∙ (λ i. shown_lines asides locate (known_is i) file text (reported repeats ends (shown_is i)));
-  outcome_is = outcome ∙ ap (λ fs. outcome_with asides.1 (reported repeats ends fs)) shown_is;
+  lines_are = lines ∙ ap (λ (k : Option (List ℕ)). shown_lines asides locate k names file text (reported repeats ends found)) none;
+  outcome_is = outcome;
 }
 
 -- ---- there is one

@@ -1,4 +1,5 @@
 pub mod Outcomes
+pub mod Gaps
 pub mod Heads
 pub mod Hints
 pub mod Places

@@ -16,7 +16,8 @@ use Rattle.draft_findings.specs.Reports.{Remarked, reported}
 use Rattle.draft_findings.specs.Words.{addition, differing}
 use Rattle.joined_grammars.specs.declared.repeats.Repeat.{Repeat}
 use Rattle.findings_text.specs.declared.print.Printed.{Printed}
-use Rattle.findings_text.specs.Hints.{AreKnown, compared, fault_hint, message}
+use Rattle.findings_text.specs.Gaps.{hint_behind}
+use Rattle.findings_text.specs.Hints.{AreKnown, compared, message}
 use Rattle.findings_text.specs.Unread.{Asides, merged, no_asides, outcome_with}
 pub use Rattle.findings_text.specs.Places.{counted_text, place_text}
 
@@ -60,10 +61,11 @@ abbrev pub original_line : Locator → List ℕ → Remark → Option ℕ
 original_line locate text (Differs line) = Some (locate (position_at text (record { line = line; start = 0; end = 0 }))).line
 original_line locate text _ = None
 
--- the line of a finding that is reported, at the place of the file where it begins
-abbrev pub finding_line : Locator → List (List ℕ) → List ℕ → List ℕ → Remarked → List ℕ
-finding_line locate known file text told =
-    line_of_finding known file (locate (begin_of text told.finding)) (original_line locate text told.remark) (fault_hint text told.finding.code) told
+-- the line of a finding that is reported, at the place of the file where it begins, where in these lines rules generate nothing whatever
+-- the gaps of a joined text stand for
+abbrev pub finding_line : Locator → Option (List ℕ) → List (List ℕ) → List ℕ → List ℕ → Remarked → List ℕ
+finding_line locate kept known file text told =
+    line_of_finding known file (locate (begin_of text told.finding)) (original_line locate text told.remark) (hint_behind kept text told.finding) told
 
 -- These are the findings of a text, and the names with which theirs are compared.
 pub record AreFoundWith (text : List ℕ) (found : List Finding) (names : List (List ℕ)) : Type 0 where
@@ -73,9 +75,9 @@ pub record AreFoundWith (text : List ℕ) (found : List Finding) (names : List (
   pub names_are : names ≡ compared found known
 
 -- the lines of findings that are reported of a grammar's text from a file with this name, among those of what can't be read of the file
-abbrev pub shown_lines : Asides → Locator → List (List ℕ) → List ℕ → List ℕ → List Remarked → List ℕ
-shown_lines asides locate names file text shown =
-    merged file asides.0 (λ told. locate (begin_of text told.finding)) (finding_line locate names file text) asides.1 shown
+abbrev pub shown_lines : Asides → Locator → Option (List ℕ) → List (List ℕ) → List ℕ → List ℕ → List Remarked → List ℕ
+shown_lines asides locate kept names file text shown =
+    merged file asides.0 (λ told. locate (begin_of text told.finding)) (finding_line locate kept names file text) asides.1 shown
 
 -- This is printed of a grammar's text from a file with this name, of which this can't be read, where these definitions repeat others,
 -- and blocks end at these lines: the lines of what is reported of its findings, in their order, among them those of what can't be
@@ -84,7 +86,7 @@ pub record IsPrintedFrom (asides : Asides) (repeats : List Repeat) (ends : List 
   pub found : List Finding
   pub names : List (List ℕ)
   pub of_text : AreFoundWith text found names
-  pub lines_are : printed.lines ≡ shown_lines asides locate names file text (reported repeats ends found)
+  pub lines_are : printed.lines ≡ shown_lines asides locate None names file text (reported repeats ends found)
   pub outcome_is : printed.outcome ≡ outcome_with asides.1 (reported repeats ends found)
 
 -- This is printed of a file with this name that is the grammar's text: the lines of all its findings, in their order, and how

@@ -6,7 +6,7 @@ use Rattle.ls_text.specs.Positions.{position_of}
 use Rattle.ls_text.specs.declared.position.Encoding.TheVariants.{Utf32}
 use Rattle.ls_text.specs.declared.position.Position.{Position}
 use Rattle.origins.specs.declared.unread.Lack.{Lack}
-use Rattle.origins.specs.declared.unread.Lack.TheVariants.{Elsewhere, Empty}
+use Rattle.origins.specs.declared.unread.Lack.TheVariants.{BareFence, Elsewhere, Empty, Faulty, Untyped}
 use Rattle.origins.specs.declared.unread.Unread.{Unread}
 use Rattle.draft_findings.specs.Reports.{Remarked}
 use Rattle.findings_text.specs.declared.outcome.Outcome.{Outcome}
@@ -30,11 +30,22 @@ asides_of draft unread = ((λ u. position_of (units Utf32) draft u.at), unread)
 abbrev pub lack_text : Lack → List ℕ
 lack_text Elsewhere = codes "grammar in another file"
 lack_text Empty = codes "empty block of grammar"
+lack_text BareFence = codes "rules in a block without a word, \"~~~ abnf\" marks them"
+lack_text Untyped = codes "rules in an element without a type, type=\"abnf\" marks them"
+lack_text Faulty = codes "lines that are not all rules"
 
--- `FILE:LINE:COLUMN: warning: message [not-read]`, and LF, of what can't be read and begins at this position. Line and column are printed
+-- the code that is printed of it: of rules that nothing marks as ABNF one of their own
+abbrev pub lack_code : Lack → List ℕ
+lack_code Elsewhere = codes "not-read"
+lack_code Empty = codes "not-read"
+lack_code BareFence = codes "unmarked"
+lack_code Untyped = codes "unmarked"
+lack_code Faulty = codes "not-read"
+
+-- `FILE:LINE:COLUMN: warning: message [code]`, and LF, of what can't be read and begins at this position. Line and column are printed
 -- from 1.
 abbrev pub lack_line : List ℕ → Position → Lack → List ℕ
-lack_line file at lack = file ++ place_text at ++ codes "warning: " ++ lack_text lack ++ (codes " [not-read]" ++ 10 ∷ [])
+lack_line file at lack = file ++ place_text at ++ codes "warning: " ++ lack_text lack ++ codes " [" ++ lack_code lack ++ (codes "]" ++ 10 ∷ [])
 
 -- the lines of all that can't be read
 abbrev pub unread_lines : List ℕ → (Unread → Position) → List Unread → List ℕ

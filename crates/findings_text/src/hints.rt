@@ -25,7 +25,7 @@ const CORE_NAMES: [&str; 16] = [
 ];
 
 /// Whether a name stands for nothing.
-fn is_undefined(finding: &Finding) -> bool
+pub(crate) fn is_undefined(finding: &Finding) -> bool
     ensures { result ≡ spec.is_undefined finding.now }
 {
     match finding.code {

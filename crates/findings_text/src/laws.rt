@@ -4,6 +4,7 @@ ghost use Rattle.std.specs.Prelude.{◌≡◌, ◌<◌, ◌^◌, [], ◌∷◌, 
 ghost use Rattle.std.specs.Option.{option_map_or};
 ghost use Rattle.abnf_parts.specs.Names.{Name};
 ghost use Rattle.abnf_names.specs.Places.{Named};
+ghost use Rattle.findings_text.specs.Gaps.{IsFilled};
 ghost use Rattle.findings_text.specs.Print.{IsPrinted};
 ghost use Rattle.findings_text.specs.Rules.{ArePrintedRules, defines_rule, heads};
 ghost use Rattle.findings_text.specs.declared.print.Printed.{Printed};
@@ -33,4 +34,14 @@ pub fn printed_rules_are_unique()
 pub fn heads_are_first()
     ensures { (names : List Name) (places : List Named) (r : ℕ)
         → filter (λ head. nat_eq r head.1) (heads names places) ≡ option_map_or (λ n. (n, r) ∷ []) (find (defines_rule names r) places) [] }
+{}
+
+/// For each grammar at the front of a text of fewer than 2^62 characters there is the text with its gaps filled.
+pub fn filled_texts_exist()
+    ensures { (told text : List ℕ) → length text < 2 ^ 62 → (filled : List ℕ) × IsFilled told text filled }
+{}
+
+/// It is filled in one way only.
+pub fn filled_texts_are_unique()
+    ensures { (told text a b : List ℕ) → IsFilled told text a → IsFilled told text b → a ≡ b }
 {}

@@ -5,9 +5,11 @@
 //! [`print_rules_from`] do so of a text that comes from a [`Source`], at the places of its file. [`print_told`] and
 //! [`print_told_rules`] print what stands in a grammar at the front of its text, as specs/Told has it. Among the lines
 //! stand those of what can't be read of a draft, as specs/Unread has it. Behind a name that stands for nothing a known name
-//! is printed which is near, as specs/Hints has it.
+//! is printed which is near, as specs/Hints has it; and behind a rule that generates nothing as it leads to names which no file
+//! defines, that it does so, as specs/Gaps has it.
 #![tactic(auto)]
 
+mod gaps;
 mod hints;
 mod laws;
 mod line;
@@ -19,8 +21,8 @@ mod source;
 mod unread;
 
 pub use laws::{
-    heads_are_first, printed_rules_are_unique, printed_rules_exist, printed_texts_are_unique,
-    printed_texts_exist,
+    filled_texts_are_unique, filled_texts_exist, heads_are_first, printed_rules_are_unique,
+    printed_rules_exist, printed_texts_are_unique, printed_texts_exist,
 };
 pub use line::place_text;
 pub use ls_lists::Text;

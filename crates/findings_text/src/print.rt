@@ -1,12 +1,14 @@
 //! What is printed of a text.
 
-ghost use Rattle.std.specs.Prelude.{◌≡◌, IfOk, map, string_bytes};
+ghost use Rattle.std.specs.Prelude.{◌≡◌, ℕ, List as Listed, IfErr, IfOk, OnOk, map, string_bytes};
 ghost use Rattle.draft_findings.specs.Reports.{reported};
+ghost use Rattle.findings_text.specs.Gaps.{IsFilledTooLarge};
 ghost use Rattle.findings_text.specs.Print.{AreFoundWith, IsPrinted, IsPrintedFrom, shown_lines};
 ghost use Rattle.findings_text.specs.Sources.{asides_in, ends_in, located, repeats_in};
 ghost use Rattle.findings_text.specs.Told as front;
 ghost use Rattle.findings_text.specs.Unread.{outcome_with};
 
+use crate::gaps::{Kept, kept_in};
 use crate::hints::compared;
 use crate::line::push_line;
 use crate::outcome::Outcome;
@@ -17,7 +19,7 @@ use abnf_names::Grammar;
 use abnf_productive::findings_in;
 use draft_findings::Reported;
 use ls_lists::{List, Text};
-use ls_text::{Encoding, Ruler, Snapshot};
+use ls_text::{Encoding, Ruler, Snapshot, TextFault};
 use std::alloc::{AllocError as Memory, Global};
 
 /// What is printed of a text, and how the file went.
@@ -29,15 +31,31 @@ pub struct Printed {
     pub outcome: Outcome,
 }
 
+/// What is found in a text, and what hints go by.
+#[derive(Drop)]
+struct Found<'t> {
+    /// The findings.
+    rows: List<Finding>,
+    /// The names with which those that stand for nothing are compared.
+    names: List<&'t str>,
+    /// Where rules generate nothing whatever the gaps of a joined text stand for.
+    kept: Option<Kept>,
+}
+
 /// The findings of a text, and the names with which those that stand for nothing are compared. Its grammar is let go here.
-fn found_in<'t>(alloc: Global, text: &'t Snapshot) -> Result<(List<Finding>, List<&'t str>), Memory>
-    ensures { IfOk result (λ both. AreFoundWith text.entry.now both.0 (map (λ name. name.now) both.1)) }
+fn found_in<'t>(alloc: Global, text: &'t Snapshot) -> Result<Found<'t>, Memory>
+    ensures found { IfOk result (λ found. AreFoundWith text.entry.now found.rows (map (λ name. name.now) found.names)) }
+    ensures alone { IfOk result (λ found. found.kept ≡ None) }
 {
     let grammar = Grammar::of(alloc, text)?;
-    let found = findings_in(alloc, &grammar)?;
-    let known = compared(alloc, &grammar, found.as_slice())?;
+    let rows = findings_in(alloc, &grammar)?;
+    let names = compared(alloc, &grammar, rows.as_slice())?;
     drop(grammar);
-    Ok((found, known))
+    Ok(Found {
+        rows,
+        names,
+        kept: None,
+    })
 }
 
 /// The lines of findings that are reported, among those of what can't be read of their file.
@@ -46,18 +64,19 @@ fn lines_of(
     file: &str,
     source: Source<'_>,
     text: &Snapshot,
-    known: &[&str],
+    found: &Found<'_>,
     reported: &[Reported<'_>],
 ) -> Result<String, Memory>
-    ensures { IfOk result (λ lines. string_bytes lines ≡ shown_lines (asides_in source.entry) (located source.entry text.now) (map (λ name. name.now) known.now) file.now text.now reported.now) }
+    ensures { IfOk result (λ lines. string_bytes lines ≡ shown_lines (asides_in source.entry) (located source.entry text.now) found.now.kept (map (λ name. name.now) found.now.names) file.now text.now reported.now) }
 {
     let mut ruler = Ruler::new(text, Encoding::Utf32);
     let mut lines = String::new(alloc);
     let mut left = unread_in(source);
+    let names = found.names.as_slice();
     for one in reported {
-        let at = standing_of(source, text, &mut ruler, one);
+        let at = standing_of(source, text, &mut ruler, &found.kept, one);
         left = push_ahead(&mut lines, alloc, file, source, at.begin, left)?;
-        push_line(&mut lines, alloc, file, at, known, one)?;
+        push_line(&mut lines, alloc, file, at, names, one)?;
     }
     push_unread(&mut lines, alloc, file, source, left)?;
     Ok(lines)
@@ -70,15 +89,14 @@ fn print_found(
     file: &str,
     source: Source<'_>,
     text: &Snapshot,
-    known: &[&str],
-    found: &[Finding],
+    found: &Found<'_>,
 ) -> Result<Printed, Memory>
-    ensures lines { IfOk result (λ printed. printed.lines ≡ shown_lines (asides_in source.entry) (located source.entry text.now) (map (λ name. name.now) known.now) file.now text.now (reported (repeats_in source.entry) (ends_in source.entry) found.now)) }
-    ensures outcome { IfOk result (λ printed. printed.outcome ≡ outcome_with (asides_in source.entry).1 (reported (repeats_in source.entry) (ends_in source.entry) found.now)) }
+    ensures lines { IfOk result (λ printed. printed.lines ≡ shown_lines (asides_in source.entry) (located source.entry text.now) found.now.kept (map (λ name. name.now) found.now.names) file.now text.now (reported (repeats_in source.entry) (ends_in source.entry) found.now.rows)) }
+    ensures outcome { IfOk result (λ printed. printed.outcome ≡ outcome_with (asides_in source.entry).1 (reported (repeats_in source.entry) (ends_in source.entry) found.now.rows)) }
 {
-    let reported = reported_in(alloc, source, found)?;
+    let reported = reported_in(alloc, source, found.rows.as_slice())?;
     let reported = reported.as_slice();
-    let lines = lines_of(alloc, file, source, text, known, reported)?;
+    let lines = lines_of(alloc, file, source, text, found, reported)?;
     Ok(Printed {
         lines: Text::new(lines),
         outcome: outcome_with(unread_in(source), reported),
@@ -106,15 +124,8 @@ pub fn print_from(
 ) -> Result<Printed, Memory>
     ensures { IfOk result (λ printed. IsPrintedFrom (asides_in source.entry) (repeats_in source.entry) (ends_in source.entry) (located source.entry text.now) file.now text.now printed) }
 {
-    let (found, known) = found_in(alloc, text)?;
-    print_found(
-        alloc,
-        file,
-        source,
-        text,
-        known.as_slice(),
-        found.as_slice(),
-    )
+    let found = found_in(alloc, text)?;
+    print_found(alloc, file, source, text, &found)
 }
 
 /// Of these findings those that stand in a grammar at the front of their text.
@@ -127,49 +138,52 @@ fn told_findings(found: List<Finding>, told: &Snapshot) -> List<Finding>
     List::from_vec(found)
 }
 
-/// The findings that stand in a grammar at the front of a text, and the names with which those that stand for nothing are compared.
-fn told_in<'t>(
-    alloc: Global,
-    told: &Snapshot,
-    text: &'t Snapshot,
-) -> Result<(List<Finding>, List<&'t str>), Memory>
-    ensures { IfOk result (λ both. front.AreToldWith told.now text.entry.now both.0 (map (λ name. name.now) both.1)) }
+/// The findings that stand in a grammar at the front of a text, the names with which those that stand for nothing are compared, and
+/// where rules generate nothing whatever the gaps stand for.
+fn told_in<'t>(alloc: Global, told: &Snapshot, text: &'t Snapshot) -> Result<Found<'t>, TextFault>
+    ensures found { IfOk result (λ found. (kept : Listed ℕ) × (found.kept ≡ Some kept) × front.AreToldWith told.now text.entry.now found.rows (map (λ name. name.now) found.names) kept) }
+    ensures small { OnOk result (IsFilledTooLarge told.now text.entry.now → ⊥) }
+    ensures too_large { IfErr result (λ fault. fault ≡ TextFault.TooLarge → IsFilledTooLarge told.now text.entry.now) }
 {
     let grammar = Grammar::of(alloc, text)?;
     let all = findings_in(alloc, &grammar)?;
-    let found = told_findings(all, told);
-    let names = compared(alloc, &grammar, found.as_slice())?;
+    let kept = kept_in(alloc, told, text, all.as_slice())?;
+    let front = told_findings(all, told);
+    let names = compared(alloc, &grammar, front.as_slice())?;
     drop(grammar);
-    Ok((found, names))
+    Ok(Found {
+        rows: front,
+        names,
+        kept: Some(kept),
+    })
 }
 
 /// What is printed of a file's grammar at the front of a text to which rules of others are joined: each finding that
 /// stands there in a line, in the order of the text, at the place where it begins in the file. Names that stand for
-/// nothing are compared with those of the whole text, and then with the core rules.
+/// nothing are compared with those of the whole text, and then with the core rules. Of a rule that generates nothing it is
+/// said if it leads to a name behind the front that no file defines.
 ///
 /// The front is as many lines of the text as `told`, the file's grammar, has line ends. Time goes as for [`print_from`].
+/// Where a rule at the front generates nothing, and a name behind it is not defined, it goes as for two texts: such names
+/// are filled in at the end of another one.
 ///
 /// # Errors
 ///
-/// Where an allocation is refused.
+/// `TooLarge` only where that other text has more than 4,194,304 bytes of UTF-8, and then nothing is printed; `Memory`
+/// where an allocation is refused.
 pub fn print_told(
     alloc: Global,
     file: &str,
     source: Source<'_>,
     told: &Snapshot,
     text: &Snapshot,
-) -> Result<Printed, Memory>
-    ensures { IfOk result (λ printed. front.IsPrintedIn told.now (asides_in source.entry) (repeats_in source.entry) (ends_in source.entry) (located source.entry text.now) file.now text.now printed) }
+) -> Result<Printed, TextFault>
+    ensures printed { IfOk result (λ printed. front.IsPrintedIn told.now (asides_in source.entry) (repeats_in source.entry) (ends_in source.entry) (located source.entry text.now) file.now text.now printed) }
+    ensures small { OnOk result (IsFilledTooLarge told.now text.now → ⊥) }
+    ensures too_large { IfErr result (λ fault. fault ≡ TextFault.TooLarge → IsFilledTooLarge told.now text.now) }
 {
-    let (found, known) = told_in(alloc, told, text)?;
-    print_found(
-        alloc,
-        file,
-        source,
-        text,
-        known.as_slice(),
-        found.as_slice(),
-    )
+    let found = told_in(alloc, told, text)?;
+    Ok(print_found(alloc, file, source, text, &found)?)
 }
 
 /// What is printed of a text in a file with this name: each finding in a line, in the order of the text. Lines and

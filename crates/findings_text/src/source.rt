@@ -3,11 +3,11 @@
 ghost use Rattle.std.specs.Prelude.{◌≡◌, IfOk};
 ghost use Rattle.ls_text.specs.declared.position.Encoding.TheVariants.{Utf32};
 ghost use Rattle.draft_findings.specs.Reports.{reported};
-ghost use Rattle.findings_text.specs.Hints.{fault_hint};
+ghost use Rattle.findings_text.specs.Gaps.{hint_behind};
 ghost use Rattle.findings_text.specs.Print.{original_line, position_at};
 ghost use Rattle.findings_text.specs.Sources as spec;
 
-use crate::hints::fault_hint;
+use crate::gaps::{Kept, hint_behind};
 use abnf_lint::Finding;
 use draft_findings::{Remark, Reported, reported};
 use joined_grammars::Repeats;
@@ -107,7 +107,7 @@ pub(crate) struct Standing {
     pub(crate) begin: Position,
     /// The line of the first definition, from 0, where the finding's differs from it.
     pub(crate) original: Option<u32>,
-    /// What may be meant there.
+    /// What is said behind its message.
     pub(crate) hint: &'static str,
 }
 
@@ -116,13 +116,14 @@ pub(crate) fn standing_of(
     source: Source<'_>,
     text: &Snapshot,
     ruler: &mut Ruler<'_>,
+    kept: &Option<Kept>,
     reported: &Reported<'_>,
 ) -> Standing
     requires { ruler.old ≡ record { text = text.now; encoding = Utf32 } }
     ensures same { ruler.new ≡ ruler.old }
     ensures begin { result.begin ≡ spec.located source.entry text.now (position_at text.now reported.now.finding.place) }
     ensures original { result.original ≡ original_line (spec.located source.entry text.now) text.now reported.now.remark }
-    ensures hint { result.hint.now ≡ fault_hint text.now reported.now.finding.code }
+    ensures hint { result.hint.now ≡ hint_behind kept.now text.now reported.now.finding }
 {
     let finding = reported.finding();
     let begin = located_at(source, text, ruler, &finding.place);
@@ -130,6 +131,6 @@ pub(crate) fn standing_of(
     Standing {
         begin,
         original,
-        hint: fault_hint(text, finding),
+        hint: hint_behind(kept, text, finding),
     }
 }

@@ -20,6 +20,19 @@ fn lack_text(lack: Lack) -> &'static str
     match lack {
         Lack::Elsewhere => "grammar in another file",
         Lack::Empty => "empty block of grammar",
+        Lack::BareFence => "rules in a block without a word, \"~~~ abnf\" marks them",
+        Lack::Untyped => "rules in an element without a type, type=\"abnf\" marks them",
+        Lack::Faulty => "lines that are not all rules",
+    }
+}
+
+/// The code that is printed of it.
+fn lack_code(lack: Lack) -> &'static str
+    ensures { result.now ≡ spec.lack_code lack }
+{
+    match lack {
+        Lack::BareFence | Lack::Untyped => "unmarked",
+        Lack::Elsewhere | Lack::Empty | Lack::Faulty => "not-read",
     }
 }
 
@@ -38,7 +51,9 @@ fn push_lack(
     lines.push_str(place.as_str())?;
     lines.push_str("warning: ")?;
     lines.push_str(lack_text(lack))?;
-    lines.push_str(" [not-read]\n")?;
+    lines.push_str(" [")?;
+    lines.push_str(lack_code(lack))?;
+    lines.push_str("]\n")?;
     Ok(())
 }
 

@@ -1,6 +1,7 @@
 pub mod LineLaws
 pub mod CutLaws
 pub mod OffsetLaws
+pub mod SmallOffsets
 pub mod UnitLaws
 pub mod HeldLaws
 pub mod PositionLaws

@@ -12,6 +12,8 @@ use Rattle.markdown_blocks.specs.declared.fence.Fence.{Fence}
 use Rattle.markdown_blocks.specs.declared.reading.Reading.{Reading}
 use Rattle.markdown_blocks.specs.declared.reading.Reading.TheVariants.{Text, BehindBlock, BehindAttributes, Comment, Extension, Block}
 use Rattle.markdown_blocks.specs.Fences.{begins, begins_comment, begins_extension, behind_line, behind_text, closes_fence, fence_with, is_margin, margin, marks, may_ask, may_open, opening_fence, says_abnf, without_blanks, without_end}
+use Rattle.markdown_blocks.specs.declared.beside.Beside.{Beside}
+use Rattle.markdown_blocks.specs.Unread.{begins_list, beside_behind, no_list}
 use Rattle.markdown_blocks.specs.own.Fronts.{first_behind, goes_on, is_mark, may_begin, may_close, may_matter}
 
 -- ---- the loop that looks for the first character behind the margin
@@ -79,9 +81,13 @@ no_extension : (line : List ℕ) → may_matter line ≡ false → begins_extens
 no_extension line e =
     and_left _ _ (blanks_gone (λ t. begins (123 ∷ 58 ∷ 58 ∷ 99 ∷ 111 ∷ 109 ∷ 109 ∷ 101 ∷ 110 ∷ 116 ∷ 125 ∷ []) t ≡ false) refl (λ c t other no. and_left _ _ (small_123 c no)) line e)
 
--- is no attribute list
-no_list : (line : List ℕ) → may_matter line ≡ false → says_abnf line ≡ false
-no_list line e = and_left _ _ (blanks_gone (λ t. (slice_index t 0 == 123) ≡ false) refl (λ c t other no. no) line e)
+-- doesn't begin as an attribute list does
+no_list_begun : (line : List ℕ) → may_matter line ≡ false → begins_list line ≡ false
+no_list_begun line e = blanks_gone (λ t. (slice_index t 0 == 123) ≡ false) refl (λ c t other no. no) line e
+
+-- is no attribute list that says ABNF
+no_word : (line : List ℕ) → may_matter line ≡ false → says_abnf line ≡ false
+no_word line e = and_left _ _ (no_list_begun line e)
 
 -- and opens no fence
 no_mark : (info : List ℕ) (line : List ℕ) → may_matter line ≡ false → may_open (slice_index (drop (margin true line) line) 0) info ≡ false
@@ -110,7 +116,7 @@ text_behind reading line e =
     ap (behind_text reading line) (no_fence line e)
     ∙ ap (λ b. cond b Comment (cond (begins_extension line) Extension (cond (may_ask reading && says_abnf line) BehindAttributes Text))) (no_comment line e)
     ∙ ap (λ b. cond b Extension (cond (may_ask reading && says_abnf line) BehindAttributes Text)) (no_extension line e)
-    ∙ ap (λ b. cond b BehindAttributes Text) (and_right (may_ask reading) (says_abnf line) (no_list line e))
+    ∙ ap (λ b. cond b BehindAttributes Text) (and_right (may_ask reading) (says_abnf line) (no_word line e))
 
 -- behind it text is read, with its line end too
 pub prose_behind : (reading : Reading) (line : List ℕ) → goes_on reading ≡ false → may_matter line ≡ false → Text ≡ behind_line reading (without_end line)
@@ -126,6 +132,12 @@ prose_behind reading line goes e = by_reading reading goes
     by_reading Comment g = cc
     by_reading Extension g = cc
     by_reading (Block fence) g = sym (text_behind (Block fence) (without_end line) none)
+
+-- and it is known that no attribute list stands there
+pub prose_beside : (reading : Reading) (beside : Beside) (at : ℕ) (line : List ℕ) → goes_on reading ≡ false → may_matter line ≡ false → no_list ≡ beside_behind (behind_line reading (without_end line)) beside at (without_end line)
+prose_beside reading beside at line goes e =
+    (λ i. record { is_bare = not (sym (no_list_begun (without_end line) (without_end_behind may_begin refl true line e)) i); at = 0 })
+    ∙ ap (λ next. beside_behind next beside at (without_end line)) (prose_behind reading line goes e)
 
 -- ---- a line that may not close a block
 

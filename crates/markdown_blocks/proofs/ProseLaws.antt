@@ -13,12 +13,14 @@ use Rattle.ls_text.specs.Lines.{ends_line}
 use Rattle.origins.specs.Origins.{Sourced}
 use Rattle.markdown_blocks.specs.declared.reading.Reading.{Reading}
 use Rattle.markdown_blocks.specs.declared.reading.Reading.TheVariants.{Text, BehindBlock, BehindAttributes, Comment, Extension, Block}
-use Rattle.markdown_blocks.specs.Fences.{fenced_blocks, is_margin, placed_lines_from}
+use Rattle.markdown_blocks.specs.Fences.{is_margin, placed_lines_from}
+use Rattle.markdown_blocks.specs.declared.beside.Beside.{Beside}
+use Rattle.markdown_blocks.specs.Unread.{all_blocks, no_list}
 use Rattle.markdown_blocks.specs.own.Fronts.{are_whole, first_behind, goes_on, may_begin, may_begin_with, may_matter, passes}
 use Rattle.markdown_blocks.specs.own.Reading.{line_len}
 use Rattle.markdown_blocks.proofs.CutLaws.{chars_le, some_chars}
 use Rattle.markdown_blocks.proofs.FenceLaws.{IsOutside, line_len_some, lines_first, text_line}
-use Rattle.markdown_blocks.proofs.FrontLaws.{prose_behind}
+use Rattle.markdown_blocks.proofs.FrontLaws.{prose_behind, prose_beside}
 
 -- a text without such a character has no line that may matter
 plain_front : (line : List ℕ) → list_any may_begin_with line ≡ false → may_matter line ≡ false
@@ -66,39 +68,39 @@ first_in (c ∷ d ∷ a) b whole some = by_end (ends_line c (d ∷ a ++ b)) (fir
 
 -- one line of these
 module _ (end : ℕ) (b : List ℕ) where
-  one_line : (at : ℕ) (a : List ℕ) (content : List Sourced) (reading : Reading) → IsOutside reading → goes_on reading ≡ false → are_whole a ≡ true → 0 < length a → list_any may_begin_with a ≡ false
-      → fenced_blocks end reading content (placed_lines_from at (a ++ b)) ≡ fenced_blocks end Text [] (placed_lines_from (at + line_len (a ++ b)) (drop (line_len (a ++ b)) a ++ b))
-  one_line at a content reading outside goes whole some plain =
+  one_line : (at : ℕ) (a : List ℕ) (content : List Sourced) (reading : Reading) (beside : Beside) → IsOutside reading → goes_on reading ≡ false → are_whole a ≡ true → 0 < length a → list_any may_begin_with a ≡ false
+      → all_blocks end reading beside content (placed_lines_from at (a ++ b)) ≡ all_blocks end Text no_list [] (placed_lines_from (at + line_len (a ++ b)) (drop (line_len (a ++ b)) a ++ b))
+  one_line at a content reading beside outside goes whole some plain =
       let n = line_len (a ++ b) in
       let le = first_in a b whole some in
       let line = take n (a ++ b) in
       let here : may_matter line ≡ false = ap may_matter (take-append-le n a b le) ∙ plain_front (take n a) (plain_take n a plain) in
-      ap (fenced_blocks end reading content) (lines_first at (a ++ b) (omega (arith, some, length-append a b)))
-      ∙ sym (text_line end content (at, line) (placed_lines_from (at + n) (drop n (a ++ b))) reading outside)
-      ∙ (λ i. fenced_blocks end (sym (prose_behind reading line goes here) i) [] (placed_lines_from (at + n) (drop-append-le n a b le i)))
+      ap (all_blocks end reading beside content) (lines_first at (a ++ b) (omega (arith, some, length-append a b)))
+      ∙ sym (text_line end beside content (at, line) (placed_lines_from (at + n) (drop n (a ++ b))) reading outside)
+      ∙ (λ i. all_blocks end (sym (prose_behind reading line goes here) i) (sym (prose_beside reading beside at line goes here) i) [] (placed_lines_from (at + n) (drop-append-le n a b le i)))
 
   -- and all of them
   rest_lines : (k at : ℕ) (a : List ℕ) → length a ≤ k → are_whole a ≡ true → list_any may_begin_with a ≡ false
-      → fenced_blocks end Text [] (placed_lines_from at (a ++ b)) ≡ fenced_blocks end Text [] (placed_lines_from (at + length a) b)
-  rest_lines k at [] le whole plain = ap (λ n. fenced_blocks end Text [] (placed_lines_from n b)) (let e : at ≡ at + 0 = omega arith in e)
+      → all_blocks end Text no_list [] (placed_lines_from at (a ++ b)) ≡ all_blocks end Text no_list [] (placed_lines_from (at + length a) b)
+  rest_lines k at [] le whole plain = ap (λ n. all_blocks end Text no_list [] (placed_lines_from n b)) (let e : at ≡ at + 0 = omega arith in e)
   rest_lines zero at (c ∷ a) le whole plain = absurd (omega (arith, le))
   rest_lines (suc k) at (c ∷ a) le whole plain =
       let n = line_len (c ∷ a ++ b) in
       let small = first_in (c ∷ a) b whole (omega arith) in
       let some : 0 < n = line_len_some (c ∷ a ++ b) (omega arith) in
-      one_line at (c ∷ a) [] Text tt refl whole (omega arith) plain
+      one_line at (c ∷ a) [] Text no_list tt refl whole (omega arith) plain
       ∙ rest_lines k (at + n) (drop n (c ∷ a)) (omega (arith, le, some, small, length-drop n (c ∷ a))) (whole_drop n (c ∷ a) whole) (plain_drop n (c ∷ a) plain)
-      ∙ ap (λ m. fenced_blocks end Text [] (placed_lines_from m b)) (let e : (at + n) + length (drop n (c ∷ a)) ≡ at + length (c ∷ a) = omega (arith, small, length-drop n (c ∷ a)) in e)
+      ∙ ap (λ m. all_blocks end Text no_list [] (placed_lines_from m b)) (let e : (at + n) + length (drop n (c ∷ a)) ≡ at + length (c ∷ a) = omega (arith, small, length-drop n (c ∷ a)) in e)
 
   -- and all of them, whatever was read before
-  pub prose_lines : (at : ℕ) (a : List ℕ) (content : List Sourced) (reading : Reading) → IsOutside reading → goes_on reading ≡ false → are_whole a ≡ true → 0 < length a → list_any may_begin_with a ≡ false
-      → fenced_blocks end reading content (placed_lines_from at (a ++ b)) ≡ fenced_blocks end Text [] (placed_lines_from (at + length a) b)
-  prose_lines at a content reading outside goes whole some plain =
+  pub prose_lines : (at : ℕ) (a : List ℕ) (content : List Sourced) (reading : Reading) (beside : Beside) → IsOutside reading → goes_on reading ≡ false → are_whole a ≡ true → 0 < length a → list_any may_begin_with a ≡ false
+      → all_blocks end reading beside content (placed_lines_from at (a ++ b)) ≡ all_blocks end Text no_list [] (placed_lines_from (at + length a) b)
+  prose_lines at a content reading beside outside goes whole some plain =
       let n = line_len (a ++ b) in
       let small = first_in a b whole some in
-      one_line at a content reading outside goes whole some plain
+      one_line at a content reading beside outside goes whole some plain
       ∙ rest_lines (length a) (at + n) (drop n a) (omega (arith, length-drop n a)) (whole_drop n a whole) (plain_drop n a plain)
-      ∙ ap (λ m. fenced_blocks end Text [] (placed_lines_from m b)) (let e : (at + n) + length (drop n a) ≡ at + length a = omega (arith, small, length-drop n a) in e)
+      ∙ ap (λ m. all_blocks end Text no_list [] (placed_lines_from m b)) (let e : (at + n) + length (drop n a) ≡ at + length a = omega (arith, small, length-drop n a) in e)
 
 -- ---- bytes and characters
 

@@ -5,14 +5,15 @@
 //! can't close its block is copied in one piece. Any other line is read as a list of characters, four bytes each: where one of these may
 //! begin, in a comment, and where a block may end.
 
-ghost use Rattle.std.specs.Prelude.{◌≡◌, ℕ, ◌+◌, ◌<◌, ◌^◌, true, List, ◌∷◌, ◌++◌, IfOk, OnOk, length};
+ghost use Rattle.std.specs.Prelude.{◌≡◌, ℕ, ◌+◌, ◌<◌, ◌^◌, true, List, [], ◌∷◌, ◌++◌, IfOk, OnOk, length};
 ghost use Rattle.std.specs.Str.{chars};
 ghost use Rattle.origins.specs.Origins.{grammar_of};
-ghost use Rattle.markdown_blocks.specs.Fences.{Line, behind_line, closes_fence, fenced_blocks, fence_content, ended_block, first_says, markdown_blocks, says_abnf, without_end};
-ghost use Rattle.markdown_blocks.specs.own.Reading.{finds_of, first_line, joined};
-ghost use Rattle.markdown_blocks.specs.Unread.{unread_blocks};
+ghost use Rattle.markdown_blocks.specs.Fences.{Line, behind_line, closes_fence, fence_content, first_says, markdown_blocks, says_abnf, without_end};
+ghost use Rattle.markdown_blocks.specs.own.Reading.{first_line, with_blocks};
+ghost use Rattle.markdown_blocks.specs.Unread.{all_blocks, begins_list, beside_behind, draft_blocks, first_lists, unread_blocks};
 
 use crate::attributes::says_abnf;
+use crate::beside::{Beside, NO_LIST, begins_list};
 use crate::cut::{char_count, first_line};
 use crate::fence::Fence;
 use crate::found::Found;
@@ -21,7 +22,7 @@ use crate::line::without_end;
 use crate::prose::prose;
 use crate::reading::Reading;
 use ls_text::Snapshot;
-use origins::{Gathered, Unread};
+use origins::{Aside, Gathered};
 use std::alloc::{AllocError, Global};
 
 // The characters of a text.
@@ -41,28 +42,14 @@ fn put_line(block: &mut Gathered, fence: Fence, line: &str, at: usize) -> Result
     block.copy(content, at + gone)
 }
 
-// Adds a block that ends at an offset, if it is ABNF.
-fn end_block(
-    found: &mut Found,
-    block: &Gathered,
-    fence: Fence,
-    end: usize,
-) -> Result<(), AllocError>
-    ensures { OnOk result (found.new ≡ joined found.old (finds_of (ended_block fence block.now end))) }
-{
-    if fence.is_abnf {
-        found.add_block(block, end)?;
-    }
-    Ok(())
-}
-
-// Whether the first line of a text is an attribute list that says ABNF.
-fn first_says(alloc: Global, text: &str) -> Result<bool, AllocError>
-    ensures { IfOk result (λ says. says ≡ says_abnf (first_line (chars text.now))) }
+// Whether the first line of a text is an attribute list that says ABNF, and whether it is one at all.
+fn first_list(alloc: Global, text: &str) -> Result<(bool, bool), AllocError>
+    ensures { IfOk result (λ list. (list.0 ≡ says_abnf (first_line (chars text.now))) × (list.1 ≡ begins_list (first_line (chars text.now)))) }
 {
     let (line, _) = first_line(text);
     let characters = characters_of(alloc, line)?;
-    Ok(says_abnf(without_end(characters.as_slice())))
+    let line = without_end(characters.as_slice());
+    Ok((says_abnf(line), begins_list(line)))
 }
 
 // Whether a line closes a block of this fence.
@@ -76,74 +63,85 @@ fn closes(alloc: Global, fence: Fence, line: &str) -> Result<bool, AllocError>
     Ok(fence.closes(without_end(characters.as_slice())))
 }
 
-// Reads a line of a block, before the rest of the text, and returns what is read then.
+// Reads a line of a block, before the rest of the text, and returns what is read then and known beside.
 fn read_in_block(
     found: &mut Found,
     block: &mut Gathered,
-    alloc: Global,
     fence: Fence,
+    beside: Beside,
     line: &str,
     at: usize,
     behind: &str,
-) -> Result<Reading, AllocError>
+) -> Result<(Reading, Beside), AllocError>
     requires { at + length (chars line.now) < 2 ^ 64 }
-    ensures { IfOk result (λ next. (end : ℕ) (ls : List Line) → first_says ls ≡ says_abnf (first_line (chars behind.now))
-        → joined found.new (finds_of (fenced_blocks end next block.new ls)) ≡ joined found.old (finds_of (fenced_blocks end (Reading.Block fence) block.old ((at, chars line.now) ∷ ls)))) }
+    ensures { IfOk result (λ next. (end : ℕ) (ls : List Line) → first_says ls ≡ says_abnf (first_line (chars behind.now)) → first_lists ls ≡ begins_list (first_line (chars behind.now))
+        → with_blocks found.new (all_blocks end next.0 next.1 block.new ls) ≡ with_blocks found.old (all_blocks end (Reading.Block fence) beside block.old ((at, chars line.now) ∷ ls))) }
 {
-    let closed = closes(alloc, fence, line)?;
+    let closed = closes(found.alloc(), fence, line)?;
     if closed {
-        let says = first_says(alloc, behind)?;
-        end_block(found, block, fence.with_word(says), at)?;
+        let (says, stands) = first_list(found.alloc(), behind)?;
+        found.end_block(fence.with_word(says), beside.with_list(stands), block, at)?;
         block.clear();
-        return Ok(Reading::BehindBlock);
+        return Ok((Reading::BehindBlock, NO_LIST));
     }
     put_line(block, fence, line, at)?;
-    Ok(Reading::Block(fence))
+    Ok((Reading::Block(fence), beside))
 }
 
-// What is read behind a line that isn't in a block.
-fn behind_line(alloc: Global, reading: Reading, line: &str) -> Result<Reading, AllocError>
-    ensures { IfOk result (λ next. next ≡ behind_line reading (without_end (chars line.now))) }
+// What is read behind a line that isn't in a block, and known beside.
+fn behind_line(
+    alloc: Global,
+    reading: Reading,
+    beside: Beside,
+    line: &str,
+    at: usize,
+) -> Result<(Reading, Beside), AllocError>
+    requires { at + length (chars line.now) < 2 ^ 64 }
+    ensures reading { IfOk result (λ next. next.0 ≡ behind_line reading (without_end (chars line.now))) }
+    ensures beside { IfOk result (λ next. next.1 ≡ beside_behind (behind_line reading (without_end (chars line.now))) beside at (without_end (chars line.now))) }
 {
     if !reading.goes_on() && !may_matter(line) {
-        return Ok(Reading::Text);
+        return Ok((Reading::Text, NO_LIST));
     }
     let characters = characters_of(alloc, line)?;
-    Ok(reading.behind_line(without_end(characters.as_slice())))
+    let line = without_end(characters.as_slice());
+    let next = reading.behind_line(line);
+    Ok((next, beside.behind(next, at, line)))
 }
 
-// Reads a line before the rest of the text, and returns what is read then.
+// Reads a line before the rest of the text, and returns what is read then and known beside.
 fn read_line(
     found: &mut Found,
     block: &mut Gathered,
-    alloc: Global,
     reading: Reading,
+    beside: Beside,
     line: &str,
     at: usize,
     behind: &str,
-) -> Result<Reading, AllocError>
+) -> Result<(Reading, Beside), AllocError>
     requires { at + length (chars line.now) < 2 ^ 64 }
-    ensures { IfOk result (λ next. (end : ℕ) (ls : List Line) → first_says ls ≡ says_abnf (first_line (chars behind.now))
-        → joined found.new (finds_of (fenced_blocks end next block.new ls)) ≡ joined found.old (finds_of (fenced_blocks end reading block.old ((at, chars line.now) ∷ ls)))) }
+    ensures { IfOk result (λ next. (end : ℕ) (ls : List Line) → first_says ls ≡ says_abnf (first_line (chars behind.now)) → first_lists ls ≡ begins_list (first_line (chars behind.now))
+        → with_blocks found.new (all_blocks end next.0 next.1 block.new ls) ≡ with_blocks found.old (all_blocks end reading beside block.old ((at, chars line.now) ∷ ls))) }
 {
     match reading {
-        Reading::Block(fence) => read_in_block(found, block, alloc, fence, line, at, behind),
+        Reading::Block(fence) => read_in_block(found, block, fence, beside, line, at, behind),
         _ => {
             block.clear();
-            Ok(behind_line(alloc, reading, line)?)
+            Ok(behind_line(found.alloc(), reading, beside, line, at)?)
         }
     }
 }
 
-// Finds the grammar of a text, and what can't be read. Its characters may be known to be as many as its bytes.
-fn gather(alloc: Global, text: &str, even: bool) -> Result<Found, AllocError>
+// Finds the grammar of a text, or the asides. Its characters may be known to be as many as its bytes.
+fn gather(alloc: Global, wants_asides: bool, text: &str, even: bool) -> Result<Found, AllocError>
     requires small { length (chars text.now) < 2 ^ 63 }
     requires even { even ≡ true → length text.now ≡ length (chars text.now) }
-    ensures { IfOk result (λ f. f ≡ finds_of (markdown_blocks (chars text.now))) }
+    ensures { IfOk result (λ f. f ≡ with_blocks (wants_asides, [], []) (draft_blocks (chars text.now))) }
 {
-    let mut found = Found::new(alloc);
+    let mut found = Found::new(alloc, wants_asides);
     let mut block = Gathered::new(alloc);
     let mut reading = Reading::Text;
+    let mut beside = NO_LIST;
     let mut rest = text;
     let mut at = 0;
     'lines: while !rest.is_empty() {
@@ -152,29 +150,30 @@ fn gather(alloc: Global, text: &str, even: bool) -> Result<Found, AllocError>
             if !front.is_empty() {
                 block.clear();
                 reading = Reading::Text;
+                beside = NO_LIST;
                 at += char_count(front, even);
                 rest = lines;
                 continue 'lines;
             }
         }
         let (line, behind) = first_line(rest);
-        reading = read_line(&mut found, &mut block, alloc, reading, line, at, behind)?;
+        (reading, beside) = read_line(&mut found, &mut block, reading, beside, line, at, behind)?;
         at += char_count(line, even);
         rest = behind;
     }
     if let Reading::Block(fence) = reading {
-        end_block(&mut found, &block, fence, at)?;
+        found.end_block(fence, beside, &block, at)?;
     }
     Ok(found)
 }
 
 // Finds the same in a draft.
-fn found_in(alloc: Global, draft: &Snapshot) -> Result<Found, AllocError>
-    ensures { IfOk result (λ f. f ≡ finds_of (markdown_blocks draft.now)) }
+fn found_in(alloc: Global, wants_asides: bool, draft: &Snapshot) -> Result<Found, AllocError>
+    ensures { IfOk result (λ f. f ≡ with_blocks (wants_asides, [], []) (draft_blocks draft.now)) }
 {
     let text = draft.to_text()?;
     let even = text.len() == draft.char_count();
-    gather(alloc, text.as_str(), even)
+    gather(alloc, wants_asides, text.as_str(), even)
 }
 
 /// The grammar of all blocks of ABNF in a draft in Markdown, one behind the other, with the offset of each character in
@@ -190,19 +189,23 @@ fn found_in(alloc: Global, draft: &Snapshot) -> Result<Found, AllocError>
 pub fn gather_markdown(alloc: Global, draft: &Snapshot) -> Result<Gathered, AllocError>
     ensures { IfOk result (λ g. g ≡ grammar_of (markdown_blocks draft.now)) }
 {
-    let found = found_in(alloc, draft)?;
+    let found = found_in(alloc, false, draft)?;
     Ok(found.into_grammar())
 }
 
-/// What can't be read of the blocks of ABNF in a draft in Markdown, in its order: those in which only white space stands,
-/// each where the closing fence's line begins, or where the text ends. Time and memory go by the length of the draft.
+/// What may have to be said of the blocks of a draft in Markdown, in its order.
+///
+/// Of a block of ABNF in which only white space stands there is no text, and the offset is that at which the closing fence's
+/// line begins, or the text ends. A block without an info string, beside which no attribute list stands, is one of
+/// [`BareFence`](origins::Lack::BareFence): its offset is that of the first mark of its fence, and its text is what a grammar
+/// would have of it. Offsets count characters. Time and memory go by the length of the draft.
 ///
 /// # Errors
 ///
 /// Where an allocation is refused.
-pub fn unread_blocks(alloc: Global, draft: &Snapshot) -> Result<Vec<Unread>, AllocError>
-    ensures { IfOk result (λ unread. unread.items ≡ unread_blocks draft.now) }
+pub fn unread_blocks(alloc: Global, draft: &Snapshot) -> Result<Vec<Aside>, AllocError>
+    ensures { IfOk result (λ asides. asides.items ≡ unread_blocks draft.now) }
 {
-    let found = found_in(alloc, draft)?;
-    Ok(found.into_unread())
+    let found = found_in(alloc, true, draft)?;
+    Ok(found.into_asides())
 }

@@ -6,6 +6,7 @@
 #![tactic(auto)]
 
 mod attributes;
+mod beside;
 mod cut;
 mod fence;
 mod found;

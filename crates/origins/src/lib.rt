@@ -2,8 +2,8 @@
 //!
 //! A [`Gathered`] is such a text: characters are put behind those that are there, each with the offset at which it begins
 //! in the draft, in characters. [`add_block`](Gathered::add_block) puts a block of grammar there, left aligned (RFC 5234
-//! section 2.2). What of a draft can't be read is [`Unread`]. This crate knows characters, offsets and indents. It never
-//! knows in which format a draft is written, nor what a grammar says.
+//! section 2.2). What of a draft can't be read is [`Unread`], and what may have to be said so of is an [`Aside`]. This
+//! crate knows characters, offsets and indents. It never knows in which format a draft is written, nor what a grammar says.
 #![tactic(auto)]
 
 mod aligned;
@@ -14,4 +14,4 @@ mod unread;
 
 pub use aligned::{is_blank, is_break};
 pub use gathered::Gathered;
-pub use unread::{Lack, Unread};
+pub use unread::{Aside, Lack, Unread};

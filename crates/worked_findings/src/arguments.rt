@@ -41,6 +41,10 @@ const PLAIN: &[Row] = &[
         Wanted::Print(Asked::Findings, Some(Format::Xml), &[], &["a"]),
     ),
     (
+        &["--format", "text", "a.md"],
+        Wanted::Print(Asked::Findings, Some(Format::Text), &[], &["a.md"]),
+    ),
+    (
         &["--with", "a", "b"],
         Wanted::Print(Asked::Findings, None, &["a"], &["b"]),
     ),
@@ -103,6 +107,8 @@ const WRONG: &[Row] = &[
     (&["--format"], Wanted::Wrong),
     (&["--format", "abnf"], Wanted::Wrong),
     (&["--format", "XML", "a"], Wanted::Wrong),
+    (&["--format", "Text", "a"], Wanted::Wrong),
+    (&["--format", "txt", "a"], Wanted::Wrong),
     (&["--format", "--help"], Wanted::Wrong),
     (&["--with"], Wanted::Wrong),
     (&["--with", "a"], Wanted::Wrong),
@@ -113,6 +119,17 @@ const WRONG: &[Row] = &[
     (&["a", "--help"], Wanted::Wrong),
     (&["a", "--", "b"], Wanted::Wrong),
 ];
+
+/// The line of usage, and what the program prints.
+const HELP_FRONT: &str =
+    "usage: abnf_findings [--strict | --rules | --grammar] [--with FILE].. [--format abnf | markdown | xml | text] FILE..\n\
+     Prints what is found in the ABNF grammars of files: of drafts and published RFCs too.\n\
+     The file - is standard input.\n\
+     \n";
+
+/// The line of the option `--format`.
+const FORMAT_LINE: &str =
+    "\n  --format FORMAT  what each FILE is written in: abnf, markdown, xml or text\n";
 
 fn are_words(words: &List<Text>, wanted: &[&str]) -> bool {
     if words.len() != wanted.len() {
@@ -150,7 +167,7 @@ fn ask(alloc: Global, words: &[&str], wanted: Wanted) -> Result<bool, AllocError
 
 #[test]
 fn read_what_is_told(rt: HostRuntime) -> Result<(), AllocError> {
-    assert!(rt; PLAIN.len() >= 11);
+    assert!(rt; PLAIN.len() >= 12);
     for (words, wanted) in PLAIN {
         assert!(rt; ask(rt.alloc(), words, *wanted)?);
     }
@@ -168,7 +185,7 @@ fn end_at_help_and_version(rt: HostRuntime) -> Result<(), AllocError> {
 
 #[test]
 fn refuse_what_is_wrong(rt: HostRuntime) -> Result<(), AllocError> {
-    assert!(rt; WRONG.len() >= 26);
+    assert!(rt; WRONG.len() >= 28);
     for (words, wanted) in WRONG {
         assert!(rt; ask(rt.alloc(), words, *wanted)?);
     }
@@ -179,7 +196,8 @@ fn refuse_what_is_wrong(rt: HostRuntime) -> Result<(), AllocError> {
 fn help_has_a_line_for_each_option(rt: HostRuntime) -> Result<(), AllocError> {
     let text = help(rt.alloc())?;
     let text = text.as_str();
-    assert!(rt; text.starts_with("usage: abnf_findings [--strict | --rules | --grammar] "));
+    assert!(rt; text.starts_with(HELP_FRONT));
+    assert!(rt; text.contains(FORMAT_LINE));
     assert!(rt; text.ends_with("\n  --version        prints the version\n"));
     for option in [
         "strict ",

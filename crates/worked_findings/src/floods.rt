@@ -1,7 +1,7 @@
 //! What is printed where a block of a draft has many faults of syntax, written out by hand.
 
-use crate::texts::{File, known_of, snapshot};
-use findings_files::{FileFault, Format, Outcome, Printed, print_as};
+use crate::texts::{File, printed};
+use findings_files::{FileFault, Format, Outcome};
 use std::alloc::Global;
 
 /// A file that is called `f`, the files whose names are known, and what is printed, in pieces.
@@ -219,14 +219,6 @@ const WHOLE: &[Row] = &[
         &[ELEVEN_FAULTS],
     ),
 ];
-
-/// What is printed of a file.
-fn printed(alloc: Global, file: File, files: &[File]) -> Result<Printed, FileFault> {
-    let (format, text) = file;
-    let known = known_of(alloc, files)?;
-    let text = snapshot(alloc, text)?;
-    print_as(alloc, "f", format, &text, &known)
-}
 
 /// Pieces of a text, one behind the other.
 fn joined(alloc: Global, pieces: &[&str]) -> Result<String, FileFault> {

@@ -40,6 +40,31 @@ const GRAMMARS: &[Row] = &[
         "f:1:6: error: comment without an end [xml]\n",
         Outcome::Errors,
     ),
+    (
+        (
+            Format::Text,
+            "1. Rules\n\n  a = b\n\u{C}\nRFC 1\n   / c\n\nx = 5 apples\n\nd = e\n",
+        ),
+        "a = b\n / c\n\nd = e\n\n",
+        Outcome::Clean,
+    ),
+    // nothing is said of what can't be read, or what nothing marks
+    (
+        (Format::Text, "Some words.\n\nx = 5 apples\n"),
+        "f:1:1: error: no grammar in this text [no-grammar]\n",
+        Outcome::Errors,
+    ),
+    (
+        (Format::Markdown, "```\na = b\n```\n~~~ abnf\nc = d\n~~~\n"),
+        "c = d\n\n",
+        Outcome::Clean,
+    ),
+    // a file that is read as a grammar is printed, be it one or not
+    (
+        (Format::Abnf, "Some words.\nMore words.\n"),
+        "Some words.\nMore words.\n",
+        Outcome::Clean,
+    ),
 ];
 
 /// Drafts with a grammar, in which something is found.
@@ -51,6 +76,10 @@ const DRAFTS: &[File] = &[
     (
         Format::Xml,
         "<artwork type=\"abnf\">\n  a = &lt;b&gt; nope\n  c = c\n</artwork>",
+    ),
+    (
+        Format::Text,
+        "1. Rules\n\n  a = b\n   / nope\n\n  d = 3*2\"x\"\n",
     ),
 ];
 
@@ -86,7 +115,7 @@ fn without_places(alloc: Global, lines: &Text) -> Result<String, std::alloc::All
 
 #[test]
 fn prints_grammars(rt: HostRuntime) -> Result<(), FileFault> {
-    assert!(rt; GRAMMARS.len() >= 6);
+    assert!(rt; GRAMMARS.len() >= 10);
     for (file, text, outcome) in GRAMMARS {
         let found = printed_grammar(rt.alloc(), *file)?;
         assert!(rt; found.lines.as_str() == *text, "{}", file.1);
@@ -97,6 +126,7 @@ fn prints_grammars(rt: HostRuntime) -> Result<(), FileFault> {
 
 #[test]
 fn grammars_have_the_findings_of_their_drafts(rt: HostRuntime) -> Result<(), FileFault> {
+    assert!(rt; DRAFTS.len() >= 3);
     for (format, text) in DRAFTS {
         let of_draft = messages(rt.alloc(), *format, text)?;
         assert!(rt; !of_draft.is_empty(), "{text}");

@@ -1,4 +1,5 @@
-//! Worked rows of `abnf_findings`: near names, files whose names are known, blocks with many faults, printed grammars, and arguments.
+//! Worked rows of `abnf_findings`: near names, files whose names are known, drafts and published texts, blocks with many faults, texts that
+//! are no grammar, printed grammars, and arguments.
 //!
 //! They stand above the crates that they test, since a crate with tests is proved twice.
 #![tactic(auto)]
@@ -6,9 +7,13 @@
 #[cfg(test)]
 mod arguments;
 #[cfg(test)]
+mod counts;
+#[cfg(test)]
 mod drafts;
 #[cfg(test)]
 mod floods;
+#[cfg(test)]
+mod gaps;
 #[cfg(test)]
 mod grammars;
 #[cfg(test)]
@@ -18,8 +23,16 @@ mod joins;
 #[cfg(test)]
 mod near;
 #[cfg(test)]
+mod no_grammar;
+#[cfg(test)]
+mod printed_texts;
+#[cfg(test)]
+mod published;
+#[cfg(test)]
 mod repeats;
 #[cfg(test)]
 mod texts;
+#[cfg(test)]
+mod unmarked;
 #[cfg(test)]
 mod with_files;

@@ -1,7 +1,7 @@
 //! What is printed of files where the names of others are known, written out by hand.
 
-use crate::texts::{File, known_of, snapshot};
-use findings_files::{FileFault, Format, Known, Outcome, Printed, print_as, print_rules_as};
+use crate::texts::{File, added, known_of, printed, snapshot};
+use findings_files::{FileFault, Format, Outcome, Printed, print_as, print_rules_as};
 use std::alloc::Global;
 
 /// A file that is called `f`, the files whose names are known, and what is printed.
@@ -61,10 +61,30 @@ const CLEAN: &[Row] = &[
         ],
         "",
     ),
-    // a draft without a grammar has no names
+    // published texts whose names are known, and one that knows others
+    (
+        (Format::Abnf, "a = b\n"),
+        &[(Format::Text, "1. Rules\n\n   b = \"x\"\n\nMore words.\n")],
+        "",
+    ),
+    (
+        (Format::Text, "1. Rules\n\n   a = OWS b\n   b = \"x\"\n"),
+        &[(Format::Abnf, CORE)],
+        "",
+    ),
+    // a draft without a grammar has no names, and so has a text that is none
     (
         (Format::Abnf, "a = \"x\"\n"),
         &[(Format::Markdown, "# A title\n")],
+        "",
+    ),
+    (
+        (Format::Abnf, "a = b\n"),
+        &[
+            (Format::Abnf, "Some words.\nMore words.\n"),
+            (Format::Text, "Some words.\n"),
+            (Format::Abnf, "b = \"x\"\n"),
+        ],
         "",
     ),
     ((Format::Abnf, ""), &[(Format::Abnf, CORE)], ""),
@@ -75,7 +95,7 @@ const FOUND: &[Row] = &[
     (
         (Format::Abnf, "a = x\n"),
         &[(Format::Abnf, "x = nope\n"), (Format::Abnf, "x = \"1\"\n")],
-        "f:1:1: warning: rule a generates nothing [unproductive]\n",
+        "f:1:1: warning: rule a generates nothing, as it leads to names that no file defines [unproductive]\n",
     ),
     (
         (Format::Abnf, "a = b\nb = nope\n"),
@@ -202,6 +222,11 @@ const RULES: &[Row] = &[
         "f:2:3: a: shortest length 1: y\n",
     ),
     (
+        (Format::Text, "1. Rules\n\n  a = b\n\nx = 5 apples\n"),
+        &[(Format::Abnf, "b = \"y\"\n")],
+        "f:3:3: a: shortest length 1: y\n",
+    ),
+    (
         (Format::Markdown, "# A title\n"),
         &[(Format::Abnf, CORE)],
         "",
@@ -216,15 +241,18 @@ const RULES: &[Row] = &[
         &[],
         "f:1:1: a: generates nothing\n",
     ),
+    // files without a grammar, and rules that nothing marks: nothing is said of them
+    ((Format::Text, "Some words.\n"), &[], ""),
+    ((Format::Abnf, "Some words.\nMore words.\n"), &[], ""),
+    (
+        (
+            Format::Markdown,
+            "```\nb = \"y\"\n```\n```abnf\na = \"x\"\n```\n",
+        ),
+        &[],
+        "f:5:1: a: shortest length 1: x\n",
+    ),
 ];
-
-/// What is printed of a file.
-fn printed(alloc: Global, file: File, files: &[File]) -> Result<Printed, FileFault> {
-    let (format, text) = file;
-    let known = known_of(alloc, files)?;
-    let text = snapshot(alloc, text)?;
-    print_as(alloc, "f", format, &text, &known)
-}
 
 /// What is printed of the rules of a file.
 fn printed_rules(alloc: Global, file: File, files: &[File]) -> Result<Printed, FileFault> {
@@ -236,7 +264,7 @@ fn printed_rules(alloc: Global, file: File, files: &[File]) -> Result<Printed, F
 
 #[test]
 fn knows_names(rt: HostRuntime) -> Result<(), FileFault> {
-    assert!(rt; CLEAN.len() >= 9);
+    assert!(rt; CLEAN.len() >= 12);
     for (file, files, lines) in CLEAN {
         let found = printed(rt.alloc(), *file, files)?;
         assert!(rt; found.lines.as_str() == *lines, "{}", file.1);
@@ -274,7 +302,7 @@ fn tells_near_names_of_known_files(rt: HostRuntime) -> Result<(), FileFault> {
 
 #[test]
 fn tells_rules(rt: HostRuntime) -> Result<(), FileFault> {
-    assert!(rt; RULES.len() >= 6);
+    assert!(rt; RULES.len() >= 10);
     for (file, files, lines) in RULES {
         let found = printed_rules(rt.alloc(), *file, files)?;
         assert!(rt; found.lines.as_str() == *lines, "{}", file.1);
@@ -292,13 +320,6 @@ fn refuses_drafts_at_fault(rt: HostRuntime) -> Result<(), FileFault> {
     let found = print_as(rt.alloc(), "f", Format::Abnf, &text, &known)?;
     assert!(rt; found.lines.as_str() == "");
     Ok(())
-}
-
-/// What is printed of a file that is called `k`, and becomes known.
-fn added(alloc: Global, file: File) -> Result<Printed, FileFault> {
-    let mut known = Known::new(alloc);
-    let text = snapshot(alloc, file.1)?;
-    known.add(alloc, "k", file.0, &text)
 }
 
 #[test]
@@ -326,22 +347,39 @@ fn warns_of_known_drafts_without_a_grammar(rt: HostRuntime) -> Result<(), FileFa
     Ok(())
 }
 
+/// Known files of which not all is read, and what is printed of them.
+const UNREAD: &[(File, &str)] = &[
+    (
+        (Format::Markdown, "```abnf\n```\n```abnf\na = b\n```\n"),
+        "k:2:1: warning: empty block of grammar [not-read]\n",
+    ),
+    (
+        (Format::Xml, "<artwork src=\"a\" type=\"abnf\"/>"),
+        "k:1:1: warning: no grammar in this draft [no-grammar]\n\
+         k:1:1: warning: grammar in another file [not-read]\n",
+    ),
+    (
+        (Format::Markdown, "```\na = b\n```\n~~~ abnf\nc = d\n~~~\n"),
+        "k:1:1: warning: rules in a block without a word, \"~~~ abnf\" marks them [unmarked]\n",
+    ),
+    (
+        (Format::Xml, " <artwork>a = b</artwork>"),
+        "k:1:1: warning: no grammar in this draft [no-grammar]\n\
+         k:1:2: warning: rules in an element without a type, type=\"abnf\" marks them [unmarked]\n",
+    ),
+    (
+        (Format::Text, "a = b\n\nx = 5 apples\n"),
+        "k:3:1: warning: lines that are not all rules [not-read]\n",
+    ),
+];
+
 #[test]
 fn warns_of_known_drafts_that_are_not_read(rt: HostRuntime) -> Result<(), FileFault> {
-    for (file, lines) in [
-        (
-            (Format::Markdown, "```abnf\n```\n```abnf\na = b\n```\n"),
-            "k:2:1: warning: empty block of grammar [not-read]\n",
-        ),
-        (
-            (Format::Xml, "<artwork src=\"a\" type=\"abnf\"/>"),
-            "k:1:1: warning: no grammar in this draft [no-grammar]\n\
-             k:1:1: warning: grammar in another file [not-read]\n",
-        ),
-    ] {
-        let found = added(rt.alloc(), file)?;
-        assert!(rt; found.lines.as_str() == lines, "{lines}");
-        assert!(rt; found.outcome == Outcome::Warnings, "{lines}");
+    assert!(rt; UNREAD.len() >= 5);
+    for (file, lines) in UNREAD {
+        let found = added(rt.alloc(), *file)?;
+        assert!(rt; found.lines.as_str() == *lines, "{}", file.1);
+        assert!(rt; found.outcome == Outcome::Warnings, "{}", file.1);
     }
     Ok(())
 }

@@ -26,7 +26,7 @@ pub struct Open {
 }
 
 // Adds the characters of a block that a piece stands for, by what it has behind its first character.
-fn put_piece(block: &mut Gathered, kind: Kind, text: &str, at: usize) -> Result<(), AllocError>
+pub fn put_piece(block: &mut Gathered, kind: Kind, text: &str, at: usize) -> Result<(), AllocError>
     requires { at < 2 ^ 63 }
     ensures { OnOk result (block.new ≡ block.old ++ spec.piece_content kind at (chars text.now)) }
 {

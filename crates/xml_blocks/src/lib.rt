@@ -11,6 +11,7 @@ mod reference;
 mod tag;
 mod text;
 mod unread;
+mod untyped;
 
 pub use fault::XmlFault;
 pub use gather::{XmlFront, gather_front, gather_xml};

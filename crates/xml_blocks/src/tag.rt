@@ -3,6 +3,7 @@
 ghost use Rattle.std.specs.Prelude.{◌≡◌, ◌<◌, ◌^◌, ◌+◌, None, IfSome, length};
 ghost use Rattle.std.specs.Str.{chars};
 ghost use Rattle.xml_blocks.specs.own.Reading.{if_abnf};
+ghost use Rattle.xml_blocks.specs.Unread.{is_start};
 ghost use Rattle.xml_blocks.specs.Xml as spec;
 
 use crate::text::{
@@ -42,6 +43,14 @@ impl Element {
         ensures { result ≡ spec.is_named self (chars tag.now) }
     {
         begins(tag, self.name()) && is_space(char_at(tag, self.name_len()))
+    }
+
+    // Whether a start tag without its `<` has this name, with white space behind it, or nothing more.
+    pub fn is_start(self, tag: &str) -> bool
+        ensures { result ≡ is_start self (chars tag.now) }
+    {
+        let behind = char_at(tag, self.name_len());
+        begins(tag, self.name()) && (is_space(behind) || behind == '>')
     }
 
     // Whether a tag without its `<` is the end tag of this element.

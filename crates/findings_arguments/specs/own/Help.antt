@@ -6,14 +6,14 @@ use Rattle.findings_files.specs.Endings.{line_of}
 -- the lines below that of usage: what the program prints, and what each option does
 abbrev pub options : List (List ℕ)
 options =
-    codes "Prints what is found in the ABNF grammars of files: of drafts in Markdown or RFCXML too."
+    codes "Prints what is found in the ABNF grammars of files: of drafts and published RFCs too."
     ∷ codes "The file - is standard input."
     ∷ []
     ∷ codes "  --strict         warnings count as errors do for the exit status"
     ∷ codes "  --rules          prints the rules and their shortest strings instead"
     ∷ codes "  --grammar        prints the grammars themselves instead"
     ∷ codes "  --with FILE      the names that FILE defines are known; it may stand more than once"
-    ∷ codes "  --format FORMAT  what each FILE is written in: abnf, markdown or xml"
+    ∷ codes "  --format FORMAT  what each FILE is written in: abnf, markdown, xml or text"
     ∷ codes "  --               what follows are files, whatever their names are"
     ∷ codes "  --help           prints this"
     ∷ codes "  --version        prints the version"

@@ -1,10 +1,10 @@
 -- How the lines of a draft are read, one after another. No public contract cites this.
-use Rattle.std.specs.Prelude.{ℕ, suc, List, [], ◌∷◌, ◌++◌, take, if◌then◌else◌}
+use Rattle.std.specs.Prelude.{ℕ, suc, Bool, List, [], ◌∷◌, ◌++◌, flat_map, take, if◌then◌else◌}
 use Rattle.ls_text.specs.Lines.{ends_line}
 use Rattle.origins.specs.Origins.{Sourced, SourcedBlock, grammar_of}
-use Rattle.origins.specs.declared.unread.Unread.{Unread}
+use Rattle.origins.specs.declared.unread.Aside.{Aside}
 use Rattle.markdown_blocks.specs.Fences.{without_end}
-use Rattle.markdown_blocks.specs.Unread.{empty_blocks}
+use Rattle.markdown_blocks.specs.Unread.{Fenced, block_asides}
 
 -- how many characters the first line has, with its line end
 unfoldable pub line_len : List ℕ → ℕ
@@ -15,14 +15,19 @@ line_len (c ∷ t) = if ends_line c t then 1 else suc (line_len t)
 abbrev pub first_line : List ℕ → List ℕ
 first_line t = without_end (take (line_len t) t)
 
--- what is found in a draft: the grammar of its blocks, and what of them can't be read
+-- a block, if it is ABNF
+abbrev pub if_abnf : Fenced → List SourcedBlock
+if_abnf b = if b.is_abnf then b.block ∷ [] else []
+
+-- the blocks of ABNF among these
+abbrev pub abnf_of : List Fenced → List SourcedBlock
+abnf_of bs = flat_map if_abnf bs
+
+-- What is found in a draft: whether asides are asked for, and if not, the grammar of its blocks, else the asides.
 abbrev pub Finds : Type 0
-Finds = List Sourced × List Unread
+Finds = Bool × List Sourced × List Aside
 
--- what is found in some blocks
-abbrev pub finds_of : List SourcedBlock → Finds
-finds_of blocks = (grammar_of blocks, empty_blocks blocks)
-
--- what is found, and then more
-abbrev pub joined : Finds → Finds → Finds
-joined a b = (a.0 ++ b.0, a.1 ++ b.1)
+-- what is found, and then these blocks
+abbrev pub with_blocks : Finds → List Fenced → Finds
+with_blocks found bs =
+    (found.0, (if found.0 then found.1 else found.1 ++ grammar_of (abnf_of bs)), (if found.0 then found.2 ++ flat_map block_asides bs else found.2))

@@ -1,5 +1,6 @@
 //! Drafts in Markdown with their grammar, written out by hand.
 
+use crate::texts::is_gathered;
 use ls_text::{Snapshot, TextFault};
 use markdown_blocks::gather_markdown;
 use std::alloc::{AllocError, Global};
@@ -102,15 +103,7 @@ fn has_grammar(
 ) -> Result<bool, TextFault> {
     let draft = Snapshot::of_text(alloc, String::from_str(alloc, draft)?)?;
     let gathered = gather_markdown(alloc, &draft)?;
-    if gathered.as_str() != grammar {
-        return Ok(false);
-    }
-    for (offset, origin) in places {
-        if gathered.origin_of(*offset) != Some(*origin) {
-            return Ok(false);
-        }
-    }
-    Ok(gathered.origin_of(grammar.chars().count()) == None)
+    Ok(is_gathered(&gathered, grammar, places))
 }
 
 #[test]

@@ -2,7 +2,9 @@
 //!
 //! They stand above the crates that they test, since a crate with tests is proved twice.
 
+mod asides;
 mod gathered;
 mod markdown;
+mod unmarked;
 mod unread;
 mod xml;

@@ -1,6 +1,6 @@
 //! Drafts in RFCXML with their grammar, written out by hand.
 
-use origins::Gathered;
+use crate::texts::is_gathered;
 use std::alloc::Global;
 use xml_blocks::{XmlFault, gather_front, gather_xml};
 
@@ -155,19 +155,6 @@ fn has_grammar(
     places: &[(usize, usize)],
 ) -> Result<bool, XmlFault> {
     Ok(is_gathered(&gather_xml(alloc, draft)?, grammar, places))
-}
-
-/// Whether this grammar was gathered, whose characters begin in the draft at these places, and none behind the last.
-fn is_gathered(gathered: &Gathered, grammar: &str, places: &[(usize, usize)]) -> bool {
-    if gathered.as_str() != grammar {
-        return false;
-    }
-    for (offset, origin) in places {
-        if gathered.origin_of(*offset) != Some(*origin) {
-            return false;
-        }
-    }
-    gathered.origin_of(grammar.chars().count()) == None
 }
 
 /// Whether a draft has this fault.

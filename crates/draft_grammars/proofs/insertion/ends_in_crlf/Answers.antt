@@ -1,7 +1,7 @@
 use Rattle.std.proofs.Common.{arith, ap}
 use Rattle.ls_text.specs.Lines.{lowered}
 use Rattle.ls_text.specs.declared.position.Position.{Position}
-use Rattle.draft_grammars.proofs.OffsetLaws.{line_small, offset_small}
+use Rattle.ls_text.proofs.SmallOffsets.{line_small, offset_small}
 use Rattle.draft_grammars.proofs.insertion.ends_in_crlf.Goals as goal
 
 pub overflow_add-next : goal.overflow_add-next

@@ -1,5 +1,5 @@
 use Rattle.std.proofs.Common.{◌≡◌, ◌∙◌, ◌+◌, ◌++◌, ◌∷◌, ℕ, List, ap, arith, drop, drop-cons, map, suc, sym, take}
-use Rattle.std.specs.Prelude.{string_bytes}
+use Rattle.std.specs.Prelude.{Option, string_bytes}
 use Rattle.ls_text.specs.declared.position.Position.{Position}
 use Rattle.origins.specs.declared.unread.Unread.{Unread}
 use Rattle.draft_findings.specs.Reports.{Remarked}
@@ -14,7 +14,8 @@ loop-one-preserved c =
     let source = c.args.source in
     let text = c.args.text.now in
     let file = c.args.file.now in
-    let names : List (List ℕ) = map (λ name. name.now) c.args.known.now in
+    let names : List (List ℕ) = map (λ name. name.now) c.args.found.now.names in
+    let kept : Option (List ℕ) = c.args.found.now.kept in
     let told : List Remarked = c.args.reported.now in
     let index = c.loop-one.one-index in
     let r = c.one-item.result in
@@ -28,9 +29,9 @@ loop-one-preserved c =
     let next : drop index told ≡ r ∷ drop (index + 1) told = drop-cons told index r c.loop-one-test.true ∙ (λ i. sym c.one-item.is i ∷ drop (one i) told) in
     record {
       text = at.same ∙ c.loop-one.invariant.text;
-      told = line_put file place begin (finding_line (located source text) names file text) lines left (drop index told) c.loop-one.invariant.told
+      told = line_put file place begin (finding_line (located source text) kept names file text) lines left (drop index told) c.loop-one.invariant.told
           r (drop (index + 1) told) front (string_bytes c.push_line.new.lines) c.in_ok-left.left.now next
           (c.in_ok-left.ensures.lines ∙ ap (λ (p : Position). lines ++ unread_lines file place (take (ahead place p left) left)) at.begin)
-          (c.in_ok-push_line.ensures ∙ (λ i. front ++ line_of_finding names file (at.begin i) (at.original i) (at.hint i) r))
+          (c.in_ok-push_line.ensures ∙ (λ i. front ++ line_of_finding (map (λ name. name.now) (c.as_slice-names.ensures i)) file (at.begin i) (at.original i) (at.hint i) r))
           (c.in_ok-left.ensures.left ∙ ap (λ (p : Position). drop (ahead place p left) left) at.begin);
     }

@@ -8,6 +8,6 @@ use Rattle.findings_text.proofs.print.lines_of.Given as goal
 abbrev pub invariant-loop-one : goal.invariant-loop-one
 invariant-loop-one l = record {
   text : l.ruler ≡ record { text = l.text; encoding = Utf32 };
-  told : string_bytes l.lines ++ shown_lines ((asides_in l.source).0, l.left) (located l.source l.text) (map (λ name. name.now) l.known) l.file l.text (drop l.one-index l.reported)
-      ≡ shown_lines (asides_in l.source) (located l.source l.text) (map (λ name. name.now) l.known) l.file l.text l.reported;
+  told : string_bytes l.lines ++ shown_lines ((asides_in l.source).0, l.left) (located l.source l.text) l.found.kept (map (λ name. name.now) l.found.names) l.file l.text (drop l.one-index l.reported)
+      ≡ shown_lines (asides_in l.source) (located l.source l.text) l.found.kept (map (λ name. name.now) l.found.names) l.file l.text l.reported;
 }

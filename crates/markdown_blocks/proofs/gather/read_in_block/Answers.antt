@@ -1,27 +1,27 @@
-use Rattle.std.proofs.Common.{◌≡◌, [], ap, sym, ◌∙◌}
+use Rattle.std.proofs.Common.{◌≡◌, [], ◌∷◌, ap, sym, ◌∙◌}
 use Rattle.std.specs.Str.{chars}
 use Rattle.markdown_blocks.specs.declared.reading.Reading.TheVariants.{BehindBlock, Block}
-use Rattle.markdown_blocks.specs.Fences.{fenced_blocks, ended_block, first_says, with_word}
-use Rattle.markdown_blocks.specs.own.Reading.{finds_of, joined}
-use Rattle.markdown_blocks.proofs.FenceLaws.{blocks_closed, blocks_more, finds_append, joined_assoc}
+use Rattle.markdown_blocks.specs.Fences.{first_says, with_word}
+use Rattle.markdown_blocks.specs.Unread.{all_blocks, ended, first_lists, no_list, with_list}
+use Rattle.markdown_blocks.specs.own.Reading.{with_blocks}
+use Rattle.markdown_blocks.proofs.FenceLaws.{blocks_closed, blocks_more, with_more}
 use Rattle.markdown_blocks.proofs.gather.read_in_block.Goals as goal
 
 pub returns-then-closed : goal.returns-then-closed
-returns-then-closed c end ls says =
+returns-then-closed c end ls says lists =
     let fence = c.args.fence in
     let found = c.args.found.now in
     let block = c.args.block.now in
     let closed = sym c.in_ok-closed.ensures ∙ c.if-closed.true in
-    let word : c.with_word.result ≡ with_word (first_says ls) fence = c.with_word.ensures ∙ ap (λ b. with_word b fence) (c.in_ok-says.ensures ∙ sym says) in
-    let ended = ended_block (with_word (first_says ls) fence) block c.args.at in
-    let rest = fenced_blocks end BehindBlock [] ls in
-    (λ i. joined ((c.in_ok-end_block.ensures ∙ ap (λ f. joined found (finds_of (ended_block f block c.args.at))) word) i) (finds_of (fenced_blocks end BehindBlock (c.clear.ensures i) ls)))
-    ∙ joined_assoc found (finds_of ended) (finds_of rest)
-    ∙ ap (joined found) (sym (finds_append ended rest))
-    ∙ ap (λ bs. joined found (finds_of bs)) (sym (blocks_closed end fence block (c.args.at, chars c.args.line.now) ls closed))
+    let word : c.with_word.result ≡ with_word (first_says ls) fence = c.with_word.ensures ∙ ap (λ b. with_word b fence) (c.in_ok-says.ensures.0 ∙ sym says) in
+    let beside : c.with_list.result ≡ with_list (first_lists ls) c.args.beside = c.with_list.ensures ∙ ap (λ b. with_list b c.args.beside) (c.in_ok-says.ensures.1 ∙ sym lists) in
+    let one = ended (with_word (first_says ls) fence) (with_list (first_lists ls) c.args.beside) block c.args.at in
+    (λ i. with_blocks ((c.in_ok-end_block.ensures ∙ (λ j. with_blocks found (ended (word j) (beside j) block c.args.at ∷ []))) i) (all_blocks end BehindBlock no_list (c.clear.ensures i) ls))
+    ∙ with_more found (one ∷ []) (all_blocks end BehindBlock no_list [] ls)
+    ∙ ap (with_blocks found) (sym (blocks_closed end fence c.args.beside block (c.args.at, chars c.args.line.now) ls closed))
 
 pub returns : goal.returns
-returns c end ls says =
+returns c end ls says lists =
     let goes_on = sym c.in_ok-closed.ensures ∙ c.if-closed.false in
-    ap (λ content. joined c.args.found.now (finds_of (fenced_blocks end (Block c.args.fence) content ls))) c.in_ok-put_line.ensures
-    ∙ ap (λ bs. joined c.args.found.now (finds_of bs)) (sym (blocks_more end c.args.fence c.args.block.now (c.args.at, chars c.args.line.now) ls goes_on))
+    ap (λ content. with_blocks c.args.found.now (all_blocks end (Block c.args.fence) c.args.beside content ls)) c.in_ok-put_line.ensures
+    ∙ ap (with_blocks c.args.found.now) (sym (blocks_more end c.args.fence c.args.beside c.args.block.now (c.args.at, chars c.args.line.now) ls goes_on))

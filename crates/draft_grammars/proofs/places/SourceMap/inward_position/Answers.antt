@@ -1,4 +1,4 @@
-use Rattle.draft_grammars.proofs.OffsetLaws.{offset_small}
+use Rattle.ls_text.proofs.SmallOffsets.{offset_small}
 use Rattle.draft_grammars.proofs.places.SourceMap.inward_position.Goals as goal
 
 pub inward_at-requires : goal.inward_at-requires

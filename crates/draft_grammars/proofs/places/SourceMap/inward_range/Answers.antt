@@ -1,5 +1,5 @@
 use Rattle.std.proofs.Common.{arith}
-use Rattle.draft_grammars.proofs.OffsetLaws.{offset_small}
+use Rattle.ls_text.proofs.SmallOffsets.{offset_small}
 use Rattle.draft_grammars.proofs.places.SourceMap.inward_range.Goals as goal
 
 pub inward_at-requires : goal.inward_at-requires

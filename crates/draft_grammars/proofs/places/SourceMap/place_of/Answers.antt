@@ -1,4 +1,4 @@
-use Rattle.draft_grammars.proofs.OffsetLaws.{offset_small}
+use Rattle.ls_text.proofs.SmallOffsets.{offset_small}
 use Rattle.draft_grammars.proofs.places.SourceMap.place_of.Goals as goal
 
 pub returns-clause-small : goal.returns-clause-small

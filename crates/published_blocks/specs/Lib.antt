@@ -1,0 +1,4 @@
+pub mod Lines
+pub mod Runs
+pub mod Published
+pub mod own

@@ -1,0 +1,190 @@
+//! Drafts with blocks that nothing marks, written out by hand: whether something is said of them their texts decide.
+
+use crate::drafts::asides::{Row, is_said_of_markdown, is_said_of_xml};
+use ls_text::TextFault;
+use origins::Lack;
+use xml_blocks::XmlFault;
+
+/// Fences without an info string in drafts in Markdown.
+const BARE: &[Row] = &[
+    ("```\na = b\n```\n", &[(0, Lack::BareFence, "a = b\n\n")]),
+    // behind its margin, and left aligned
+    (
+        "text\n\n  ~~~~  \n    a = b\n      / c\n  ~~~~\n",
+        &[(8, Lack::BareFence, "a = b\n  / c\n\n")],
+    ),
+    (
+        "> ~~~\n> a = b\n> ~~~\n",
+        &[(2, Lack::BareFence, "a = b\n\n")],
+    ),
+    // whatever stands in it, and if nothing does
+    (
+        "~~~\nsome words\n~~~\n",
+        &[(0, Lack::BareFence, "some words\n\n")],
+    ),
+    ("```\n```\n```text\n```\n", &[(0, Lack::BareFence, "\n")]),
+    // it isn't closed
+    ("```\na = b", &[(0, Lack::BareFence, "a = b\n")]),
+    // characters count, and line ends stay
+    (
+        "\u{E9}\u{1F600}\n```\n\u{20AC}\n```\n",
+        &[(3, Lack::BareFence, "\u{20AC}\n\n")],
+    ),
+    (
+        "~~~\r\na = b\r\n~~~\r\n",
+        &[(0, Lack::BareFence, "a = b\r\n\n")],
+    ),
+    // attribute lists that aren't beside it
+    (
+        "{: .a}\n\n```\na\n```\n\n{: .b}\n",
+        &[(8, Lack::BareFence, "a\n\n")],
+    ),
+    // in the order of the draft
+    (
+        "```\na\n```\n```abnf\n```\n~~~\nb\n~~~\n",
+        &[
+            (0, Lack::BareFence, "a\n\n"),
+            (18, Lack::Empty, ""),
+            (22, Lack::BareFence, "b\n\n"),
+        ],
+    ),
+];
+
+/// Drafts in Markdown without such a fence.
+const MARKED: &[&str] = &[
+    "",
+    "a = b\n",
+    "``\na = b\n``\n",
+    // there is an info string
+    "```text\na = b\n```\n",
+    "~~~ x\na = b\n~~~\n",
+    "~~~ {.a}\na = b\n~~~\n",
+    "```abnf\na = b\n```\n",
+    // an attribute list stands before it or behind it, or between two
+    "{: .text}\n```\na = b\n```\n",
+    "{: .abnf}\n```\na = b\n```\n",
+    "\t{\n~~~\na = b\n~~~\n",
+    "```\na = b\n```\n{: #a}\n",
+    "```\na = b\n```\n  {.abnf}\n",
+    "```\na\n```\n{: .a}\n```\nb\n```\n",
+    // it stands in a comment, or in another block
+    "<!--\n```\na = b\n```\n-->\n",
+    "~~~text\n```\na = b\n```\n~~~\n",
+];
+
+/// Elements without a type in drafts in RFCXML.
+const UNTYPED: &[Row] = &[
+    (
+        "<sourcecode>a = b</sourcecode>",
+        &[(0, Lack::Untyped, "a = b\n")],
+    ),
+    // left aligned, with references, comments, sections and tags as in a grammar
+    (
+        "x<artwork name=\"a\">\n  a = &lt;b&gt;\n   / c\n</artwork>",
+        &[(1, Lack::Untyped, "\na = <b>\n / c\n\n")],
+    ),
+    (
+        "<artwork><!-- a -->a<b/> = <![CDATA[<c>]]></artwork>",
+        &[(0, Lack::Untyped, "a = <c>\n")],
+    ),
+    // whatever stands in it, and if nothing does
+    (
+        "<artwork>+--+ words</artwork>",
+        &[(0, Lack::Untyped, "+--+ words\n")],
+    ),
+    ("<artwork></artwork>", &[(0, Lack::Untyped, "\n")]),
+    // characters count
+    (
+        "\u{E9}\u{1F600}<artwork>a</artwork>",
+        &[(2, Lack::Untyped, "a\n")],
+    ),
+    // what stands in quotes is no attribute
+    (
+        "<artwork name=\" type='abnf' src='a'\">a = b</artwork>",
+        &[(0, Lack::Untyped, "a = b\n")],
+    ),
+    // the end tag of another element ends none
+    (
+        "<artwork>a</sourcecode> b</artwork >",
+        &[(0, Lack::Untyped, "a b\n")],
+    ),
+    // another such element begins in it, so that it is none
+    (
+        "<artwork><sourcecode>a</sourcecode></artwork>",
+        &[(9, Lack::Untyped, "a\n")],
+    ),
+    (
+        "<artwork><artwork type=\"abnf\"/></artwork>",
+        &[(9, Lack::Empty, "")],
+    ),
+    // a reference in it can't be read
+    (
+        "<artwork>a &b c</artwork><artwork>d</artwork>",
+        &[(25, Lack::Untyped, "d\n")],
+    ),
+    // in the order of the draft
+    (
+        "<artwork type=\"abnf\"/><artwork>a</artwork><artwork type=\"abnf\" src=\"b\"/>",
+        &[
+            (0, Lack::Empty, ""),
+            (22, Lack::Untyped, "a\n"),
+            (42, Lack::Elsewhere, ""),
+        ],
+    ),
+    // up to a fault
+    (
+        "<artwork>a</artwork><artwork>b<!-- </artwork>",
+        &[(0, Lack::Untyped, "a\n")],
+    ),
+];
+
+/// Drafts in RFCXML without such an element.
+const TYPED: &[&str] = &[
+    "",
+    "a = b",
+    // it has a type, or its text is in another file
+    "<sourcecode type=\"abnf\">a = b</sourcecode>",
+    "<sourcecode type = 'xml'>a = b</sourcecode>",
+    "<artwork type=\"\">a = b</artwork>",
+    "<artwork\ntype=\"abnf\">a = b</artwork>",
+    "<artwork src=\"a\">a = b</artwork>",
+    // it is empty, or another one
+    "<artwork/>a = b",
+    "<artwork name=\"a\" />a = b</artwork>",
+    "<artworks>a = b</artworks>",
+    "<Artwork>a = b</Artwork>",
+    "<figure>a = b</figure>",
+    // its end tag never comes
+    "<artwork>a = b",
+    "<artwork>a = b</sourcecode>",
+    "<artwork>a = b<!-- </artwork>",
+    // it stands in a comment or a section
+    "<!-- <artwork>a = b</artwork> -->",
+    "<![CDATA[<artwork>a = b</artwork>]]>",
+];
+
+#[test]
+fn finds_bare_fences(rt: HostRuntime) -> Result<(), TextFault> {
+    assert!(rt; BARE.len() >= 10);
+    for (draft, wanted) in BARE {
+        assert!(rt; is_said_of_markdown(rt.alloc(), draft, wanted)?, "{draft}");
+    }
+    assert!(rt; MARKED.len() >= 15);
+    for draft in MARKED {
+        assert!(rt; is_said_of_markdown(rt.alloc(), draft, &[])?, "{draft}");
+    }
+    Ok(())
+}
+
+#[test]
+fn finds_elements_without_a_type(rt: HostRuntime) -> Result<(), XmlFault> {
+    assert!(rt; UNTYPED.len() >= 13);
+    for (draft, wanted) in UNTYPED {
+        assert!(rt; is_said_of_xml(rt.alloc(), draft, wanted)?, "{draft}");
+    }
+    assert!(rt; TYPED.len() >= 17);
+    for draft in TYPED {
+        assert!(rt; is_said_of_xml(rt.alloc(), draft, &[])?, "{draft}");
+    }
+    Ok(())
+}
