@@ -66,7 +66,7 @@ COMMANDS = ("rt ", "git ", "grep ", "python3 ", "taskset ", "./", "tools/", "ben
 KNOWS = {
     "JSON": r"\bserde(?:_json)?\b",
     "threads": r"\b(?:thread|Threads|Mutex|Condvar|Wait)\b",
-    "devices": r"\b(?:ls_devices|ls_server|DeviceFault)\b",
+    "devices": r"\b(?:ls_devices|ls_plain|ls_server|DeviceFault)\b",
     "the server": r"\bls_(?:server|session|desk|steps|threads)\b",
     "the desk": r"\bls_desk\b",
     "which documents are open": r"\b(?:Desk|Document)\b",

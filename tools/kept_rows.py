@@ -12,7 +12,6 @@ import itertools
 import os
 import re
 import resource
-import shlex
 import shutil
 import sys
 
@@ -29,7 +28,7 @@ PART = 0.5
 IN_TURN = 4
 # How many rules a text has where instructions are counted, and where times are measured, and how often these are
 RULES, RULES_TIMED, ROUNDS = 2000, 20000, 5
-COUNTS = "valgrind --tool=callgrind --callgrind-out-file=/dev/null"
+COUNTS = ("valgrind", "--tool=callgrind", "--callgrind-out-file=/dev/null")
 COUNTED = re.compile(rb"Collected : (\d+)")
 SMALL = 'small = "s"\n'
 # What a draft is written in, and what stands around its grammar, which begins at a line
@@ -104,9 +103,9 @@ def draft_sessions(count):
     }
 
 
-def served(program, turns, env):
-    """Serves these turns, where drafts are read, and gives what stands on standard error."""
-    status, said, wrote = runs.by_turns(program, [(WITH_DRAFTS, 1), *turns], env=env)
+def served(program, turns, env, in_front=()):
+    """Serves these turns, where drafts are read, and gives what stands on standard error. The words in front begin the command line."""
+    status, said, wrote = runs.by_turns(program, [(WITH_DRAFTS, 1), *turns], env=env, in_front=in_front)
     wanted = 1 + sum(more for _, more in turns)
     if status != 1 or len(runs.bodies_of(wrote)[0]) != wanted:
         raise RuntimeError(f"status {status}, {len(runs.bodies_of(wrote)[0])} bodies, and {wanted} must come: {said[-300:]}")
@@ -115,10 +114,7 @@ def served(program, turns, env):
 
 def counted(program, env, turns):
     """How many instructions a program takes for these turns."""
-    with rows.files() as files:
-        counting = files.written("counting", f"#!/bin/sh\nexec {COUNTS} {shlex.quote(program)}\n")
-        os.chmod(counting, 0o755)
-        return int(COUNTED.search(served(counting, turns, env))[1])
+    return int(COUNTED.search(served(program, turns, env, COUNTS))[1])
 
 
 def timed(program, env, turns):

@@ -60,8 +60,8 @@ def outcome(program, given, arguments=(), stdin=subprocess.PIPE, stdout=subproce
 class Client:
     """A client that writes and reads by turns. No turn waits longer than until the run's time is up."""
 
-    def __init__(self, program, env=None):
-        self.process = subprocess.Popen([program], stdin=subprocess.PIPE, stdout=subprocess.PIPE, stderr=subprocess.PIPE, bufsize=0, env=env)
+    def __init__(self, program, env=None, in_front=()):
+        self.process = subprocess.Popen([*in_front, program], stdin=subprocess.PIPE, stdout=subprocess.PIPE, stderr=subprocess.PIPE, bufsize=0, env=env)
         self.time_up = time.monotonic() + seconds_left()
         self.wrote, self.is_open = b"", True
         for pipe in (self.process.stdin, self.process.stdout):
@@ -112,10 +112,11 @@ class Client:
         return status, said, self.wrote
 
 
-def by_turns(program, turns, rest=b"", env=None, patience=float("inf")):
+def by_turns(program, turns, rest=b"", env=None, patience=float("inf"), in_front=()):
     """A run in which each message is sent once what the one before it leads to has come, and at last these bytes. A turn is a message and
-    how many bodies it leads to. Where they don't come in so many seconds, the other turns are left out."""
-    client, count = Client(program, env), 0
+    how many bodies it leads to. Where they don't come in so many seconds, the other turns are left out. The words in front begin the command
+    line."""
+    client, count = Client(program, env, in_front), 0
     for message, more in turns:
         count += more
         if not client.turn(frame(as_bytes(message)), lambda wrote: len(bodies_of(wrote)[0]) >= count, patience=patience):

@@ -2,16 +2,17 @@
 //! the check of a certificate. No function here has a contract beyond safety.
 #![tactic(auto)]
 
-use ls_server::{
-    Ending, FileFault, Gate, ReadFrom, Served, Snapshot, WriteTo, check_text, example_text,
-    keep_freed_blocks, read_cert_file, read_text, serve_threads,
-};
+use ls_devices::{ReadFrom, WriteTo};
+use ls_program::{Ending, check_text, example_text, keep_freed_blocks, read_cert_file};
+use ls_text::Snapshot;
+use ls_threads::{Gate, Served, serve_threads};
 use std::fs::File;
 use std::io::{ErrorKind, Write};
 use std::process::ExitCode;
 use std::sync::Wait;
 use std::thread::Threads;
 use std::{env, fs, io};
+use text_files::{FileFault, read_text};
 
 /// How many threads work.
 const WORKERS: u32 = 4;

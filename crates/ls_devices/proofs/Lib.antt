@@ -1,3 +1,5 @@
+pub mod Hearing
 pub mod Input
 pub mod Known
+pub mod Listening
 pub mod Pieces

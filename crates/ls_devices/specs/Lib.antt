@@ -1,3 +1,4 @@
 pub mod Devices
 pub mod Ends
 pub mod Input
+pub mod Reading

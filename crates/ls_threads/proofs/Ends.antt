@@ -5,8 +5,9 @@ use Rattle.ls_session.specs.declared.turn.Status.TheVariants.{Full}
 use Rattle.ls_devices.specs.declared.fault.ServeFault.{ServeFault}
 use Rattle.ls_threads.specs.Ends.{has_failed, has_met_full_session, has_strayed, is_ended, is_read, lacked_memory, result_of, readers_status}
 use Rattle.ls_threads.specs.declared.ending.Early.TheVariants as early
-use Rattle.ls_threads.specs.declared.ending.Heard.{Heard}
-use Rattle.ls_threads.specs.declared.ending.Heard.TheVariants as heard
+use Rattle.ls_devices.specs.declared.reading.ReaderEnd.{ReaderEnd}
+use Rattle.ls_threads.specs.declared.ending.Early.{Early}
+use Rattle.ls_devices.specs.declared.reading.ReaderEnd.TheVariants as reader
 use Rattle.ls_threads.specs.declared.ending.Worked.{Worked}
 use Rattle.ls_threads.specs.declared.ending.Wrote.{Wrote}
 use Rattle.ls_threads.specs.declared.ending.Wrote.TheVariants.{All, Failed, Memory}
@@ -66,25 +67,25 @@ shows false false false false true false a b c d last s e = record {
 }
 
 -- of an answered status
-pub ok_shows : (h : Heard) (w : Wrote) (k : Worked) (settled : Bool) (s : Status) → result_of h w k true settled ≡ Ok s
+pub ok_shows : (h : ReaderEnd Early) (w : Wrote) (k : Worked) (settled : Bool) (s : Status) → result_of h w k true settled ≡ Ok s
     → Shows (is_read h) (has_failed w) (has_strayed k) (lacked_memory h w k) settled (has_met_full_session h k) (readers_status h) s
 ok_shows h w k settled s e = shows (is_read h) (has_failed w) (has_strayed k) (lacked_memory h w k) settled (has_met_full_session h k) _ _ _ _ (readers_status h) s e
 
-lacks : (h : Heard) (k : Worked) → lacked_memory h Memory k ≡ true
-lacks (heard.Ended s) k = refl
-lacks heard.Failed k = refl
-lacks (heard.Broken early.Full) k = refl
-lacks (heard.Broken early.Memory) k = refl
-lacks (heard.Broken early.Halted) k = refl
+lacks : (h : ReaderEnd Early) (k : Worked) → lacked_memory h Memory k ≡ true
+lacks (reader.Ended s) k = refl
+lacks reader.Failed k = refl
+lacks (reader.Broken early.Full) k = refl
+lacks (reader.Broken early.Memory) k = refl
+lacks (reader.Broken early.Halted) k = refl
 
 -- where the writer failed or lacked memory, no status is answered
-pub all_is_written : (h : Heard) (w : Wrote) (k : Worked) (settled : Bool) (s : Status) → result_of h w k true settled ≡ Ok s → w ≡ All
+pub all_is_written : (h : ReaderEnd Early) (w : Wrote) (k : Worked) (settled : Bool) (s : Status) → result_of h w k true settled ≡ Ok s → w ≡ All
 all_is_written h All k settled s e = refl
 all_is_written h Failed k settled s e = let shown = ok_shows h Failed k settled s e in true_false shown.not_failed
 all_is_written h Memory k settled s e = let shown = ok_shows h Memory k settled s e in true_false (sym (lacks h k) ∙ shown.not_lacked)
 
 -- where the reader ended by itself
-pub ended_is : (h : Heard) → is_ended h ≡ true → h ≡ heard.Ended (readers_status h)
-ended_is (heard.Ended s) e = refl
-ended_is heard.Failed e = false_true e
-ended_is (heard.Broken x) e = false_true e
+pub ended_is : (h : ReaderEnd Early) → is_ended h ≡ true → h ≡ reader.Ended (readers_status h)
+ended_is (reader.Ended s) e = refl
+ended_is reader.Failed e = false_true e
+ended_is (reader.Broken x) e = false_true e

@@ -1,7 +1,3 @@
-pub mod Spent
 pub mod Ends
-pub mod Hearing
-pub mod Pieces
-pub mod Input
 pub mod Written
 pub mod Settled

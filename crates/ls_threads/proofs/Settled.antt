@@ -7,8 +7,9 @@ use Rattle.ls_session.specs.declared.turn.Status.TheVariants.{Full}
 use Rattle.ls_desk.specs.Stands.{Seen, state_of, used}
 use Rattle.ls_threads.specs.Ends.{has_met_full_session, is_ended, is_read, readers_status}
 use Rattle.ls_threads.specs.Settled.{IsSettled, is_done, is_nearly_full, is_settled}
-use Rattle.ls_threads.specs.declared.ending.Heard.{Heard}
-use Rattle.ls_threads.specs.declared.ending.Heard.TheVariants.{Ended}
+use Rattle.ls_devices.specs.declared.reading.ReaderEnd.{ReaderEnd}
+use Rattle.ls_threads.specs.declared.ending.Early.{Early}
+use Rattle.ls_devices.specs.declared.reading.ReaderEnd.TheVariants.{Ended}
 use Rattle.ls_threads.proofs.Ends.{ended_is}
 use Rattle.ls_threads.specs.declared.ending.Worked.{Worked}
 
@@ -28,7 +29,7 @@ less : (a b : ℕ) → nat_lt a b ≡ true → a < b
 less a b e = grind (arith, nat_tests)
 
 -- with a full session
-full_settled : (events : ℕ) (h : Heard) (k : Worked) (status : Status) (before after : Seen) → has_met_full_session h k ≡ true → is_settled events h k before ≡ true → is_read h ≡ false
+full_settled : (events : ℕ) (h : ReaderEnd Early) (k : Worked) (status : Status) (before after : Seen) → has_met_full_session h k ≡ true → is_settled events h k before ≡ true → is_read h ≡ false
     → status ≡ Full → after.outbox ≡ [] → used after ≡ used before → IsSettled events status h after
 full_settled events h k status before after full settled read is_full none same =
     let P : Bool → Type 0 = λ b. (if b then is_nearly_full events before else (is_ended h && is_done before)) ≡ true in
@@ -36,7 +37,7 @@ full_settled events h k status before after full settled read is_full none same 
     record { read = read; sent = none; done = inr (is_full, subst (λ n. events < n + 1025) (sym same) (less events (used before + 1025) near)) }
 
 -- without, the reader ended by itself, and all is done
-all_done : (events : ℕ) (h : Heard) (k : Worked) (desk : Seen) → has_met_full_session h k ≡ false → is_settled events h k desk ≡ true
+all_done : (events : ℕ) (h : ReaderEnd Early) (k : Worked) (desk : Seen) → has_met_full_session h k ≡ false → is_settled events h k desk ≡ true
     → (is_ended h ≡ true) × ((state_of desk).waiting ≡ []) × (desk.outbox ≡ [])
 all_done events h k desk full settled =
     let P : Bool → Type 0 = λ b. (if b then is_nearly_full events desk else (is_ended h && is_done desk)) ≡ true in
@@ -44,7 +45,7 @@ all_done events h k desk full settled =
     let done = both (length (state_of desk).waiting == 0) (length desk.outbox == 0) two.1 in
     (two.0, is_none (state_of desk).waiting done.0, is_none desk.outbox done.1)
 
-pub is_settled_holds : (events : ℕ) (h : Heard) (k : Worked) (full : Bool) (status : Status) (before after : Seen) → has_met_full_session h k ≡ full → is_settled events h k before ≡ true
+pub is_settled_holds : (events : ℕ) (h : ReaderEnd Early) (k : Worked) (full : Bool) (status : Status) (before after : Seen) → has_met_full_session h k ≡ full → is_settled events h k before ≡ true
     → is_read h ≡ false → (full ≡ true → status ≡ Full) → (full ≡ false → status ≡ readers_status h) → (full ≡ true → after.outbox ≡ []) → (full ≡ false → after ≡ before)
     → used after ≡ used before → IsSettled events status h after
 is_settled_holds events h k true status before after met settled read is_full is_last rest kept same = full_settled events h k status before after met settled read (is_full refl) (rest refl) same

@@ -1,5 +1,5 @@
 -- What the ends of the threads make of a run.
-use Rattle.std.specs.Prelude.{◌+◌, ◌==◌, ◌||◌, ℕ, List, [], ◌∷◌, Bool, true, false, not, nat_lt, Option, Some, None, Result, Ok, Err, if◌then◌else◌}
+use Rattle.std.specs.Prelude.{◌||◌, ℕ, List, [], ◌∷◌, Bool, true, false, not, nat_lt, Option, Some, None, Result, Ok, Err, if◌then◌else◌}
 use Rattle.ls_machine.specs.declared.event.DeskFault.{DeskFault}
 use Rattle.ls_machine.specs.declared.event.DeskFault.TheVariants as desk
 use Rattle.ls_devices.specs.declared.fault.ServeFault.{ServeFault}
@@ -8,16 +8,16 @@ use Rattle.ls_session.specs.declared.turn.Status.{Status}
 use Rattle.ls_session.specs.declared.turn.Status.TheVariants as status
 use Rattle.ls_threads.specs.declared.ending.Early.{Early}
 use Rattle.ls_threads.specs.declared.ending.Early.TheVariants as early
-use Rattle.ls_threads.specs.declared.ending.Heard.{Heard}
-use Rattle.ls_threads.specs.declared.ending.Heard.TheVariants as heard
+use Rattle.ls_devices.specs.declared.reading.ReaderEnd.{ReaderEnd}
+use Rattle.ls_devices.specs.declared.reading.ReaderEnd.TheVariants as reader
 use Rattle.ls_threads.specs.declared.ending.Wrote.{Wrote}
 use Rattle.ls_threads.specs.declared.ending.Wrote.TheVariants as wrote
 use Rattle.ls_threads.specs.declared.ending.Worked.{Worked}
 use Rattle.ls_threads.specs.declared.ending.Worked.TheVariants as worked
 
 -- The source failed, or was read as often as one session may.
-abbrev pub is_read : Heard → Bool
-is_read heard.Failed = true
+abbrev pub is_read : ReaderEnd Early → Bool
+is_read reader.Failed = true
 is_read _ = false
 
 -- The sink failed.
@@ -31,31 +31,31 @@ has_strayed worked.Strayed = true
 has_strayed _ = false
 
 -- One of the threads was refused memory.
-abbrev pub lacked_memory : Heard → Wrote → Worked → Bool
-lacked_memory (heard.Broken early.Memory) w k = true
+abbrev pub lacked_memory : ReaderEnd Early → Wrote → Worked → Bool
+lacked_memory (reader.Broken early.Memory) w k = true
 lacked_memory h wrote.Memory k = true
 lacked_memory h w worked.Memory = true
 lacked_memory h w k = false
 
 -- The reader or a worker found the session full.
-abbrev pub has_met_full_session : Heard → Worked → Bool
-has_met_full_session (heard.Broken early.Full) k = true
+abbrev pub has_met_full_session : ReaderEnd Early → Worked → Bool
+has_met_full_session (reader.Broken early.Full) k = true
 has_met_full_session h worked.Full = true
 has_met_full_session h k = false
 
 -- The reader ended by itself: neither the source nor another thread broke it off.
-abbrev pub is_ended : Heard → Bool
-is_ended (heard.Ended s) = true
+abbrev pub is_ended : ReaderEnd Early → Bool
+is_ended (reader.Ended s) = true
 is_ended _ = false
 
 -- the reader's own status, unclean where it broke off
-abbrev pub readers_status : Heard → Status
-readers_status (heard.Ended s) = s
+abbrev pub readers_status : ReaderEnd Early → Status
+readers_status (reader.Ended s) = s
 readers_status _ = status.Unclean
 
 -- the causes of which each may hold, in the order of this table, with what each makes of the run: the source failed, the sink failed, the
 -- board wasn't closed or a worker has strayed, memory was refused, its desk isn't settled, the session was full
-abbrev pub causes : Heard → Wrote → Worked → Bool → Bool → List (Bool × Result Status ServeFault)
+abbrev pub causes : ReaderEnd Early → Wrote → Worked → Bool → Bool → List (Bool × Result Status ServeFault)
 causes h w k audited settled =
     (is_read h, Err fault.Read)
     ∷ (has_failed w, Err fault.Write)
@@ -71,7 +71,7 @@ first_that_holds [] last = last
 first_that_holds ((holds, x) ∷ rest) last = if holds then x else first_that_holds rest last
 
 -- what a run answers, where all its threads could be made: by the first of these causes, else the reader's status
-abbrev pub result_of : Heard → Wrote → Worked → Bool → Bool → Result Status ServeFault
+abbrev pub result_of : ReaderEnd Early → Wrote → Worked → Bool → Bool → Result Status ServeFault
 result_of h w k audited settled = first_that_holds (causes h w k audited settled) (Ok (readers_status h))
 
 -- how the reader broke off, by the fault that the board answered
@@ -96,8 +96,3 @@ weight worked.Strayed = 3
 -- of the ends of two workers the one that counts for more
 abbrev pub worse : Worked → Worked → Worked
 worse j k = if nat_lt (weight j) (weight k) then k else j
-
--- Where the reader says that reading failed, the source has failed or was read 1,099,511,627,775 times.
-abbrev pub has_cause : Heard → Bool → ℕ → Bool
-has_cause heard.Failed failed reads = failed || (reads + 1 == 1099511627776)
-has_cause _ failed reads = true

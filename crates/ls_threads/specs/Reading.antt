@@ -39,20 +39,13 @@ LeavesAtSeat Nothing old status new = (status ≡ None) × (new ≡ old)
 LeavesAtSeat (Event e) old status new = (status ≡ None) × IsMet e old new
 LeavesAtSeat (Exit s) old status new = (status ≡ Some s) × (new ≡ old)
 
+-- What the reader is between two messages: the stage of its session, and the client's events so far.
+abbrev pub Place : Type 0
+Place = Stage × Replies
+
 -- A message is heard by its body: the session's turn on it, and what that leaves.
-abbrev pub Hears : List ℕ → Stage → Replies → Option Status → Stage → Replies → Type 0
-Hears body stage old status after new = (turn : Turn) × (((turn, after) ≡ turn_of stage (message_of body)) × LeavesAtSeat turn old status new)
-
--- Messages are heard in their order, none of which is an exit.
-abbrev pub HearsOn : List (List ℕ) → Stage → Replies → Stage → Replies → Type 0
-HearsOn [] stage old after new = (after ≡ stage) × (new ≡ old)
-HearsOn (body ∷ bodies) stage old after new = (next : Stage) × (told : Replies) × (Hears body stage old None next told × HearsOn bodies next told after new)
-
--- Messages are heard in their order: all of them, or up to an exit and not past it.
-abbrev pub HearsAll : List (List ℕ) → Stage → Replies → Option Status → Stage → Replies → Type 0
-HearsAll bodies stage old None after new = HearsOn bodies stage old after new
-HearsAll bodies stage old (Some status) after new = (before : List (List ℕ)) × (last : List ℕ) × (unheard : List (List ℕ)) × (next : Stage) × (told : Replies)
-    × ((bodies ≡ before ++ last ∷ unheard) × HearsOn before stage old next told × Hears last next told (Some status) after new)
+abbrev pub Hears : List ℕ → Place → Option Status → Place → Type 0
+Hears body at status next = (turn : Turn) × (((turn, next.0) ≡ turn_of at.0 (message_of body)) × LeavesAtSeat turn at.1 status next.1)
 
 -- ---- where the reader breaks off
 
@@ -67,15 +60,5 @@ IsLost e old new = (fault : DeskFault) × ((new ≡ old ++ (e, Err fault) ∷ []
     ⊎ ((is_shortage fault ≡ false) × IsUntold (refusal_to (asker_of e) fault) (old ++ (e, Err fault) ∷ []) new))
 
 -- Within a message: nothing was heard of it, or it has an event, which was lost.
-abbrev pub BreaksOff : List ℕ → Stage → Replies → Replies → Type 0
-BreaksOff body stage old new = (new ≡ old) ⊎ ((e : ClientEvent) × (after : Stage) × (((Event e, after) ≡ turn_of stage (message_of body)) × IsLost e old new))
-
--- It is so within the first of these messages, or before there is one.
-abbrev pub BreaksOffIn : List (List ℕ) → Stage → Replies → Replies → Type 0
-BreaksOffIn [] stage old new = new ≡ old
-BreaksOffIn (body ∷ bodies) stage old new = BreaksOff body stage old new
-
--- A prefix of the messages was heard, and the reader broke off in the rest.
-abbrev pub HearsFront : List (List ℕ) → Stage → Replies → Replies → Type 0
-HearsFront bodies stage old new = (front : List (List ℕ)) × (rest : List (List ℕ)) × (after : Stage) × (told : Replies)
-    × ((bodies ≡ front ++ rest) × HearsOn front stage old after told × BreaksOffIn rest after told new)
+abbrev pub BreaksOff : List ℕ → Place → Place → Type 0
+BreaksOff body at next = (next.1 ≡ at.1) ⊎ ((e : ClientEvent) × (after : Stage) × (((Event e, after) ≡ turn_of at.0 (message_of body)) × IsLost e at.1 next.1))

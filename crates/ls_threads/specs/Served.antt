@@ -11,7 +11,8 @@ use Rattle.ls_workers.specs.Jobs.{HasLimits}
 use Rattle.ls_threads.specs.Input.{HasHeard}
 use Rattle.ls_threads.specs.Settled.{IsSettled}
 use Rattle.ls_threads.specs.Writing.{frames_for}
-use Rattle.ls_threads.specs.declared.ending.Heard.{Heard}
+use Rattle.ls_devices.specs.declared.reading.ReaderEnd.{ReaderEnd}
+use Rattle.ls_threads.specs.declared.ending.Early.{Early}
 
 -- A run that ended well has one history, which is legal from the start of the session on, and has led to a desk of these limits, whose
 -- journal is legal. The client's events in it, each with its answer or its refusal, are what hearing the messages of the input left, from
@@ -23,7 +24,7 @@ pub record IsServed (journal events : ℕ) (status : Status) (input left old new
   pub sound : IsSound desk
   pub log : List Happened
   pub history : IsHistoryOf desk log
-  pub end : Heard
+  pub end : ReaderEnd Early
   pub heard : HasHeard input left BeforeInitialize [] end (heard_of log)
   pub settled : IsSettled events status end desk
   pub written : Appends old new (frames_for (outs_of log))

@@ -13,7 +13,8 @@ use Rattle.ls_history.specs.Told.{heard_of, outs_of}
 use Rattle.ls_history.specs.declared.happened.Happened.{Happened}
 use Rattle.ls_threads.specs.Ends.{has_failed}
 use Rattle.ls_threads.specs.Input.{HasHeard}
-use Rattle.ls_threads.specs.declared.ending.Heard.{Heard}
+use Rattle.ls_devices.specs.declared.reading.ReaderEnd.{ReaderEnd}
+use Rattle.ls_threads.specs.declared.ending.Early.{Early}
 use Rattle.ls_threads.specs.declared.ending.Wrote.{Wrote}
 use Rattle.ls_threads.specs.declared.ending.Wrote.TheVariants.{All}
 
@@ -44,7 +45,7 @@ pub record WritesFront (failed : Bool) (old new : Option (List ℕ)) (outs : Lis
 pub record WritesFrames (failed : Bool) (input left old new : Option (List ℕ)) : Type 0 where
   pub log : List Happened
   pub legal : IsLegal log
-  pub end : Heard
+  pub end : ReaderEnd Early
   pub heard : HasHeard input left BeforeInitialize [] end (heard_of log)
   pub front : WritesFront failed old new (outs_of log)
 

@@ -3,7 +3,7 @@ ghost use Rattle.std.specs.Prelude.{◌≡◌};
 ghost use Rattle.ls_threads.specs.Ends.{worked_by, has_met_full_session, is_ended, result_of, worse};
 
 use ls_desk::DeskFault;
-use ls_devices::ServeFault;
+use ls_devices::{ReaderEnd, ServeFault};
 use ls_session::Status;
 use std::alloc::AllocError;
 
@@ -40,16 +40,6 @@ impl From<DeskFault> for Early {
             _ => Early::Memory,
         }
     }
-}
-
-/// How the reader ended.
-#[derive(Clone, Copy, Debug, Drop, PartialEq, Eq)]
-pub enum Heard {
-    /// By an exit, the end of the input or a framing fault.
-    Ended(Status),
-    /// The source failed, or was read as often as one session may.
-    Failed,
-    Broken(Early),
 }
 
 /// How the writer ended.
@@ -110,22 +100,22 @@ impl Worked {
 }
 
 /// Whether the reader or a worker found the session full. Then the desk may still have replies to send.
-pub fn has_met_full_session(heard: Heard, worked: Worked) -> bool
+pub fn has_met_full_session(heard: ReaderEnd<Early>, worked: Worked) -> bool
     ensures { result ≡ has_met_full_session heard worked }
 {
     match (heard, worked) {
-        (Heard::Broken(Early::Full), _) | (_, Worked::Full) => true,
+        (ReaderEnd::Broken(Early::Full), _) | (_, Worked::Full) => true,
         _ => false,
     }
 }
 
 /// Whether the reader ended by itself: neither the source nor another thread broke it off.
-pub fn is_ended(heard: Heard) -> bool
+pub fn is_ended(heard: ReaderEnd<Early>) -> bool
     ensures { result ≡ is_ended heard }
 {
     match heard {
-        Heard::Ended(_) => true,
-        Heard::Failed | Heard::Broken(_) => false,
+        ReaderEnd::Ended(_) => true,
+        ReaderEnd::Failed | ReaderEnd::Broken(_) => false,
     }
 }
 
@@ -133,7 +123,7 @@ pub fn is_ended(heard: Heard) -> bool
 /// the desk isn't as such ends leave it (`settled`), else `Full`, else the reader's status. `audited` says that the board was closed and
 /// gave its desk.
 pub fn result_of(
-    heard: Heard,
+    heard: ReaderEnd<Early>,
     wrote: Wrote,
     worked: Worked,
     audited: bool,
@@ -141,7 +131,7 @@ pub fn result_of(
 ) -> Result<Status, ServeFault>
     ensures { result ≡ result_of heard wrote worked audited settled }
 {
-    if let Heard::Failed = heard {
+    if let ReaderEnd::Failed = heard {
         return Err(ServeFault::Read);
     }
     if let Wrote::Failed = wrote {
@@ -152,11 +142,11 @@ pub fn result_of(
     }
     match (heard, wrote, worked) {
         (_, _, Worked::Strayed) => Err(ServeFault::Strayed),
-        (Heard::Broken(Early::Memory), _, _) | (_, Wrote::Memory, _) | (_, _, Worked::Memory) =>
+        (ReaderEnd::Broken(Early::Memory), _, _) | (_, Wrote::Memory, _) | (_, _, Worked::Memory) =>
             Err(ServeFault::Memory),
         _ if !settled => Err(ServeFault::Strayed),
-        (Heard::Broken(Early::Full), _, _) | (_, _, Worked::Full) => Ok(Status::Full),
-        (Heard::Ended(status), _, Worked::All) => Ok(status),
+        (ReaderEnd::Broken(Early::Full), _, _) | (_, _, Worked::Full) => Ok(Status::Full),
+        (ReaderEnd::Ended(status), _, Worked::All) => Ok(status),
         (_, _, Worked::All) => Ok(Status::Unclean),
     }
 }

@@ -16,4 +16,4 @@ mod working;
 mod writing;
 
 pub use ls_workers::Gate;
-pub use serve::{Served, serve_threads, serve_with_journal};
+pub use serve::{Limits, Served, serve_threads, serve_with_limits};

@@ -7,19 +7,20 @@ ghost use Rattle.ls_history.specs.Told.{heard_of, outs_of};
 ghost use Rattle.ls_workers.specs.Jobs.{HasLimits};
 ghost use Rattle.ls_workers.specs.Seats.{AreAll, told_by};
 ghost use Rattle.ls_threads.specs.own.Audit.{IsAnswered, left_by_threads};
-ghost use Rattle.ls_threads.specs.Ends.{has_cause, has_failed, worked_by, worse};
+ghost use Rattle.ls_devices.specs.Ends.{has_cause};
+ghost use Rattle.ls_threads.specs.Ends.{has_failed, worked_by, worse};
 ghost use Rattle.ls_threads.specs.Input.{HasHeard};
 ghost use Rattle.ls_threads.specs.Served.{IsServed};
 ghost use Rattle.ls_threads.specs.Writing.{HasWritten, SaysTheRest, WritesFrames};
 
-use crate::ending::{Early, Heard, Worked, Wrote, has_met_full_session, result_of};
+use crate::ending::{Early, Worked, Wrote, has_met_full_session, result_of};
 use crate::halt::halt;
 use crate::reading::Reader;
 use crate::settling::is_settled;
 use crate::working::work_on;
 use crate::writing::{Writer, Writes, Written, write_rest};
 use ls_desk::{Desk, DeskFault};
-use ls_devices::{ServeFault, Sink, Source};
+use ls_devices::{ReaderEnd, ServeFault, Sink, Source};
 use ls_session::{Session, Status};
 use ls_workers::{Blanks, Board, ClientSeat, Crew, Gate, Stop, WorkerSeat};
 use std::alloc::Global;
@@ -39,6 +40,22 @@ const MOST_EVENTS: u64 = 18_446_744_073_709_551_614;
 /// The mark of the board. A run has one.
 const MARK: u64 = 1;
 
+/// How large a run is.
+#[derive(Clone, Copy, Debug, Drop, PartialEq, Eq)]
+pub struct Limits {
+    /// How many workers there are: 1 to 8.
+    pub workers: u32,
+    /// How many events the journal has, 1 to 1,000,000, where it begins anew with the client's next one.
+    pub journal: usize,
+}
+
+/// What a run reads from and writes to.
+#[derive(Drop)]
+struct Devices<I, W> {
+    source: I,
+    sink: W,
+}
+
 /// What a run leaves: its answer, and the devices, which come back with every answer.
 #[derive(Drop)]
 pub struct Served<I: Source, W: Sink> {
@@ -50,34 +67,39 @@ pub struct Served<I: Source, W: Sink> {
     pub sink: W,
 }
 
+/// What the threads of a run share.
+#[derive(Drop)]
+struct Run<'a, C: Crew, R, G> {
+    rt: &'a R,
+    alloc: Global,
+    board: &'a Board<C>,
+    gate: &'a G,
+    /// Raised where the run ends for all.
+    halted: &'a AtomicU64,
+}
+
 /// What the reader leaves, and how it ended.
 #[derive(Drop)]
 struct ReadUp<C: Crew, I: Source> {
     seat: ClientSeat<C>,
     source: I,
-    end: Heard,
-    ghost cause: { has_cause end (I.failed source) (I.reads source) ≡ true },
+    end: ReaderEnd<Early>,
+    ghost cause: { has_cause end (I.failed source) (I.reads source) 1099511627776 ≡ true },
 }
 
 /// The reader and its source, before the first read.
 #[derive(Drop)]
-struct Unread<C: Crew, I: Source> {
-    reader: Reader<C>,
+struct Unread<'a, C: Crew, R, I: Source> {
+    reader: Reader<'a, C, R>,
     source: I,
     ghost none: { I.reads source ≡ 0 },
     ghost good: { I.failed source ≡ false },
 }
 
-impl<C: Crew, I: Source> Unread<C, I> {
+impl<C: Crew, R: Wait, I: Source> Unread<'_, C, R, I> {
     /// Reads up to the end, and ends the board as that asks for. Where not all threads could be made it reads nothing.
-    fn read_up<R: Wait>(
-        self,
-        all_made: bool,
-        rt: &R,
-        board: &Board<C>,
-        halted: &AtomicU64,
-    ) -> ReadUp<C, I>
-        ensures { HasHeard (I.remaining self.source) (I.remaining result.source) self.reader.session (heard_of self.reader.seat.front) result.end (heard_of result.seat.front) }
+    fn read_up(self, all_made: bool) -> ReadUp<C, I>
+        ensures { HasHeard (I.remaining self.entry.source) (I.remaining result.source) self.entry.reader.session (heard_of self.entry.reader.seat.front) result.end (heard_of result.seat.front) }
     {
         if !all_made {
             return self.given_up();
@@ -86,25 +108,31 @@ impl<C: Crew, I: Source> Unread<C, I> {
             mut reader,
             mut source,
         } = self;
-        let end = reader.read_on(rt, board, &mut source, halted);
+        let end = reader.read_on(&mut source);
+        let Reader {
+            rt,
+            board,
+            halted,
+            seat,
+            ..
+        } = reader;
         match end {
-            Heard::Ended(_) => board.stop(rt, Stop::Drain),
-            Heard::Failed | Heard::Broken(_) => halt(rt, board, halted),
+            ReaderEnd::Ended(_) => board.stop(rt, Stop::Drain),
+            ReaderEnd::Failed | ReaderEnd::Broken(_) => halt(rt, board, halted),
         }
-        let Reader { seat, .. } = reader;
         ReadUp { seat, source, end }
     }
 
     /// Reads nothing.
     fn given_up(self) -> ReadUp<C, I>
-        ensures { HasHeard (I.remaining self.source) (I.remaining result.source) self.reader.session (heard_of self.reader.seat.front) result.end (heard_of result.seat.front) }
+        ensures { HasHeard (I.remaining self.entry.source) (I.remaining result.source) self.entry.reader.session (heard_of self.entry.reader.seat.front) result.end (heard_of result.seat.front) }
     {
         let Unread { reader, source } = self;
         let Reader { seat, .. } = reader;
         ReadUp {
             seat,
             source,
-            end: Heard::Broken(Early::Memory),
+            end: ReaderEnd::Broken(Early::Memory),
         }
     }
 }
@@ -121,8 +149,8 @@ struct Done<C: Crew, I: Source> {
 
 impl<C: Crew, I: Source> Done<C, I> {
     /// Nothing was read, and nobody has worked.
-    fn nothing(unread: Unread<C, I>, workers: Vec<WorkerSeat<C>>) -> Done<C, I>
-        ensures { HasHeard (I.remaining unread.source) (I.remaining result.read.source) unread.reader.session (heard_of unread.reader.seat.front) result.read.end (heard_of result.read.seat.front) }
+    fn nothing<R: Wait>(unread: Unread<'_, C, R, I>, workers: Vec<WorkerSeat<C>>) -> Done<C, I>
+        ensures { HasHeard (I.remaining unread.entry.source) (I.remaining result.read.source) unread.entry.reader.session (heard_of unread.entry.reader.seat.front) result.read.end (heard_of result.read.seat.front) }
     {
         Done {
             read: unread.given_up(),
@@ -157,22 +185,21 @@ fn read_and_work<
     R: Threads + Wait + Sync,
     I: Source + Drop,
     G: Gate + Sync,
->(
-    rt: &'a R,
-    alloc: Global,
-    board: &'a Board<C>,
-    unread: Unread<C, I>,
-    seats: Vec<WorkerSeat<C>>,
-    gate: &'a G,
-    halted: &'a AtomicU64,
-) -> Done<C, I>
-    ensures { HasHeard (I.remaining unread.source) (I.remaining result.read.source) unread.reader.session (heard_of unread.reader.seat.front) result.read.end (heard_of result.read.seat.front) }
+>(run: &Run<'a, C, R, G>, unread: Unread<'a, C, R, I>, seats: Vec<WorkerSeat<C>>) -> Done<C, I>
+    ensures { HasHeard (I.remaining unread.entry.source) (I.remaining result.read.source) unread.entry.reader.session (heard_of unread.entry.reader.seat.front) result.read.end (heard_of result.read.seat.front) }
 {
+    let Run {
+        rt,
+        alloc,
+        board,
+        gate,
+        halted,
+    } = *run;
     thread::scope(
         thread::scope_env(),
         rt,
         |scope| -> Done<C, I>
-            ensures { HasHeard (I.remaining unread.source) (I.remaining result.read.source) unread.reader.session (heard_of unread.reader.seat.front) result.read.end (heard_of result.read.seat.front) }
+            ensures { HasHeard (I.remaining unread.entry.source) (I.remaining result.read.source) unread.entry.reader.session (heard_of unread.entry.reader.seat.front) result.read.end (heard_of result.read.seat.front) }
         {
             let (Ok(mut handles), Ok(mut workers)) = (
                 Vec::with_capacity(alloc, seats.len()),
@@ -194,7 +221,7 @@ fn read_and_work<
                     }
                 }
             }
-            let read = unread.read_up(made, rt, board, halted);
+            let read = unread.read_up(made);
             'handles: while let Some(handle) = handles.pop() {
                 worked = put_back(&mut workers, worked, handle.join(rt));
             }
@@ -225,19 +252,22 @@ fn run_threads<
     W: Sink + Send + Drop,
     G: Gate + Sync,
 >(
-    rt: &'a R,
-    alloc: Global,
-    board: &'a Board<C>,
-    unread: Unread<C, I>,
+    run: &Run<'a, C, R, G>,
+    unread: Unread<'a, C, R, I>,
     writer: Writer<C, W>,
     seats: Vec<WorkerSeat<C>>,
-    gate: &'a G,
-    halted: &'a AtomicU64,
 ) -> Ran<C, I, W>
     requires none { outs_of writer.seat.front ≡ [] }
     ensures written { HasWritten (W.contents writer.sink) (W.contents result.written.sink) (W.unflushed writer.sink) (W.unflushed result.written.sink) result.written.end (outs_of result.written.seat.front) }
-    ensures heard { HasHeard (I.remaining unread.source) (I.remaining result.done.read.source) unread.reader.session (heard_of unread.reader.seat.front) result.done.read.end (heard_of result.done.read.seat.front) }
+    ensures heard { HasHeard (I.remaining unread.entry.source) (I.remaining result.done.read.source) unread.entry.reader.session (heard_of unread.entry.reader.seat.front) result.done.read.end (heard_of result.done.read.seat.front) }
 {
+    let Run {
+        rt,
+        alloc,
+        board,
+        halted,
+        ..
+    } = *run;
     thread::scope(
         thread::scope_env(),
         rt,
@@ -245,12 +275,12 @@ fn run_threads<
             requires send { IsSend C.row }
             requires none { outs_of writer.seat.front ≡ [] }
             ensures written { HasWritten (W.contents writer.sink) (W.contents result.written.sink) (W.unflushed writer.sink) (W.unflushed result.written.sink) result.written.end (outs_of result.written.seat.front) }
-            ensures heard { HasHeard (I.remaining unread.source) (I.remaining result.done.read.source) unread.reader.session (heard_of unread.reader.seat.front) result.done.read.end (heard_of result.done.read.seat.front) }
+            ensures heard { HasHeard (I.remaining unread.entry.source) (I.remaining result.done.read.source) unread.entry.reader.session (heard_of unread.entry.reader.seat.front) result.done.read.end (heard_of result.done.read.seat.front) }
         {
             let promise = Writes(Snapshot::of(&writer.sink));
             match scope.spawn_with(promise, move || writer.write_on(rt, alloc, board, halted)) {
                 Ok(writing) => {
-                    let done = read_and_work(rt, alloc, board, unread, seats, gate, halted);
+                    let done = read_and_work(run, unread, seats);
                     let written = writing.join(rt);
                     Ran { done, written }
                 }
@@ -374,30 +404,30 @@ fn run_session<
     rt: &R,
     alloc: Global,
     blanks: Blanks,
-    workers: u32,
-    max_journal: usize,
-    source: I,
-    sink: W,
+    limits: Limits,
+    devices: Devices<I, W>,
     gate: &G,
 ) -> Served<I, W>
     requires book { blanks.history ≡ C.book }
     requires heard { (blanks.heard.name ≡ C.heard) × (blanks.heard.parts ≡ 1) }
     requires names { (blanks.client.name ≡ C.client) × (blanks.took.name ≡ C.took) × (blanks.returned.name ≡ C.returned) × (blanks.finished.name ≡ C.finished) × (blanks.sent.name ≡ C.sent) }
     requires parts { (blanks.client.parts ≡ 1) × (blanks.took.parts ≡ C.parts) × (blanks.returned.parts ≡ C.parts) × (blanks.finished.parts ≡ C.parts) × (blanks.sent.parts ≡ 1) }
-    requires workers { (workers ≡ C.workers) × (workers ≡ C.parts) × (0 < workers) × (workers ≤ 8) }
-    requires journal { (0 < max_journal) × (max_journal ≤ 1000000) }
-    requires limits { (C.max_journal ≡ max_journal) × (C.max_events ≡ MOST_EVENTS) }
-    requires none { I.reads source ≡ 0 }
-    requires source { I.failed source ≡ false }
-    requires sink { W.failed sink ≡ false }
+    requires workers { (limits.workers ≡ C.workers) × (limits.workers ≡ C.parts) × (0 < limits.workers) × (limits.workers ≤ 8) }
+    requires journal { (0 < limits.journal) × (limits.journal ≤ 1000000) }
+    requires limits { (C.max_journal ≡ limits.journal) × (C.max_events ≡ MOST_EVENTS) }
+    requires none { I.reads devices.source ≡ 0 }
+    requires source { I.failed devices.source ≡ false }
+    requires sink { W.failed devices.sink ≡ false }
     ensures read { result.answer ≡ Err ServeFault.Read → (I.failed result.source || (I.reads result.source + 1 == 1099511627776)) ≡ true }
     ensures write { result.answer ≡ Err ServeFault.Write → W.failed result.sink ≡ true }
     ensures good { OnOk result.answer (W.failed result.sink ≡ false) }
-    ensures frames { WritesFrames (W.failed result.sink) (I.remaining source) (I.remaining result.source) (W.contents sink) (W.contents result.sink) }
-    ensures flushed { W.unflushed sink ≡ false → W.failed result.sink ≡ false → W.unflushed result.sink ≡ false }
-    ensures served { IfOk result.answer (λ status. IsServed max_journal MOST_EVENTS status (I.remaining source) (I.remaining result.source) (W.contents sink) (W.contents result.sink)) }
+    ensures frames { WritesFrames (W.failed result.sink) (I.remaining devices.source) (I.remaining result.source) (W.contents devices.sink) (W.contents result.sink) }
+    ensures flushed { W.unflushed devices.sink ≡ false → W.failed result.sink ≡ false → W.unflushed result.sink ≡ false }
+    ensures served { IfOk result.answer (λ status. IsServed limits.journal MOST_EVENTS status (I.remaining devices.source) (I.remaining result.source) (W.contents devices.sink) (W.contents result.sink)) }
 {
-    let desk = Desk::new(alloc, max_journal, MOST_EVENTS);
+    let Devices { source, sink } = devices;
+    let desk = Desk::new(alloc, limits.journal, MOST_EVENTS);
+    let workers = limits.workers;
     let Ok((board, client, writer, seats)) = Board::<C>::new(rt, alloc, blanks, MARK, desk, workers)
     else {
         return Served {
@@ -409,15 +439,25 @@ fn run_session<
     let input = Snapshot::of(&source);
     let begun = Snapshot::of(&sink);
     let session = Session::new(alloc);
+    let halted = AtomicU64::new(0);
     let reader = Reader {
+        rt,
         alloc,
+        board: &board,
+        halted: &halted,
         seat: client,
         session,
     };
-    let halted = AtomicU64::new(0);
+    let run = Run {
+        rt,
+        alloc,
+        board: &board,
+        gate,
+        halted: &halted,
+    };
     let unread = Unread { reader, source };
     let writer = Writer { seat: writer, sink };
-    let ran = run_threads(rt, alloc, &board, unread, writer, seats, gate, &halted);
+    let ran = run_threads(&run, unread, writer, seats);
     closed(alloc, board, input, begun, ran)
 }
 
@@ -459,31 +499,26 @@ pub fn serve_threads<
     ensures flushed { W.unflushed sink ≡ false → W.failed result.sink ≡ false → W.unflushed result.sink ≡ false }
     ensures served { IfOk result.answer (λ status. IsServed MOST_JOURNAL MOST_EVENTS status (I.remaining source) (I.remaining result.source) (W.contents sink) (W.contents result.sink)) }
 {
-    serve_with_journal(rt, alloc, source, sink, workers, gate, MOST_JOURNAL)
+    let limits = Limits {
+        workers,
+        journal: MOST_JOURNAL,
+    };
+    serve_with_limits(rt, alloc, source, sink, limits, gate)
 }
 
-/// Serves as [`serve_threads`] does, by a journal that begins anew with the client's next event once it has `max_journal` events, 1 to
-/// 1,000,000.
+/// Serves as [`serve_threads`] does, by as many workers and with as long a journal as these limits say.
 ///
 /// # Errors
 ///
 /// Those of [`serve_threads`].
-pub fn serve_with_journal<
+pub fn serve_with_limits<
     R: Threads + Wait + Sync,
     I: Source + Drop,
     W: Sink + Send + Drop,
     G: Gate + Sync,
->(
-    rt: &R,
-    alloc: Global,
-    source: I,
-    sink: W,
-    workers: u32,
-    gate: &G,
-    max_journal: usize,
-) -> Served<I, W>
-    requires workers { (0 < workers) × (workers ≤ 8) }
-    requires journal { (0 < max_journal) × (max_journal ≤ 1000000) }
+>(rt: &R, alloc: Global, source: I, sink: W, limits: Limits, gate: &G) -> Served<I, W>
+    requires workers { (0 < limits.workers) × (limits.workers ≤ 8) }
+    requires journal { (0 < limits.journal) × (limits.journal ≤ 1000000) }
     requires none { I.reads source ≡ 0 }
     requires source { I.failed source ≡ false }
     requires sink { W.failed sink ≡ false }
@@ -492,16 +527,9 @@ pub fn serve_with_journal<
     ensures good { OnOk result.answer (W.failed result.sink ≡ false) }
     ensures frames { WritesFrames (W.failed result.sink) (I.remaining source) (I.remaining result.source) (W.contents sink) (W.contents result.sink) }
     ensures flushed { W.unflushed sink ≡ false → W.failed result.sink ≡ false → W.unflushed result.sink ≡ false }
-    ensures served { IfOk result.answer (λ status. IsServed max_journal MOST_EVENTS status (I.remaining source) (I.remaining result.source) (W.contents sink) (W.contents result.sink)) }
+    ensures served { IfOk result.answer (λ status. IsServed limits.journal MOST_EVENTS status (I.remaining source) (I.remaining result.source) (W.contents sink) (W.contents result.sink)) }
 {
-    run_session::<Brand, R, I, W, G>(
-        rt,
-        alloc,
-        Blanks::new(workers),
-        workers,
-        max_journal,
-        source,
-        sink,
-        gate,
-    )
+    let blanks = Blanks::new(limits.workers);
+    let devices = Devices { source, sink };
+    run_session::<Brand, R, I, W, G>(rt, alloc, blanks, limits, devices, gate)
 }

@@ -7,8 +7,9 @@ ghost use Rattle.std.specs.Prelude.{◌≡◌, ◌<◌, ◌^◌};
 ghost use Rattle.ls_desk.specs.Stands.{used};
 ghost use Rattle.ls_threads.specs.Settled.{is_done, is_nearly_full, is_settled};
 
-use crate::ending::{Heard, Worked, has_met_full_session, is_ended};
+use crate::ending::{Early, Worked, has_met_full_session, is_ended};
 use ls_desk::Desk;
+use ls_devices::ReaderEnd;
 
 /// The most that one event may need: a place for itself, and one for each request that it ends.
 const MOST_NEEDED: u128 = 1_025;
@@ -40,7 +41,7 @@ fn is_done(desk: &Desk) -> bool
 
 /// Whether the desk is as these ends leave it: nearly full where one of them met a full session; else the reader ended by itself, and all
 /// is done.
-pub fn is_settled(desk: &Desk, events: u64, heard: Heard, worked: Worked) -> bool
+pub fn is_settled(desk: &Desk, events: u64, heard: ReaderEnd<Early>, worked: Worked) -> bool
     ensures { result ≡ is_settled events heard worked desk.now }
 {
     if has_met_full_session(heard, worked) {

@@ -9,7 +9,7 @@ ghost use Rattle.ls_threads.specs.Writing.{HasTold, HasWritten, frame_for};
 use crate::ending::Wrote;
 use crate::halt::halt;
 use ls_desk::{Desk, Out};
-use ls_devices::{Sink, write_all};
+use ls_devices::{Sink, write_and_flush};
 use ls_session::framed;
 use ls_workers::{Board, Crew, WriterSeat};
 use std::alloc::Global;
@@ -58,10 +58,7 @@ pub fn put<W: Sink>(alloc: Global, sink: &mut W, out: Out) -> Wrote
     let Ok(frame) = frame else {
         return Wrote::Memory;
     };
-    if write_all(sink, &frame).is_err() {
-        return Wrote::Failed;
-    }
-    if sink.flush().is_err() {
+    if write_and_flush(sink, &frame).is_err() {
         return Wrote::Failed;
     }
     Wrote::All

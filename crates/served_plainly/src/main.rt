@@ -2,7 +2,9 @@
 //! run on it, since their bytes are known to the last. No function here has a contract beyond safety.
 #![tactic(auto)]
 
-use ls_server::{Ending, ReadFrom, WriteTo, keep_freed_blocks, serve_plain};
+use ls_devices::{ReadFrom, WriteTo};
+use ls_plain::serve_plain;
+use ls_program::{Ending, keep_freed_blocks};
 use std::process::ExitCode;
 
 fn main(rt: HostRuntime) -> ExitCode {

@@ -7,7 +7,7 @@ use super::bodies::{
 };
 use super::devices::{Bytes, Noting};
 use ls_server::{ServeFault, Status};
-use ls_threads::{Gate, Served, serve_threads, serve_with_journal};
+use ls_threads::{Gate, Limits, Served, serve_threads, serve_with_limits};
 use std::alloc::Global;
 use std::sync::atomic::AtomicU64;
 use std::sync::{Arc, Wait};
@@ -41,11 +41,15 @@ pub fn serves_anew<R: Threads + Wait + Sync>(
     let seen = Arc::new(alloc, AtomicU64::new(0))?;
     let source = Bytes::new(input, 0);
     let sink = Noting::new(alloc, b"none of these bytes", seen, 0)?;
+    let limits = Limits {
+        workers: 2,
+        journal: max_journal,
+    };
     let Served {
         answer,
         source: _,
         sink,
-    } = serve_with_journal(rt, alloc, source, sink, 2, &Open, max_journal);
+    } = serve_with_limits(rt, alloc, source, sink, limits, &Open);
     Ok(Left {
         answer,
         bytes: sink.into_bytes(),

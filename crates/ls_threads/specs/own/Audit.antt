@@ -9,14 +9,15 @@ use Rattle.ls_workers.specs.Seats.{Agrees, HasCause, ToldClient, since}
 use Rattle.ls_workers.specs.declared.behind.SeatFault.{SeatFault}
 use Rattle.ls_threads.specs.Ends.{has_failed, has_met_full_session, result_of}
 use Rattle.ls_threads.specs.Settled.{is_settled}
-use Rattle.ls_threads.specs.declared.ending.Heard.{Heard}
+use Rattle.ls_devices.specs.declared.reading.ReaderEnd.{ReaderEnd}
+use Rattle.ls_threads.specs.declared.ending.Early.{Early}
 use Rattle.ls_threads.specs.declared.ending.Worked.{Worked}
 use Rattle.ls_threads.specs.declared.ending.Wrote.{Wrote}
 
 -- what the threads of a run leave: how they ended, how many events of each kind their seats counted, what the client's seat knows, and what
 -- the writer's was given since the last checkpoint that it has seen
 pub record WhatThreadsLeft : Type 0 where
-  pub heard : Heard
+  pub heard : ReaderEnd Early
   pub wrote : Wrote
   pub worked : Worked
   pub client : ℕ
@@ -29,7 +30,7 @@ pub record WhatThreadsLeft : Type 0 where
   pub tickets : List ℕ
 
 -- by how the threads ended, how many events of each kind were counted, and what the client's seat and the writer's seat know
-abbrev pub left_by_threads : Heard × Wrote × Worked → ℕ × ℕ × ℕ × ℕ × ℕ → ToldClient → ℕ × List ℕ → WhatThreadsLeft
+abbrev pub left_by_threads : ReaderEnd Early × Wrote × Worked → ℕ × ℕ × ℕ × ℕ × ℕ → ToldClient → ℕ × List ℕ → WhatThreadsLeft
 left_by_threads (heard, wrote, worked) (client, took, returned, finished, sent) told (seen, tickets) = record {
   heard = heard;
   wrote = wrote;

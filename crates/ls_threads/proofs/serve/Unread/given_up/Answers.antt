@@ -1,7 +1,7 @@
-use Rattle.std.proofs.Common.{[]}
-use Rattle.ls_devices.proofs.Input.{consumes_none}
-use Rattle.ls_threads.proofs.Input.{some_begun}
+use Rattle.std.proofs.Common.{refl}
+use Rattle.ls_devices.proofs.Listening.{refused_at_once}
+use Rattle.ls_threads.specs.Reading.{BreaksOff, Hears}
 use Rattle.ls_threads.proofs.serve.Unread.given_up.Goals as goal
 
 pub returns : goal.returns
-returns g c = (c.args.self.reader.session, ([], consumes_none _, some_begun _ _))
+returns g c = (c.args.self.reader.session, refused_at_once Hears (λ body at early next. BreaksOff body at next) _ _ _ _ refl)
